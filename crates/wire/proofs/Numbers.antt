@@ -1,0 +1,108 @@
+-- Laws of `number` and `bytes` over the width: a number has 2 ^ k bytes, and every law is one statement over k.
+-- Assumes nothing.
+use Prim.Native.Nat.{ℕ, zero, suc, _+_, _-_, _*_, _/_, _%_, _^_, _≤_, _<_}
+use mathlib.Core.Path.{_≡_, refl, sym, ap, subst, _∙_}
+use mathlib.Core.List.{List, [], _∷_, _++_, append-assoc}
+use native.Mathlib.Nat.{add-assoc, add-zero, zero-add, pow-suc, one-le-pow, zero-lt-suc, mod-lt, div-lt-iff-lt-mul, div-add-mod'}
+use native.Mathlib.Omega.{arith}
+use lib.Arith.{digits-lt, digits-div, digits-mod}
+use lib.Pow.{pow-add}
+use lib.ListN.{length, getD, take, drop, length-append, List·getD-eq-default, List·getD-append}
+use lib.Seq.{length-take-le, getD-append-add, getD-take, getD-drop, take-add, drop-drop, drop-cons}
+use Rattle.wire.specs.Bytes.{span, number, bytes, over, written, Octets}
+use Rattle.wire.proofs.Runs.{written-in}
+
+-- 2 ^ suc k bytes are twice 2 ^ k bytes
+twice : (k : ℕ) → 2 ^ suc k ≡ 2 ^ k + 2 ^ k
+twice k = omega arith
+
+pub span-suc : (k : ℕ) → span (suc k) ≡ span k * span k
+span-suc k = ap (λ (n : ℕ). 256 ^ n) (twice k) ∙ pow-add 256 (2 ^ k) (2 ^ k)
+
+span-pos : (k : ℕ) → 0 < span k
+span-pos k = one-le-pow (2 ^ k) 256 (zero-lt-suc 255)
+
+-- past the end every number is 0
+pub past-end : (k : ℕ) (s : List ℕ) (p : ℕ) → length s ≤ p → number k s p ≡ 0
+past-end zero s p h = List·getD-eq-default s 0 h
+past-end (suc k) s p h = rw (past-end k s p h, past-end k s (p + 2 ^ k) (omega arith)) (omega arith)
+
+pub past : (k : ℕ) (s : List ℕ) (p : ℕ) → length s ≤ p → 0 ≡ number k s p
+past k s p h = sym (past-end k s p h)
+
+pub number-lt : (k : ℕ) (s : List ℕ) (p : ℕ) → Octets s → number k s p < span k
+number-lt zero s p o = o p
+number-lt (suc k) s p o = rw (span-suc k) (digits-lt (number-lt k s p o) (number-lt k s (p + 2 ^ k) o))
+
+-- where a number stands in a list that is two lists, or a part of one
+pub number-append : (k : ℕ) (xs ys : List ℕ) (n : ℕ) → number k (xs ++ ys) (length xs + n) ≡ number k ys n
+number-append zero xs ys n = getD-append-add xs ys n 0
+number-append (suc k) xs ys n = rw (number-append k xs ys n, add-assoc (length xs) n (2 ^ k), number-append k xs ys (n + 2 ^ k))
+
+pub number-front : (k : ℕ) (xs ys : List ℕ) (n : ℕ) → n + 2 ^ k ≤ length xs → number k (xs ++ ys) n ≡ number k xs n
+number-front zero xs ys n h = List·getD-append xs ys 0 n (omega arith)
+number-front (suc k) xs ys n h =
+    rw (number-front k xs ys n (omega (arith, twice k)), number-front k xs ys (n + 2 ^ k) (omega (arith, twice k)))
+
+pub number-take : (k n : ℕ) (s : List ℕ) (p : ℕ) → p + 2 ^ k ≤ n → number k (take n s) p ≡ number k s p
+number-take zero n s p h = getD-take n s p 0 (omega arith)
+number-take (suc k) n s p h = rw (number-take k n s p (omega (arith, twice k)), number-take k n s (p + 2 ^ k) (omega (arith, twice k)))
+
+pub number-drop : (k n : ℕ) (s : List ℕ) (p : ℕ) → number k (drop n s) p ≡ number k s (n + p)
+number-drop zero n s p = getD-drop n s p 0
+number-drop (suc k) n s p = rw (number-drop k n s p, number-drop k n s (p + 2 ^ k), add-assoc n p (2 ^ k))
+
+-- the bytes of a number, and the number of its bytes
+pub length-bytes : (k x : ℕ) → length (bytes k x) ≡ 2 ^ k
+length-bytes zero x = refl
+length-bytes (suc k) x =
+    rw (length-append (bytes k (x / span k)) (bytes k (x % span k)), length-bytes k (x / span k), length-bytes k (x % span k)) (sym (twice k))
+
+pub number-bytes : (k x : ℕ) (ys : List ℕ) → x < span k → number k (bytes k x ++ ys) 0 ≡ x
+number-bytes zero x ys h = refl
+number-bytes (suc k) x ys h =
+    let a : List ℕ = bytes k (x / span k) in
+    let b : List ℕ = bytes k (x % span k) in
+    let q : x / span k < span k = div-lt-iff-lt-mul (span-pos k) .1 (subst (λ (n : ℕ). x < n) (span-suc k) h) in
+    let l : length a + 0 ≡ 0 + 2 ^ k = omega (arith, length-bytes k (x / span k)) in
+    rw (append-assoc a b ys, number-bytes k (x / span k) (b ++ ys) q, ← l, number-append k a (b ++ ys) 0, number-bytes k (x % span k) ys (mod-lt x (span-pos k)))
+    (div-add-mod' x (span k))
+
+pub bytes-number : (k : ℕ) (s : List ℕ) (p : ℕ) → Octets s → p + 2 ^ k ≤ length s → bytes k (number k s p) ≡ take (2 ^ k) (drop p s)
+bytes-number zero s p o h = rw (drop-cons s p 0 (omega arith))
+bytes-number (suc k) s p o h =
+    rw (
+      digits-div (number k s p) (number-lt k s (p + 2 ^ k) o),
+      digits-mod (number k s p) (number-lt k s (p + 2 ^ k) o),
+      bytes-number k s p o (omega (arith, twice k)),
+      bytes-number k s (p + 2 ^ k) o (omega (arith, twice k)),
+      twice k,
+      take-add (2 ^ k) (2 ^ k) (drop p s),
+      drop-drop (2 ^ k) p s,
+    )
+
+-- a number that was written is read there again, and elsewhere nothing has changed
+pub read-back : (k : ℕ) (s : List ℕ) (p x : ℕ) → x < span k → p + 2 ^ k ≤ length s → number k (written s p (bytes k x)) p ≡ x
+read-back k s p x h l =
+    let n : length (bytes k x) ≡ 2 ^ k = length-bytes k x in
+    let t : length (take p s) + 0 ≡ p = omega (arith, length-take-le p s (omega arith)) in
+    ap (λ (u : List ℕ). number k u p) (written-in s p (bytes k x) (omega arith))
+    ∙ ap (number k (over s p (bytes k x))) (sym t)
+    ∙ number-append k (take p s) (bytes k x ++ drop (p + length (bytes k x)) s) 0
+    ∙ number-bytes k x (drop (p + length (bytes k x)) s) h
+
+pub read-before : (k : ℕ) (s : List ℕ) (p : ℕ) (b : List ℕ) (q : ℕ) → q + 2 ^ k ≤ p → p ≤ length s → number k (over s p b) q ≡ number k s q
+read-before k s p b q h l =
+    number-front k (take p s) (b ++ drop (p + length b) s) q (omega (arith, length-take-le p s l)) ∙ number-take k p s q h
+
+pub read-behind : (k : ℕ) (s : List ℕ) (p : ℕ) (b : List ℕ) (q : ℕ) → p + length b ≤ q → p + length b ≤ length s → number k (over s p b) q ≡ number k s q
+read-behind k s p b q h l =
+    let x : List ℕ = take p s ++ b in
+    let d : List ℕ = drop (p + length b) s in
+    let n : length x ≡ p + length b = length-append (take p s) b ∙ ap (λ (m : ℕ). m + length b) (length-take-le p s (omega arith)) in
+    let e : q ≡ length x + (q - (p + length b)) = omega arith in
+    ap (λ (u : List ℕ). number k u q) (sym (append-assoc (take p s) b d))
+    ∙ ap (number k (x ++ d)) e
+    ∙ number-append k x d (q - (p + length b))
+    ∙ number-drop k (p + length b) s (q - (p + length b))
+    ∙ ap (number k s) (omega arith)

@@ -1,0 +1,20 @@
+-- `wire::u64_at` meets its contract: it is the two halves, or past the end 0.
+-- Assumes nothing.
+use borrow.Author.Needs.{needs}
+use Rattle.wire.proofs.Numbers.{past}
+use Rattle.wire.proofs.u64_at.Statement.{statement}
+use Rattle.wire.proofs.u64_at.Tie as tie
+
+pub u64-at-spec : {M : Type 1} → statement M
+u64-at-spec =
+    tie.close
+    (tie.spec
+    (λ c κs. search needs)
+    (λ c. search needs)
+    (λ c. search needs)
+    (λ c. search needs)
+    (λ c κs. search needs)
+    (λ c. search needs)
+    (λ c. search needs)
+    (λ c. search needs)
+    (λ c. search (past 3)))
