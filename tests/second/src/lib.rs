@@ -1,0 +1,15 @@
+//! The second program: what the proved core must answer, written from the papers alone.
+
+pub mod hex;
+pub mod prng;
+
+// The model of joining and of the lines.
+pub mod joiner;
+pub mod replay;
+
+// Recordings worked out by hand.
+pub mod edges;
+pub mod edges_files;
+pub mod edges_joining;
+pub mod edges_refused;
+pub mod edges_setup;
