@@ -13,3 +13,8 @@ pub mod edges_files;
 pub mod edges_joining;
 pub mod edges_refused;
 pub mod edges_setup;
+
+// Recordings from a seed.
+pub mod compose;
+pub mod genuine;
+pub mod sent;
