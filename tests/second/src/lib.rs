@@ -18,3 +18,9 @@ pub mod edges_setup;
 pub mod compose;
 pub mod genuine;
 pub mod sent;
+pub mod make;
+pub mod make_bad;
+pub mod make_senders;
+
+// The comparison with the program under test.
+pub mod run;
