@@ -24,3 +24,8 @@ pub mod make_senders;
 
 // The comparison with the program under test.
 pub mod run;
+
+// Models of the other calls.
+pub mod types;
+#[cfg(test)]
+mod types_tests;
