@@ -29,3 +29,6 @@ pub mod run;
 pub mod types;
 #[cfg(test)]
 mod types_tests;
+pub mod payload;
+#[cfg(test)]
+mod payload_tests;
