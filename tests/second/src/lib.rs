@@ -32,3 +32,7 @@ mod types_tests;
 pub mod payload;
 #[cfg(test)]
 mod payload_tests;
+pub mod cutting;
+pub mod message;
+pub mod take;
+pub mod platform;
