@@ -111,6 +111,9 @@ mod tests {
     fn the_whole_run_of_01() {
         let mut recording = setup(1, 24, &[1]);
         push(&mut recording, &[0, 0, 0, 0]);
-        assert_eq!(recording, crate::hex::bytes("0001 00000018 0001 0004 00000000"));
+        assert_eq!(
+            recording,
+            crate::hex::bytes("0001 00000018 0001 0004 00000000")
+        );
     }
 }

@@ -23,7 +23,10 @@ pub fn piece(
     if sender > 4095 || first_counter > 65535 {
         return Err(50);
     }
-    let chunk = match message.chunks(size as usize).nth(usize::try_from(wanted).unwrap_or(usize::MAX)) {
+    let chunk = match message
+        .chunks(size as usize)
+        .nth(usize::try_from(wanted).unwrap_or(usize::MAX))
+    {
         Some(chunk) => chunk,
         None => return Err(51),
     };
@@ -75,7 +78,10 @@ mod tests {
         assert_eq!(piece(&message[..65503], 65503, 1, 5, 0, 65506), Err(52));
         let first = piece(&message, 65503, 1, 5, 0, 65507).unwrap();
         assert_eq!((first.len(), &first[..4]), (65507, &[0x00, 1, 0, 5][..]));
-        assert_eq!(piece(&message, 65503, 1, 5, 1, 5), Ok(bytes("2001 0006 41")));
+        assert_eq!(
+            piece(&message, 65503, 1, 5, 1, 5),
+            Ok(bytes("2001 0006 41"))
+        );
         assert_eq!(piece(&message, 65503, 1, 5, 2, 9), Err(51));
     }
 
@@ -114,10 +120,17 @@ mod tests {
             let size = rng.from_to(1, 210) as u64;
             let first = rng.below(65536) as u64;
             let count = pieces(message.len() as u64, size).unwrap();
-            let all: Vec<Vec<u8>> =
-                (0..count).map(|k| piece(&message, size, 7, first, k, 300).unwrap()).collect();
+            let all: Vec<Vec<u8>> = (0..count)
+                .map(|k| piece(&message, size, 7, first, k, 300).unwrap())
+                .collect();
             let lent: Vec<&[u8]> = all.iter().map(Vec::as_slice).collect();
-            let got = fates(&Setup { room: 200, senders: vec![7] }, &lent);
+            let got = fates(
+                &Setup {
+                    room: 200,
+                    senders: vec![7],
+                },
+                &lent,
+            );
             assert_eq!(got.last(), Some(&Fate::Delivered { missed: 0, message }));
         }
     }

@@ -28,7 +28,10 @@ pub fn write(directory: &Path) -> io::Result<usize> {
     std::fs::create_dir_all(directory)?;
     let edges = all();
     for edge in &edges {
-        std::fs::write(directory.join(format!("{}.rec", edge.name)), crate::hex::bytes(edge.bytes))?;
+        std::fs::write(
+            directory.join(format!("{}.rec", edge.name)),
+            crate::hex::bytes(edge.bytes),
+        )?;
         std::fs::write(directory.join(format!("{}.lines", edge.name)), edge.lines)?;
     }
     Ok(edges.len())
@@ -61,8 +64,14 @@ mod tests {
         for edge in all() {
             let rec = format!("{}.rec", edge.name);
             let lines = format!("{}.lines", edge.name);
-            assert_eq!(std::fs::read(directory.join(&rec)).unwrap(), crate::hex::bytes(edge.bytes));
-            assert_eq!(std::fs::read(directory.join(&lines)).unwrap(), edge.lines.as_bytes());
+            assert_eq!(
+                std::fs::read(directory.join(&rec)).unwrap(),
+                crate::hex::bytes(edge.bytes)
+            );
+            assert_eq!(
+                std::fs::read(directory.join(&lines)).unwrap(),
+                edge.lines.as_bytes()
+            );
             expected.insert(rec);
             expected.insert(lines);
         }

@@ -30,7 +30,7 @@ pub const EDGES: &[Edge] = &[
         bytes: "0001 00000018 0001 | 0005 3001000141 | 0005 3001000042",
         lines: "0 delivered 0 1\n1 delivered 65534 1\n",
     },
-    // 65,535 after 0, 0 after 0 is a repeat, 2 after 0 is one missed.
+    // 0 after 0 is a repeat, 2 after 0 is one missed, 65,535 after 2 is 65,532, 1 after 65,535 is one.
     Edge {
         name: "counter-steps-from-0",
         bytes: "0001 00000018 0001 | 0005 3001000041 | 0005 3001000041 | 0005 3001000242 \
@@ -121,7 +121,8 @@ pub const EDGES: &[Edge] = &[
     // The old length must not count: 20 and 20 would be above 24.
     Edge {
         name: "beginning-after-a-loss-starts-anew",
-        bytes: "0001 00000018 0001 | 0018 00010000 41*20 | 0018 00010005 42*20 | 0008 20010006 43*4",
+        bytes:
+            "0001 00000018 0001 | 0018 00010000 41*20 | 0018 00010005 42*20 | 0008 20010006 43*4",
         lines: "0 held 0 20\n1 held 4 20\n2 delivered 0 24\n",
     },
     // The sender starts again at 0 after 100: 65,435 missed.

@@ -25,7 +25,12 @@ pub struct Channel {
 /// One recorded datagram.
 pub enum Arrival {
     Refused(u8),
-    Copy { channel: usize, message: usize, piece: usize, again: bool },
+    Copy {
+        channel: usize,
+        message: usize,
+        piece: usize,
+        again: bool,
+    },
 }
 
 pub struct Traffic {
@@ -139,7 +144,13 @@ impl Network {
 fn cut(rng: &mut Prng, s: &Style) -> Vec<usize> {
     if rng.chance(1, 4) {
         // A whole may be longer than the room.
-        return vec![rng.pick(&[1, 2, s.room.min(LONGEST_PIECE), s.longest_piece, s.room / 2 + 30])];
+        return vec![rng.pick(&[
+            1,
+            2,
+            s.room.min(LONGEST_PIECE),
+            s.longest_piece,
+            s.room / 2 + 30,
+        ])];
     }
     let total = match rng.below(4) {
         0 => s.room,
@@ -151,7 +162,11 @@ fn cut(rng: &mut Prng, s: &Style) -> Vec<usize> {
     let mut left = total;
     // Few pieces, else a large room takes thousands of the small ones.
     while left > 0 && lengths.len() < 12 {
-        let length = if s.seldom_even(rng) { rng.from_to(1, s.longest_piece) } else { even };
+        let length = if s.seldom_even(rng) {
+            rng.from_to(1, s.longest_piece)
+        } else {
+            even
+        };
         lengths.push(length.min(left));
         left -= length.min(left);
     }
@@ -171,7 +186,11 @@ fn channel(rng: &mut Prng, s: &Style, sender: u16) -> Channel {
         1 => 65535 - rng.below(20) as u16,
         _ => rng.below(65536) as u16,
     };
-    let mut network = Network { sent: 0, losing: 0, since: None };
+    let mut network = Network {
+        sent: 0,
+        losing: 0,
+        since: None,
+    };
     let mut messages = Vec::new();
     let mut sent_beside = 0;
     while sent_beside < s.datagrams || network.losing > 0 {
@@ -187,11 +206,18 @@ fn channel(rng: &mut Prng, s: &Style, sender: u16) -> Channel {
         };
         let pieces = lengths
             .into_iter()
-            .map(|n| Piece { bytes: rng.bytes(n), copies: network.copies(rng, s) })
+            .map(|n| Piece {
+                bytes: rng.bytes(n),
+                copies: network.copies(rng, s),
+            })
             .collect();
         messages.push(Message { pieces });
     }
-    Channel { sender, first_counter, messages }
+    Channel {
+        sender,
+        first_counter,
+        messages,
+    }
 }
 
 /// Every copy that arrives on a channel, in order, as it stands on the wire.
@@ -210,7 +236,15 @@ fn copies(index: usize, channel: &Channel) -> Vec<(Arrival, Vec<u8>)> {
             for copy in 0..piece.copies {
                 let datagram = compose::datagram(part, channel.sender, counter, &piece.bytes);
                 let again = copy > 0;
-                out.push((Arrival::Copy { channel: index, message: m, piece: p, again }, datagram));
+                out.push((
+                    Arrival::Copy {
+                        channel: index,
+                        message: m,
+                        piece: p,
+                        again,
+                    },
+                    datagram,
+                ));
             }
             counter = if counter == 65535 { 0 } else { counter + 1 };
         }
@@ -222,13 +256,19 @@ pub fn traffic(seed: u64) -> Traffic {
     let mut rng = Prng::new(seed ^ 0x6765_6E75_696E_6521);
     let s = style(&mut rng, seed);
     let senders = compose::ids(&mut rng, s.channels);
-    let channels: Vec<Channel> = senders.iter().map(|id| channel(&mut rng, &s, *id)).collect();
+    let channels: Vec<Channel> = senders
+        .iter()
+        .map(|id| channel(&mut rng, &s, *id))
+        .collect();
     let mut recording = compose::setup(s.channels as u16, s.room as u32, &senders);
     let mut arrivals = Vec::new();
 
     // The mix: any order that keeps each channel's own.
-    let mut waiting: Vec<_> =
-        channels.iter().enumerate().map(|(i, c)| copies(i, c).into_iter().peekable()).collect();
+    let mut waiting: Vec<_> = channels
+        .iter()
+        .enumerate()
+        .map(|(i, c)| copies(i, c).into_iter().peekable())
+        .collect();
     let stay = rng.pick(&[0, 50, 90]);
     let mut at = 0;
     while waiting.iter_mut().any(|queue| queue.peek().is_some()) {
@@ -247,5 +287,9 @@ pub fn traffic(seed: u64) -> Traffic {
             arrivals.push(arrival);
         }
     }
-    Traffic { channels, arrivals, recording }
+    Traffic {
+        channels,
+        arrivals,
+        recording,
+    }
 }

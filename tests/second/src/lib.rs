@@ -5,6 +5,8 @@ pub mod prng;
 
 // The model of joining and of the lines.
 pub mod joiner;
+#[cfg(test)]
+mod joiner_tests;
 pub mod replay;
 
 // Recordings worked out by hand.
@@ -17,22 +19,24 @@ pub mod edges_setup;
 // Recordings from a seed.
 pub mod compose;
 pub mod genuine;
-pub mod sent;
 pub mod make;
 pub mod make_bad;
 pub mod make_senders;
+pub mod sent;
 
 // The comparison with the program under test.
 pub mod run;
 
 // Models of the other calls.
-pub mod types;
-#[cfg(test)]
-mod types_tests;
+pub mod cutting;
+pub mod message;
 pub mod payload;
 #[cfg(test)]
 mod payload_tests;
-pub mod cutting;
-pub mod message;
-pub mod take;
 pub mod platform;
+#[cfg(test)]
+mod platform_tests;
+pub mod take;
+pub mod types;
+#[cfg(test)]
+mod types_tests;

@@ -44,7 +44,8 @@ fn command(words: &[&str]) -> Outcome {
             Ok(true)
         }
         ["edges", directory] => {
-            let count = edges::write(Path::new(directory)).map_err(|e| format!("{directory}: {e}"))?;
+            let count =
+                edges::write(Path::new(directory)).map_err(|e| format!("{directory}: {e}"))?;
             println!("{count} recordings and their lines written");
             Ok(true)
         }
@@ -59,7 +60,8 @@ fn command(words: &[&str]) -> Outcome {
 }
 
 fn number(word: &str) -> Result<u64, String> {
-    word.parse().map_err(|_| format!("`{word}` is not a number"))
+    word.parse()
+        .map_err(|_| format!("`{word}` is not a number"))
 }
 
 fn range(word: &str) -> Result<std::ops::Range<u64>, String> {

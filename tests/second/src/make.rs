@@ -31,10 +31,11 @@ pub fn recording(seed: u64) -> Vec<u8> {
 
 /// Something with a good set-up, to be damaged.
 fn some_good(rng: &mut Prng) -> Vec<u8> {
-    match rng.below(3) {
-        0 => wild(rng, 2),
-        1 => make_senders::recording(rng),
-        _ => tight(rng),
+    match rng.below(7) {
+        0 | 1 => wild(rng, 2),
+        2 | 3 => make_senders::recording(rng),
+        4 | 5 => tight(rng),
+        _ => large(rng),
     }
 }
 
@@ -51,7 +52,13 @@ pub fn wild(rng: &mut Prng, channels: usize) -> Vec<u8> {
     let room = rng.pick(&[24, 24, 25, 64, most]);
     let ids = compose::ids(rng, channels);
     let mut out = compose::setup(channels as u16, room as u32, &ids);
-    let mut guesses = vec![Guess { last: rng.below(65536) as u16, held: 0 }; channels];
+    let mut guesses = vec![
+        Guess {
+            last: rng.below(65536) as u16,
+            held: 0
+        };
+        channels
+    ];
     for _ in 0..rng.from_to(0, 400) {
         let channel = rng.below(channels);
         let datagram = wild_datagram(rng, room, ids[channel], &mut guesses[channel]);
@@ -115,7 +122,11 @@ fn tight(rng: &mut Prng) -> Vec<u8> {
         let parts = if rng.chance(1, 2) {
             vec![(BEGINNING, first), (END, rng.from_to(1, 4))]
         } else {
-            vec![(BEGINNING, first - 10), (MIDDLE, rng.from_to(9, 11)), (END, rng.from_to(1, 3))]
+            vec![
+                (BEGINNING, first - 10),
+                (MIDDLE, rng.from_to(9, 11)),
+                (END, rng.from_to(1, 3)),
+            ]
         };
         for (part, length) in parts {
             let datagram = compose::datagram(part, sender, counter, &rng.bytes(length));
@@ -129,14 +140,28 @@ fn tight(rng: &mut Prng) -> Vec<u8> {
     out
 }
 
-/// Pieces of some 60,000 bytes, rooms of the largest sizes, a few hundred thousand bytes in all.
+/// Pieces of some 60,000 bytes, rooms of the largest sizes, a few hundred thousand bytes in all; at
+/// times megabytes, since a program that reads in blocks has seams there.
 fn large(rng: &mut Prng) -> Vec<u8> {
     let room = rng.pick(&[65536, 65535, 65504, 65503, 60000]);
     let sender = rng.below(4096) as u16;
     let mut out = compose::setup(1, room as u32, &[sender]);
     let mut counter = rng.pick(&[65534, 0]);
-    for _ in 0..rng.from_to(3, 9) {
-        let length = rng.pick(&[LONGEST_PIECE, LONGEST_PIECE - 1, 60000, room - 1, 1, 33, 5536]);
+    let count = if rng.chance(1, 5) {
+        60
+    } else {
+        rng.from_to(3, 9)
+    };
+    for _ in 0..count {
+        let length = rng.pick(&[
+            LONGEST_PIECE,
+            LONGEST_PIECE - 1,
+            60000,
+            room - 1,
+            1,
+            33,
+            5536,
+        ]);
         let part = rng.pick(&[BEGINNING, BEGINNING, MIDDLE, END, END, WHOLE]);
         let piece = rng.bytes(length.min(LONGEST_PIECE));
         compose::push(&mut out, &compose::datagram(part, sender, counter, &piece));
@@ -149,7 +174,9 @@ fn large(rng: &mut Prng) -> Vec<u8> {
 fn nonsense(rng: &mut Prng) -> Vec<u8> {
     let channels = rng.pick(&[1, 2, 16, 32]);
     // All sixteen platforms' channel 0 and 1: a good part of the nonsense hits one.
-    let ids: Vec<u16> = (0..channels as u16).map(|i| i % 16 * 256 + i / 16).collect();
+    let ids: Vec<u16> = (0..channels as u16)
+        .map(|i| i % 16 * 256 + i / 16)
+        .collect();
     let mut out = compose::setup(channels as u16, rng.from_to(24, 2048) as u32, &ids);
     for _ in 0..rng.from_to(0, 120) {
         let length = rng.pick(&[0, 1, 3, 4, 5, 5, 6, 10, 40]);
@@ -178,10 +205,15 @@ mod tests {
     #[test]
     fn every_outcome_comes_often_and_files_stay_small() {
         let mut seen: BTreeMap<String, usize> = BTreeMap::new();
-        let mut bytes = 0;
+        let (mut bytes, mut small) = (0, 0);
         for seed in (0..300).filter(|seed| seed % 3 != 2) {
             let recording = recording(seed);
-            assert!(recording.len() < 800_000, "seed {seed}: {} bytes", recording.len());
+            assert!(
+                recording.len() < 4_000_000,
+                "seed {seed}: {} bytes",
+                recording.len()
+            );
+            small += usize::from(recording.len() < 60_000);
             bytes += recording.len();
             for line in crate::replay::lines(&recording).lines() {
                 let words: Vec<&str> = line.split(' ').collect();
@@ -193,7 +225,10 @@ mod tests {
                 *seen.entry(name).or_default() += 1;
             }
         }
-        assert!(bytes < 20_000_000);
+        assert!(
+            bytes < 40_000_000 && small > 150,
+            "{bytes} bytes, {small} small"
+        );
         let least = [
             ("repeated", 500),
             ("stray", 500),

@@ -5,7 +5,20 @@ use crate::prng::Prng;
 
 const COUNTS: [u16; 8] = [0, 1, 2, 31, 32, 33, 256, 65535];
 const ROOMS: [u32; 14] = [
-    0, 1, 23, 24, 2048, 2049, 32768, 32769, 65535, 65536, 65537, 65560, 65561, 0xFFFF_FFFF,
+    0,
+    1,
+    23,
+    24,
+    2048,
+    2049,
+    32768,
+    32769,
+    65535,
+    65536,
+    65537,
+    65560,
+    65561,
+    0xFFFF_FFFF,
 ];
 
 /// A set-up at the edges, mostly a bad one, with datagrams behind it that must not be read then.
@@ -13,7 +26,11 @@ pub fn setup(rng: &mut Prng) -> Vec<u8> {
     let (count, room, ids) = match rng.below(3) {
         0 => {
             let count = rng.pick(&COUNTS);
-            (count, rng.pick(&ROOMS), compose::ids(rng, usize::from(count).min(40)))
+            (
+                count,
+                rng.pick(&ROOMS),
+                compose::ids(rng, usize::from(count).min(40)),
+            )
         }
         1 => {
             // Count and R are allowed one by one; the product is near 65,536 on either side.
@@ -43,7 +60,10 @@ pub fn setup(rng: &mut Prng) -> Vec<u8> {
     }
     for counter in 0..rng.below(5) {
         let sender = ids.first().map_or(1, |id| id % 4096);
-        compose::push(&mut out, &compose::datagram(compose::WHOLE, sender, counter as u16, b"hello"));
+        compose::push(
+            &mut out,
+            &compose::datagram(compose::WHOLE, sender, counter as u16, b"hello"),
+        );
     }
     out
 }
@@ -65,9 +85,11 @@ fn fields(recording: &[u8]) -> Vec<usize> {
 
 /// A good recording that ends early: at the edge of a field, one beside it, or anywhere.
 pub fn cut(rng: &mut Prng, mut good: Vec<u8>) -> Vec<u8> {
-    let at = match rng.below(5) {
+    let at = match rng.below(6) {
         0 => rng.below(good.len() + 1),
         1 => rng.below(80.min(good.len() + 1)),
+        // Round a multiple of 4,096, where a block that was read may end.
+        2 => (4096 * rng.from_to(1, good.len() / 4096 + 1) + rng.below(3)) - 1,
         _ => {
             let edge = rng.pick(&fields(&good));
             match rng.below(3) {
@@ -85,7 +107,11 @@ pub fn cut(rng: &mut Prng, mut good: Vec<u8>) -> Vec<u8> {
 /// follows is read out of step.
 pub fn flipped(rng: &mut Prng, mut good: Vec<u8>) -> Vec<u8> {
     for _ in 0..rng.from_to(1, 4) {
-        let reach = if rng.chance(1, 4) { 60.min(good.len()) } else { good.len() };
+        let reach = if rng.chance(1, 4) {
+            60.min(good.len())
+        } else {
+            good.len()
+        };
         if reach == 0 {
             break;
         }

@@ -35,7 +35,9 @@ fn stream(rng: &mut Prng, sender: u16, room: usize) -> Vec<Vec<u8>> {
     for _ in 0..rng.from_to(1, 25) {
         let small = rng.from_to(1, 60);
         let total = rng.pick(&[1, room.min(700), room.min(700) + 1, room + 30, small]);
-        let size = rng.from_to(1 + total / 12, 2 + total / 2).min(compose::LONGEST_PIECE);
+        let size = rng
+            .from_to(1 + total / 12, 2 + total / 2)
+            .min(compose::LONGEST_PIECE);
         let bytes = rng.bytes(total);
         let pieces: Vec<&[u8]> = bytes.chunks(size).collect();
         for (place, piece) in pieces.iter().enumerate() {

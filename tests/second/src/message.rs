@@ -31,7 +31,12 @@ pub struct Message {
 
 /// The lowest number whose condition holds.
 fn lowest(conditions: &[(u8, bool)]) -> Result<(), u8> {
-    match conditions.iter().filter(|(_, holds)| *holds).map(|(number, _)| *number).min() {
+    match conditions
+        .iter()
+        .filter(|(_, holds)| *holds)
+        .map(|(number, _)| *number)
+        .min()
+    {
         Some(refusal) => Err(refusal),
         None => Ok(()),
     }
@@ -49,7 +54,10 @@ fn platform_level(domain: u64, id: u32, payload: &[u8]) -> [(u8, bool); 3] {
         (7, here && length.is_none()),
         (8, here && length != Some(payload.len())),
         // A status is the only field with reserved values: 2 and above.
-        (9, here && id == STATUS && payload.len() == 4 && number(payload) > 1),
+        (
+            9,
+            here && id == STATUS && payload.len() == 4 && number(payload) > 1,
+        ),
     ]
 }
 
@@ -76,13 +84,22 @@ pub fn read(own: u8, bytes: &[u8]) -> Result<Message, u8> {
     ])?;
     lowest(&platform_level(domain, id, payload))?;
     let content = match (domain, id) {
-        (0, STATUS) => Content::Status { up: number(payload) == 1 },
+        (0, STATUS) => Content::Status {
+            up: number(payload) == 1,
+        },
         (0, REQUEST) => Content::Request,
         (0, UNKNOWN) => Content::Unknown(number(payload) as u32),
         (0, PULL) => Content::Pull(number(payload) as u32),
-        _ => Content::Operation { id, payload: payload.to_vec() },
+        _ => Content::Operation {
+            id,
+            payload: payload.to_vec(),
+        },
     };
-    Ok(Message { from: from as u8, sequence, content })
+    Ok(Message {
+        from: from as u8,
+        sequence,
+        content,
+    })
 }
 
 /// A message written by platform `own`; `room` is how many bytes may be given back.
@@ -124,14 +141,23 @@ mod tests {
 
     #[test]
     fn each_message_of_tables_3_and_4() {
-        let from_1 = |sequence, content| Ok(Message { from: 1, sequence, content });
+        let from_1 = |sequence, content| {
+            Ok(Message {
+                from: 1,
+                sequence,
+                content,
+            })
+        };
         assert_eq!(at_2(STATUS_UP), from_1(9, Content::Status { up: true }));
         assert_eq!(
             at_2("EC0A0200 00000001 00000001 00000004 00000000 00000000"),
             from_1(0, Content::Status { up: false })
         );
         // 20 bytes and accepted: the header has no timestamp.
-        assert_eq!(at_2("EC0A0200 00000001 00000002 00000000 00000007"), from_1(7, Content::Request));
+        assert_eq!(
+            at_2("EC0A0200 00000001 00000002 00000000 00000007"),
+            from_1(7, Content::Request)
+        );
         assert_eq!(
             at_2("EC0A0200 00000001 00000003 00000004 00000007 01020304"),
             from_1(7, Content::Unknown(0x0102_0304))
@@ -142,11 +168,24 @@ mod tests {
         );
         assert_eq!(
             at_2("EC0A0201 00000001 00000005 00000002 FFFFFFFF ABCD"),
-            from_1(0xFFFF_FFFF, Content::Operation { id: 5, payload: bytes("ABCD") })
+            from_1(
+                0xFFFF_FFFF,
+                Content::Operation {
+                    id: 5,
+                    payload: bytes("ABCD")
+                }
+            )
         );
         assert_eq!(
             at_2("EC0A0201 000000FF 00000000 00000000 00000000"),
-            Ok(Message { from: 255, sequence: 0, content: Content::Operation { id: 0, payload: vec![] } })
+            Ok(Message {
+                from: 255,
+                sequence: 0,
+                content: Content::Operation {
+                    id: 0,
+                    payload: vec![]
+                }
+            })
         );
     }
 
@@ -161,7 +200,10 @@ mod tests {
         assert_eq!(refused("EC0A0202 00000001 00000002 00000000 00000007"), 4);
         assert_eq!(refused("EC0A02FF 00000001 00000002 00000000 00000007"), 4);
         assert_eq!(refused("EC0A0200 00000001 00000002 00000001 00000007"), 5);
-        assert_eq!(refused("EC0A0200 00000001 00000002 00000000 00000007 00"), 5);
+        assert_eq!(
+            refused("EC0A0200 00000001 00000002 00000000 00000007 00"),
+            5
+        );
         assert_eq!(refused("EC0A0200 00000002 00000002 00000000 00000007"), 6);
         assert_eq!(refused("EC0A0200 00000100 00000002 00000000 00000007"), 6);
         assert_eq!(refused("EC0A0200 01000001 00000002 00000000 00000007"), 6);
@@ -169,13 +211,31 @@ mod tests {
         assert_eq!(refused("EC0A0200 00000001 00000005 00000000 00000007"), 7);
         assert_eq!(refused("EC0A0200 00000001 FFFFFFFF 00000000 00000007"), 7);
         assert_eq!(refused("EC0A0200 00000001 00000001 00000000 00000007"), 8);
-        assert_eq!(refused("EC0A0200 00000001 00000002 00000004 00000007 00000000"), 8);
-        assert_eq!(refused("EC0A0200 00000001 00000003 00000005 00000007 0000000000"), 8);
-        assert_eq!(refused("EC0A0200 00000001 00000001 00000004 00000007 00000002"), 9);
-        assert_eq!(refused("EC0A0200 00000001 00000001 00000004 00000007 01000001"), 9);
+        assert_eq!(
+            refused("EC0A0200 00000001 00000002 00000004 00000007 00000000"),
+            8
+        );
+        assert_eq!(
+            refused("EC0A0200 00000001 00000003 00000005 00000007 0000000000"),
+            8
+        );
+        assert_eq!(
+            refused("EC0A0200 00000001 00000001 00000004 00000007 00000002"),
+            9
+        );
+        assert_eq!(
+            refused("EC0A0200 00000001 00000001 00000004 00000007 01000001"),
+            9
+        );
         // Status 2 and a length that is wrong: 8 first.
-        assert_eq!(refused("EC0A0200 00000001 00000001 00000005 00000007 0000000200"), 8);
-        assert_eq!(refused("EC0A0200 00000001 00000001 00000020 00000007 FF*32"), 8);
+        assert_eq!(
+            refused("EC0A0200 00000001 00000001 00000005 00000007 0000000200"),
+            8
+        );
+        assert_eq!(
+            refused("EC0A0200 00000001 00000001 00000020 00000007 FF*32"),
+            8
+        );
     }
 
     #[test]
@@ -189,7 +249,10 @@ mod tests {
 
     #[test]
     fn written() {
-        assert_eq!(write(1, 0, STATUS, 9, &[0, 0, 0, 1], 24), Ok(bytes(STATUS_UP)));
+        assert_eq!(
+            write(1, 0, STATUS, 9, &[0, 0, 0, 1], 24),
+            Ok(bytes(STATUS_UP))
+        );
         assert_eq!(write(1, 0, STATUS, 9, &[0, 0, 0, 1], 23), Err(10));
         assert_eq!(write(1, 2, 9, 9, &[], 0), Err(4));
         assert_eq!(write(1, 0, 5, 9, &[], 0), Err(7));
@@ -197,9 +260,22 @@ mod tests {
         assert_eq!(write(1, 0, PULL, 9, &[], 0), Err(8));
         assert_eq!(write(1, 0, STATUS, 9, &[0, 0, 0, 2], 0), Err(9));
         let operation = write(255, 1, 7, 8, b"hi", 22).unwrap();
-        assert_eq!(operation, bytes("EC0A0201 000000FF 00000007 00000002 00000008 6869"));
-        let content = Content::Operation { id: 7, payload: b"hi".to_vec() };
-        assert_eq!(read(0, &operation), Ok(Message { from: 255, sequence: 8, content }));
+        assert_eq!(
+            operation,
+            bytes("EC0A0201 000000FF 00000007 00000002 00000008 6869")
+        );
+        let content = Content::Operation {
+            id: 7,
+            payload: b"hi".to_vec(),
+        };
+        assert_eq!(
+            read(0, &operation),
+            Ok(Message {
+                from: 255,
+                sequence: 8,
+                content
+            })
+        );
         assert_eq!(read(255, &operation), Err(6));
     }
 }

@@ -55,7 +55,12 @@ pub fn unpack(table: &[u8], of: usize, payload: &[u8], room: usize) -> Result<Ve
     unpack_checked(&check(table)?, of, payload, room)
 }
 
-pub fn unpack_checked(table: &Table, of: usize, payload: &[u8], room: usize) -> Result<Vec<u64>, u8> {
+pub fn unpack_checked(
+    table: &Table,
+    of: usize,
+    payload: &[u8],
+    room: usize,
+) -> Result<Vec<u64>, u8> {
     let mut todo: Vec<&Shape> = vec![table.types.get(of).ok_or(44)?];
     let mut rest = payload;
     let mut words = Vec::new();

@@ -86,7 +86,14 @@ fn every_base_at_its_ends() {
         assert_eq!(reads(code, wire), Ok(word), "{code} {wire}");
         assert_eq!(writes(code, word), Ok(bytes(wire)), "{code} {wire}");
     }
-    for (code, word) in [(2, 256), (7, 256), (8, 65536), (9, 1 << 32), (4, 1 << 31), (3, 32768)] {
+    for (code, word) in [
+        (2, 256),
+        (7, 256),
+        (8, 65536),
+        (9, 1 << 32),
+        (4, 1 << 31),
+        (3, 32768),
+    ] {
         assert_eq!(writes(code, word), Err(42), "{code}");
     }
 }
@@ -96,30 +103,55 @@ fn every_base_at_its_ends() {
 fn arrays_and_records() {
     let table = mixed();
     assert_eq!(unpack(&table, 1, &bytes("00000000"), PLENTY), Ok(vec![0]));
-    assert_eq!(unpack(&table, 1, &bytes("00000003 010203"), PLENTY), Ok(vec![3, 1, 2, 3]));
-    assert_eq!(unpack(&table, 1, &bytes("00000004 01020304"), PLENTY), Err(43));
+    assert_eq!(
+        unpack(&table, 1, &bytes("00000003 010203"), PLENTY),
+        Ok(vec![3, 1, 2, 3])
+    );
+    assert_eq!(
+        unpack(&table, 1, &bytes("00000004 01020304"), PLENTY),
+        Err(43)
+    );
     // 43 is met before the missing elements, 40 before a count that is cut.
     assert_eq!(unpack(&table, 1, &bytes("00000004"), PLENTY), Err(43));
     assert_eq!(unpack(&table, 1, &bytes("000004"), PLENTY), Err(40));
     assert_eq!(unpack(&table, 1, &bytes("00000003 0102"), PLENTY), Err(40));
     assert_eq!(unpack(&table, 1, &bytes("00000001 0102"), PLENTY), Err(41));
-    assert_eq!(pack(&table, 1, &[2, 8, 9], PLENTY), Ok(bytes("00000002 0809")));
+    assert_eq!(
+        pack(&table, 1, &[2, 8, 9], PLENTY),
+        Ok(bytes("00000002 0809"))
+    );
     assert_eq!(pack(&table, 1, &[4, 8, 9], PLENTY), Err(43));
     assert_eq!(pack(&table, 1, &[1 << 32], PLENTY), Err(43));
     assert_eq!(pack(&table, 1, &[2, 8], PLENTY), Err(40));
     assert_eq!(pack(&table, 1, &[1, 8, 9], PLENTY), Err(41));
-    assert_eq!(unpack(&table, 2, &bytes("AA 00000002 BBCC DD"), PLENTY), Ok(vec![0xAA, 2, 0xBB, 0xCC, 0xDD]));
-    assert_eq!(pack(&table, 2, &[0xAA, 2, 0xBB, 0xCC, 0xDD], PLENTY), Ok(bytes("AA 00000002 BBCC DD")));
-    assert_eq!(unpack(&bytes(RECORD), 1, &bytes("0102 0304"), PLENTY), Ok(vec![258, 772]));
-    assert_eq!(unpack(&bytes(RECORD), 1, &bytes("0102 03"), PLENTY), Err(40));
+    assert_eq!(
+        unpack(&table, 2, &bytes("AA 00000002 BBCC DD"), PLENTY),
+        Ok(vec![0xAA, 2, 0xBB, 0xCC, 0xDD])
+    );
+    assert_eq!(
+        pack(&table, 2, &[0xAA, 2, 0xBB, 0xCC, 0xDD], PLENTY),
+        Ok(bytes("AA 00000002 BBCC DD"))
+    );
+    assert_eq!(
+        unpack(&bytes(RECORD), 1, &bytes("0102 0304"), PLENTY),
+        Ok(vec![258, 772])
+    );
+    assert_eq!(
+        unpack(&bytes(RECORD), 1, &bytes("0102 03"), PLENTY),
+        Err(40)
+    );
 }
 
 /// A fixed array of arrays gives each one's count where it stands.
 #[test]
 fn nested() {
-    let table = bytes("0003 0000 0006 0000 0000 0004 0000 0000 0003 0003 0001 0000 0002 0000 0000 0000");
+    let table =
+        bytes("0003 0000 0006 0000 0000 0004 0000 0000 0003 0003 0001 0000 0002 0000 0000 0000");
     let wire = bytes("00000001 AA 00000002 BBCC");
-    assert_eq!(unpack(&table, 2, &wire, PLENTY), Ok(vec![1, 0xAA, 2, 0xBB, 0xCC]));
+    assert_eq!(
+        unpack(&table, 2, &wire, PLENTY),
+        Ok(vec![1, 0xAA, 2, 0xBB, 0xCC])
+    );
     assert_eq!(pack(&table, 2, &[1, 0xAA, 2, 0xBB, 0xCC], PLENTY), Ok(wire));
 }
 
@@ -127,7 +159,10 @@ fn nested() {
 fn enums() {
     // int16 with the values -1 and 258.
     let table = bytes("0001 0001 0003 0000 0002 0000 0002 FF*8 0000000000000102 0000");
-    assert_eq!(unpack(&table, 0, &bytes("FFFF"), PLENTY), Ok(vec![u64::MAX]));
+    assert_eq!(
+        unpack(&table, 0, &bytes("FFFF"), PLENTY),
+        Ok(vec![u64::MAX])
+    );
     assert_eq!(unpack(&table, 0, &bytes("0102"), PLENTY), Ok(vec![258]));
     assert_eq!(unpack(&table, 0, &bytes("0000"), PLENTY), Err(42));
     assert_eq!(unpack(&table, 0, &bytes("01"), PLENTY), Err(40));
@@ -161,9 +196,13 @@ fn order_of_refusals() {
 /// Demand 2 on random words of a type with every base: pack, unpack, the same words again.
 #[test]
 fn round_trips() {
-    let entries: String = (0..13).map(|code| format!("0000 {code:04X} 0000 0000 ")).collect();
+    let entries: String = (0..13)
+        .map(|code| format!("0000 {code:04X} 0000 0000 "))
+        .collect();
     let members: String = (0..13).map(|code| format!("{code:04X} ")).collect();
-    let table = bytes(&format!("000E {entries} 0002 0000 0000 000D 000D {members} 0000 0000"));
+    let table = bytes(&format!(
+        "000E {entries} 0002 0000 0000 000D 000D {members} 0000 0000"
+    ));
     let mut rng = crate::prng::Prng::new(1);
     let mut passed = 0;
     for _ in 0..500 {

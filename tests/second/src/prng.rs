@@ -9,7 +9,7 @@ impl Prng {
         Prng { state: seed }
     }
 
-    pub fn next(&mut self) -> u64 {
+    pub fn draw(&mut self) -> u64 {
         self.state = self.state.wrapping_add(0x9E37_79B9_7F4A_7C15);
         let mut z = self.state;
         z = (z ^ (z >> 30)).wrapping_mul(0xBF58_476D_1CE4_E5B9);
@@ -20,7 +20,7 @@ impl Prng {
     /// A number below `n`; the slight unevenness of the remainder does not matter here.
     pub fn below(&mut self, n: usize) -> usize {
         assert!(n > 0);
-        (self.next() % n as u64) as usize
+        (self.draw() % n as u64) as usize
     }
 
     /// A number from `low` to `high`, both included.
@@ -40,7 +40,7 @@ impl Prng {
     pub fn bytes(&mut self, n: usize) -> Vec<u8> {
         let mut out = Vec::with_capacity(n + 8);
         while out.len() < n {
-            out.extend_from_slice(&self.next().to_be_bytes());
+            out.extend_from_slice(&self.draw().to_be_bytes());
         }
         out.truncate(n);
         out
@@ -56,9 +56,9 @@ mod tests {
     #[test]
     fn reference_outputs() {
         let mut r = Prng::new(1234567);
-        assert_eq!(r.next(), 6457827717110365317);
-        assert_eq!(r.next(), 3203168211198807973);
-        assert_eq!(r.next(), 9817491932198370423);
+        assert_eq!(r.draw(), 6457827717110365317);
+        assert_eq!(r.draw(), 3203168211198807973);
+        assert_eq!(r.draw(), 9817491932198370423);
     }
 
     #[test]

@@ -8,7 +8,11 @@ pub enum Recording<'a> {
     Only(&'static str),
     /// A set-up that was accepted, the datagrams that are whole, and whether the file ended
     /// inside one more.
-    Datagrams { setup: Setup, datagrams: Vec<&'a [u8]>, cut: bool },
+    Datagrams {
+        setup: Setup,
+        datagrams: Vec<&'a [u8]>,
+        cut: bool,
+    },
 }
 
 /// The first `n` bytes taken away from `rest`, if there are so many.
@@ -23,7 +27,9 @@ fn take<'a>(rest: &mut &'a [u8], n: usize) -> Option<&'a [u8]> {
 
 /// Big endian, as everything here.
 pub fn number(bytes: &[u8]) -> u64 {
-    bytes.iter().fold(0, |sum, byte| sum * 256 + u64::from(*byte))
+    bytes
+        .iter()
+        .fold(0, |sum, byte| sum * 256 + u64::from(*byte))
 }
 
 pub fn parse(recording: &[u8]) -> Recording<'_> {
@@ -63,8 +69,15 @@ pub fn parse(recording: &[u8]) -> Recording<'_> {
             }
         }
     }
-    let setup = Setup { room: room as usize, senders };
-    Recording::Datagrams { setup, datagrams, cut }
+    let setup = Setup {
+        room: room as usize,
+        senders,
+    };
+    Recording::Datagrams {
+        setup,
+        datagrams,
+        cut,
+    }
 }
 
 /// One line without its number and its LF.
@@ -83,7 +96,11 @@ pub fn words(fate: &Fate) -> String {
 pub fn lines(recording: &[u8]) -> String {
     match parse(recording) {
         Recording::Only(line) => format!("{line}\n"),
-        Recording::Datagrams { setup, datagrams, cut } => {
+        Recording::Datagrams {
+            setup,
+            datagrams,
+            cut,
+        } => {
             let mut out = String::new();
             for (number, fate) in fates(&setup, &datagrams).iter().enumerate() {
                 out.push_str(&format!("{number} {}\n", words(fate)));

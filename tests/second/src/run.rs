@@ -1,9 +1,9 @@
 //! The comparison: recordings through the program under test, every byte of its output against
 //! the expected lines.
 
+use crate::prng::Prng;
 use crate::{edges, genuine, hex, make, replay, sent};
-use std::fs::File;
-use std::io::Read;
+use std::io::{Read, Write};
 use std::path::{Path, PathBuf};
 use std::process::{Command, Stdio};
 use std::sync::mpsc;
@@ -19,15 +19,36 @@ pub enum By {
     Input,
 }
 
+/// Through a pipe in uneven bits, so that a read may give less than was asked for.
+fn feed(mut input: impl Write, recording: &[u8]) {
+    let mut rng = Prng::new(recording.len() as u64);
+    let mut rest = recording;
+    while !rest.is_empty() {
+        let most = rng.pick(&[3, 700, 70000]);
+        let (bit, others) = rest.split_at(rng.from_to(1, most).min(rest.len()));
+        // A program that has refused the set-up need not read on.
+        if input.write_all(bit).is_err() {
+            break;
+        }
+        rest = others;
+    }
+}
+
 /// The program's output, and a complaint if it did not end by itself.
 fn output(command: &[&str], by: By, file: &Path) -> Result<Vec<u8>, String> {
     let mut program = Command::new(command[0]);
     program.args(&command[1..]).stdout(Stdio::piped());
     match by {
         By::Name => program.arg(file).stdin(Stdio::null()),
-        By::Input => program.stdin(File::open(file).map_err(|e| e.to_string())?),
+        By::Input => program.stdin(Stdio::piped()),
     };
-    let mut child = program.spawn().map_err(|error| format!("{}: {error}", command[0]))?;
+    let mut child = program
+        .spawn()
+        .map_err(|error| format!("{}: {error}", command[0]))?;
+    if let Some(input) = child.stdin.take() {
+        let recording = std::fs::read(file).map_err(|e| e.to_string())?;
+        std::thread::spawn(move || feed(input, &recording));
+    }
     let mut pipe = child.stdout.take().expect("stdout was piped");
     let (done, wait) = mpsc::channel();
     std::thread::spawn(move || {
@@ -65,14 +86,26 @@ pub fn difference(expected: &[u8], got: &[u8]) -> Option<String> {
             .collect()
     };
     let (expected, got) = (split(expected), split(got));
-    let at = expected.iter().zip(&got).take_while(|(a, b)| a == b).count();
+    let at = expected
+        .iter()
+        .zip(&got)
+        .take_while(|(a, b)| a == b)
+        .count();
     let show = |lines: &[String]| lines.get(at).cloned().unwrap_or("nothing more".to_string());
-    Some(format!("line {}: expected {}, got {}", at + 1, show(&expected), show(&got)))
+    Some(format!(
+        "line {}: expected {}, got {}",
+        at + 1,
+        show(&expected),
+        show(&got)
+    ))
 }
 
 /// One recording: what it is called, its bytes, and the checks of the program's output.
 struct Case {
+    /// The kept file's name.
     name: String,
+    /// What to ask for to see it again.
+    title: String,
     recording: Vec<u8>,
     expected: String,
     traffic: Option<genuine::Traffic>,
@@ -82,13 +115,22 @@ fn from_seed(seed: u64) -> Case {
     // Every third is genuine; 3 and 16 share no factor, so each kind's 16 styles all come.
     if seed % 3 == 2 {
         let traffic = genuine::traffic(seed);
-        let name = format!("genuine-{seed}");
-        let recording = traffic.recording.clone();
-        Case { name, recording, expected: sent::lines(&traffic), traffic: Some(traffic) }
+        Case {
+            name: format!("genuine-{seed}"),
+            title: format!("seed {seed} (genuine)"),
+            recording: traffic.recording.clone(),
+            expected: sent::lines(&traffic),
+            traffic: Some(traffic),
+        }
     } else {
         let recording = make::recording(seed);
-        let expected = replay::lines(&recording);
-        Case { name: format!("make-{seed}"), recording, expected, traffic: None }
+        Case {
+            name: format!("make-{seed}"),
+            title: format!("seed {seed} (make)"),
+            expected: replay::lines(&recording),
+            recording,
+            traffic: None,
+        }
     }
 }
 
@@ -98,7 +140,9 @@ fn check(case: &Case, command: &[&str], by: By, file: &Path) -> Result<usize, St
         // The other way: joining by the model must tell the same story as what was sent.
         let modelled = replay::lines(&case.recording);
         if let Some(text) = difference(case.expected.as_bytes(), modelled.as_bytes()) {
-            return Err(format!("the model itself departs from what was sent, {text}"));
+            return Err(format!(
+                "the model itself departs from what was sent, {text}"
+            ));
         }
     }
     let got = output(command, by, file)?;
@@ -114,11 +158,11 @@ fn check(case: &Case, command: &[&str], by: By, file: &Path) -> Result<usize, St
 
 /// Runs seeds and edges; reports on standard output; true if nothing differs.
 pub fn run(seeds: std::ops::Range<u64>, command: &[&str], by: By) -> std::io::Result<bool> {
-    let directory: PathBuf =
-        std::env::temp_dir().join(format!("second-{}", std::process::id()));
+    let directory: PathBuf = std::env::temp_dir().join(format!("second-{}", std::process::id()));
     std::fs::create_dir_all(&directory)?;
     let fixed = edges::all().into_iter().map(|edge| Case {
         name: format!("edge-{}", edge.name),
+        title: format!("edge {}", edge.name),
         recording: hex::bytes(edge.bytes),
         expected: edge.lines.to_string(),
         traffic: None,
@@ -139,7 +183,7 @@ pub fn run(seeds: std::ops::Range<u64>, command: &[&str], by: By) -> std::io::Re
                 differ += 1;
                 // The first is told in full; the files of all are kept.
                 if differ == 1 {
-                    println!("{}: {text}", case.name);
+                    println!("first difference: {}, {text}", case.title);
                     println!("kept: {}", file.display());
                 }
             }

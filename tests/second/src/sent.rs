@@ -42,9 +42,12 @@ pub fn lines(traffic: &Traffic) -> String {
         let words = match arrival {
             Arrival::Refused(refusal) => format!("refused {refusal}"),
             Arrival::Copy { again: true, .. } => "repeated 0 0".to_string(),
-            Arrival::Copy { channel, message, piece, again: false } => {
-                stories[*channel][*message][*piece].clone()
-            }
+            Arrival::Copy {
+                channel,
+                message,
+                piece,
+                again: false,
+            } => stories[*channel][*message][*piece].clone(),
         };
         out.push_str(&format!("{number} {words}\n"));
     }
@@ -60,15 +63,17 @@ pub fn demand_3(traffic: &Traffic, output: &str) -> Result<usize, String> {
         if words.get(1) != Some(&"delivered") {
             continue;
         }
-        let number: usize = words[0].parse().map_err(|_| format!("no number in `{line}`"))?;
+        let number: usize = words[0]
+            .parse()
+            .map_err(|_| format!("no number in `{line}`"))?;
         let length: usize = words
             .get(3)
             .and_then(|word| word.parse().ok())
             .ok_or_else(|| format!("no length in `{line}`"))?;
         match traffic.arrivals.get(number) {
-            Some(Arrival::Copy { channel, message, .. }) => {
-                delivered[*channel].push((*message, length))
-            }
+            Some(Arrival::Copy {
+                channel, message, ..
+            }) => delivered[*channel].push((*message, length)),
             _ => return Err(format!("`{line}`: that datagram completes no message")),
         }
     }
@@ -79,7 +84,12 @@ pub fn demand_3(traffic: &Traffic, output: &str) -> Result<usize, String> {
             .iter()
             .enumerate()
             .filter(|(_, message)| message.pieces.iter().all(|piece| piece.copies > 0))
-            .map(|(m, message)| (m, message.pieces.iter().map(|piece| piece.bytes.len()).sum()))
+            .map(|(m, message)| {
+                (
+                    m,
+                    message.pieces.iter().map(|piece| piece.bytes.len()).sum(),
+                )
+            })
             .collect();
         if got != due {
             let sender = channel.sender;
@@ -117,16 +127,28 @@ mod tests {
         let mut count = 0;
         for seed in 0..80 {
             let traffic = crate::genuine::traffic(seed);
-            let Recording::Datagrams { setup, datagrams, cut } = parse(&traffic.recording) else {
+            let Recording::Datagrams {
+                setup,
+                datagrams,
+                cut,
+            } = parse(&traffic.recording)
+            else {
                 panic!("seed {seed}: set-up refused");
             };
             assert!(!cut);
             for (arrival, fate) in traffic.arrivals.iter().zip(fates(&setup, &datagrams)) {
-                if let (Arrival::Copy { channel, message, .. }, Fate::Delivered { message: got, .. }) =
-                    (arrival, fate)
+                if let (
+                    Arrival::Copy {
+                        channel, message, ..
+                    },
+                    Fate::Delivered { message: got, .. },
+                ) = (arrival, fate)
                 {
                     let pieces = &traffic.channels[*channel].messages[*message].pieces;
-                    let sent: Vec<u8> = pieces.iter().flat_map(|piece| piece.bytes.clone()).collect();
+                    let sent: Vec<u8> = pieces
+                        .iter()
+                        .flat_map(|piece| piece.bytes.clone())
+                        .collect();
                     assert!(got == sent, "seed {seed}");
                     count += 1;
                 }
@@ -140,9 +162,16 @@ mod tests {
     fn a_wrong_output_fails() {
         let traffic = crate::genuine::traffic(7);
         let good = lines(&traffic);
-        let one = good.lines().find(|line| line.contains("delivered")).unwrap();
+        let one = good
+            .lines()
+            .find(|line| line.contains("delivered"))
+            .unwrap();
         assert!(demand_3(&traffic, &good).is_ok());
-        assert!(demand_3(&traffic, &good.replacen(one, &one.replace("delivered", "held"), 1)).is_err());
+        assert!(demand_3(
+            &traffic,
+            &good.replacen(one, &one.replace("delivered", "held"), 1)
+        )
+        .is_err());
         assert!(demand_3(&traffic, &good.replacen(one, &format!("{one}\n{one}"), 1)).is_err());
         assert!(demand_3(&traffic, &good.replacen(one, &format!("{one}9"), 1)).is_err());
     }

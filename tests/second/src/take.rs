@@ -33,7 +33,11 @@ impl Joiner {
     fn bad(&self) -> bool {
         let count = self.records.len() as u64;
         let twice = |record: &Record| {
-            self.records.iter().filter(|other| other.sender == record.sender).count() > 1
+            self.records
+                .iter()
+                .filter(|other| other.sender == record.sender)
+                .count()
+                > 1
         };
         !(1..=32).contains(&count)
             || !(24..=65560).contains(&self.room)
@@ -59,7 +63,11 @@ impl Joiner {
             return Err(22);
         }
         let sender = u16::from_be_bytes([datagram[0] & 0x0F, datagram[1]]);
-        let place = self.records.iter().position(|record| record.sender == sender).ok_or(23)?;
+        let place = self
+            .records
+            .iter()
+            .position(|record| record.sender == sender)
+            .ok_or(23)?;
         let counter = u32::from(u16::from_be_bytes([datagram[2], datagram[3]]));
         let piece = &datagram[4..];
         let room = self.room as usize;
@@ -68,7 +76,12 @@ impl Joiner {
 
         // Step 1.
         if record.seen && record.last == counter {
-            return Ok(Outcome { name: "repeated", missed: 0, bytes: 0, message: None });
+            return Ok(Outcome {
+                name: "repeated",
+                missed: 0,
+                bytes: 0,
+                message: None,
+            });
         }
         // Step 2.
         let missed = match record.seen {
@@ -80,16 +93,32 @@ impl Joiner {
         if missed > 0 {
             record.held = 0;
         }
-        let plain = |name| Ok(Outcome { name, missed, bytes: 0, message: None });
+        let plain = |name| {
+            Ok(Outcome {
+                name,
+                missed,
+                bytes: 0,
+                message: None,
+            })
+        };
         let part = datagram[0] & 0x30;
         // Step 3.
         if part == 0x30 {
             record.held = 0;
             let message = Some(piece.to_vec());
-            return Ok(Outcome { name: "delivered", missed, bytes: piece.len(), message });
+            return Ok(Outcome {
+                name: "delivered",
+                missed,
+                bytes: piece.len(),
+                message,
+            });
         }
         // Steps 4 and 5 differ in where the piece goes.
-        let held = if part == 0x00 { 0 } else { record.held as usize };
+        let held = if part == 0x00 {
+            0
+        } else {
+            record.held as usize
+        };
         if part != 0x00 && held == 0 {
             return plain("stray");
         }
@@ -102,10 +131,20 @@ impl Joiner {
         if part == 0x20 {
             record.held = 0;
             let message = Some(self.rooms[start..start + after].to_vec());
-            return Ok(Outcome { name: "delivered", missed, bytes: after, message });
+            return Ok(Outcome {
+                name: "delivered",
+                missed,
+                bytes: after,
+                message,
+            });
         }
         record.held = after as u32;
-        Ok(Outcome { name: "held", missed, bytes: after, message: None })
+        Ok(Outcome {
+            name: "held",
+            missed,
+            bytes: after,
+            message: None,
+        })
     }
 }
 
@@ -115,25 +154,56 @@ mod tests {
     use crate::hex::bytes;
 
     fn record(sender: u16) -> Record {
-        Record { sender, seen: false, last: 0, held: 0 }
+        Record {
+            sender,
+            seen: false,
+            last: 0,
+            held: 0,
+        }
     }
 
     fn fresh() -> Joiner {
-        Joiner { room: 24, records: vec![record(1), record(2)], rooms: vec![0xEE; 48] }
+        Joiner {
+            room: 24,
+            records: vec![record(1), record(2)],
+            rooms: vec![0xEE; 48],
+        }
     }
 
     #[test]
     fn only_the_pieces_own_bytes_are_written() {
         let mut joiner = fresh();
         let got = joiner.take(&bytes("0002 0009 414243")).unwrap();
-        assert_eq!((got.name, got.missed, got.bytes, got.message), ("held", 0, 3, None));
+        assert_eq!(
+            (got.name, got.missed, got.bytes, got.message),
+            ("held", 0, 3, None)
+        );
         assert_eq!(joiner.rooms, bytes("EE*24 414243 EE*21"));
-        assert_eq!(joiner.records[1], Record { sender: 2, seen: true, last: 9, held: 3 });
+        assert_eq!(
+            joiner.records[1],
+            Record {
+                sender: 2,
+                seen: true,
+                last: 9,
+                held: 3
+            }
+        );
         assert_eq!(joiner.records[0], record(1));
         let got = joiner.take(&bytes("2002 000A 44")).unwrap();
-        assert_eq!((got.name, got.bytes, got.message), ("delivered", 4, Some(bytes("41424344"))));
+        assert_eq!(
+            (got.name, got.bytes, got.message),
+            ("delivered", 4, Some(bytes("41424344")))
+        );
         assert_eq!(joiner.rooms, bytes("EE*24 41424344 EE*20"));
-        assert_eq!(joiner.records[1], Record { sender: 2, seen: true, last: 10, held: 0 });
+        assert_eq!(
+            joiner.records[1],
+            Record {
+                sender: 2,
+                seen: true,
+                last: 10,
+                held: 0
+            }
+        );
     }
 
     #[test]
@@ -158,7 +228,15 @@ mod tests {
             assert_eq!(joiner, before);
         }
         let many = (0..33).map(record).collect();
-        assert_eq!(Joiner { room: 24, records: many, rooms: vec![0; 792] }.take(&[]), Err(20));
+        assert_eq!(
+            Joiner {
+                room: 24,
+                records: many,
+                rooms: vec![0; 792]
+            }
+            .take(&[]),
+            Err(20)
+        );
         assert_eq!(fresh().take(&bytes("7003 0000")), Err(21));
         assert_eq!(fresh().take(&bytes("7003 0000 41")), Err(22));
         assert_eq!(fresh().take(&bytes("3003 0000 41")), Err(23));
@@ -171,7 +249,12 @@ mod tests {
         use crate::replay::{parse, words, Recording};
         for seed in (0..160).filter(|seed| seed % 16 != 12) {
             let recording = crate::make::recording(seed);
-            let Recording::Datagrams { setup, datagrams, .. } = parse(&recording) else { continue };
+            let Recording::Datagrams {
+                setup, datagrams, ..
+            } = parse(&recording)
+            else {
+                continue;
+            };
             let mut joiner = Joiner {
                 room: setup.room as u64,
                 records: setup.senders.iter().map(|id| record(*id)).collect(),
@@ -184,7 +267,11 @@ mod tests {
                 };
                 assert_eq!(text, words(fate), "seed {seed}, datagram {number}");
                 if let Fate::Delivered { message: whole, .. } = fate {
-                    assert_eq!(message.as_ref(), Some(whole), "seed {seed}, datagram {number}");
+                    assert_eq!(
+                        message.as_ref(),
+                        Some(whole),
+                        "seed {seed}, datagram {number}"
+                    );
                 }
             }
         }

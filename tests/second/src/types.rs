@@ -134,7 +134,8 @@ fn operations(entries: &[&[u8]], types: usize) -> Option<Vec<Operation>> {
     let rising = all.windows(2).all(|two| two[0].id < two[1].id);
     let each = all.iter().all(|op| {
         let typed = usize::from(op.of) < types;
-        op.id != 0xFFFF_FFFF && (op.kind == 0 && (typed || op.of == 0xFFFF) || op.kind == 1 && typed)
+        op.id != 0xFFFF_FFFF
+            && (op.kind == 0 && (typed || op.of == 0xFFFF) || op.kind == 1 && typed)
     });
     (rising && each).then_some(all)
 }
@@ -157,7 +158,11 @@ pub fn check(bytes: &[u8]) -> Result<Table, u8> {
     for one in &types {
         let size = {
             let of = |part: &Rc<Shape>| {
-                sizes.iter().find(|(known, _)| Rc::ptr_eq(known, part)).expect("is smaller").1
+                sizes
+                    .iter()
+                    .find(|(known, _)| Rc::ptr_eq(known, part))
+                    .expect("is smaller")
+                    .1
             };
             match &**one {
                 Shape::Base(base) | Shape::Enum(base, _) => BASES[usize::from(*base)].1 as u64,
@@ -171,7 +176,12 @@ pub fn check(bytes: &[u8]) -> Result<Table, u8> {
         }
         sizes.push((one.clone(), size));
     }
-    Ok(Table { types, members: members.len(), values: values.len(), operations })
+    Ok(Table {
+        types,
+        members: members.len(),
+        values: values.len(),
+        operations,
+    })
 }
 
 impl Table {

@@ -4,7 +4,8 @@ use crate::hex::bytes;
 use crate::types::{check, integer_allows, Shape};
 
 /// 01's whole table: a record of two uint16, 28 bytes.
-pub const RECORD: &str = "0002 | 0000 0008 0000 0000 | 0002 0000 0000 0002 | 0002 0000 0000 | 0000 | 0000";
+pub const RECORD: &str =
+    "0002 | 0000 0008 0000 0000 | 0002 0000 0000 0002 | 0002 0000 0000 | 0000 | 0000";
 
 fn answer(table: &str) -> u8 {
     check(&bytes(table)).err().unwrap_or(0)
@@ -17,13 +18,20 @@ fn types(count: usize, entries: &str) -> u8 {
 
 /// One enum of int-ish base with these values, each a 64-bit word.
 fn enumeration(base: u16, values: &[u64]) -> u8 {
-    let words: String = values.iter().map(|value| format!("{value:016X} ")).collect();
+    let words: String = values
+        .iter()
+        .map(|value| format!("{value:016X} "))
+        .collect();
     let n = values.len();
-    answer(&format!("0001 0001 {base:04X} 0000 {n:04X} 0000 {n:04X} {words} 0000"))
+    answer(&format!(
+        "0001 0001 {base:04X} 0000 {n:04X} 0000 {n:04X} {words} 0000"
+    ))
 }
 
 fn operations(count: usize, entries: &str) -> u8 {
-    answer(&format!("0001 0000 0008 0000 0000 0000 0000 {count:04X} {entries}"))
+    answer(&format!(
+        "0001 0000 0008 0000 0000 0000 0000 {count:04X} {entries}"
+    ))
 }
 
 #[test]
@@ -57,7 +65,10 @@ fn counts_in_reading_order() {
     assert_eq!(answer("0001 0000 0008 0000 0000 0401"), 31);
     assert_eq!(answer("0001 0000 0008 0000 0000 0000 0401"), 31);
     assert_eq!(answer("0001 0000 0008 0000 0000 0000 0000 0401"), 31);
-    assert_eq!(answer("0001 0000 0008 0000 0000 0400 0000*1024 0000 0000"), 0);
+    assert_eq!(
+        answer("0001 0000 0008 0000 0000 0400 0000*1024 0000 0000"),
+        0
+    );
     // 31 in a later section goes before 32 in an earlier one.
     assert_eq!(answer("0001 0009 0008 0000 0000 0000 0000 0401"), 31);
     // And a byte left over before 32.
@@ -92,7 +103,11 @@ fn arrays() {
 
 #[test]
 fn records() {
-    let of = |second: &str, members: &str| answer(&format!("0002 0000 0008 0000 0000 {second} {members} 0000 0000"));
+    let of = |second: &str, members: &str| {
+        answer(&format!(
+            "0002 0000 0008 0000 0000 {second} {members} 0000 0000"
+        ))
+    };
     assert_eq!(of("0002 0000 0000 0001", "0001 0000"), 0);
     assert_eq!(of("0002 0001 0000 0001", "0001 0000"), 32);
     assert_eq!(of("0002 0000 0000 0000", "0001 0000"), 32);
@@ -160,7 +175,9 @@ fn sizes() {
     // A record's sum: 65,535 and 1, then 65,535 and 2.
     let pair = |last: &str| {
         let three = format!("{last} 0003 0000 0000 0001 0000 0006 0000 0000 0003 0002 0000 FFFF");
-        answer(&format!("0005 {three} 0002 0000 0000 0002 0002 0000 0003 0000 0000"))
+        answer(&format!(
+            "0005 {three} 0002 0000 0000 0002 0002 0000 0003 0000 0000"
+        ))
     };
     assert_eq!(pair(uint8), 0);
     assert_eq!(pair(uint16), 33);
@@ -168,10 +185,18 @@ fn sizes() {
     let tower: String = (0..9).map(|i| format!("0003 {i:04X} 0000 8000 ")).collect();
     assert_eq!(types(10, &format!("{uint8} {tower}")), 33);
     // R18: the second type can exceed 65,536, but the third breaks a rule.
-    assert_eq!(types(3, &format!("{uint16} 0003 0000 0000 8001 0009 0000 0000 0000")), 32);
+    assert_eq!(
+        types(
+            3,
+            &format!("{uint16} 0003 0000 0000 8001 0009 0000 0000 0000")
+        ),
+        32
+    );
     // An operation that breaks a rule also comes before.
     assert_eq!(
-        answer(&format!("0002 {uint16} 0003 0000 0000 8001 0000 0000 0001 FFFFFFFF 0000 0000")),
+        answer(&format!(
+            "0002 {uint16} 0003 0000 0000 8001 0000 0000 0001 FFFFFFFF 0000 0000"
+        )),
         32
     );
 }
