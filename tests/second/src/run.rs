@@ -146,13 +146,19 @@ fn check(case: &Case, command: &[&str], by: By, file: &Path) -> Result<usize, St
         }
     }
     let got = output(command, by, file)?;
+    let mut complaints: Vec<String> = difference(case.expected.as_bytes(), &got)
+        .into_iter()
+        .collect();
     if let Some(traffic) = &case.traffic {
-        let text = String::from_utf8_lossy(&got);
-        delivered = sent::demand_3(traffic, &text).map_err(|e| format!("demand 3: {e}"))?;
+        match sent::demand_3(traffic, &String::from_utf8_lossy(&got)) {
+            Ok(messages) => delivered = messages,
+            Err(text) => complaints.push(format!("demand 3: {text}")),
+        }
     }
-    match difference(case.expected.as_bytes(), &got) {
-        None => Ok(delivered),
-        Some(text) => Err(text),
+    if complaints.is_empty() {
+        Ok(delivered)
+    } else {
+        Err(complaints.join("; "))
     }
 }
 

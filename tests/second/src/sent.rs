@@ -72,8 +72,13 @@ pub fn demand_3(traffic: &Traffic, output: &str) -> Result<usize, String> {
             .ok_or_else(|| format!("no length in `{line}`"))?;
         match traffic.arrivals.get(number) {
             Some(Arrival::Copy {
-                channel, message, ..
-            }) => delivered[*channel].push((*message, length)),
+                channel,
+                message,
+                piece,
+                again: false,
+            }) if *piece + 1 == traffic.channels[*channel].messages[*message].pieces.len() => {
+                delivered[*channel].push((*message, length))
+            }
             _ => return Err(format!("`{line}`: that datagram completes no message")),
         }
     }
@@ -92,11 +97,15 @@ pub fn demand_3(traffic: &Traffic, output: &str) -> Result<usize, String> {
             })
             .collect();
         if got != due {
-            let sender = channel.sender;
+            let at = got.iter().zip(&due).take_while(|(a, b)| a == b).count();
             return Err(format!(
-                "sender {sender}: {} delivered, {} arrived whole; (message, length): {got:?} for {due:?}",
+                "sender {}: {} delivered, {} arrived whole; from the first that differs, as \
+                 (message, length): {:?} for {:?}",
+                channel.sender,
                 got.len(),
-                due.len()
+                due.len(),
+                got.get(at),
+                due.get(at)
             ));
         }
         count += due.len();
