@@ -115,8 +115,8 @@ sizes-say n R b e =
 pub few-channels : (n R b : ℕ) → goodSizes n R b ≡ true → n ≤ channelLimit
 few-channels n R b e = sizes-say n R b e .few
 
-pub next-fits : {t : Bool} (R : ℕ) (ch : Channel) → t ≡ goodChannel R ch → t ≡ true → Fits w16 (ch .sender + 1)
-next-fits R ch e t =
+pub next-fits : {t : Bool} (R : ℕ) (ch : Channel) (n : ℕ) → n ≤ 1 → t ≡ goodChannel R ch → t ≡ true → Fits w16 (ch .sender + n)
+next-fits R ch n l e t =
     let h : ch .sender < senders = ltb-true (ch .sender) senders (and-left (ltb (ch .sender) senders) (leb (ch .held) R && ltb (ch .last) counters) (sym e ∙ t)) in
     record { fits = omega arith }
 

@@ -124,13 +124,13 @@ pub fn take(joiner: Joiner, rooms: &mut [u8], datagram: &[u8]) -> Taken
             outcome: Outcome::Refused(number),
             joiner,
         },
-        Judged::Move { at, step } => {
+        Judged::Move { at: moved, step } => {
             let outcome = step.outcome;
             let place = step.put;
             let channel = step.channel;
             write_piece(rooms, place, datagram);
             let mut after = joiner;
-            after.channels[at] = channel;
+            after.channels[moved] = channel;
             Taken {
                 outcome,
                 joiner: after,
@@ -209,10 +209,8 @@ fn judge(joiner: Joiner, rooms: usize, datagram: &[u8]) -> Judged
                         size: joiner.room,
                     };
                     let length = (datagram.len() - BindingHeader::LENGTH) as u32;
-                    Judged::Move {
-                        at,
-                        step: steps::stepped(room, joiner.channels[at], header, length),
-                    }
+                    let step = steps::stepped(room, joiner.channels[at], header, length);
+                    Judged::Move { at, step }
                 } else {
                     Judged::Refusal(NOT_SET_UP)
                 }

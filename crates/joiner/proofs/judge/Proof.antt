@@ -17,7 +17,7 @@ judge-spec =
     (λ c. search needs)
     (λ c. search needs)
     (λ c κs. search few-channels)
-    (λ c κs. (search few-rooms, search narrow-rooms))
+    (λ c κs. (search (needs, few-rooms), search narrow-rooms))
     (λ c. search long-enough)
     (λ c. search length-fits)
     (λ c. search record-fits)

@@ -35,7 +35,7 @@ is-good-spec =
     (λ c. search needs)
     (λ c. search needs)
     (λ c κs. search needs)
-    (λ c. search next-fits)
+    (λ c. search (needs, next-fits))
     (λ c. search needs)
     (λ c. search needs)
     (λ c. (search needs, search needs, search needs, search needs, below-more _ _ (c .before .before .before .before .before .before .loop .inv .4) (cc), rising-more _ _ _ _ (c .before .before .before .before .before .before .loop .inv .5)))

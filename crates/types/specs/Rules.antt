@@ -1,0 +1,66 @@
+-- 01, "The type table": the rules of a type's entry. Number 32.
+use Prim.Native.Nat.{ℕ, _+_}
+use mathlib.Core.Bool.{Bool, true, false, _&&_, _||_, cond}
+use mathlib.Core.List.{List}
+use lib.Dec.{ltb, leb, eqb}
+use Rattle.types.specs.declared.Sections.{Sections}
+use Rattle.types.specs.declared.Entry.{Entry}
+use Rattle.types.specs.All.{allBelow}
+use Rattle.types.specs.Leaf.{isBase, isEnumBase}
+use Rattle.types.specs.Entries.{typeAt, memberAt}
+use Rattle.types.specs.Values.{valuesOk}
+
+-- kinds
+abbrev pub baseKind : ℕ
+baseKind = 0
+
+abbrev pub enumKind : ℕ
+enumKind = 1
+
+abbrev pub recordKind : ℕ
+recordKind = 2
+
+abbrev pub fixedKind : ℕ
+fixedKind = 3
+
+abbrev pub arrayKind : ℕ
+arrayKind = 4
+
+-- 0 base: of is the code, and first and count are unused
+abbrev pub baseFields : Entry → Bool
+baseFields e = isBase (e .of) && eqb (e .first) 0 && eqb (e .count) 0
+
+-- 1 enum: of is its base code, 1 or 3 to 10; first and count lie in section 3
+abbrev pub enumFields : Sections → Entry → Bool
+enumFields s e = isEnumBase (e .of) && leb 1 (e .count) && leb (e .first + e .count) (s .values .count)
+
+-- 2 record: of is unused; first and count lie in section 2
+abbrev pub recordFields : Sections → Entry → Bool
+recordFields s e = eqb (e .of) 0 && leb 1 (e .count) && leb (e .first + e .count) (s .members .count)
+
+-- 3 fixed array and 4 array: of is the element, whose number is smaller; first is unused
+abbrev pub elementFields : ℕ → Entry → Bool
+elementFields i e = ltb (e .of) i && eqb (e .first) 0 && leb 1 (e .count)
+
+-- the fields of type i's entry, in constant time
+unfoldable pub fieldsOk : Sections → ℕ → Entry → Bool
+fieldsOk s i e =
+    cond (eqb (e .kind) baseKind) (baseFields e)
+    (cond (eqb (e .kind) enumKind) (enumFields s e)
+    (cond (eqb (e .kind) recordKind) (recordFields s e)
+    (cond (eqb (e .kind) fixedKind || eqb (e .kind) arrayKind) (elementFields i e) false)))
+
+-- a record's k-th member has a smaller number than the record
+unfoldable pub memberOk : List ℕ → Sections → ℕ → Entry → ℕ → Bool
+memberOk t s i e k = ltb (memberAt t s (e .first + k)) i
+
+unfoldable pub membersOk : List ℕ → Sections → ℕ → Entry → Bool
+membersOk t s i e = allBelow (memberOk t s i e) (e .count)
+
+-- what the entry of type i points to. Members and values that no type points to aren't judged
+unfoldable pub pointedOk : List ℕ → Sections → ℕ → Entry → Bool
+pointedOk t s i e =
+    cond (eqb (e .kind) enumKind) (valuesOk t s e) (cond (eqb (e .kind) recordKind) (membersOk t s i e) true)
+
+unfoldable pub typeOk : List ℕ → Sections → ℕ → Bool
+typeOk t s i = fieldsOk s i (typeAt t s i) && pointedOk t s i (typeAt t s i)
