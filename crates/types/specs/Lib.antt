@@ -1,1 +1,3 @@
 pub mod Leaf
+pub mod All
+pub mod Layout

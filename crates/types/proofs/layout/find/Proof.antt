@@ -1,0 +1,19 @@
+-- `layout.find` meets its contract.
+-- Assumes nothing.
+use borrow.Author.Needs.{needs}
+use Rattle.types.specs.Layout.{sectionsOf}
+use Rattle.types.proofs.Places.{no-link, link, reach-first}
+use Rattle.types.proofs.layout.find.Statement.{statement}
+use Rattle.types.proofs.layout.find.Tie as tie
+
+pub find-spec : {M : Type 1} → statement M
+unfolding sectionsOf
+find-spec =
+    tie.close
+    (tie.spec
+    (λ c κs. search needs)
+    (λ c. search needs)
+    (λ c. search needs)
+    (λ c κs. search (reach-first 8 1 256))
+    (λ c. search no-link)
+    (λ c. search link))
