@@ -1,2 +1,10 @@
 pub mod Leaves
+pub mod AllBelow
+pub mod Rising
 pub mod Places
+pub mod Lookups
+pub mod TypeRules
+pub mod OperationRules
+pub mod SizeLaws
+pub mod Tables
+pub mod Accepted

@@ -1,0 +1,141 @@
+-- Laws of the largest sizes: what the returns come to, that nothing wraps, and what filling the room does.
+-- Assumes nothing.
+use Prim.Native.Nat.{ℕ, zero, suc, _+_, _*_, _^_, _≤_, _<_}
+use mathlib.Core.Path.{_≡_, refl, sym, ap, subst, _∙_}
+use mathlib.Core.Bool.{Bool, true, false, _&&_, _||_}
+use mathlib.Core.List.{List, [], _∷_, _++_}
+use native.Mathlib.Nat.{mul-le-mul}
+use native.Mathlib.Numerals.{add-one}
+use native.Mathlib.Omega.{arith}
+use borrow.Author.Tests.{le-leb, lt-leb, eq-eqb, ne-eqb, ltb-true}
+use mir.Syntax.{w16, w32, w64}
+use mir.Val.{Fits}
+use lib.Dec.{ltb, leb, eqb}
+use lib.ListN.{length, getD, set, take, List·getD-eq-default}
+use lib.Seq.{take-suc-set}
+use Rattle.types.specs.declared.Sections.{Sections}
+use Rattle.types.specs.declared.Entry.{Entry}
+use Rattle.types.specs.declared.Largest.{Largest}
+use Rattle.types.specs.declared.Largest.the-variants.{Bytes, Unknown}
+use Rattle.types.specs.All.{allBelow}
+use Rattle.types.specs.Leaf.{width}
+use Rattle.types.specs.Entries.{typeAt, memberAt, isType}
+use Rattle.types.specs.Sizes.{mostBytes, sumOf, sizeOf, sizes, largest, sizeFits, bytesUpTo, largestBelow, largestOf}
+use Rattle.types.proofs.AllBelow.{and-right, next-below, stop-below}
+
+-- a 16-bit count times a 32-bit size
+product : (n z : ℕ) → Fits w16 n → Fits w32 z → n * z ≤ 65535 * 4294967295
+product n z a b =
+    let x : n ≤ 65535 = omega arith in
+    let y : z ≤ 4294967295 = omega arith in
+    mul-le-mul x y
+
+pub times-fits : (n z : ℕ) → Fits w16 n → Fits w32 z → Fits w64 (n * z)
+times-fits n z a b = record { fits = omega (arith, product n z a b) }
+
+pub times-small : (n z : ℕ) → Fits w16 n → Fits w32 z → n * z < 2 ^ 48
+times-small n z a b = omega (arith, product n z a b)
+
+pub up-to : (z : ℕ) → z ≤ mostBytes → Bytes z ≡ bytesUpTo z
+unfolding bytesUpTo
+up-to z h = rw (le-leb z mostBytes h) refl
+
+pub over-it : (z : ℕ) → mostBytes < z → Unknown ≡ bytesUpTo z
+unfolding bytesUpTo
+over-it z h = rw (lt-leb z mostBytes h) refl
+
+pub not-known : (l : List ℕ) (i : ℕ) → length l ≤ i → 0 ≡ getD l i 0
+not-known l i h = sym (List·getD-eq-default l 0 h)
+
+-- the sum over a record's members, member by member
+module _ (t : List ℕ) (s : Sections) (known : List ℕ) (e : Entry) where
+  pub sum-none : 0 ≡ sumOf t s known e 0
+  unfolding sumOf
+  sum-none = refl
+
+  pub sum-more : (k total m z : ℕ) → total ≡ sumOf t s known e k → m ≡ memberAt t s (e .first + k) → z ≡ getD known m 0 → total + z ≡ sumOf t s known e (k + 1)
+  unfolding sumOf
+  sum-more k total m z h p q = rw (add-one k, ← h, ← p, ← q) refl
+
+  pub sum-done : (k total : ℕ) → total ≡ sumOf t s known e k → k ≤ e .count → e .count ≤ k → total ≡ sumOf t s known e (e .count)
+  sum-done k total h a b = h ∙ ap (sumOf t s known e) (omega arith)
+
+  -- the size of an entry, by its kind
+  pub leaf-size : (r : ℕ) → e .kind ≤ 1 → r ≡ width (e .of) → r ≡ sizeOf t s known e
+  unfolding sizeOf
+  leaf-size r k h = rw (le-leb (e .kind) 1 k) h
+
+  pub base-size : (r : ℕ) → e .kind ≡ 0 → r ≡ width (e .of) → r ≡ sizeOf t s known e
+  base-size r k h = leaf-size r (omega arith) h
+
+  pub enum-size : (r : ℕ) → e .kind ≡ 1 → r ≡ width (e .of) → r ≡ sizeOf t s known e
+  enum-size r k h = leaf-size r (omega arith) h
+
+  pub record-size : (r : ℕ) → e .kind ≡ 2 → r ≡ sumOf t s known e (e .count) → r ≡ sizeOf t s known e
+  unfolding sizeOf
+  record-size r k h = rw (lt-leb (e .kind) 1 (omega arith), eq-eqb (e .kind) 2 k) h
+
+  pub fixed-size : (r z : ℕ) → e .kind ≡ 3 → r ≡ e .count * z → z ≡ getD known (e .of) 0 → r ≡ sizeOf t s known e
+  unfolding sizeOf
+  fixed-size r z k h q = rw (lt-leb (e .kind) 1 (omega arith), ne-eqb (e .kind) 2 (omega arith), eq-eqb (e .kind) 3 k, ← q) h
+
+  pub array-size : (r z : ℕ) → e .kind ≡ 4 → r ≡ e .count * z → z ≡ getD known (e .of) 0 → r + 4 ≡ sizeOf t s known e
+  unfolding sizeOf
+  array-size r z k h q =
+      rw (lt-leb (e .kind) 1 (omega arith), ne-eqb (e .kind) 2 (omega arith), ne-eqb (e .kind) 3 (omega arith), eq-eqb (e .kind) 4 k, ← q, ← h) refl
+
+  pub no-size : (e .kind ≡ 0 → ⊥) → (e .kind ≡ 1 → ⊥) → (e .kind ≡ 2 → ⊥) → (e .kind ≡ 3 → ⊥) → (e .kind ≡ 4 → ⊥) → 0 ≡ sizeOf t s known e
+  unfolding sizeOf
+  no-size a b c d f = simp (lt-leb (e .kind) 1 (omega arith), ne-eqb (e .kind) 2 c, ne-eqb (e .kind) 3 d, ne-eqb (e .kind) 4 f)
+
+-- filling the room: what it holds below i is the sizes of the types below i
+module _ (t : List ℕ) (s : Sections) where
+  pub fill-none : (room : List ℕ) → take 0 room ≡ sizes t s 0
+  unfolding sizes
+  fill-none room = refl
+
+  module _ (room : List ℕ) (i : ℕ) (e : Entry) (z : ℕ) (so-far : take i room ≡ sizes t s i) (here : e ≡ typeAt t s i) (is : z ≡ sizeOf t s (take i room) e) where
+    pub the-largest : z ≡ largest t s i
+    unfolding largest
+    the-largest = is ∙ ap (λ (l : List ℕ). sizeOf t s l e) so-far ∙ ap (sizeOf t s (sizes t s i)) here
+
+    pub fill-more : (n : ℕ) (before : List ℕ) → length room ≡ length before → n ≤ length before → i < n → take (i + 1) (set room i z) ≡ sizes t s (i + 1)
+    unfolding sizes
+    fill-more n before l b h =
+        ap (λ (n : ℕ). take n (set room i z)) (add-one i) ∙ take-suc-set room i z (omega arith)
+        ∙ ap (λ (l : List ℕ). l ++ (z ∷ [])) so-far
+        ∙ rw (add-one i, is, so-far, here) refl
+
+    pub fits-more : allBelow (sizeFits t s) i ≡ true → z ≤ 65536 → allBelow (sizeFits t s) (i + 1) ≡ true
+    unfolding sizeFits
+    fits-more a h = next-below (sizeFits t s) i true a (rw (← the-largest, le-leb z 65536 h) refl) refl
+
+    pub fits-no-more : (n : ℕ) → i < n → 65536 < z → false ≡ allBelow (sizeFits t s) n
+    unfolding sizeFits
+    fits-no-more n l h = stop-below (sizeFits t s) n i false (rw (← the-largest, lt-leb z 65536 h) refl) refl l
+
+    pub known-bytes : (b : Largest) → b ≡ bytesUpTo z → b ≡ bytesUpTo (largest t s i)
+    known-bytes b h = h ∙ ap bytesUpTo the-largest
+
+  pub filled : (room : List ℕ) (i n : ℕ) → take i room ≡ sizes t s i → i ≤ n → n ≤ i → true ≡ true → take n room ≡ sizes t s n
+  filled room i n h a b _ = let e : i ≡ n = omega arith in subst (λ (k : ℕ). take k room ≡ sizes t s k) e h
+
+  module _ (i : ℕ) (f : Bool) (p : f ≡ allBelow (sizeFits t s) i) where
+    pub below-known : (room : List ℕ) (e : Entry) (z : ℕ) (b : Largest) → f ≡ true → (f ≡ true → take i room ≡ sizes t s i) → e ≡ typeAt t s i → z ≡ sizeOf t s (take i room) e → b ≡ bytesUpTo z → b ≡ largestBelow t s i
+    unfolding largestBelow
+    below-known room e z b h k q r u = rw (← p, h) (known-bytes room i e z (k h) q r b u)
+
+    pub below-unknown : f ≡ false → Unknown ≡ largestBelow t s i
+    unfolding largestBelow
+    below-unknown h = rw (← p, h) refl
+
+  pub is-known : (i : ℕ) (x : Bool) (b : Largest) → x ≡ isType s i → (x && ltb i 256) ≡ true → b ≡ largestBelow t s i → b ≡ largestOf t s i
+  unfolding largestOf
+  is-known i x b p h q = rw (← p, h) q
+
+  pub is-unknown : (i : ℕ) (x : Bool) → x ≡ isType s i → (x && ltb i 256) ≡ false → Unknown ≡ largestOf t s i
+  unfolding largestOf
+  is-unknown i x p h = rw (← p, h) refl
+
+pub below-limit : (x : Bool) (i n : ℕ) → (x && ltb i n) ≡ true → i < n
+below-limit x i n h = ltb-true i n (and-right x (ltb i n) h)

@@ -1,0 +1,15 @@
+-- `types::entries::member_at` meets its contract: the number at its place.
+-- Assumes nothing.
+use borrow.Author.Needs.{needs}
+use Rattle.types.specs.Entries.{memberAt}
+use Rattle.types.proofs.entries.member_at.Statement.{statement}
+use Rattle.types.proofs.entries.member_at.Tie as tie
+
+pub member-at-spec : {M : Type 1} → statement M
+unfolding memberAt
+member-at-spec =
+    tie.close
+    (tie.spec
+    (λ c κs. search needs)
+    (λ c κs. search needs)
+    (λ c. cc))

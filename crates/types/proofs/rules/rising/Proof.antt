@@ -1,0 +1,32 @@
+-- `types::rules::rising` meets its contract: the first k values rise.
+-- Assumes nothing.
+use borrow.Author.Needs.{needs}
+use Prim.Native.Nat.{_-_, _≤_}
+use mathlib.Core.Path.{_≡_}
+use mathlib.Core.Bool.{true}
+use Rattle.types.specs.All.{allBelow, above}
+use Rattle.types.specs.Rules.{rank, rising}
+use Rattle.types.proofs.AllBelow.{none-below, next-below, stop-below, done-below}
+use Rattle.types.proofs.rules.rising.Statement.{statement}
+use Rattle.types.proofs.rules.rising.Tie as tie
+
+abbrev Inv-loop : tie.InvT-loop
+Inv-loop table s e count k₀ k = (k ≤ e .count) × (allBelow (above (rank table s e)) k ≡ true)
+
+abbrev μ-loop : tie.MeasureT-loop
+μ-loop table s e count k₀ k = e .count - k
+
+pub rising-spec : {M : Type 1} → statement M
+unfolding rising
+rising-spec =
+    tie.close
+    (tie.spec
+    Inv-loop
+    μ-loop
+    (λ c. (search needs, search none-below))
+    (λ c κs. search needs)
+    (λ c. search needs)
+    (λ c. search needs)
+    (λ c. (search needs, search next-below))
+    (λ c. search stop-below)
+    (λ c. search done-below))

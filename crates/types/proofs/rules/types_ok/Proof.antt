@@ -1,0 +1,31 @@
+-- `types::rules::types_ok` meets its contract: the first i types have passed.
+-- Assumes nothing.
+use borrow.Author.Needs.{needs}
+use Prim.Native.Nat.{_-_, _≤_}
+use mathlib.Core.Path.{_≡_}
+use mathlib.Core.Bool.{true}
+use Rattle.types.specs.All.{allBelow}
+use Rattle.types.specs.Rules.{typeOk}
+use Rattle.types.proofs.AllBelow.{none-below, next-below, stop-below, done-below}
+use Rattle.types.proofs.rules.types_ok.Statement.{statement}
+use Rattle.types.proofs.rules.types_ok.Tie as tie
+
+abbrev Inv-loop : tie.InvT-loop
+Inv-loop table s count i₀ i = (i ≤ s .types .count) × (allBelow (typeOk table s) i ≡ true)
+
+abbrev μ-loop : tie.MeasureT-loop
+μ-loop table s count i₀ i = s .types .count - i
+
+pub types-ok-spec : {M : Type 1} → statement M
+types-ok-spec =
+    tie.close
+    (tie.spec
+    Inv-loop
+    μ-loop
+    (λ c. (search needs, search none-below))
+    (λ c κs. search needs)
+    (λ c. search needs)
+    (λ c. search needs)
+    (λ c. (search needs, search next-below))
+    (λ c. search stop-below)
+    (λ c. search done-below))

@@ -1,0 +1,32 @@
+-- `types::rules::unlike_before` meets its contract: the first j values are unlike the k-th.
+-- Assumes nothing.
+use borrow.Author.Needs.{needs}
+use Prim.Native.Nat.{_-_, _≤_}
+use mathlib.Core.Path.{_≡_}
+use mathlib.Core.Bool.{true}
+use Rattle.types.specs.All.{allBelow}
+use Rattle.types.specs.Rules.{unlike, unlikeBefore}
+use Rattle.types.proofs.AllBelow.{none-below, next-below, stop-below, done-below}
+use Rattle.types.proofs.rules.unlike_before.Statement.{statement}
+use Rattle.types.proofs.rules.unlike_before.Tie as tie
+
+abbrev Inv-loop : tie.InvT-loop
+Inv-loop table s e k j₀ j = (j ≤ k) × (allBelow (unlike table s e k) j ≡ true)
+
+abbrev μ-loop : tie.MeasureT-loop
+μ-loop table s e k j₀ j = k - j
+
+pub unlike-before-spec : {M : Type 1} → statement M
+unfolding unlikeBefore
+unlike-before-spec =
+    tie.close
+    (tie.spec
+    Inv-loop
+    μ-loop
+    (λ c. (search needs, search none-below))
+    (λ c κs. search needs)
+    (λ c. search needs)
+    (λ c. search needs)
+    (λ c. (search needs, search next-below))
+    (λ c. search stop-below)
+    (λ c. search done-below))

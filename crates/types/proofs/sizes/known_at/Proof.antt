@@ -1,0 +1,15 @@
+-- `types::sizes::known_at` meets its contract.
+-- Assumes nothing.
+use borrow.Author.Needs.{needs}
+use Rattle.types.proofs.SizeLaws.{not-known}
+use Rattle.types.proofs.sizes.known_at.Statement.{statement}
+use Rattle.types.proofs.sizes.known_at.Tie as tie
+
+pub known-at-spec : {M : Type 1} → statement M
+known-at-spec =
+    tie.close
+    (tie.spec
+    (λ c. search needs)
+    (λ c. search needs)
+    (λ c. search needs)
+    (λ c. search not-known))

@@ -1,0 +1,34 @@
+-- `types::sizes::sum` meets its contract: the total is the sum over the first k members.
+-- Assumes nothing.
+use borrow.Author.Needs.{needs}
+use Prim.Native.Nat.{_-_, _*_, _≤_}
+use mathlib.Core.Path.{_≡_}
+use Rattle.types.specs.Sizes.{sumOf}
+use Rattle.types.proofs.SizeLaws.{sum-none, sum-more, sum-done}
+use Rattle.types.proofs.sizes.sum.Statement.{statement}
+use Rattle.types.proofs.sizes.sum.Tie as tie
+
+abbrev Inv-loop : tie.InvT-loop
+Inv-loop table s known e count total₀ k₀ total k = (k ≤ e .count) × (total ≡ sumOf table s known e k) × (total ≤ k * 4294967295)
+
+abbrev μ-loop : tie.MeasureT-loop
+μ-loop table s known e count total₀ k₀ total k = e .count - k
+
+pub sum-spec : {M : Type 1} → statement M
+sum-spec =
+    tie.close
+    (tie.spec
+    Inv-loop
+    μ-loop
+    (λ c. (search needs, search sum-none, search needs))
+    (λ c. search needs)
+    (λ c. search needs)
+    (λ c. search needs)
+    (λ c κs. search needs)
+    (λ c κs. search needs)
+    (λ c. search needs)
+    (λ c. search needs)
+    (λ c. search needs)
+    (λ c. search needs)
+    (λ c. (search needs, search sum-more, search needs))
+    (λ c. search sum-done))

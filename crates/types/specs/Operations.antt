@@ -1,0 +1,41 @@
+-- 01, "The type table": the rules of an operation's entry (number 32), and an operation looked up by its ID.
+use Prim.Native.Nat.{ℕ, _<_}
+use mathlib.Core.Path.{_≡_}
+use mathlib.Core.Bool.{Bool, true, false, _&&_, _||_}
+use mathlib.Core.List.{List}
+use lib.Dec.{ltb, leb, eqb}
+use Rattle.types.specs.declared.Sections.{Sections}
+use Rattle.types.specs.declared.Operation.{Operation}
+use Rattle.types.specs.declared.Found.{Found}
+use Rattle.types.specs.declared.Found.the-variants.{At, Nothing}
+use Rattle.types.specs.All.{allBelow, above}
+use Rattle.types.specs.Entries.{idAt, operationAt, isType}
+
+-- kinds; the type number that stands for none; the ID that no operation has
+abbrev pub eventKind : ℕ
+eventKind = 0
+
+abbrev pub dataKind : ℕ
+dataKind = 1
+
+abbrev pub noType : ℕ
+noType = 0xFFFF
+
+abbrev pub noId : ℕ
+noId = 0xFFFFFFFF
+
+-- 0 event or 1 versioned data, and a type; or an event with none
+unfoldable pub carriesOk : Sections → Operation → Bool
+carriesOk s o = (leb (o .kind) dataKind && isType s (o .carries)) || (eqb (o .kind) eventKind && eqb (o .carries) noType)
+
+unfoldable pub operationOk : List ℕ → Sections → ℕ → Bool
+operationOk t s i = above (idAt t s) i && ltb (idAt t s i) noId && carriesOk s (operationAt t s i)
+
+-- IDs strictly rise
+unfoldable pub idsRise : List ℕ → Sections → Bool
+idsRise t s = allBelow (above (idAt t s)) (s .operations .count)
+
+-- an operation looked up: an entry that bears the ID, or none; and none means absent where the IDs rise. READINGS R13
+unfoldable pub Answers : List ℕ → Sections → ℕ → Found → Type 0
+Answers t s id (At i) = (i < s .operations .count) × (idAt t s i ≡ id)
+Answers t s id Nothing = idsRise t s ≡ true → (i : ℕ) → i < s .operations .count → idAt t s i ≡ id → ⊥

@@ -1,0 +1,97 @@
+-- 01, "The type table": the rules of a type's entry. Number 32.
+use Prim.Native.Nat.{ℕ, _+_, _%_, _^_}
+use mathlib.Core.Bool.{Bool, true, false, _&&_, _||_, not}
+use mathlib.Core.List.{List}
+use lib.Dec.{ltb, leb, eqb}
+use Rattle.types.specs.declared.Sections.{Sections}
+use Rattle.types.specs.declared.Entry.{Entry}
+use Rattle.types.specs.All.{allBelow, above}
+use Rattle.types.specs.Leaf.{allowed}
+use Rattle.types.specs.Entries.{typeAt, memberAt, valueAt}
+
+-- kinds
+abbrev pub baseKind : ℕ
+baseKind = 0
+
+abbrev pub enumKind : ℕ
+enumKind = 1
+
+abbrev pub recordKind : ℕ
+recordKind = 2
+
+abbrev pub fixedKind : ℕ
+fixedKind = 3
+
+abbrev pub arrayKind : ℕ
+arrayKind = 4
+
+abbrev pub pickBool : Bool → Bool → Bool → Bool
+pickBool true a b = a
+pickBool false a b = b
+
+-- 0 base: of is the code, and first and count are unused
+abbrev pub baseFields : Entry → Bool
+baseFields e = leb (e .of) 12 && eqb (e .first) 0 && eqb (e .count) 0
+
+-- 1 enum: of is its base code, 1 or 3 to 10; first and count lie in section 3
+abbrev pub enumFields : Sections → Entry → Bool
+enumFields s e = (eqb (e .of) 1 || (leb 3 (e .of) && leb (e .of) 10)) && leb 1 (e .count) && leb (e .first + e .count) (s .values .count)
+
+-- 2 record: of is unused; first and count lie in section 2
+abbrev pub recordFields : Sections → Entry → Bool
+recordFields s e = eqb (e .of) 0 && leb 1 (e .count) && leb (e .first + e .count) (s .members .count)
+
+-- 3 fixed array and 4 array: of is the element, whose number is smaller; first is unused
+abbrev pub elementFields : ℕ → Entry → Bool
+elementFields i e = ltb (e .of) i && eqb (e .first) 0 && leb 1 (e .count)
+
+-- the fields of type i's entry, in constant time
+unfoldable pub fieldsOk : Sections → ℕ → Entry → Bool
+fieldsOk s i e =
+    pickBool (eqb (e .kind) baseKind) (baseFields e)
+    (pickBool (eqb (e .kind) enumKind) (enumFields s e)
+    (pickBool (eqb (e .kind) recordKind) (recordFields s e)
+    (pickBool (eqb (e .kind) fixedKind || eqb (e .kind) arrayKind) (elementFields i e) false)))
+
+-- an enum's k-th value is allowed in its base, and unlike each value before it
+unfoldable pub valueOk : List ℕ → Sections → Entry → ℕ → Bool
+valueOk t s e k = allowed (e .of) (valueAt t s (e .first + k))
+
+unfoldable pub unlike : List ℕ → Sections → Entry → ℕ → ℕ → Bool
+unlike t s e k j = not (eqb (valueAt t s (e .first + j)) (valueAt t s (e .first + k)))
+
+unfoldable pub unlikeBefore : List ℕ → Sections → Entry → ℕ → Bool
+unlikeBefore t s e k = allBelow (unlike t s e k) k
+
+unfoldable pub distinct : List ℕ → Sections → Entry → Bool
+distinct t s e = allBelow (unlikeBefore t s e) (e .count)
+
+unfoldable pub valuesOk : List ℕ → Sections → Entry → Bool
+valuesOk t s e = allBelow (valueOk t s e) (e .count) && distinct t s e
+
+-- a record's k-th member has a smaller number than the record
+unfoldable pub memberOk : List ℕ → Sections → ℕ → Entry → ℕ → Bool
+memberOk t s i e k = ltb (memberAt t s (e .first + k)) i
+
+unfoldable pub membersOk : List ℕ → Sections → ℕ → Entry → Bool
+membersOk t s i e = allBelow (memberOk t s i e) (e .count)
+
+-- what the entry of type i points to. Members and values that no type points to aren't judged
+unfoldable pub pointedOk : List ℕ → Sections → ℕ → Entry → Bool
+pointedOk t s i e =
+    pickBool (eqb (e .kind) enumKind) (valuesOk t s e) (pickBool (eqb (e .kind) recordKind) (membersOk t s i e) true)
+
+unfoldable pub typeOk : List ℕ → Sections → ℕ → Bool
+typeOk t s i = fieldsOk s i (typeAt t s i) && pointedOk t s i (typeAt t s i)
+
+-- how the values of an enum are compared to see that they rise: as numbers with a sign where the base has one (codes up to 5)
+abbrev pub pickWord : Bool → ℕ → ℕ → ℕ
+pickWord true a b = a
+pickWord false a b = b
+
+unfoldable pub rank : List ℕ → Sections → Entry → ℕ → ℕ
+rank t s e k = pickWord (ltb (e .of) 6) ((valueAt t s (e .first + k) + 2 ^ 63) % 2 ^ 64) (valueAt t s (e .first + k))
+
+-- the values of an enum rise
+unfoldable pub rising : List ℕ → Sections → Entry → Bool
+rising t s e = allBelow (above (rank t s e)) (e .count)

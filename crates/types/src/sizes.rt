@@ -1,0 +1,123 @@
+// The largest sizes of the types, each from those of the types before it: number 33.
+use crate::Entry;
+use crate::Largest;
+use crate::Sections;
+use crate::entries;
+use crate::leaf;
+ghost use mathlib.Core.Path.{_≡_};
+ghost use mathlib.Core.Bool.{true};
+ghost use Prim.Native.Nat.{ℕ, _*_, _^_, _≤_, _<_};
+ghost use lib.ListN.{length, getD, take};
+ghost use Rattle.types.specs.All.{allBelow};
+ghost use Rattle.types.specs.Layout.{mostTypes};
+ghost use Rattle.types.specs.Sizes.{sizeOf, sumOf, sizes, sizeFits, bytesUpTo, largestBelow, largestOf};
+ghost use Rattle.types.specs.Table.{sizesOk};
+
+// The largest size of one type.
+pub fn largest(table: &[u8], s: Sections, i: u16) -> Largest
+    ensures { λ r. ⌜ r ≡ largestOf (now (table .entry)) s i ⌝ }
+{
+    if entries::is_type(s, i) & (i < 256) {
+        largest_below(table, s, i)
+    } else {
+        Largest::Unknown
+    }
+}
+
+// No type of the table can be too large.
+pub(crate) fn all_fit(table: &[u8], s: Sections) -> bool
+    requires { ⌜ s .types .count ≤ mostTypes ⌝ }
+    ensures { λ r. ⌜ r ≡ sizesOk (now (table .entry)) s ⌝ }
+{
+    let n = s.types.count as usize;
+    let mut room = [0u32; 256];
+    fill(table, s, &mut room, n)
+}
+
+// From the sizes of the types below i, where none is too large.
+fn largest_below(table: &[u8], s: Sections, i: u16) -> Largest
+    requires { ⌜ i < mostTypes ⌝ }
+    ensures { λ r. ⌜ r ≡ largestBelow (now (table .entry)) s i ⌝ }
+{
+    let n = i as usize;
+    let mut room = [0u32; 256];
+    if fill(table, s, &mut room, n) {
+        let e = entries::type_at(table, s, i);
+        bytes_up_to(size_of(table, s, &room[..n], e))
+    } else {
+        Largest::Unknown
+    }
+}
+
+fn bytes_up_to(size: u64) -> Largest
+    ensures { λ r. ⌜ r ≡ bytesUpTo size ⌝ }
+{
+    if size <= 65536 {
+        Largest::Bytes(size as u32)
+    } else {
+        Largest::Unknown
+    }
+}
+
+// Writes the largest sizes of the types below n, up to the first that is too large; whether none is.
+fn fill(table: &[u8], s: Sections, room: &mut [u32], n: usize) -> bool
+    requires { ⌜ (n ≤ length (now room)) × (n ≤ mostTypes) ⌝ }
+    ensures { λ r. ⌜ r ≡ allBelow (sizeFits (now (table .entry)) s) n ⌝ }
+    ensures { λ r. ⌜ (r ≡ true → take n (now (room .exit)) ≡ sizes (now (table .entry)) s n) ⌝ }
+{
+    let mut i = 0;
+    while i < n {
+        let e = entries::type_at(table, s, i as u16);
+        let size = size_of(table, s, &room[..i], e);
+        if 65536 < size {
+            return false;
+        }
+        room[i] = size as u32;
+        i += 1;
+    }
+    true
+}
+
+// The largest size of an entry, from the sizes of the types before it. In 64 bits it cannot wrap.
+fn size_of(table: &[u8], s: Sections, known: &[u32], e: Entry) -> u64
+    ensures { λ r. ⌜ r ≡ sizeOf (now (table .entry)) s (now (known .entry)) e ⌝ }
+{
+    let kind = e.kind;
+    match kind {
+        0 => leaf::width(e.of) as u64,
+        1 => leaf::width(e.of) as u64,
+        2 => sum(table, s, known, e),
+        3 => times(e.count, known_at(known, e.of)),
+        4 => times(e.count, known_at(known, e.of)) + 4,
+        _ => 0,
+    }
+}
+
+// The sum over a record's members.
+fn sum(table: &[u8], s: Sections, known: &[u32], e: Entry) -> u64
+    ensures { λ r. ⌜ r ≡ sumOf (now (table .entry)) s (now (known .entry)) e (e .count) ⌝ }
+{
+    let count = e.count;
+    let mut total: u64 = 0;
+    let mut k: u16 = 0;
+    while k < count {
+        let member = entries::member_at(table, s, e.first as u32 + k as u32);
+        total += known_at(known, member) as u64;
+        k += 1;
+    }
+    total
+}
+
+// The largest size of a type, as far as it is known.
+fn known_at(known: &[u32], i: u16) -> u32
+    ensures { λ r. ⌜ r ≡ getD (now (known .entry)) i 0 ⌝ }
+{
+    let at = i as usize;
+    if at < known.len() { known[at] } else { 0 }
+}
+
+fn times(count: u16, size: u32) -> u64
+    ensures { λ r. ⌜ (r ≡ count * size) × (r < 2 ^ 48) ⌝ }
+{
+    (count as u64) * (size as u64)
+}
