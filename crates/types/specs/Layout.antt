@@ -75,13 +75,16 @@ abbrev pub pickPart : Bool → Part → Part → Part
 pickPart true a b = a
 pickPart false a b = b
 
--- a section that starts at p: its count, which must be there and within its limits, and its entries, which must be there
+-- the section whose 16-bit count stands at p
+abbrev pub counted : List ℕ → ℕ → Section
+counted t p = record { at = p + 2; count = number 1 t p }
+
+-- its count must be there and within its limits, and then its entries must be there
 unfoldable pub sectionAt : ℕ → ℕ → ℕ → List ℕ → ℕ → Part
 sectionAt width least most t p =
     pickPart (ltb (length t) (p + 2)) (Missing cutShort)
-    (pickPart (ltb (number 1 t p) least || ltb most (number 1 t p)) (Missing countOutside)
-    (pickPart (ltb (length t) (p + 2 + width * number 1 t p)) (Missing cutShort)
-    (Found (record { at = p + 2; count = number 1 t p }))))
+    (pickPart (ltb (counted t p .count) least || ltb most (counted t p .count)) (Missing countOutside)
+    (pickPart (ltb (length t) (sectionEnd width (counted t p))) (Missing cutShort) (Found (counted t p))))
 
 -- what comes after a section that was found
 unfoldable pub after : Part → (Section → Checked) → Checked

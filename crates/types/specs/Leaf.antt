@@ -24,6 +24,13 @@ codes =
 unfoldable pub base : ℕ → Leaf
 base code = getD codes code none
 
+abbrev pub isBase : ℕ → Bool
+isBase code = leb code 12
+
+-- the base codes of enums: int8, and int16 to uint64
+abbrev pub isEnumBase : ℕ → Bool
+isEnumBase code = eqb code 1 || (leb 3 code && leb code 10)
+
 -- the bytes that a leaf takes
 unfoldable pub bytesOf : Leaf → ℕ
 bytesOf boolean = 1

@@ -6,7 +6,7 @@ use lib.Dec.{ltb, leb, eqb}
 use Rattle.types.specs.declared.Sections.{Sections}
 use Rattle.types.specs.declared.Entry.{Entry}
 use Rattle.types.specs.All.{allBelow, above}
-use Rattle.types.specs.Leaf.{allowed}
+use Rattle.types.specs.Leaf.{isBase, isEnumBase, allowed}
 use Rattle.types.specs.Entries.{typeAt, memberAt, valueAt}
 
 -- kinds
@@ -31,11 +31,11 @@ pickBool false a b = b
 
 -- 0 base: of is the code, and first and count are unused
 abbrev pub baseFields : Entry → Bool
-baseFields e = leb (e .of) 12 && eqb (e .first) 0 && eqb (e .count) 0
+baseFields e = isBase (e .of) && eqb (e .first) 0 && eqb (e .count) 0
 
 -- 1 enum: of is its base code, 1 or 3 to 10; first and count lie in section 3
 abbrev pub enumFields : Sections → Entry → Bool
-enumFields s e = (eqb (e .of) 1 || (leb 3 (e .of) && leb (e .of) 10)) && leb 1 (e .count) && leb (e .first + e .count) (s .values .count)
+enumFields s e = isEnumBase (e .of) && leb 1 (e .count) && leb (e .first + e .count) (s .values .count)
 
 -- 2 record: of is unused; first and count lie in section 2
 abbrev pub recordFields : Sections → Entry → Bool

@@ -29,16 +29,6 @@ const MOST_VALUES: u16 = 1024;
 
 const MOST_OPERATIONS: u16 = 1024;
 
-// The sections of a table, with nothing after them.
-pub fn find(table: &[u8]) -> Checked
-    ensures { λ r. ⌜ r ≡ sectionsOf (now (table .entry)) ⌝ }
-{
-    match section(table, 0, TYPE_WIDTH, 1, MOST_TYPES) {
-        Part::Missing(n) => Checked::Refused(n),
-        Part::Found(types) => after_types(table, types),
-    }
-}
-
 // Whether the sections could be those of these bytes: each within its limit, and within the bytes. In constant time.
 pub fn within(table: &[u8], s: Sections) -> bool
     ensures { λ r. ⌜ r ≡ within (now (table .entry)) s ⌝ }
@@ -53,29 +43,39 @@ pub fn within(table: &[u8], s: Sections) -> bool
         & lies_in(operations, OPERATION_WIDTH, MOST_OPERATIONS, table.len())
 }
 
+// The four sections, and nothing after them.
+pub(crate) fn read(table: &[u8]) -> Checked
+    ensures { λ r. ⌜ r ≡ sectionsOf (now (table .entry)) ⌝ }
+{
+    match section(table, 0, TYPE_WIDTH, 1, MOST_TYPES) {
+        Part::Missing(n) => Checked::Refused(n),
+        Part::Found(types) => after_types(table, types),
+    }
+}
+
 // Where the i-th entry of each section stands.
-pub fn type_place(s: Sections, i: u32) -> usize
+pub(crate) fn type_place(s: Sections, i: u32) -> usize
     ensures { λ r. ⌜ r ≡ typePlace s i ⌝ }
 {
     let types = s.types;
     place(types, TYPE_WIDTH, i)
 }
 
-pub fn member_place(s: Sections, i: u32) -> usize
+pub(crate) fn member_place(s: Sections, i: u32) -> usize
     ensures { λ r. ⌜ r ≡ memberPlace s i ⌝ }
 {
     let members = s.members;
     place(members, MEMBER_WIDTH, i)
 }
 
-pub fn value_place(s: Sections, i: u32) -> usize
+pub(crate) fn value_place(s: Sections, i: u32) -> usize
     ensures { λ r. ⌜ r ≡ valuePlace s i ⌝ }
 {
     let values = s.values;
     place(values, VALUE_WIDTH, i)
 }
 
-pub fn operation_place(s: Sections, i: u32) -> usize
+pub(crate) fn operation_place(s: Sections, i: u32) -> usize
     ensures { λ r. ⌜ r ≡ operationPlace s i ⌝ }
 {
     let operations = s.operations;

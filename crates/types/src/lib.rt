@@ -69,7 +69,7 @@ enum Part {
 pub fn check(table: &[u8]) -> Checked
     ensures { λ r. ⌜ r ≡ checked (now (table .entry)) ⌝ }
 {
-    match layout::find(table) {
+    match layout::read(table) {
         Checked::Refused(n) => Checked::Refused(n),
         Checked::Table(s) => judged(table, s),
     }

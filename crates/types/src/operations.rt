@@ -24,7 +24,7 @@ pub fn find(table: &[u8], s: Sections, id: u32) -> Found
 }
 
 // Every operation of the table keeps its rule.
-pub fn operations_ok(table: &[u8], s: Sections) -> bool
+pub(crate) fn operations_ok(table: &[u8], s: Sections) -> bool
     ensures { λ r. ⌜ r ≡ allBelow (operationOk (now (table .entry)) s) (s .operations .count) ⌝ }
 {
     let count = s.operations.count;

@@ -9,22 +9,6 @@ ghost use Rattle.types.specs.Rules.{typeOk, fieldsOk, pointedOk, members
 ghost use Rattle.types.specs.Rules.{distinct, unlikeBefore, unlike, rising, rank};
 ghost use Rattle.types.specs.Rules.{baseFields, enumFields, recordFields, elementFields};
 
-// Every type of the table keeps its rule.
-pub fn types_ok(table: &[u8], s: Sections) -> bool
-    ensures { λ r. ⌜ r ≡ allBelow (typeOk (now (table .entry)) s) (s .types .count) ⌝ }
-{
-    let count = s.types.count;
-    let mut i: u16 = 0;
-    while i < count {
-        if type_ok(table, s, i) {
-            i += 1;
-        } else {
-            return false;
-        }
-    }
-    true
-}
-
 // The fields of type i's entry, in constant time: what it points to is not looked at.
 pub fn fields_ok(s: Sections, i: u16, e: Entry) -> bool
     ensures { λ r. ⌜ r ≡ fieldsOk s i e ⌝ }
@@ -38,6 +22,22 @@ pub fn fields_ok(s: Sections, i: u16, e: Entry) -> bool
         4 => element_fields(i, e),
         _ => false,
     }
+}
+
+// Every type of the table keeps its rule.
+pub(crate) fn types_ok(table: &[u8], s: Sections) -> bool
+    ensures { λ r. ⌜ r ≡ allBelow (typeOk (now (table .entry)) s) (s .types .count) ⌝ }
+{
+    let count = s.types.count;
+    let mut i: u16 = 0;
+    while i < count {
+        if type_ok(table, s, i) {
+            i += 1;
+        } else {
+            return false;
+        }
+    }
+    true
 }
 
 fn base_fields(e: Entry) -> bool

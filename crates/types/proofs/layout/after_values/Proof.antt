@@ -1,4 +1,4 @@
--- `layout.after_values` meets its contract.
+-- `types::layout::after_values` meets its contract.
 -- Assumes nothing.
 use borrow.Author.Needs.{needs}
 use Rattle.types.specs.Layout.{afterValues}

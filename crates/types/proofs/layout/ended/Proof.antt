@@ -1,4 +1,4 @@
--- `layout.ended` meets its contract.
+-- `types::layout::ended` meets its contract.
 -- Assumes nothing.
 use borrow.Author.Needs.{needs}
 use Rattle.types.proofs.Places.{at-end, not-at-end}

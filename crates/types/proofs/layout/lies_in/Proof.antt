@@ -1,4 +1,4 @@
--- `layout.lies_in` meets its contract.
+-- `types::layout::lies_in` meets its contract.
 -- Assumes nothing.
 use borrow.Author.Needs.{needs}
 use Rattle.types.proofs.Places.{lies}

@@ -1,4 +1,4 @@
--- `layout.place` meets its contract.
+-- `types::layout::place` meets its contract.
 -- Assumes nothing.
 use borrow.Author.Needs.{needs}
 use Rattle.types.proofs.Places.{product-fits, place-fits}

@@ -1,4 +1,4 @@
--- `layout.section` meets its contract.
+-- `types::layout::section` meets its contract.
 -- Assumes nothing.
 use borrow.Author.Needs.{needs}
 use Rattle.types.proofs.Places.{cut-count, outside, cut-entries, found}

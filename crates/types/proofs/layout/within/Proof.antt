@@ -1,4 +1,4 @@
--- `layout.within` meets its contract.
+-- `types::layout::within` meets its contract.
 -- Assumes nothing.
 use borrow.Author.Needs.{needs}
 use Rattle.types.specs.Layout.{within}

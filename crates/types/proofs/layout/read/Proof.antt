@@ -1,14 +1,14 @@
--- `layout.find` meets its contract.
+-- `types::layout::read` meets its contract.
 -- Assumes nothing.
 use borrow.Author.Needs.{needs}
 use Rattle.types.specs.Layout.{sectionsOf}
 use Rattle.types.proofs.Places.{no-link, link, reach-first}
-use Rattle.types.proofs.layout.find.Statement.{statement}
-use Rattle.types.proofs.layout.find.Tie as tie
+use Rattle.types.proofs.layout.read.Statement.{statement}
+use Rattle.types.proofs.layout.read.Tie as tie
 
-pub find-spec : {M : Type 1} → statement M
+pub read-spec : {M : Type 1} → statement M
 unfolding sectionsOf
-find-spec =
+read-spec =
     tie.close
     (tie.spec
     (λ c κs. search needs)
