@@ -1,58 +1,197 @@
--- What is known of a table that `check` accepts: laws for the walk and for platforms.
+-- A table that `check` accepts: what the walk's and the platform's proofs may count on.
 -- Assumes nothing.
-use Prim.Native.Nat.{ℕ, _+_, _≤_, _<_}
+use Prim.Native.Nat.{ℕ, _+_, _*_, _≤_, _<_}
 use mathlib.Core.Path.{_≡_, refl, sym, ap, subst, _∙_}
-use mathlib.Core.Bool.{Bool, true, false, _&&_}
+use mathlib.Core.Bool.{Bool, true, false, _&&_, _||_, not}
+use mathlib.Core.Logic.{_⊎_, inl, inr, ⊎-elim}
 use mathlib.Core.List.{List}
 use native.Mathlib.Omega.{arith}
-use borrow.Author.Tests.{eqb-true}
-use lib.Dec.{eqb}
+use borrow.Author.Tests.{eqb-true, eqb-false, leb-true, leb-false, ltb-true, lt-ltb, le-leb, not-true}
+use lib.Dec.{ltb, leb, eqb}
 use lib.ListN.{length}
-use Rattle.types.specs.declared.Section.{Section}
 use Rattle.types.specs.declared.Sections.{Sections}
-use Rattle.types.specs.declared.Part.{Part}
-use Rattle.types.specs.declared.Part.the-variants.{Missing, Found}
+use Rattle.types.specs.declared.Entry.{Entry}
+use Rattle.types.specs.declared.Operation.{Operation}
 use Rattle.types.specs.declared.Checked.{Checked}
 use Rattle.types.specs.declared.Checked.the-variants.{Refused, Table}
-use Rattle.types.specs.Layout.{cutShort, typeWidth, memberWidth, valueWidth, operationWidth, mostTypes, mostMembers, mostValues, mostOperations, pickChecked, after, ended, sectionAt, sectionEnd, afterTypes, afterMembers, afterValues, sectionsOf}
-use Rattle.types.proofs.Places.{Holds, holds}
+use Rattle.types.specs.declared.Largest.{Largest}
+use Rattle.types.specs.declared.Largest.the-variants.{Bytes, Unknown}
+use Rattle.types.specs.All.{allBelow, above}
+use Rattle.types.specs.Leaf.{isBase, isEnumBase, allowed}
+use Rattle.types.specs.Layout.{ruleBroken, tooLarge, mostTypes, pickChecked, sectionsOf, within}
+use Rattle.types.specs.Entries.{typeAt, memberAt, valueAt, idAt, operationAt, isType}
+use Rattle.types.specs.Rules.{baseFields, enumFields, recordFields, elementFields, fieldsOk, valueOk, unlike, unlikeBefore, distinct, valuesOk}
+use Rattle.types.specs.Rules.{memberOk, membersOk, pointedOk, typeOk}
+use Rattle.types.specs.Operations.{noId, noType, carriesOk, operationOk, idsRise}
+use Rattle.types.specs.Sizes.{mostBytes, sizes, largest, sizeFits, bytesUpTo, largestBelow, largestOf}
+use Rattle.types.specs.Table.{entriesOk, sizesOk, judged, judging, checked}
+use Rattle.types.proofs.AllBelow.{and-left, and-right, at-below, all-below}
+use Rattle.types.proofs.TypeRules.{base-entry, enum-entry, record-entry, fixed-entry, array-entry, no-entry, points-to-values, points-to-members}
+use Rattle.types.proofs.Chain.{Chain, chain, finished, chain-within}
 
--- the sections that were found: each lies behind the one before it, and the last ends where the bytes end
-pub record Chain (t : List ℕ) (s : Sections) : Type 0 where
-  pub types : Holds typeWidth mostTypes t 0 (s .types)
-  pub members : Holds memberWidth mostMembers t (sectionEnd typeWidth (s .types)) (s .members)
-  pub values : Holds valueWidth mostValues t (sectionEnd memberWidth (s .members)) (s .values)
-  pub operations : Holds operationWidth mostOperations t (sectionEnd valueWidth (s .values)) (s .operations)
-  pub end : sectionEnd operationWidth (s .operations) ≡ length t
+-- a table that `check` accepts
+pub record Accepted (t : List ℕ) (s : Sections) : Type 0 where
+  pub lie : Chain t s
+  pub keep : entriesOk t s ≡ true
+  pub fit : sizesOk t s ≡ true
 
--- a chain that ends in a table has each of its links
-linked : (x : Part) (next : Section → Checked) (s : Sections) → after x next ≡ Table s → (u : Section) × ((x ≡ Found u) × (next u ≡ Table s))
-unfolding after
-linked (Missing n) next s e = absurd (let z : _≡_ {A = ℕ} 0 1 = cc in omega arith)
-linked (Found u) next s e = (u, (refl, e))
+twice : (a b : Bool) (m n : ℕ) (x s : Sections) → pickChecked a (pickChecked b (Table x) (Refused m)) (Refused n) ≡ Table s → (a ≡ true) × ((b ≡ true) × (x ≡ s))
+twice true b m n x s e = (refl, finished b m x s e)
+twice false b m n x s e = absurd (let z : _≡_ {A = ℕ} 0 1 = cc in omega arith)
 
-finished : (b : Bool) (n : ℕ) (x s : Sections) → pickChecked b (Table x) (Refused n) ≡ Table s → (b ≡ true) × (x ≡ s)
-finished true n x s e = (refl, cc)
-finished false n x s e = absurd (let z : _≡_ {A = ℕ} 0 1 = cc in omega arith)
+pub accepted : (t : List ℕ) (s : Sections) → checked t ≡ Table s → Accepted t s
+unfolding checked judging judged
+accepted t s e = go (sectionsOf t) refl e
+  where
+    go : (x : Checked) → sectionsOf t ≡ x → judging t x ≡ Table s → Accepted t s
+    go (Refused n) p h = absurd (let z : _≡_ {A = ℕ} 0 1 = cc in omega arith)
+    go (Table y) p h =
+        let k = twice (entriesOk t y) (sizesOk t y) tooLarge ruleBroken y s h in
+        subst (Accepted t) {x = y} (k .1 .1) (record { lie = chain t y p; keep = k .0; fit = k .1 .0 })
 
-pub chain : (t : List ℕ) (s : Sections) → sectionsOf t ≡ Table s → Chain t s
-unfolding sectionsOf afterTypes afterMembers afterValues ended
-chain t s e =
-    let a = linked (sectionAt typeWidth 1 mostTypes t 0) (afterTypes t) s e in
-    let b = linked (sectionAt memberWidth 0 mostMembers t (sectionEnd typeWidth (a .0))) (afterMembers t (a .0)) s (a .1 .1) in
-    let c = linked (sectionAt valueWidth 0 mostValues t (sectionEnd memberWidth (b .0))) (afterValues t (a .0) (b .0)) s (b .1 .1) in
-    let d = linked (sectionAt operationWidth 0 mostOperations t (sectionEnd valueWidth (c .0))) (λ (u : Section). ended t (record { types = a .0; members = b .0; values = c .0; operations = u })) s (c .1 .1) in
-    let x : Sections = record { types = a .0; members = b .0; values = c .0; operations = d .0 } in
-    let f = finished (eqb (sectionEnd operationWidth (d .0)) (length t)) cutShort x s (d .1 .1) in
-    let y : Chain t x =
-    record {
-      types = holds typeWidth 1 mostTypes t 0 (a .0) (a .1 .0);
-      members = holds memberWidth 0 mostMembers t (sectionEnd typeWidth (a .0)) (b .0) (b .1 .0);
-      values = holds valueWidth 0 mostValues t (sectionEnd memberWidth (b .0)) (c .0) (c .1 .0);
-      operations = holds operationWidth 0 mostOperations t (sectionEnd valueWidth (c .0)) (d .0) (d .1 .0);
-      end = eqb-true (sectionEnd operationWidth (d .0)) (length t) (f .0);
-    } in
-    subst (Chain t) {x = x} (f .1) y
+-- what an entry of each kind is known to be
+pub record IsBase (e : Entry) : Type 0 where
+  pub code : isBase (e .of) ≡ true
 
-pub few-types : (t : List ℕ) (s : Sections) (r : Checked) → r ≡ sectionsOf t → r ≡ Table s → s .types .count ≤ mostTypes
-few-types t s r p h = chain t s (sym p ∙ h) .types .few
+pub record IsEnum (t : List ℕ) (s : Sections) (e : Entry) : Type 0 where
+  pub code : isEnumBase (e .of) ≡ true
+  pub some : 1 ≤ e .count
+  pub inside : e .first + e .count ≤ s .values .count
+  pub values : (k : ℕ) → k < e .count → allowed (e .of) (valueAt t s (e .first + k)) ≡ true
+  pub differ : (j k : ℕ) → j < k → k < e .count → valueAt t s (e .first + j) ≡ valueAt t s (e .first + k) → ⊥
+
+pub record IsRecord (t : List ℕ) (s : Sections) (i : ℕ) (e : Entry) : Type 0 where
+  pub some : 1 ≤ e .count
+  pub inside : e .first + e .count ≤ s .members .count
+  pub smaller : (k : ℕ) → k < e .count → memberAt t s (e .first + k) < i
+
+pub record IsArray (i : ℕ) (e : Entry) : Type 0 where
+  pub smaller : e .of < i
+  pub some : 1 ≤ e .count
+
+three : (a b c : Bool) → (a && b && c) ≡ true → (a ≡ true) × ((b ≡ true) × (c ≡ true))
+three a b c h = (and-left a b (and-left (a && b) c h), (and-right a b (and-left (a && b) c h), and-right (a && b) c h))
+
+or-cases : (b c : Bool) → (b || c) ≡ true → (b ≡ true) ⊎ (c ≡ true)
+or-cases true c h = inl refl
+or-cases false c h = inr h
+
+module _ (t : List ℕ) (s : Sections) (a : Accepted t s) where
+  pub is-within : within t s ≡ true
+  is-within = chain-within t s (a .lie)
+
+  types-keep : allBelow (typeOk t s) (s .types .count) ≡ true
+  unfolding entriesOk
+  types-keep = and-left (allBelow (typeOk t s) (s .types .count)) (allBelow (operationOk t s) (s .operations .count)) (a .keep)
+
+  operations-keep : allBelow (operationOk t s) (s .operations .count) ≡ true
+  unfolding entriesOk
+  operations-keep = and-right (allBelow (typeOk t s) (s .types .count)) (allBelow (operationOk t s) (s .operations .count)) (a .keep)
+
+  module _ (i : ℕ) (h : i < s .types .count) where
+    pub fields-keep : fieldsOk s i (typeAt t s i) ≡ true
+    unfolding typeOk
+    fields-keep = and-left (fieldsOk s i (typeAt t s i)) (pointedOk t s i (typeAt t s i)) (at-below (typeOk t s) (s .types .count) i types-keep h)
+
+    pointed-keep : pointedOk t s i (typeAt t s i) ≡ true
+    unfolding typeOk
+    pointed-keep = and-right (fieldsOk s i (typeAt t s i)) (pointedOk t s i (typeAt t s i)) (at-below (typeOk t s) (s .types .count) i types-keep h)
+
+    -- there are five kinds
+    pub kind-known : typeAt t s i .kind ≤ 4
+    kind-known = go (leb (typeAt t s i .kind) 4) refl
+      where
+        go : (b : Bool) → leb (typeAt t s i .kind) 4 ≡ b → typeAt t s i .kind ≤ 4
+        go true p = leb-true (typeAt t s i .kind) 4 p
+        go false p =
+            let l : 4 < typeAt t s i .kind = leb-false (typeAt t s i .kind) 4 p in
+            let n : false ≡ fieldsOk s i (typeAt t s i) = no-entry s i (typeAt t s i) (omega arith) (omega arith) (omega arith) (omega arith) (omega arith) in
+            absurd (let z : _≡_ {A = ℕ} 0 1 = cc fields-keep in omega arith)
+
+    pub base-is : typeAt t s i .kind ≡ 0 → IsBase (typeAt t s i)
+    base-is k =
+        let x : Entry = typeAt t s i in
+        let f : baseFields x ≡ true = base-entry s i x (baseFields x) k refl ∙ fields-keep in
+        record { code = three (isBase (x .of)) (eqb (x .first) 0) (eqb (x .count) 0) f .0 }
+
+    pub enum-is : typeAt t s i .kind ≡ 1 → IsEnum t s (typeAt t s i)
+    unfolding valuesOk valueOk distinct unlikeBefore unlike
+    enum-is k =
+        let x : Entry = typeAt t s i in
+        let f : enumFields s x ≡ true = enum-entry s i x (enumFields s x) k refl ∙ fields-keep in
+        let g = three (isEnumBase (x .of)) (leb 1 (x .count)) (leb (x .first + x .count) (s .values .count)) f in
+        let v : valuesOk t s x ≡ true = points-to-values t s i x (valuesOk t s x) k refl ∙ pointed-keep in
+        let ok : allBelow (valueOk t s x) (x .count) ≡ true = and-left (allBelow (valueOk t s x) (x .count)) (distinct t s x) v in
+        let apart : distinct t s x ≡ true = and-right (allBelow (valueOk t s x) (x .count)) (distinct t s x) v in
+        record {
+          code = g .0;
+          some = leb-true 1 (x .count) (g .1 .0);
+          inside = leb-true (x .first + x .count) (s .values .count) (g .1 .1);
+          values = λ n l. at-below (valueOk t s x) (x .count) n ok l;
+          differ = λ j n l m.
+              eqb-false (valueAt t s (x .first + j)) (valueAt t s (x .first + n))
+              (not-true (eqb (valueAt t s (x .first + j)) (valueAt t s (x .first + n))) (at-below (unlike t s x n) n j (at-below (unlikeBefore t s x) (x .count) n apart m) l));
+        }
+
+    pub record-is : typeAt t s i .kind ≡ 2 → IsRecord t s i (typeAt t s i)
+    unfolding membersOk memberOk
+    record-is k =
+        let x : Entry = typeAt t s i in
+        let f : recordFields s x ≡ true = record-entry s i x (recordFields s x) k refl ∙ fields-keep in
+        let g = three (eqb (x .of) 0) (leb 1 (x .count)) (leb (x .first + x .count) (s .members .count)) f in
+        let m : membersOk t s i x ≡ true = points-to-members t s i x (membersOk t s i x) k refl ∙ pointed-keep in
+        record {
+          some = leb-true 1 (x .count) (g .1 .0);
+          inside = leb-true (x .first + x .count) (s .members .count) (g .1 .1);
+          smaller = λ n l. ltb-true (memberAt t s (x .first + n)) i (at-below (memberOk t s i x) (x .count) n m l);
+        }
+
+    elements : elementFields i (typeAt t s i) ≡ true → IsArray i (typeAt t s i)
+    elements f =
+        let x : Entry = typeAt t s i in
+        let g = three (ltb (x .of) i) (eqb (x .first) 0) (leb 1 (x .count)) f in
+        record { smaller = ltb-true (x .of) i (g .0); some = leb-true 1 (x .count) (g .1 .1) }
+
+    pub fixed-is : typeAt t s i .kind ≡ 3 → IsArray i (typeAt t s i)
+    fixed-is k = elements (fixed-entry s i (typeAt t s i) (elementFields i (typeAt t s i)) k refl ∙ fields-keep)
+
+    pub array-is : typeAt t s i .kind ≡ 4 → IsArray i (typeAt t s i)
+    array-is k = elements (array-entry s i (typeAt t s i) (elementFields i (typeAt t s i)) k refl ∙ fields-keep)
+
+    -- no type is too large
+    pub size-fits : largest t s i ≤ mostBytes
+    unfolding sizesOk sizeFits
+    size-fits = leb-true (largest t s i) mostBytes (at-below (sizeFits t s) (s .types .count) i (a .fit) h)
+
+    pub largest-is : largestOf t s i ≡ Bytes (largest t s i)
+    unfolding largestOf largestBelow bytesUpTo sizesOk
+    largest-is =
+        let few : s .types .count ≤ mostTypes = a .lie .types .few in
+        let b : allBelow (sizeFits t s) i ≡ true = all-below (sizeFits t s) i (λ j l. at-below (sizeFits t s) (s .types .count) j (a .fit) (omega arith)) in
+        rw (lt-ltb i (s .types .count) h, lt-ltb i mostTypes (omega arith), b, le-leb (largest t s i) mostBytes size-fits) refl
+
+  -- every operation's rule
+  module _ (i : ℕ) (h : i < s .operations .count) where
+    operation-keeps : ((above (idAt t s) i ≡ true) × ((ltb (idAt t s i) noId ≡ true) × (carriesOk s (operationAt t s i) ≡ true)))
+    unfolding operationOk
+    operation-keeps = three (above (idAt t s) i) (ltb (idAt t s i) noId) (carriesOk s (operationAt t s i)) (at-below (operationOk t s) (s .operations .count) i operations-keep h)
+
+    pub id-below : idAt t s i < noId
+    id-below = ltb-true (idAt t s i) noId (operation-keeps .1 .0)
+
+    pub carries-is : ((operationAt t s i .kind ≤ 1) × (operationAt t s i .carries < s .types .count)) ⊎ ((operationAt t s i .kind ≡ 0) × (operationAt t s i .carries ≡ noType))
+    unfolding carriesOk
+    carries-is =
+        let o : Operation = operationAt t s i in
+        let b : Bool = leb (o .kind) 1 in
+        let c : Bool = ltb (o .carries) (s .types .count) in
+        let d : Bool = eqb (o .kind) 0 in
+        let f : Bool = eqb (o .carries) noType in
+        ⊎-elim
+        (λ (p : (b && c) ≡ true). inl (leb-true (o .kind) 1 (and-left b c p), ltb-true (o .carries) (s .types .count) (and-right b c p)))
+        (λ (p : (d && f) ≡ true). inr (eqb-true (o .kind) 0 (and-left d f p), eqb-true (o .carries) noType (and-right d f p)))
+        (or-cases (b && c) (d && f) (operation-keeps .1 .1))
+
+  pub ids-rise : idsRise t s ≡ true
+  unfolding idsRise
+  ids-rise = all-below (above (idAt t s)) (s .operations .count) (λ i h. operation-keeps i h .0)

@@ -7,4 +7,6 @@ pub mod TypeRules
 pub mod OperationRules
 pub mod SizeLaws
 pub mod Tables
+pub mod Chain
 pub mod Accepted
+pub mod Unique

@@ -4,15 +4,16 @@ use Prim.Native.Nat.{ℕ, zero, suc, _+_, _*_, _^_, _≤_, _<_}
 use mathlib.Core.Path.{_≡_, refl, sym, ap, subst, _∙_}
 use mathlib.Core.Bool.{Bool, true, false, _&&_, _||_}
 use mathlib.Core.List.{List, [], _∷_, _++_}
-use native.Mathlib.Nat.{mul-le-mul}
+use mathlib.Core.Logic.{⊎-elim}
+use native.Mathlib.Nat.{mul-le-mul, eq-or-lt-of-le}
 use native.Mathlib.Numerals.{add-one}
 use native.Mathlib.Omega.{arith}
 use borrow.Author.Tests.{le-leb, lt-leb, eq-eqb, ne-eqb, ltb-true}
 use mir.Syntax.{w16, w32, w64}
 use mir.Val.{Fits}
 use lib.Dec.{ltb, leb, eqb}
-use lib.ListN.{length, getD, set, take, List·getD-eq-default}
-use lib.Seq.{take-suc-set}
+use lib.ListN.{length, getD, set, take, length-append, List·getD-eq-default, List·getD-append}
+use lib.Seq.{take-suc-set, getD-at}
 use Rattle.types.specs.declared.Sections.{Sections}
 use Rattle.types.specs.declared.Entry.{Entry}
 use Rattle.types.specs.declared.Largest.{Largest}
@@ -139,3 +140,21 @@ module _ (t : List ℕ) (s : Sections) where
 
 pub below-limit : (x : Bool) (i n : ℕ) → (x && ltb i n) ≡ true → i < n
 below-limit x i n h = ltb-true i n (and-right x (ltb i n) h)
+
+-- the sizes below n are the largest sizes of the types below n
+module _ (t : List ℕ) (s : Sections) where
+  pub length-sizes : (n : ℕ) → length (sizes t s n) ≡ n
+  unfolding sizes
+  length-sizes zero = refl
+  length-sizes (suc n) = length-append (sizes t s n) (sizeOf t s (sizes t s n) (typeAt t s n) ∷ []) ∙ omega (arith, length-sizes n)
+
+  pub size-known : (n i : ℕ) → i < n → getD (sizes t s n) i 0 ≡ largest t s i
+  unfolding sizes largest
+  size-known zero i h = absurd (omega arith)
+  size-known (suc n) i h =
+      let m : i ≤ n = omega arith in
+      let z : ℕ = sizeOf t s (sizes t s n) (typeAt t s n) in
+      ⊎-elim
+      (λ (e : i ≡ n). ap (λ (k : ℕ). getD (sizes t s n ++ (z ∷ [])) k 0) e ∙ getD-at (sizes t s n) z [] 0 n (length-sizes n) ∙ ap (largest t s) (sym e))
+      (λ (g : i < n). List·getD-append (sizes t s n) (z ∷ []) 0 i (omega (arith, length-sizes n)) ∙ size-known n i g)
+      (eq-or-lt-of-le m)

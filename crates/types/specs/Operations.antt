@@ -1,5 +1,5 @@
 -- 01, "The type table": the rules of an operation's entry (number 32), and an operation looked up by its ID.
-use Prim.Native.Nat.{ℕ, _<_}
+use Prim.Native.Nat.{ℕ, zero, suc, _<_}
 use mathlib.Core.Path.{_≡_}
 use mathlib.Core.Bool.{Bool, true, false, _&&_, _||_}
 use mathlib.Core.List.{List}
@@ -39,3 +39,19 @@ idsRise t s = allBelow (above (idAt t s)) (s .operations .count)
 unfoldable pub Answers : List ℕ → Sections → ℕ → Found → Type 0
 Answers t s id (At i) = (i < s .operations .count) × (idAt t s i ≡ id)
 Answers t s id Nothing = idsRise t s ≡ true → (i : ℕ) → i < s .operations .count → idAt t s i ≡ id → ⊥
+
+-- the first of the entries below n that bears the ID; the operation of an ID is the first of all
+abbrev pub orElse : Found → Found → Found
+orElse (At i) y = At i
+orElse Nothing y = y
+
+abbrev pub pickFound : Bool → Found → Found → Found
+pickFound true a b = a
+pickFound false a b = b
+
+unfoldable pub firstBelow : List ℕ → Sections → ℕ → ℕ → Found
+firstBelow t s id zero = Nothing
+firstBelow t s id (suc n) = orElse (firstBelow t s id n) (pickFound (eqb (idAt t s n) id) (At n) Nothing)
+
+unfoldable pub operationOf : List ℕ → Sections → ℕ → Found
+operationOf t s id = firstBelow t s id (s .operations .count)
