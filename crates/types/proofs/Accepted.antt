@@ -20,9 +20,10 @@ use Rattle.types.specs.All.{allBelow, above}
 use Rattle.types.specs.Leaf.{isBase, isEnumBase, allowed}
 use Rattle.types.specs.Layout.{ruleBroken, tooLarge, mostTypes, pickChecked, sectionsOf, within}
 use Rattle.types.specs.Entries.{typeAt, memberAt, valueAt, idAt, operationAt, isType}
-use Rattle.types.specs.Rules.{baseFields, enumFields, recordFields, elementFields, fieldsOk, valueOk, unlike, unlikeBefore, distinct, valuesOk}
+use Rattle.types.specs.Rules.{baseFields, enumFields, recordFields, elementFields, fieldsOk}
 use Rattle.types.specs.Rules.{memberOk, membersOk, pointedOk, typeOk}
-use Rattle.types.specs.Operations.{noId, noType, carriesOk, operationOk, idsRise}
+use Rattle.types.specs.Values.{valueOf, valueOk, unlike, unlikeBefore, distinct, valuesOk}
+use Rattle.types.specs.Operations.{noId, noType, fieldsOk as operationFields, operationOk, idsRise}
 use Rattle.types.specs.Sizes.{mostBytes, sizes, largest, sizeFits, bytesUpTo, largestBelow, largestOf}
 use Rattle.types.specs.Table.{entriesOk, sizesOk, judged, judging, checked}
 use Rattle.types.proofs.AllBelow.{and-left, and-right, at-below, all-below}
@@ -68,6 +69,10 @@ pub record IsRecord (t : List ℕ) (s : Sections) (i : ℕ) (e : Entry) : Type 0
 pub record IsArray (i : ℕ) (e : Entry) : Type 0 where
   pub smaller : e .of < i
   pub some : 1 ≤ e .count
+
+pub record IsOperation (s : Sections) (o : Operation) : Type 0 where
+  pub id-below : o .id < noId
+  pub carried : ((o .kind ≤ 1) × (o .carries < s .types .count)) ⊎ ((o .kind ≡ 0) × (o .carries ≡ noType))
 
 three : (a b c : Bool) → (a && b && c) ≡ true → (a ≡ true) × ((b ≡ true) × (c ≡ true))
 three a b c h = (and-left a b (and-left (a && b) c h), (and-right a b (and-left (a && b) c h), and-right (a && b) c h))
@@ -130,7 +135,7 @@ module _ (t : List ℕ) (s : Sections) (a : Accepted t s) where
           values = λ n l. at-below (valueOk t s x) (x .count) n ok l;
           differ = λ j n l m.
               eqb-false (valueAt t s (x .first + j)) (valueAt t s (x .first + n))
-              (not-true (eqb (valueAt t s (x .first + j)) (valueAt t s (x .first + n))) (at-below (unlike t s x n) n j (at-below (unlikeBefore t s x) (x .count) n apart m) l));
+              (not-true (eqb (valueAt t s (x .first + j)) (valueAt t s (x .first + n))) (at-below (unlike t s x (valueOf t s x n)) n j (at-below (unlikeBefore t s x) (x .count) n apart m) l));
         }
 
     pub record-is : typeAt t s i .kind ≡ 2 → IsRecord t s i (typeAt t s i)
@@ -172,26 +177,28 @@ module _ (t : List ℕ) (s : Sections) (a : Accepted t s) where
 
   -- every operation's rule
   module _ (i : ℕ) (h : i < s .operations .count) where
-    operation-keeps : ((above (idAt t s) i ≡ true) × ((ltb (idAt t s i) noId ≡ true) × (carriesOk s (operationAt t s i) ≡ true)))
+    id-keeps : above (idAt t s) i ≡ true
     unfolding operationOk
-    operation-keeps = three (above (idAt t s) i) (ltb (idAt t s i) noId) (carriesOk s (operationAt t s i)) (at-below (operationOk t s) (s .operations .count) i operations-keep h)
+    id-keeps = and-left (above (idAt t s) i) (operationFields s (operationAt t s i)) (at-below (operationOk t s) (s .operations .count) i operations-keep h)
 
-    pub id-below : idAt t s i < noId
-    id-below = ltb-true (idAt t s i) noId (operation-keeps .1 .0)
-
-    pub carries-is : ((operationAt t s i .kind ≤ 1) × (operationAt t s i .carries < s .types .count)) ⊎ ((operationAt t s i .kind ≡ 0) × (operationAt t s i .carries ≡ noType))
-    unfolding carriesOk
-    carries-is =
+    pub operation-is : IsOperation s (operationAt t s i)
+    unfolding operationOk operationFields
+    operation-is =
         let o : Operation = operationAt t s i in
         let b : Bool = leb (o .kind) 1 in
         let c : Bool = ltb (o .carries) (s .types .count) in
         let d : Bool = eqb (o .kind) 0 in
         let f : Bool = eqb (o .carries) noType in
-        ⊎-elim
-        (λ (p : (b && c) ≡ true). inl (leb-true (o .kind) 1 (and-left b c p), ltb-true (o .carries) (s .types .count) (and-right b c p)))
-        (λ (p : (d && f) ≡ true). inr (eqb-true (o .kind) 0 (and-left d f p), eqb-true (o .carries) noType (and-right d f p)))
-        (or-cases (b && c) (d && f) (operation-keeps .1 .1))
+        let g : operationFields s o ≡ true = and-right (above (idAt t s) i) (operationFields s o) (at-below (operationOk t s) (s .operations .count) i operations-keep h) in
+        record {
+          id-below = ltb-true (o .id) noId (and-left (ltb (o .id) noId) ((b && c) || (d && f)) g);
+          carried =
+              ⊎-elim
+              (λ (p : (b && c) ≡ true). inl (leb-true (o .kind) 1 (and-left b c p), ltb-true (o .carries) (s .types .count) (and-right b c p)))
+              (λ (p : (d && f) ≡ true). inr (eqb-true (o .kind) 0 (and-left d f p), eqb-true (o .carries) noType (and-right d f p)))
+              (or-cases (b && c) (d && f) (and-right (ltb (o .id) noId) ((b && c) || (d && f)) g));
+        }
 
   pub ids-rise : idsRise t s ≡ true
   unfolding idsRise
-  ids-rise = all-below (above (idAt t s)) (s .operations .count) (λ i h. operation-keeps i h .0)
+  ids-rise = all-below (above (idAt t s)) (s .operations .count) (λ i h. id-keeps i h)

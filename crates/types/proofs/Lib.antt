@@ -4,6 +4,7 @@ pub mod Rising
 pub mod Places
 pub mod Lookups
 pub mod TypeRules
+pub mod ValueRules
 pub mod OperationRules
 pub mod SizeLaws
 pub mod Tables

@@ -1,24 +1,40 @@
 -- Laws of entries that rise, over what is compared: two that are apart in place are apart in rank.
 -- Assumes nothing.
-use Prim.Native.Nat.{ℕ, zero, suc, _-_, _≤_, _<_}
+use Prim.Native.Nat.{ℕ, zero, suc, _+_, _-_, _≤_, _<_}
 use mathlib.Core.Path.{_≡_, refl, sym, ap, subst, _∙_}
 use mathlib.Core.Bool.{Bool, true, false, _||_}
 use mathlib.Core.Logic.{⊎-elim}
 use native.Mathlib.Nat.{eq-or-lt-of-le, lt-trans}
 use native.Mathlib.Omega.{arith}
-use borrow.Author.Tests.{ne-eqb, ltb-true}
+use borrow.Author.Tests.{ne-eqb, eqb-false, ltb-true}
 use lib.Dec.{ltb, eqb}
 use Rattle.types.specs.All.{allBelow, above}
-use Rattle.types.proofs.AllBelow.{at-below}
+use Rattle.types.proofs.AllBelow.{at-below, next-below, stop-below}
 
--- the tests of one entry, return by return
-pub the-first : (r : ℕ → ℕ) (k : ℕ) → k ≡ 0 → true ≡ above r k
-unfolding above
-the-first r k h = rw h refl
+-- the test of one entry, with what it is compared with carried along
+abbrev pub Carried : (ℕ → ℕ) → ℕ → ℕ → Type 0
+Carried r k last = (k ≡ 0 → ⊥) → last ≡ r (k - 1)
 
-pub later : (r : ℕ → ℕ) (k a b : ℕ) → (k ≡ 0 → ⊥) → a ≡ r (k - 1) → b ≡ r k → ltb a b ≡ above r k
+pub carried-none : (r : ℕ → ℕ) (last : ℕ) → Carried r 0 last
+carried-none r last d = absurd (d refl)
+
+pub carried-next : (r : ℕ → ℕ) (k next : ℕ) → next ≡ r k → Carried r (k + 1) next
+carried-next r k next h d = h ∙ ap r (omega arith)
+
+pub carried-test : (r : ℕ → ℕ) (k last next : ℕ) → Carried r k last → next ≡ r k → (eqb k 0 || ltb last next) ≡ above r k
 unfolding above
-later r k a b h p q = rw (ne-eqb k 0 h, p, q) refl
+carried-test r k last next c h = go (eqb k 0) refl
+  where
+    go : (b : Bool) → eqb k 0 ≡ b → (eqb k 0 || ltb last next) ≡ above r k
+    go true e = rw e refl
+    go false e = rw (e, c (eqb-false k 0 e), h) refl
+
+module _ (r : ℕ → ℕ) (k last next : ℕ) (carried : Carried r k last) (is : next ≡ r k) where
+  pub rises-next : (eqb k 0 || ltb last next) ≡ true → allBelow (above r) k ≡ true → allBelow (above r) (k + 1) ≡ true
+  rises-next h a = next-below (above r) k (eqb k 0 || ltb last next) a (carried-test r k last next carried is) h
+
+  pub rises-no-more : (n : ℕ) → (eqb k 0 || ltb last next) ≡ false → k < n → false ≡ allBelow (above r) n
+  rises-no-more n h l = stop-below (above r) n k (eqb k 0 || ltb last next) (carried-test r k last next carried is) h l
 
 -- an entry that is not the first is above the one before it
 step : (r : ℕ → ℕ) (k : ℕ) → above r (suc k) ≡ true → r k < r (suc k)

@@ -1,19 +1,16 @@
 -- What the rules of a type's entry come to, return by return.
 -- Assumes nothing.
-use Prim.Native.Nat.{ℕ, _+_, _-_, _%_, _^_, _≤_, _<_}
-use mathlib.Core.Path.{_≡_, refl, sym, ap, _∙_}
-use mathlib.Core.Bool.{Bool, true, false, _&&_, _||_, not}
+use Prim.Native.Nat.{ℕ}
+use mathlib.Core.Path.{_≡_, refl, ap}
+use mathlib.Core.Bool.{Bool, true, false, _&&_}
 use mathlib.Core.List.{List}
-use native.Mathlib.Omega.{arith}
-use borrow.Author.Tests.{lt-ltb, le-ltb, eq-eqb, ne-eqb}
-use lib.Dec.{ltb, leb, eqb}
-use Rattle.types.proofs.AllBelow.{all-below}
-use Rattle.types.proofs.Rising.{rising-apart}
+use borrow.Author.Tests.{eq-eqb, ne-eqb}
+use lib.Dec.{eqb}
 use Rattle.types.specs.declared.Sections.{Sections}
 use Rattle.types.specs.declared.Entry.{Entry}
-use Rattle.types.specs.All.{allBelow}
-use Rattle.types.specs.Entries.{typeAt, memberAt, valueAt}
-use Rattle.types.specs.Rules.{baseFields, enumFields, recordFields, elementFields, fieldsOk, valueOk, unlike, unlikeBefore, distinct, valuesOk, membersOk, pointedOk, typeOk, rank, rising}
+use Rattle.types.specs.Entries.{typeAt}
+use Rattle.types.specs.Values.{valuesOk}
+use Rattle.types.specs.Rules.{baseFields, enumFields, recordFields, elementFields, fieldsOk, membersOk, pointedOk, typeOk}
 
 -- the fields, by the kind
 module _ (s : Sections) (i : ℕ) (e : Entry) (r : Bool) where
@@ -41,20 +38,6 @@ pub no-entry : (s : Sections) (i : ℕ) (e : Entry) → (e .kind ≡ 0 → ⊥) 
 unfolding fieldsOk
 no-entry s i e a b c d f = simp (ne-eqb (e .kind) 0 a, ne-eqb (e .kind) 1 b, ne-eqb (e .kind) 2 c, ne-eqb (e .kind) 3 d, ne-eqb (e .kind) 4 f)
 
--- the words of a signed base are compared with their top bits turned
-module _ (t : List ℕ) (s : Sections) (e : Entry) (k v r : ℕ) (is : v ≡ valueAt t s (e .first + k)) where
-  pub signed-rank : e .of < 6 → r ≡ (v + 9223372036854775808) % 2 ^ 64 → r ≡ rank t s e k
-  unfolding rank
-  signed-rank h p = rw (lt-ltb (e .of) 6 h, ← is) p
-
-  pub plain-rank : 6 ≤ e .of → v ≡ rank t s e k
-  unfolding rank
-  plain-rank h = rw (le-ltb (e .of) 6 h, ← is) refl
-
-same-rank : (t : List ℕ) (s : Sections) (e : Entry) (j k : ℕ) → valueAt t s (e .first + j) ≡ valueAt t s (e .first + k) → rank t s e j ≡ rank t s e k
-unfolding rank
-same-rank t s e j k q = rw q refl
-
 -- what an entry points to, and the whole rule
 module _ (t : List ℕ) (s : Sections) (i : ℕ) (e : Entry) where
   pub points-to-values : (r : Bool) → e .kind ≡ 1 → r ≡ valuesOk t s e → r ≡ pointedOk t s i e
@@ -78,29 +61,3 @@ module _ (t : List ℕ) (s : Sections) (i : ℕ) (e : Entry) where
   pub bad-fields : (f : Bool) → e ≡ typeAt t s i → f ≡ fieldsOk s i e → f ≡ false → false ≡ typeOk t s i
   unfolding typeOk
   bad-fields f is p h = rw (← is, ← p, h) refl
-
--- values that rise are distinct
-pub rising-distinct : (t : List ℕ) (s : Sections) (e : Entry) → rising t s e ≡ true → distinct t s e ≡ true
-unfolding rising distinct unlikeBefore unlike
-rising-distinct t s e h =
-    all-below (unlikeBefore t s e) (e .count)
-    (λ k l. all-below (unlike t s e k) k (λ j m. ap not (ne-eqb (valueAt t s (e .first + j)) (valueAt t s (e .first + k)) (λ q. apart j k m l q))))
-  where
-    apart : (j k : ℕ) → j < k → k < e .count → valueAt t s (e .first + j) ≡ valueAt t s (e .first + k) → ⊥
-    apart j k m l q =
-        let a : rank t s e j < rank t s e k = rising-apart (rank t s e) (e .count) h j k m l in
-        let b : rank t s e j ≡ rank t s e k = same-rank t s e j k q in
-        omega arith
-
-module _ (t : List ℕ) (s : Sections) (e : Entry) (a b : Bool) (p : a ≡ allBelow (valueOk t s e) (e .count)) where
-  pub not-allowed : a ≡ false → false ≡ valuesOk t s e
-  unfolding valuesOk
-  not-allowed f = rw (← p, f) refl
-
-  pub they-rise : a ≡ true → b ≡ rising t s e → b ≡ true → true ≡ valuesOk t s e
-  unfolding valuesOk
-  they-rise f q g = rw (← p, f, rising-distinct t s e (sym q ∙ g)) refl
-
-  pub they-differ : (r : Bool) → a ≡ true → r ≡ distinct t s e → r ≡ valuesOk t s e
-  unfolding valuesOk
-  they-differ r f q = rw (← p, f) q

@@ -48,16 +48,16 @@ unfoldable pub finite : ℕ → ℕ → ℕ → Bool
 finite e f w = not (eqb (w / 2 ^ f % 2 ^ e) (2 ^ e - 1))
 
 -- the word is a value of the leaf
-unfoldable pub valueOf : Leaf → ℕ → Bool
-valueOf boolean w = ltb w 2
-valueOf (signed k) w = inSigned (span k / 2) w
-valueOf (unsigned k) w = ltb w (span k)
-valueOf (float k e f) w = ltb w (span k) && finite e f w
-valueOf none w = false
+unfoldable pub isValue : Leaf → ℕ → Bool
+isValue boolean w = ltb w 2
+isValue (signed k) w = inSigned (span k / 2) w
+isValue (unsigned k) w = ltb w (span k)
+isValue (float k e f) w = ltb w (span k) && finite e f w
+isValue none w = false
 
 -- the width of a base code in bytes, and its words
 unfoldable pub width : ℕ → ℕ
 width code = bytesOf (base code)
 
 unfoldable pub allowed : ℕ → ℕ → Bool
-allowed code w = valueOf (base code) w
+allowed code w = isValue (base code) w

@@ -2,6 +2,7 @@ pub mod Leaf
 pub mod All
 pub mod Layout
 pub mod Entries
+pub mod Values
 pub mod Rules
 pub mod Operations
 pub mod Sizes

@@ -24,12 +24,15 @@ noType = 0xFFFF
 abbrev pub noId : ℕ
 noId = 0xFFFFFFFF
 
--- 0 event or 1 versioned data, and a type; or an event with none
-unfoldable pub carriesOk : Sections → Operation → Bool
-carriesOk s o = (leb (o .kind) dataKind && isType s (o .carries)) || (eqb (o .kind) eventKind && eqb (o .carries) noType)
+-- an ID below 0xFFFFFFFF; kind 0 event or 1 versioned data with a type, or an event with none
+unfoldable pub fieldsOk : Sections → Operation → Bool
+fieldsOk s o =
+    ltb (o .id) noId
+    && ((leb (o .kind) dataKind && isType s (o .carries)) || (eqb (o .kind) eventKind && eqb (o .carries) noType))
 
+-- and the ID is above the one before it
 unfoldable pub operationOk : List ℕ → Sections → ℕ → Bool
-operationOk t s i = above (idAt t s) i && ltb (idAt t s i) noId && carriesOk s (operationAt t s i)
+operationOk t s i = above (idAt t s) i && fieldsOk s (operationAt t s i)
 
 -- IDs strictly rise
 unfoldable pub idsRise : List ℕ → Sections → Bool

@@ -1,13 +1,14 @@
 -- 01, "The type table": the rules of a type's entry. Number 32.
-use Prim.Native.Nat.{ℕ, _+_, _%_, _^_}
-use mathlib.Core.Bool.{Bool, true, false, _&&_, _||_, not}
+use Prim.Native.Nat.{ℕ, _+_}
+use mathlib.Core.Bool.{Bool, true, false, _&&_, _||_}
 use mathlib.Core.List.{List}
 use lib.Dec.{ltb, leb, eqb}
 use Rattle.types.specs.declared.Sections.{Sections}
 use Rattle.types.specs.declared.Entry.{Entry}
-use Rattle.types.specs.All.{allBelow, above}
-use Rattle.types.specs.Leaf.{isBase, isEnumBase, allowed}
-use Rattle.types.specs.Entries.{typeAt, memberAt, valueAt}
+use Rattle.types.specs.All.{allBelow}
+use Rattle.types.specs.Leaf.{isBase, isEnumBase}
+use Rattle.types.specs.Entries.{typeAt, memberAt}
+use Rattle.types.specs.Values.{valuesOk}
 
 -- kinds
 abbrev pub baseKind : ℕ
@@ -53,22 +54,6 @@ fieldsOk s i e =
     (pickBool (eqb (e .kind) recordKind) (recordFields s e)
     (pickBool (eqb (e .kind) fixedKind || eqb (e .kind) arrayKind) (elementFields i e) false)))
 
--- an enum's k-th value is allowed in its base, and unlike each value before it
-unfoldable pub valueOk : List ℕ → Sections → Entry → ℕ → Bool
-valueOk t s e k = allowed (e .of) (valueAt t s (e .first + k))
-
-unfoldable pub unlike : List ℕ → Sections → Entry → ℕ → ℕ → Bool
-unlike t s e k j = not (eqb (valueAt t s (e .first + j)) (valueAt t s (e .first + k)))
-
-unfoldable pub unlikeBefore : List ℕ → Sections → Entry → ℕ → Bool
-unlikeBefore t s e k = allBelow (unlike t s e k) k
-
-unfoldable pub distinct : List ℕ → Sections → Entry → Bool
-distinct t s e = allBelow (unlikeBefore t s e) (e .count)
-
-unfoldable pub valuesOk : List ℕ → Sections → Entry → Bool
-valuesOk t s e = allBelow (valueOk t s e) (e .count) && distinct t s e
-
 -- a record's k-th member has a smaller number than the record
 unfoldable pub memberOk : List ℕ → Sections → ℕ → Entry → ℕ → Bool
 memberOk t s i e k = ltb (memberAt t s (e .first + k)) i
@@ -83,15 +68,3 @@ pointedOk t s i e =
 
 unfoldable pub typeOk : List ℕ → Sections → ℕ → Bool
 typeOk t s i = fieldsOk s i (typeAt t s i) && pointedOk t s i (typeAt t s i)
-
--- how the values of an enum are compared to see that they rise: as numbers with a sign where the base has one (codes up to 5)
-abbrev pub pickWord : Bool → ℕ → ℕ → ℕ
-pickWord true a b = a
-pickWord false a b = b
-
-unfoldable pub rank : List ℕ → Sections → Entry → ℕ → ℕ
-rank t s e k = pickWord (ltb (e .of) 6) ((valueAt t s (e .first + k) + 2 ^ 63) % 2 ^ 64) (valueAt t s (e .first + k))
-
--- the values of an enum rise
-unfoldable pub rising : List ℕ → Sections → Entry → Bool
-rising t s e = allBelow (above (rank t s e)) (e .count)

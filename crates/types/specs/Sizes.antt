@@ -12,7 +12,8 @@ use Rattle.types.specs.All.{allBelow}
 use Rattle.types.specs.Leaf.{width}
 use Rattle.types.specs.Layout.{mostTypes}
 use Rattle.types.specs.Entries.{typeAt, memberAt, isType}
-use Rattle.types.specs.Rules.{recordKind, fixedKind, arrayKind, pickWord}
+use Rattle.types.specs.Rules.{recordKind, fixedKind, arrayKind}
+use Rattle.types.specs.Values.{pickWord}
 
 -- the most bytes that a type may take, and those of an array's count
 abbrev pub mostBytes : ℕ

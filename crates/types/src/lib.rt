@@ -7,6 +7,7 @@ pub mod leaf;
 pub mod operations;
 pub mod rules;
 pub mod sizes;
+mod values;
 
 ghost use mathlib.Core.Path.{_≡_};
 ghost use Prim.Native.Nat.{_≤_};

@@ -1,12 +1,12 @@
-// The rules of a type's entry, of its members and of its values: number 32. Only what a type points to is judged.
+// The rules of a type's entry and of what it points to: number 32. Members and values that no type points to are not
+// looked at.
 use crate::Entry;
 use crate::Sections;
 use crate::entries;
-use crate::leaf;
+use crate::values;
 ghost use mathlib.Core.Path.{_≡_};
-ghost use Rattle.types.specs.All.{allBelow, above};
-ghost use Rattle.types.specs.Rules.{typeOk, fieldsOk, pointedOk, membersOk, memberOk, valuesOk, valueOk};
-ghost use Rattle.types.specs.Rules.{distinct, unlikeBefore, unlike, rising, rank};
+ghost use Rattle.types.specs.All.{allBelow};
+ghost use Rattle.types.specs.Rules.{typeOk, fieldsOk, pointedOk, membersOk, memberOk};
 ghost use Rattle.types.specs.Rules.{baseFields, enumFields, recordFields, elementFields};
 
 // The fields of type i's entry, in constant time: what it points to is not looked at.
@@ -83,7 +83,7 @@ fn pointed_ok(table: &[u8], s: Sections, i: u16, e: Entry) -> bool
 {
     let kind = e.kind;
     if kind == 1 {
-        return values_ok(table, s, e);
+        return values::values_ok(table, s, e);
     }
     if kind == 2 {
         return members_ok(table, s, i, e);
@@ -110,112 +110,4 @@ fn member_ok(table: &[u8], s: Sections, i: u16, e: Entry, k: u16) -> bool
     ensures { λ r. ⌜ r ≡ memberOk (now (table .entry)) s i e k ⌝ }
 {
     entries::member_at(table, s, e.first as u32 + k as u32) < i
-}
-
-// Values that rise, as most do, are distinct at one pass; the others are compared each with each.
-fn values_ok(table: &[u8], s: Sections, e: Entry) -> bool
-    ensures { λ r. ⌜ r ≡ valuesOk (now (table .entry)) s e ⌝ }
-{
-    if values_allowed(table, s, e) {
-        if rising(table, s, e) {
-            true
-        } else {
-            all_unlike(table, s, e)
-        }
-    } else {
-        false
-    }
-}
-
-fn values_allowed(table: &[u8], s: Sections, e: Entry) -> bool
-    ensures { λ r. ⌜ r ≡ allBelow (valueOk (now (table .entry)) s e) (e .count) ⌝ }
-{
-    let count = e.count;
-    let mut k: u16 = 0;
-    while k < count {
-        if value_ok(table, s, e, k) {
-            k += 1;
-        } else {
-            return false;
-        }
-    }
-    true
-}
-
-fn value_ok(table: &[u8], s: Sections, e: Entry, k: u16) -> bool
-    ensures { λ r. ⌜ r ≡ valueOk (now (table .entry)) s e k ⌝ }
-{
-    leaf::allowed(e.of, entries::value_at(table, s, e.first as u32 + k as u32))
-}
-
-fn rising(table: &[u8], s: Sections, e: Entry) -> bool
-    ensures { λ r. ⌜ r ≡ rising (now (table .entry)) s e ⌝ }
-{
-    let count = e.count;
-    let mut k: u16 = 0;
-    while k < count {
-        if rises(table, s, e, k) {
-            k += 1;
-        } else {
-            return false;
-        }
-    }
-    true
-}
-
-fn rises(table: &[u8], s: Sections, e: Entry, k: u16) -> bool
-    ensures { λ r. ⌜ r ≡ above (rank (now (table .entry)) s e) k ⌝ }
-{
-    if k == 0 {
-        return true;
-    }
-    rank(table, s, e, k - 1) < rank(table, s, e, k)
-}
-
-// The k-th value, with its top bit turned where the base is signed, so that numbers below zero come first.
-fn rank(table: &[u8], s: Sections, e: Entry, k: u16) -> u64
-    ensures { λ r. ⌜ r ≡ rank (now (table .entry)) s e k ⌝ }
-{
-    let value = entries::value_at(table, s, e.first as u32 + k as u32);
-    if e.of < 6 {
-        std::num::wrapping_add_u64(value, 9223372036854775808)
-    } else {
-        value
-    }
-}
-
-fn all_unlike(table: &[u8], s: Sections, e: Entry) -> bool
-    ensures { λ r. ⌜ r ≡ distinct (now (table .entry)) s e ⌝ }
-{
-    let count = e.count;
-    let mut k: u16 = 0;
-    while k < count {
-        if unlike_before(table, s, e, k) {
-            k += 1;
-        } else {
-            return false;
-        }
-    }
-    true
-}
-
-fn unlike_before(table: &[u8], s: Sections, e: Entry, k: u16) -> bool
-    ensures { λ r. ⌜ r ≡ unlikeBefore (now (table .entry)) s e k ⌝ }
-{
-    let mut j: u16 = 0;
-    while j < k {
-        if unlike(table, s, e, k, j) {
-            j += 1;
-        } else {
-            return false;
-        }
-    }
-    true
-}
-
-fn unlike(table: &[u8], s: Sections, e: Entry, k: u16, j: u16) -> bool
-    ensures { λ r. ⌜ r ≡ unlike (now (table .entry)) s e k j ⌝ }
-{
-    let first = e.first as u32;
-    entries::value_at(table, s, first + j as u32) != entries::value_at(table, s, first + k as u32)
 }

@@ -1,13 +1,13 @@
 -- `types::leaf::allowed` meets its contract: each arm is the test of its code.
 -- Assumes nothing.
 use borrow.Author.Needs.{needs}
-use Rattle.types.specs.Leaf.{allowed, base, valueOf, finite}
+use Rattle.types.specs.Leaf.{allowed, base, isValue, finite}
 use Rattle.types.proofs.Leaves.{at-code, all-signed, all-unsigned, double, other}
 use Rattle.types.proofs.leaf.allowed.Statement.{statement}
 use Rattle.types.proofs.leaf.allowed.Tie as tie
 
 pub allowed-spec : {M : Type 1} → statement M
-unfolding allowed base valueOf finite
+unfolding allowed base isValue finite
 allowed-spec =
     tie.close
     (tie.spec

@@ -1,9 +1,9 @@
--- `types::rules::values_ok` meets its contract: values that rise are distinct.
+-- `types::values::values_ok` meets its contract: values that rise are distinct.
 -- Assumes nothing.
 use borrow.Author.Needs.{needs}
-use Rattle.types.proofs.TypeRules.{not-allowed, they-rise, they-differ}
-use Rattle.types.proofs.rules.values_ok.Statement.{statement}
-use Rattle.types.proofs.rules.values_ok.Tie as tie
+use Rattle.types.proofs.ValueRules.{not-allowed, they-rise, they-differ}
+use Rattle.types.proofs.values.values_ok.Statement.{statement}
+use Rattle.types.proofs.values.values_ok.Tie as tie
 
 pub values-ok-spec : {M : Type 1} → statement M
 values-ok-spec =

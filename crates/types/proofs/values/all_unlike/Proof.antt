@@ -1,24 +1,24 @@
--- `types::rules::rising` meets its contract: the first k values rise.
+-- `types::values::all_unlike` meets its contract: the first k values are each unlike those before it.
 -- Assumes nothing.
 use borrow.Author.Needs.{needs}
 use Prim.Native.Nat.{_-_, _≤_}
 use mathlib.Core.Path.{_≡_}
 use mathlib.Core.Bool.{true}
-use Rattle.types.specs.All.{allBelow, above}
-use Rattle.types.specs.Rules.{rank, rising}
+use Rattle.types.specs.All.{allBelow}
+use Rattle.types.specs.Values.{unlikeBefore, distinct}
 use Rattle.types.proofs.AllBelow.{none-below, next-below, stop-below, done-below}
-use Rattle.types.proofs.rules.rising.Statement.{statement}
-use Rattle.types.proofs.rules.rising.Tie as tie
+use Rattle.types.proofs.values.all_unlike.Statement.{statement}
+use Rattle.types.proofs.values.all_unlike.Tie as tie
 
 abbrev Inv-loop : tie.InvT-loop
-Inv-loop table s e count k₀ k = (k ≤ e .count) × (allBelow (above (rank table s e)) k ≡ true)
+Inv-loop table s e count k₀ k = (k ≤ e .count) × (allBelow (unlikeBefore table s e) k ≡ true)
 
 abbrev μ-loop : tie.MeasureT-loop
 μ-loop table s e count k₀ k = e .count - k
 
-pub rising-spec : {M : Type 1} → statement M
-unfolding rising
-rising-spec =
+pub all-unlike-spec : {M : Type 1} → statement M
+unfolding distinct
+all-unlike-spec =
     tie.close
     (tie.spec
     Inv-loop

@@ -1,0 +1,14 @@
+-- `types::operations::fields_ok` meets its contract: the test as it is written.
+-- Assumes nothing.
+use borrow.Author.Needs.{needs}
+use mathlib.Core.Path.{refl}
+use Rattle.types.specs.Operations.{fieldsOk}
+use Rattle.types.proofs.operations.fields_ok.Statement.{statement}
+use Rattle.types.proofs.operations.fields_ok.Tie as tie
+
+pub fields-ok-spec : {M : Type 1} → statement M
+unfolding fieldsOk
+fields-ok-spec =
+    tie.close
+    (tie.spec
+    (λ c. refl))
