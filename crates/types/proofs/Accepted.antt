@@ -2,7 +2,7 @@
 -- Assumes nothing.
 use Prim.Native.Nat.{ℕ, _+_, _*_, _≤_, _<_}
 use mathlib.Core.Path.{_≡_, refl, sym, ap, subst, _∙_}
-use mathlib.Core.Bool.{Bool, true, false, _&&_, _||_, not}
+use mathlib.Core.Bool.{Bool, true, false, _&&_, _||_, not, cond}
 use mathlib.Core.Logic.{_⊎_, inl, inr, ⊎-elim}
 use mathlib.Core.List.{List}
 use native.Mathlib.Omega.{arith}
@@ -18,7 +18,7 @@ use Rattle.types.specs.declared.Largest.{Largest}
 use Rattle.types.specs.declared.Largest.the-variants.{Bytes, Unknown}
 use Rattle.types.specs.All.{allBelow, above}
 use Rattle.types.specs.Leaf.{isBase, isEnumBase, allowed}
-use Rattle.types.specs.Layout.{ruleBroken, tooLarge, mostTypes, pickChecked, sectionsOf, within}
+use Rattle.types.specs.Layout.{ruleBroken, tooLarge, mostTypes, sectionsOf, within}
 use Rattle.types.specs.Entries.{typeAt, memberAt, valueAt, idAt, operationAt, isType}
 use Rattle.types.specs.Rules.{baseFields, enumFields, recordFields, elementFields, fieldsOk}
 use Rattle.types.specs.Rules.{memberOk, membersOk, pointedOk, typeOk}
@@ -36,7 +36,7 @@ pub record Accepted (t : List ℕ) (s : Sections) : Type 0 where
   pub keep : entriesOk t s ≡ true
   pub fit : sizesOk t s ≡ true
 
-twice : (a b : Bool) (m n : ℕ) (x s : Sections) → pickChecked a (pickChecked b (Table x) (Refused m)) (Refused n) ≡ Table s → (a ≡ true) × ((b ≡ true) × (x ≡ s))
+twice : (a b : Bool) (m n : ℕ) (x s : Sections) → cond a (cond b (Table x) (Refused m)) (Refused n) ≡ Table s → (a ≡ true) × ((b ≡ true) × (x ≡ s))
 twice true b m n x s e = (refl, finished b m x s e)
 twice false b m n x s e = absurd (let z : _≡_ {A = ℕ} 0 1 = cc in omega arith)
 

@@ -2,7 +2,7 @@
 -- Assumes nothing.
 use Prim.Native.Nat.{ℕ, _+_, _*_, _≤_, _<_}
 use mathlib.Core.Path.{_≡_, refl, sym, ap, subst, _∙_}
-use mathlib.Core.Bool.{Bool, true, false, _&&_}
+use mathlib.Core.Bool.{Bool, true, false, _&&_, cond}
 use mathlib.Core.List.{List}
 use native.Mathlib.Nat.{mul-le-mul-left}
 use native.Mathlib.Omega.{arith}
@@ -16,7 +16,7 @@ use Rattle.types.specs.declared.Part.the-variants.{Missing, Found}
 use Rattle.types.specs.declared.Checked.{Checked}
 use Rattle.types.specs.declared.Checked.the-variants.{Refused, Table}
 use Rattle.types.specs.Layout.{cutShort, typeWidth, memberWidth, valueWidth, operationWidth, mostTypes, mostMembers, mostValues, mostOperations}
-use Rattle.types.specs.Layout.{entryPlace, sectionEnd, sectionAt, pickChecked, after, ended, afterTypes, afterMembers, afterValues, sectionsOf, liesIn, within}
+use Rattle.types.specs.Layout.{entryPlace, sectionEnd, sectionAt, after, ended, afterTypes, afterMembers, afterValues, sectionsOf, liesIn, within}
 use Rattle.types.proofs.Places.{Holds, holds}
 
 -- the sections that were found: each lies behind the one before it, and the last ends where the bytes end
@@ -33,7 +33,7 @@ unfolding after
 linked (Missing n) next s e = absurd (let z : _≡_ {A = ℕ} 0 1 = cc in omega arith)
 linked (Found u) next s e = (u, (refl, e))
 
-pub finished : (b : Bool) (n : ℕ) (x s : Sections) → pickChecked b (Table x) (Refused n) ≡ Table s → (b ≡ true) × (x ≡ s)
+pub finished : (b : Bool) (n : ℕ) (x s : Sections) → cond b (Table x) (Refused n) ≡ Table s → (b ≡ true) × (x ≡ s)
 finished true n x s e = (refl, cc)
 finished false n x s e = absurd (let z : _≡_ {A = ℕ} 0 1 = cc in omega arith)
 

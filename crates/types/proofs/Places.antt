@@ -2,7 +2,7 @@
 -- Assumes nothing.
 use Prim.Native.Nat.{ℕ, _+_, _*_, _^_, _≤_, _<_}
 use mathlib.Core.Path.{_≡_, refl, sym, ap, subst, _∙_}
-use mathlib.Core.Bool.{Bool, true, false, _&&_, _||_}
+use mathlib.Core.Bool.{Bool, true, false, _&&_, _||_, cond}
 use mathlib.Core.List.{List}
 use native.Mathlib.Nat.{mul-le-mul, mul-le-mul-left}
 use native.Mathlib.Omega.{arith}
@@ -18,7 +18,7 @@ use Rattle.types.specs.declared.Checked.{Checked}
 use Rattle.types.specs.declared.Checked.the-variants.{Refused, Table}
 use Rattle.types.specs.declared.Part.{Part}
 use Rattle.types.specs.declared.Part.the-variants.{Missing, Found}
-use Rattle.types.specs.Layout.{cutShort, countOutside, operationWidth, sectionAt, sectionEnd, pickPart, after, ended, liesIn}
+use Rattle.types.specs.Layout.{cutShort, countOutside, operationWidth, sectionAt, sectionEnd, after, ended, liesIn}
 
 -- a 16-bit width times a 32-bit index
 product : (w i : ℕ) → Fits w16 w → Fits w32 i → w * i ≤ 65535 * 4294967295
@@ -78,7 +78,7 @@ pub record Holds (w most : ℕ) (t : List ℕ) (p : ℕ) (s : Section) : Type 0 
   pub ends : sectionEnd w s ≤ length t
 
 -- a test that did not refuse
-passed : (b : Bool) (n : ℕ) (y : Part) (s : Section) → pickPart b (Missing n) y ≡ Found s → (b ≡ false) × (y ≡ Found s)
+passed : (b : Bool) (n : ℕ) (y : Part) (s : Section) → cond b (Missing n) y ≡ Found s → (b ≡ false) × (y ≡ Found s)
 passed true n y s e = absurd (let z : _≡_ {A = ℕ} 0 1 = cc in omega arith)
 passed false n y s e = (refl, e)
 
@@ -91,8 +91,8 @@ unfolding sectionAt
 holds w least most t p s f =
     let n : ℕ = number 1 t p in
     let x : Section = record { at = p + 2; count = n } in
-    let a = passed (ltb (length t) (p + 2)) cutShort (pickPart (ltb n least || ltb most n) (Missing countOutside) (pickPart (ltb (length t) (p + 2 + w * n)) (Missing cutShort) (Found x))) s f in
-    let b = passed (ltb n least || ltb most n) countOutside (pickPart (ltb (length t) (p + 2 + w * n)) (Missing cutShort) (Found x)) s (a .1) in
+    let a = passed (ltb (length t) (p + 2)) cutShort (cond (ltb n least || ltb most n) (Missing countOutside) (cond (ltb (length t) (p + 2 + w * n)) (Missing cutShort) (Found x))) s f in
+    let b = passed (ltb n least || ltb most n) countOutside (cond (ltb (length t) (p + 2 + w * n)) (Missing cutShort) (Found x)) s (a .1) in
     let d = passed (ltb (length t) (p + 2 + w * n)) cutShort (Found x) s (b .1) in
     let g : Found x ≡ Found s = d .1 in
     let q : x ≡ s = cc in

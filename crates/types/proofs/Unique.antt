@@ -2,7 +2,7 @@
 -- Assumes nothing.
 use Prim.Native.Nat.{ℕ, zero, suc, _≤_, _<_}
 use mathlib.Core.Path.{_≡_, refl, sym, ap, subst, _∙_}
-use mathlib.Core.Bool.{Bool, true, false}
+use mathlib.Core.Bool.{Bool, true, false, cond}
 use mathlib.Core.Logic.{_⊎_, inl, inr, ⊎-elim}
 use mathlib.Core.List.{List}
 use native.Mathlib.Nat.{eq-or-lt-of-le}
@@ -13,7 +13,7 @@ use Rattle.types.specs.declared.Sections.{Sections}
 use Rattle.types.specs.declared.Found.{Found}
 use Rattle.types.specs.declared.Found.the-variants.{At, Nothing}
 use Rattle.types.specs.Entries.{idAt}
-use Rattle.types.specs.Operations.{idsRise, Answers, orElse, pickFound, firstBelow, operationOf}
+use Rattle.types.specs.Operations.{idsRise, Answers, orElse, firstBelow, operationOf}
 use Rattle.types.proofs.Rising.{rising-apart}
 
 module _ (t : List ℕ) (s : Sections) (id : ℕ) where
@@ -27,7 +27,7 @@ module _ (t : List ℕ) (s : Sections) (id : ℕ) where
   first zero = λ k h. absurd (omega arith)
   first (suc n) = go (firstBelow t s id n) (first n) (eqb (idAt t s n) id) refl
     where
-      go : (x : Found) → First n x → (b : Bool) → eqb (idAt t s n) id ≡ b → First (suc n) (orElse x (pickFound b (At n) Nothing))
+      go : (x : Found) → First n x → (b : Bool) → eqb (idAt t s n) id ≡ b → First (suc n) (orElse x (cond b (At n) Nothing))
       go (At i) h b p = (omega arith, h .1)
       go Nothing h true p = (omega arith, eqb-true (idAt t s n) id p)
       go Nothing h false p = λ k l q.

@@ -1,7 +1,7 @@
 -- 01, "The type table": four sections, each after its 16-bit count. Where the i-th entry of each stands, and what reading
 -- the sections finds. Numbers 30 and 31.
 use Prim.Native.Nat.{ℕ, _+_, _*_}
-use mathlib.Core.Bool.{Bool, true, false, _&&_, _||_}
+use mathlib.Core.Bool.{Bool, true, false, _&&_, _||_, cond}
 use mathlib.Core.List.{List}
 use lib.Dec.{ltb, leb, eqb}
 use lib.ListN.{length}
@@ -71,10 +71,6 @@ valuePlace s i = entryPlace valueWidth (s .values) i
 abbrev pub operationPlace : Sections → ℕ → ℕ
 operationPlace s i = entryPlace operationWidth (s .operations) i
 
-abbrev pub pickPart : Bool → Part → Part → Part
-pickPart true a b = a
-pickPart false a b = b
-
 -- the section whose 16-bit count stands at p
 abbrev pub counted : List ℕ → ℕ → Section
 counted t p = record { at = p + 2; count = number 1 t p }
@@ -82,22 +78,18 @@ counted t p = record { at = p + 2; count = number 1 t p }
 -- its count must be there and within its limits, and then its entries must be there
 unfoldable pub sectionAt : ℕ → ℕ → ℕ → List ℕ → ℕ → Part
 sectionAt width least most t p =
-    pickPart (ltb (length t) (p + 2)) (Missing cutShort)
-    (pickPart (ltb (counted t p .count) least || ltb most (counted t p .count)) (Missing countOutside)
-    (pickPart (ltb (length t) (sectionEnd width (counted t p))) (Missing cutShort) (Found (counted t p))))
+    cond (ltb (length t) (p + 2)) (Missing cutShort)
+    (cond (ltb (counted t p .count) least || ltb most (counted t p .count)) (Missing countOutside)
+    (cond (ltb (length t) (sectionEnd width (counted t p))) (Missing cutShort) (Found (counted t p))))
 
 -- what comes after a section that was found
 unfoldable pub after : Part → (Section → Checked) → Checked
 after (Missing n) next = Refused n
 after (Found s) next = next s
 
-abbrev pub pickChecked : Bool → Checked → Checked → Checked
-pickChecked true a b = a
-pickChecked false a b = b
-
 -- the four sections in reading order, and nothing after their end
 unfoldable pub ended : List ℕ → Sections → Checked
-ended t s = pickChecked (eqb (sectionEnd operationWidth (s .operations)) (length t)) (Table s) (Refused cutShort)
+ended t s = cond (eqb (sectionEnd operationWidth (s .operations)) (length t)) (Table s) (Refused cutShort)
 
 unfoldable pub afterValues : List ℕ → Section → Section → Section → Checked
 afterValues t types members values =

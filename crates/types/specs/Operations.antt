@@ -1,7 +1,7 @@
 -- 01, "The type table": the rules of an operation's entry (number 32), and an operation looked up by its ID.
 use Prim.Native.Nat.{ℕ, zero, suc, _<_}
 use mathlib.Core.Path.{_≡_}
-use mathlib.Core.Bool.{Bool, true, false, _&&_, _||_}
+use mathlib.Core.Bool.{Bool, true, false, _&&_, _||_, cond}
 use mathlib.Core.List.{List}
 use lib.Dec.{ltb, leb, eqb}
 use Rattle.types.specs.declared.Sections.{Sections}
@@ -48,13 +48,9 @@ abbrev pub orElse : Found → Found → Found
 orElse (At i) y = At i
 orElse Nothing y = y
 
-abbrev pub pickFound : Bool → Found → Found → Found
-pickFound true a b = a
-pickFound false a b = b
-
 unfoldable pub firstBelow : List ℕ → Sections → ℕ → ℕ → Found
 firstBelow t s id zero = Nothing
-firstBelow t s id (suc n) = orElse (firstBelow t s id n) (pickFound (eqb (idAt t s n) id) (At n) Nothing)
+firstBelow t s id (suc n) = orElse (firstBelow t s id n) (cond (eqb (idAt t s n) id) (At n) Nothing)
 
 unfoldable pub operationOf : List ℕ → Sections → ℕ → Found
 operationOf t s id = firstBelow t s id (s .operations .count)

@@ -1,6 +1,6 @@
 -- 01, "The type table": the rules of a type's entry. Number 32.
 use Prim.Native.Nat.{ℕ, _+_}
-use mathlib.Core.Bool.{Bool, true, false, _&&_, _||_}
+use mathlib.Core.Bool.{Bool, true, false, _&&_, _||_, cond}
 use mathlib.Core.List.{List}
 use lib.Dec.{ltb, leb, eqb}
 use Rattle.types.specs.declared.Sections.{Sections}
@@ -26,10 +26,6 @@ fixedKind = 3
 abbrev pub arrayKind : ℕ
 arrayKind = 4
 
-abbrev pub pickBool : Bool → Bool → Bool → Bool
-pickBool true a b = a
-pickBool false a b = b
-
 -- 0 base: of is the code, and first and count are unused
 abbrev pub baseFields : Entry → Bool
 baseFields e = isBase (e .of) && eqb (e .first) 0 && eqb (e .count) 0
@@ -49,10 +45,10 @@ elementFields i e = ltb (e .of) i && eqb (e .first) 0 && leb 1 (e .count)
 -- the fields of type i's entry, in constant time
 unfoldable pub fieldsOk : Sections → ℕ → Entry → Bool
 fieldsOk s i e =
-    pickBool (eqb (e .kind) baseKind) (baseFields e)
-    (pickBool (eqb (e .kind) enumKind) (enumFields s e)
-    (pickBool (eqb (e .kind) recordKind) (recordFields s e)
-    (pickBool (eqb (e .kind) fixedKind || eqb (e .kind) arrayKind) (elementFields i e) false)))
+    cond (eqb (e .kind) baseKind) (baseFields e)
+    (cond (eqb (e .kind) enumKind) (enumFields s e)
+    (cond (eqb (e .kind) recordKind) (recordFields s e)
+    (cond (eqb (e .kind) fixedKind || eqb (e .kind) arrayKind) (elementFields i e) false)))
 
 -- a record's k-th member has a smaller number than the record
 unfoldable pub memberOk : List ℕ → Sections → ℕ → Entry → ℕ → Bool
@@ -64,7 +60,7 @@ membersOk t s i e = allBelow (memberOk t s i e) (e .count)
 -- what the entry of type i points to. Members and values that no type points to aren't judged
 unfoldable pub pointedOk : List ℕ → Sections → ℕ → Entry → Bool
 pointedOk t s i e =
-    pickBool (eqb (e .kind) enumKind) (valuesOk t s e) (pickBool (eqb (e .kind) recordKind) (membersOk t s i e) true)
+    cond (eqb (e .kind) enumKind) (valuesOk t s e) (cond (eqb (e .kind) recordKind) (membersOk t s i e) true)
 
 unfoldable pub typeOk : List ℕ → Sections → ℕ → Bool
 typeOk t s i = fieldsOk s i (typeAt t s i) && pointedOk t s i (typeAt t s i)

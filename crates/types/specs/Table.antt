@@ -1,12 +1,12 @@
 -- 01, "The type table": what checking a table answers. 30 and 31 in reading order, then 32 for any entry, then 33.
 use Prim.Native.Nat.{ℕ}
-use mathlib.Core.Bool.{Bool, _&&_}
+use mathlib.Core.Bool.{Bool, _&&_, cond}
 use mathlib.Core.List.{List}
 use Rattle.types.specs.declared.Sections.{Sections}
 use Rattle.types.specs.declared.Checked.{Checked}
 use Rattle.types.specs.declared.Checked.the-variants.{Refused, Table}
 use Rattle.types.specs.All.{allBelow}
-use Rattle.types.specs.Layout.{ruleBroken, tooLarge, pickChecked, sectionsOf}
+use Rattle.types.specs.Layout.{ruleBroken, tooLarge, sectionsOf}
 use Rattle.types.specs.Rules.{typeOk}
 use Rattle.types.specs.Operations.{operationOk}
 use Rattle.types.specs.Sizes.{sizeFits}
@@ -20,7 +20,7 @@ unfoldable pub sizesOk : List ℕ → Sections → Bool
 sizesOk t s = allBelow (sizeFits t s) (s .types .count)
 
 unfoldable pub judged : List ℕ → Sections → Checked
-judged t s = pickChecked (entriesOk t s) (pickChecked (sizesOk t s) (Table s) (Refused tooLarge)) (Refused ruleBroken)
+judged t s = cond (entriesOk t s) (cond (sizesOk t s) (Table s) (Refused tooLarge)) (Refused ruleBroken)
 
 -- the sections first, and then what is in them
 unfoldable pub judging : List ℕ → Checked → Checked

@@ -1,6 +1,6 @@
 -- 01, "The type table": the values of an enum are allowed in its base and distinct. Number 32.
 use Prim.Native.Nat.{ℕ, _+_, _%_, _^_}
-use mathlib.Core.Bool.{Bool, true, false, _&&_, not}
+use mathlib.Core.Bool.{Bool, true, false, _&&_, not, cond}
 use mathlib.Core.List.{List}
 use lib.Dec.{ltb, eqb}
 use Rattle.types.specs.declared.Sections.{Sections}
@@ -30,13 +30,8 @@ distinct t s e = allBelow (unlikeBefore t s e) (e .count)
 unfoldable pub valuesOk : List ℕ → Sections → Entry → Bool
 valuesOk t s e = allBelow (valueOk t s e) (e .count) && distinct t s e
 
--- how values are compared to see that they rise: as numbers with a sign where the base has one (codes up to 5)
-abbrev pub pickWord : Bool → ℕ → ℕ → ℕ
-pickWord true a b = a
-pickWord false a b = b
-
 unfoldable pub rank : List ℕ → Sections → Entry → ℕ → ℕ
-rank t s e k = pickWord (ltb (e .of) 6) ((valueOf t s e k + 2 ^ 63) % 2 ^ 64) (valueOf t s e k)
+rank t s e k = cond (ltb (e .of) 6) ((valueOf t s e k + 2 ^ 63) % 2 ^ 64) (valueOf t s e k)
 
 unfoldable pub rising : List ℕ → Sections → Entry → Bool
 rising t s e = allBelow (above (rank t s e)) (e .count)

@@ -1,3 +1,4 @@
+pub mod Cond
 pub mod Numbers
 pub mod Runs
 mod Writes

@@ -5,9 +5,12 @@ use mathlib.Core.Path.{_≡_, refl, sym, ap, subst, _∙_}
 use mathlib.Core.List.{List, [], _∷_, _++_, append-assoc}
 use native.Mathlib.Nat.{add-assoc, add-zero, zero-add, pow-suc, one-le-pow, zero-lt-suc, mod-lt, div-lt-iff-lt-mul, div-add-mod'}
 use native.Mathlib.Omega.{arith}
+use mathlib.Core.Bool.{Bool, true, false}
+use borrow.Author.Tests.{ltb-true, ltb-false}
+use lib.Dec.{ltb}
 use lib.Arith.{digits-lt, digits-div, digits-mod}
 use lib.Pow.{pow-add}
-use lib.ListN.{length, getD, take, drop, length-append, List·getD-eq-default, List·getD-append}
+use lib.ListN.{length, getD, take, drop, length-append, length-take, List·getD-eq-default, List·getD-append}
 use lib.Seq.{length-take-le, getD-append-add, getD-take, getD-drop, take-add, drop-drop, drop-cons}
 use Rattle.wire.specs.Bytes.{span, number, bytes, over, written, Octets}
 use Rattle.wire.proofs.Runs.{written-in}
@@ -21,6 +24,19 @@ span-suc k = ap (λ (n : ℕ). 256 ^ n) (twice k) ∙ pow-add 256 (2 ^ k) (2 ^ k
 
 span-pos : (k : ℕ) → 0 < span k
 span-pos k = one-le-pow (2 ^ k) 256 (zero-lt-suc 255)
+
+-- a part of a list of bytes is one
+pub octets-drop : (n : ℕ) (s : List ℕ) → Octets s → Octets (drop n s)
+octets-drop n s o i = rw (getD-drop n s i 0) (o (n + i))
+
+pub octets-take : (n : ℕ) (s : List ℕ) → Octets s → Octets (take n s)
+octets-take n s o i = go (ltb i n) refl
+  where
+    go : (b : Bool) → ltb i n ≡ b → getD (take n s) i 0 < 256
+    go true e = rw (getD-take n s i 0 (ltb-true i n e)) (o i)
+    go false e =
+        let l : length (take n s) ≤ i = omega (arith, ltb-false i n e, length-take n s) in
+        rw (List·getD-eq-default (take n s) 0 l) (omega arith)
 
 -- past the end every number is 0
 pub past-end : (k : ℕ) (s : List ℕ) (p : ℕ) → length s ≤ p → number k s p ≡ 0

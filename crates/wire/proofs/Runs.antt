@@ -13,7 +13,7 @@ use mir.Val.{Fits}
 use lib.Dec.{leb}
 use lib.ListN.{length, getD, set, take, drop, length-append, length-drop, take-append-drop}
 use lib.Seq.{length-take-le, take-all, take-at, take-suc, drop-at, drop-drop, set-split}
-use Rattle.wire.specs.Bytes.{over, written, part, pickList}
+use Rattle.wire.specs.Bytes.{over, written, part}
 
 -- what a test that held, or failed, says
 pub held : {r : Bool} (a b : ℕ) → r ≡ leb a b → r ≡ true → a ≤ b

@@ -1,7 +1,7 @@
 -- Numbers and runs of bytes in a list of bytes: what `wire` reads and writes. 000, 6.1: all fields are big endian.
 use Prim.Native.Nat.{ℕ, zero, suc, _+_, _*_, _/_, _%_, _^_, _<_}
 use mathlib.Core.List.{List, [], _∷_, _++_}
-use mathlib.Core.Bool.{Bool, true, false}
+use mathlib.Core.Bool.{cond}
 use lib.Dec.{leb}
 use lib.ListN.{length, getD, take, drop}
 
@@ -19,21 +19,17 @@ abbrev pub bytes : ℕ → ℕ → List ℕ
 bytes zero x = x ∷ []
 bytes (suc k) x = bytes k (x / span k) ++ bytes k (x % span k)
 
-abbrev pub pickList : Bool → List ℕ → List ℕ → List ℕ
-pickList true a b = a
-pickList false a b = b
-
 -- s with b written over what stands at p
 abbrev pub over : List ℕ → ℕ → List ℕ → List ℕ
 over s p b = take p s ++ (b ++ drop (p + length b) s)
 
 -- s with b written at p where it fits, and s as it is where it does not
 abbrev pub written : List ℕ → ℕ → List ℕ → List ℕ
-written s p b = pickList (leb (p + length b) (length s)) (over s p b) s
+written s p b = cond (leb (p + length b) (length s)) (over s p b) s
 
 -- the n bytes of s from p on, and none where s ends before them
 abbrev pub part : List ℕ → ℕ → ℕ → List ℕ
-part s p n = pickList (leb (p + n) (length s)) (take n (drop p s)) []
+part s p n = cond (leb (p + n) (length s)) (take n (drop p s)) []
 
 -- every element is a byte
 abbrev pub Octets : List ℕ → Type 0

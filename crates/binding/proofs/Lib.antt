@@ -1,0 +1,5 @@
+pub mod Headers
+pub mod Cutting
+mod Reading
+mod Cuts
+mod Examples

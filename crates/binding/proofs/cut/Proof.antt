@@ -1,0 +1,25 @@
+-- `binding::cut` meets its contract: 50, then 51, then the datagram or 52.
+-- Assumes nothing.
+use borrow.Author.Needs.{needs}
+use Rattle.binding.proofs.Cuts.{cut-in, header-in, sender-fits, size-in, start-in, start-fits, counter-fits, answer-50, output-50, answer-51, output-51, answer-made, output-made}
+use Rattle.binding.proofs.cut.Statement.{statement}
+use Rattle.binding.proofs.cut.Tie as tie
+
+pub cut-spec : {M : Type 1} → statement M
+cut-spec =
+    tie.close
+    (tie.spec
+    (λ c κs. search needs)
+    (λ c κs. search needs)
+    (λ c κs. search cut-in)
+    (λ c κs. search needs)
+    (λ c. search counter-fits)
+    (λ c. search needs)
+    (λ c. search sender-fits)
+    (λ c κs. search needs)
+    (λ c. search start-fits)
+    (λ c κs. (search header-in, (search start-in, search size-in)))
+    (λ c. search needs)
+    (λ c. (search answer-made, search output-made))
+    (λ c. (search answer-51, search output-51))
+    (λ c. (search answer-50, search output-50)))

@@ -1,0 +1,11 @@
+pub mod Places
+pub mod Lookups
+pub mod Judging
+pub mod Cases
+pub mod Standing
+pub mod Addressing
+pub mod Views
+pub mod Setups
+mod Stepping
+mod Making
+mod Taking

@@ -1,0 +1,86 @@
+-- What taking a datagram and handing back a message show at their returns.
+-- Assumes nothing.
+use Prim.Native.Nat.{ℕ, _+_, _-_, _*_, _≤_, _<_}
+use mathlib.Core.Path.{_≡_, refl, sym, ap, _∙_}
+use mathlib.Core.List.{List, [], _∷_}
+use mathlib.Core.Logic.{⊎-elim}
+use native.Mathlib.Omega.{arith}
+use mir.Syntax.{w64}
+use mir.Val.{Fits}
+use lib.ListN.{length, take, drop, length-drop}
+use lib.Seq.{take-all}
+use denote.Enum.Declared.{tagOf}
+use types.Run.{OneOf}
+use Rattle.joiner.proofs.Outcome.{the-type}
+use Rattle.wire.specs.Bytes.{written, part}
+use Rattle.binding.specs.Header.{headerLength, pieceIn}
+use Rattle.joiner.specs.declared.Joiner.{Joiner}
+use Rattle.joiner.specs.declared.Step.{Step}
+use Rattle.joiner.specs.declared.Judged.{Judged}
+use Rattle.joiner.specs.declared.Judged.the-variants.{Refusal, Move}
+use Rattle.joiner.specs.declared.Place.{Place}
+use Rattle.joiner.specs.declared.Place.the-variants.{Datagram, Rooms}
+use Rattle.joiner.specs.declared.Put.{Put}
+use Rattle.joiner.specs.declared.Put.the-variants.{Nowhere, At}
+use Rattle.joiner.specs.declared.Outcome.{Outcome}
+use Rattle.joiner.specs.declared.Outcome.the-variants.{Refused, Repeated, Delivered, Held, Stray, TooLong}
+use Rattle.joiner.specs.Setup.{channelLimit}
+use Rattle.joiner.specs.Take.{judgedOf, changed, takenBy, takenOf, putBy, roomsBy, roomsAfter, lyingAt, messageOf}
+use Rattle.joiner.proofs.Judging.{Moved, judged-moved, good-sizes}
+
+module _ {o : Outcome} {pl : Place} (d rooms : List ℕ) where
+  pub in-datagram : {x : List ℕ} (m s l : ℕ) → o ≡ Delivered m pl → pl ≡ Datagram s l → x ≡ part d s l → x ≡ messageOf o d rooms
+  unfolding messageOf
+  in-datagram m s l eo ep ex = rw (eo, ep) ex
+
+  pub in-rooms : {x : List ℕ} (m s l : ℕ) → o ≡ Delivered m pl → pl ≡ Rooms s l → x ≡ part rooms s l → x ≡ messageOf o d rooms
+  unfolding messageOf
+  in-rooms m s l eo ep ex = rw (eo, ep) ex
+
+pub put-nowhere : {p : Put} (rooms d : List ℕ) → p ≡ Nowhere → rooms ≡ putBy rooms p d
+unfolding putBy
+put-nowhere rooms d e = rw e
+
+pub put-at : {p : Put} {x : List ℕ} (rooms d : List ℕ) (a : ℕ) → p ≡ At a → x ≡ written rooms a (take (length d - headerLength) (drop headerLength d)) → x ≡ putBy rooms p d
+unfolding putBy
+put-at rooms d a e f = rw e (f ∙ ap (written rooms a) (take-all (length d - headerLength) (drop headerLength d) (omega (arith, length-drop headerLength d))))
+
+-- any outcome but a delivery, by the places of their variants
+pub not-delivered : (o : Outcome) (d rooms : List ℕ) → OneOf (0 ∷ 1 ∷ 3 ∷ 4 ∷ 5 ∷ []) (tagOf the-type o) → [] ≡ messageOf o d rooms
+unfolding messageOf
+not-delivered (Refused n) d rooms t = refl
+not-delivered Repeated d rooms t = refl
+not-delivered (Delivered m p) d rooms t =
+    absurd (⊎-elim (λ e. omega arith) (⊎-elim (λ e. omega arith) (⊎-elim (λ e. omega arith) (⊎-elim (λ e. omega arith) (λ e. omega arith)))) t)
+not-delivered (Held m n) d rooms t = refl
+not-delivered (Stray m) d rooms t = refl
+not-delivered (TooLong m) d rooms t = refl
+
+-- `take`
+pub refused-taken : {x : Judged} (j : Joiner) (rooms d : List ℕ) (n : ℕ) → x ≡ judgedOf j (length rooms) d → x ≡ Refusal n → record { outcome = Refused n; joiner = j } ≡ takenOf j rooms d
+unfolding takenOf takenBy
+refused-taken j rooms d n e m = rw (sym e ∙ m)
+
+pub refused-rooms : {x : Judged} (j : Joiner) (rooms d : List ℕ) (n : ℕ) → x ≡ judgedOf j (length rooms) d → x ≡ Refusal n → rooms ≡ roomsAfter j rooms d
+unfolding roomsAfter roomsBy
+refused-rooms j rooms d n e m = rw (sym e ∙ m)
+
+module _ {x : Judged} (j : Joiner) (rooms d : List ℕ) (k : ℕ) (s : Step) (e : x ≡ judgedOf j (length rooms) d) (m : x ≡ Move k s) where
+  pub moved-long : headerLength ≤ length d
+  moved-long = omega (arith, judged-moved j (length rooms) d k s (sym e ∙ m) .headed .long)
+
+  pub moved-known : k < channelLimit
+  moved-known =
+      let v : Moved j (length rooms) d k s = judged-moved j (length rooms) d k s (sym e ∙ m) in
+      omega (arith, v .known, good-sizes j (length rooms) (v .well) .few)
+
+  pub moved-fits : Fits w64 (k * 12)
+  moved-fits = record { fits = omega (arith, moved-known) }
+
+  pub moved-taken : record { outcome = s .outcome; joiner = changed j k (s .channel) } ≡ takenOf j rooms d
+  unfolding takenOf takenBy
+  moved-taken = rw (sym e ∙ m)
+
+  pub moved-rooms : {after : List ℕ} → after ≡ putBy rooms (s .put) d → after ≡ roomsAfter j rooms d
+  unfolding roomsAfter roomsBy
+  moved-rooms f = rw (sym e ∙ m) f

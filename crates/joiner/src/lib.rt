@@ -1,0 +1,233 @@
+// Joining: datagrams taken one at a time, each channel's pieces put behind one another in its own room, and the
+// messages that they make handed back. The state goes in by value and comes back by value; the rooms are lent.
+ghost use mathlib.Core.Path.{_≡_};
+ghost use Prim.Native.Nat.{_≤_};
+ghost use lib.ListN.{length};
+ghost use Rattle.joiner.specs.Setup.{channelLimit, newChannel, freshOf, refusedSetup, setupOf};
+ghost use Rattle.joiner.specs.Take.{judgedOf, takenOf, roomsAfter, putBy, messageOf};
+ghost use Rattle.binding.specs.Header.{headerLength};
+use binding::BindingHeader;
+use binding::Heard;
+
+mod records;
+mod steps;
+
+// 01, Numbers given back. 21 and 22 are the binding header's.
+pub const BAD_SETUP: u32 = 20;
+
+pub const NOT_SET_UP: u32 = 23;
+
+// How many channels a joiner can have, and how small and how large their rooms are.
+pub const CHANNELS: usize = 32;
+
+pub const SMALLEST_ROOM: u32 = 24;
+
+pub const LARGEST_ROOM: u32 = 65560;
+
+// One channel: whether a counter was seen, the last counter, and how many bytes are held (0: nothing). Each number is
+// wider than its range, so that one handed in can be judged.
+pub struct Channel {
+    pub sender: u16,
+    pub seen: bool,
+    pub last: u32,
+    pub held: u32,
+}
+
+// The first `count` records are the channels, in set-up order; the others are never looked at. Each channel's room is
+// `room` bytes long.
+pub struct Joiner {
+    pub channels: [Channel; CHANNELS],
+    pub count: usize,
+    pub room: u32,
+}
+
+pub enum Answer {
+    Accepted,
+    Refused(u32),
+}
+
+// An enum cannot hold an array, so the joiner stands beside the answer. Where the set-up was refused it has no channels.
+pub struct NewJoiner {
+    pub answer: Answer,
+    pub joiner: Joiner,
+}
+
+// Where a delivered message lies: in the datagram it came in, or in the rooms.
+pub enum Place {
+    Datagram { start: usize, length: usize },
+    Rooms { start: usize, length: usize },
+}
+
+pub enum Outcome {
+    Refused(u32),
+    Repeated,
+    Delivered { missed: u32, place: Place },
+    Held { missed: u32, held: u32 },
+    Stray { missed: u32 },
+    TooLong { missed: u32 },
+}
+
+pub struct Taken {
+    pub outcome: Outcome,
+    pub joiner: Joiner,
+}
+
+// A channel's part of the lent buffer.
+pub struct Room {
+    pub start: usize,
+    pub size: u32,
+}
+
+// Where a datagram's piece is to be written in the rooms, if at all.
+pub enum Put {
+    Nowhere,
+    At(usize),
+}
+
+// What a datagram does to its channel: the outcome, the record after it, and where its piece goes.
+pub struct Step {
+    pub outcome: Outcome,
+    pub channel: Channel,
+    pub put: Put,
+}
+
+// What a datagram comes to before anything is written: a refusal, or a step of the channel `at`.
+pub enum Judged {
+    Refusal(u32),
+    Move { at: usize, step: Step },
+}
+
+// A fresh joiner for these sender IDs, over a buffer of `buffer` bytes with `room` bytes for each channel; or 20.
+pub fn setup(ids: &[u16], room: u32, buffer: usize) -> NewJoiner
+    ensures { λ r. ⌜ r ≡ setupOf (now (ids .entry)) room buffer ⌝ }
+{
+    if ids.len() <= CHANNELS {
+        let joiner = fresh(ids, room);
+        if records::is_good(joiner, buffer) {
+            return NewJoiner {
+                answer: Answer::Accepted,
+                joiner,
+            };
+        }
+        return refused_setup();
+    }
+    refused_setup()
+}
+
+// Takes one datagram: 20 to 23 for what is refused, else what it is to its channel, whose record alone changes.
+pub fn take(joiner: Joiner, rooms: &mut [u8], datagram: &[u8]) -> Taken
+    ensures { λ r. ⌜ r ≡ takenOf joiner (now (rooms .entry)) (now (datagram .entry)) ⌝ }
+    ensures { λ _. ⌜ now (rooms .exit) ≡ roomsAfter joiner (now (rooms .entry)) (now (datagram .entry)) ⌝ }
+{
+    match judge(joiner, rooms.len(), datagram) {
+        Judged::Refusal(number) => Taken {
+            outcome: Outcome::Refused(number),
+            joiner,
+        },
+        Judged::Move { at: moved, step } => {
+            let outcome = step.outcome;
+            let place = step.put;
+            let channel = step.channel;
+            write_piece(rooms, place, datagram);
+            let mut after = joiner;
+            after.channels[moved] = channel;
+            Taken {
+                outcome,
+                joiner: after,
+            }
+        }
+    }
+}
+
+// The message that `outcome` delivered, as a part of the datagram or of the rooms; an empty part where it delivered none.
+// A part of the rooms is good until the next `take`.
+pub fn message<'a>(outcome: Outcome, datagram: &'a [u8], rooms: &'a [u8]) -> &'a [u8]
+    ensures { λ r. ⌜ now r ≡ messageOf outcome (now (datagram .entry)) (now (rooms .entry)) ⌝ }
+{
+    match outcome {
+        Outcome::Delivered { missed: _, place } => match place {
+            Place::Datagram { start, length } => wire::part(datagram, start, length),
+            Place::Rooms { start, length } => wire::part(rooms, start, length),
+        },
+        _ => &datagram[..0],
+    }
+}
+
+fn refused_setup() -> NewJoiner
+    ensures { λ r. ⌜ r ≡ refusedSetup ⌝ }
+{
+    NewJoiner {
+        answer: Answer::Refused(BAD_SETUP),
+        joiner: Joiner {
+            channels: [new_channel(0); CHANNELS],
+            count: 0,
+            room: 0,
+        },
+    }
+}
+
+fn fresh(ids: &[u16], room: u32) -> Joiner
+    requires { ⌜ length (now ids) ≤ channelLimit ⌝ }
+    ensures { λ r. ⌜ r ≡ freshOf (now (ids .entry)) room ⌝ }
+{
+    let mut channels = [new_channel(0); CHANNELS];
+    let mut i = 0;
+    while i < ids.len() {
+        channels[i] = new_channel(ids[i]);
+        i += 1;
+    }
+    Joiner {
+        channels,
+        count: ids.len(),
+        room,
+    }
+}
+
+fn new_channel(sender: u16) -> Channel
+    ensures { λ r. ⌜ r ≡ newChannel sender ⌝ }
+{
+    Channel {
+        sender,
+        seen: false,
+        last: 0,
+        held: 0,
+    }
+}
+
+// What a datagram comes to, before anything is written: the numbers in their order, then its channel's step.
+fn judge(joiner: Joiner, rooms: usize, datagram: &[u8]) -> Judged
+    ensures { λ r. ⌜ r ≡ judgedOf joiner rooms (now (datagram .entry)) ⌝ }
+{
+    if records::is_good(joiner, rooms) {
+        match BindingHeader::read(datagram) {
+            Heard::Refused(number) => Judged::Refusal(number),
+            Heard::Piece(header) => {
+                let at = records::find(joiner, header.sender);
+                if at < joiner.count {
+                    let room = Room {
+                        start: records::room_start(joiner.room, at),
+                        size: joiner.room,
+                    };
+                    let length = (datagram.len() - BindingHeader::LENGTH) as u32;
+                    let step = steps::stepped(room, joiner.channels[at], header, length);
+                    Judged::Move { at, step }
+                } else {
+                    Judged::Refusal(NOT_SET_UP)
+                }
+            }
+        }
+    } else {
+        Judged::Refusal(BAD_SETUP)
+    }
+}
+
+// Writes the datagram's piece, and nothing else.
+fn write_piece(rooms: &mut [u8], place: Put, datagram: &[u8])
+    requires { ⌜ headerLength ≤ length (now datagram) ⌝ }
+    ensures { λ _. ⌜ now (rooms .exit) ≡ putBy (now (rooms .entry)) place (now (datagram .entry)) ⌝ }
+{
+    match place {
+        Put::Nowhere => {}
+        Put::At(at) => wire::put_run(rooms, at, &datagram[BindingHeader::LENGTH..]),
+    }
+}

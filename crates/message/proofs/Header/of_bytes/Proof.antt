@@ -1,0 +1,17 @@
+-- `message::Header::of_bytes` meets its contract: each field is the number at its place.
+-- Assumes nothing.
+use borrow.Author.Needs.{needs}
+use Rattle.message.proofs.Header.of_bytes.Statement.{statement}
+use Rattle.message.proofs.Header.of_bytes.Tie as tie
+
+pub of-bytes-spec : {M : Type 1} → statement M
+of-bytes-spec =
+    tie.close
+    (tie.spec
+    (λ c κs. search needs)
+    (λ c κs. search needs)
+    (λ c κs. search needs)
+    (λ c κs. search needs)
+    (λ c κs. search needs)
+    (λ c κs. search needs)
+    (λ c. cc))

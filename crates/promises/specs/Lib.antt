@@ -1,0 +1,4 @@
+pub mod Senders
+pub mod Traffic
+pub mod Demand3
+pub mod CutAndJoined

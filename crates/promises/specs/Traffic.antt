@@ -1,0 +1,62 @@
+-- Demand 3: a traffic, the datagrams of one channel in it, and what is delivered on that channel while it is taken.
+use Prim.Native.Nat.{ℕ, _<_}
+use mathlib.Core.Bool.{Bool, cond, _&&_}
+use mathlib.Core.List.{List, [], _∷_, _++_}
+use mathlib.Core.Path.{_≡_}
+use lib.Dec.{leb, ltb, eqb}
+use lib.ListN.{length, getD}
+use Rattle.wire.specs.Bytes.{Octets}
+use Rattle.binding.specs.Header.{theVersion, smallestDatagram, largestDatagram, versionIn, senderIn}
+use Rattle.joiner.specs.declared.Joiner.{Joiner}
+use Rattle.joiner.specs.declared.Outcome.{Outcome}
+use Rattle.joiner.specs.declared.Outcome.the-variants.{Refused, Repeated, Delivered, Held, Stray, TooLong}
+use Rattle.joiner.specs.Take.{takenOf, roomsAfter, messageOf}
+use Rattle.joiner.specs.View.{View, viewOf}
+
+-- a datagram is a string of bytes
+abbrev pub Datagram : Type 0
+Datagram = List ℕ
+
+-- channel k's own: neither too short nor too long, of Table 9's version, and with the sender ID that channel k was set up with.
+-- A datagram that is no channel's is foreign, and `take` refuses exactly those
+abbrev pub isOf : List ℕ → ℕ → Datagram → Bool
+isOf ids k d =
+    (leb smallestDatagram (length d) && leb (length d) largestDatagram)
+    && (eqb (versionIn d) theVersion && (ltb k (length ids) && eqb (getD ids k 0) (senderIn d)))
+
+-- the datagrams of channel k in a traffic, in their order
+abbrev pub ofChannel : List ℕ → ℕ → List Datagram → List Datagram
+ofChannel ids k [] = []
+ofChannel ids k (d ∷ ds) = cond (isOf ids k d) (d ∷ []) [] ++ ofChannel ids k ds
+
+-- what `message` hands back after `take` answered with this outcome: one message where it delivered
+abbrev pub handedBack : Outcome → Datagram → List ℕ → List (List ℕ)
+handedBack (Delivered m p) d rooms = messageOf (Delivered m p) d rooms ∷ []
+handedBack (Refused n) d rooms = []
+handedBack Repeated d rooms = []
+handedBack (Held m n) d rooms = []
+handedBack (Stray m) d rooms = []
+handedBack (TooLong m) d rooms = []
+
+-- `take` on each datagram of a traffic in turn: the messages delivered on channel k, the outcomes of its datagrams, and its
+-- record and held bytes in the end
+abbrev pub deliveredOn : List ℕ → ℕ → Joiner → List ℕ → List Datagram → List (List ℕ)
+deliveredOn ids k j rooms [] = []
+deliveredOn ids k j rooms (d ∷ ds) =
+    cond (isOf ids k d) (handedBack (takenOf j rooms d .outcome) d (roomsAfter j rooms d)) []
+    ++ deliveredOn ids k (takenOf j rooms d .joiner) (roomsAfter j rooms d) ds
+
+abbrev pub outcomesOn : List ℕ → ℕ → Joiner → List ℕ → List Datagram → List Outcome
+outcomesOn ids k j rooms [] = []
+outcomesOn ids k j rooms (d ∷ ds) =
+    cond (isOf ids k d) (takenOf j rooms d .outcome ∷ []) []
+    ++ outcomesOn ids k (takenOf j rooms d .joiner) (roomsAfter j rooms d) ds
+
+abbrev pub leftOn : ℕ → Joiner → List ℕ → List Datagram → View
+leftOn k j rooms [] = viewOf j rooms k
+leftOn k j rooms (d ∷ ds) = leftOn k (takenOf j rooms d .joiner) (roomsAfter j rooms d) ds
+
+-- every datagram of a traffic is one
+pub data AreBytes : List Datagram → Type 0 where
+  none : AreBytes []
+  more : {d : Datagram} {ds : List Datagram} → Octets d → AreBytes ds → AreBytes (d ∷ ds)

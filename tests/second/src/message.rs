@@ -1,0 +1,281 @@
+//! The generic header read and written: 000, Tables 2 to 4, numbers 1 to 10, R1, R4 to R6, R9.
+
+use crate::replay::number;
+
+/// 000's header: 20 bytes, no timestamp (R1).
+pub const HEADER: usize = 20;
+
+pub const STATUS: u32 = 1;
+pub const REQUEST: u32 = 2;
+pub const UNKNOWN: u32 = 3;
+pub const PULL: u32 = 4;
+
+/// The ID that names all versioned data.
+pub const ALL: u32 = 0xFFFF_FFFF;
+
+#[derive(Clone, Debug, PartialEq, Eq)]
+pub enum Content {
+    Status { up: bool },
+    Request,
+    Unknown(u32),
+    Pull(u32),
+    Operation { id: u32, payload: Vec<u8> },
+}
+
+#[derive(Clone, Debug, PartialEq, Eq)]
+pub struct Message {
+    pub from: u8,
+    pub sequence: u32,
+    pub content: Content,
+}
+
+/// The lowest number whose condition holds.
+fn lowest(conditions: &[(u8, bool)]) -> Result<(), u8> {
+    match conditions
+        .iter()
+        .filter(|(_, holds)| *holds)
+        .map(|(number, _)| *number)
+        .min()
+    {
+        Some(refusal) => Err(refusal),
+        None => Ok(()),
+    }
+}
+
+/// 7 to 9: what Tables 3 and 4 do not allow in domain 0.
+fn platform_level(domain: u64, id: u32, payload: &[u8]) -> [(u8, bool); 3] {
+    let length = match id {
+        STATUS | UNKNOWN | PULL => Some(4),
+        REQUEST => Some(0),
+        _ => None,
+    };
+    let here = domain == 0;
+    [
+        (7, here && length.is_none()),
+        (8, here && length != Some(payload.len())),
+        // A status is the only field with reserved values: 2 and above.
+        (
+            9,
+            here && id == STATUS && payload.len() == 4 && number(payload) > 1,
+        ),
+    ]
+}
+
+/// A message read at platform `own`.
+pub fn read(own: u8, bytes: &[u8]) -> Result<Message, u8> {
+    if bytes.len() < HEADER {
+        return Err(1);
+    }
+    let (header, payload) = bytes.split_at(HEADER);
+    let mark = number(&header[0..2]);
+    let version = number(&header[2..3]);
+    let domain = number(&header[3..4]);
+    let from = number(&header[4..8]);
+    let id = number(&header[8..12]) as u32;
+    let size = number(&header[12..16]);
+    let sequence = number(&header[16..20]) as u32;
+    lowest(&[
+        (2, mark != 0xEC0A),
+        (3, version != 2),
+        (4, domain > 1),
+        (5, size != payload.len() as u64),
+        // R4: the sender has to be one of the other 255.
+        (6, from > 255 || from == u64::from(own)),
+    ])?;
+    lowest(&platform_level(domain, id, payload))?;
+    let content = match (domain, id) {
+        (0, STATUS) => Content::Status {
+            up: number(payload) == 1,
+        },
+        (0, REQUEST) => Content::Request,
+        (0, UNKNOWN) => Content::Unknown(number(payload) as u32),
+        (0, PULL) => Content::Pull(number(payload) as u32),
+        _ => Content::Operation {
+            id,
+            payload: payload.to_vec(),
+        },
+    };
+    Ok(Message {
+        from: from as u8,
+        sequence,
+        content,
+    })
+}
+
+/// A message written by platform `own`; `room` is how many bytes may be given back.
+pub fn write(
+    own: u8,
+    domain: u64,
+    id: u32,
+    sequence: u32,
+    payload: &[u8],
+    room: usize,
+) -> Result<Vec<u8>, u8> {
+    lowest(&[(4, domain > 1), (5, payload.len() as u64 > 0xFFFF_FFFF)])?;
+    lowest(&platform_level(domain, id, payload))?;
+    if room < HEADER + payload.len() {
+        return Err(10);
+    }
+    let mut out = vec![0xEC, 0x0A, 2, domain as u8, 0, 0, 0, own];
+    out.extend(id.to_be_bytes());
+    out.extend((payload.len() as u32).to_be_bytes());
+    out.extend(sequence.to_be_bytes());
+    out.extend(payload);
+    Ok(out)
+}
+
+#[cfg(test)]
+mod tests {
+    use super::*;
+    use crate::hex::bytes;
+
+    const STATUS_UP: &str = "EC0A 02 00 00000001 00000001 00000004 00000009 00000001";
+
+    fn at_2(text: &str) -> Result<Message, u8> {
+        read(2, &bytes(text))
+    }
+
+    fn refused(text: &str) -> u8 {
+        at_2(text).err().unwrap_or(0)
+    }
+
+    #[test]
+    fn each_message_of_tables_3_and_4() {
+        let from_1 = |sequence, content| {
+            Ok(Message {
+                from: 1,
+                sequence,
+                content,
+            })
+        };
+        assert_eq!(at_2(STATUS_UP), from_1(9, Content::Status { up: true }));
+        assert_eq!(
+            at_2("EC0A0200 00000001 00000001 00000004 00000000 00000000"),
+            from_1(0, Content::Status { up: false })
+        );
+        // 20 bytes and accepted: the header has no timestamp.
+        assert_eq!(
+            at_2("EC0A0200 00000001 00000002 00000000 00000007"),
+            from_1(7, Content::Request)
+        );
+        assert_eq!(
+            at_2("EC0A0200 00000001 00000003 00000004 00000007 01020304"),
+            from_1(7, Content::Unknown(0x0102_0304))
+        );
+        assert_eq!(
+            at_2("EC0A0200 00000001 00000004 00000004 00000007 FFFFFFFF"),
+            from_1(7, Content::Pull(ALL))
+        );
+        assert_eq!(
+            at_2("EC0A0201 00000001 00000005 00000002 FFFFFFFF ABCD"),
+            from_1(
+                0xFFFF_FFFF,
+                Content::Operation {
+                    id: 5,
+                    payload: bytes("ABCD")
+                }
+            )
+        );
+        assert_eq!(
+            at_2("EC0A0201 000000FF 00000000 00000000 00000000"),
+            Ok(Message {
+                from: 255,
+                sequence: 0,
+                content: Content::Operation {
+                    id: 0,
+                    payload: vec![]
+                }
+            })
+        );
+    }
+
+    #[test]
+    fn refusals() {
+        for length in 0..20 {
+            assert_eq!(read(2, &bytes(STATUS_UP)[..length]), Err(1), "{length}");
+        }
+        assert_eq!(refused("EC0B0200 00000001 00000002 00000000 00000007"), 2);
+        assert_eq!(refused("EC0A0300 00000001 00000002 00000000 00000007"), 3);
+        assert_eq!(refused("EC0A0100 00000001 00000002 00000000 00000007"), 3);
+        assert_eq!(refused("EC0A0202 00000001 00000002 00000000 00000007"), 4);
+        assert_eq!(refused("EC0A02FF 00000001 00000002 00000000 00000007"), 4);
+        assert_eq!(refused("EC0A0200 00000001 00000002 00000001 00000007"), 5);
+        assert_eq!(
+            refused("EC0A0200 00000001 00000002 00000000 00000007 00"),
+            5
+        );
+        assert_eq!(refused("EC0A0200 00000002 00000002 00000000 00000007"), 6);
+        assert_eq!(refused("EC0A0200 00000100 00000002 00000000 00000007"), 6);
+        assert_eq!(refused("EC0A0200 01000001 00000002 00000000 00000007"), 6);
+        assert_eq!(refused("EC0A0200 00000001 00000000 00000000 00000007"), 7);
+        assert_eq!(refused("EC0A0200 00000001 00000005 00000000 00000007"), 7);
+        assert_eq!(refused("EC0A0200 00000001 FFFFFFFF 00000000 00000007"), 7);
+        assert_eq!(refused("EC0A0200 00000001 00000001 00000000 00000007"), 8);
+        assert_eq!(
+            refused("EC0A0200 00000001 00000002 00000004 00000007 00000000"),
+            8
+        );
+        assert_eq!(
+            refused("EC0A0200 00000001 00000003 00000005 00000007 0000000000"),
+            8
+        );
+        assert_eq!(
+            refused("EC0A0200 00000001 00000001 00000004 00000007 00000002"),
+            9
+        );
+        assert_eq!(
+            refused("EC0A0200 00000001 00000001 00000004 00000007 01000001"),
+            9
+        );
+        // Status 2 and a length that is wrong: 8 first.
+        assert_eq!(
+            refused("EC0A0200 00000001 00000001 00000005 00000007 0000000200"),
+            8
+        );
+        assert_eq!(
+            refused("EC0A0200 00000001 00000001 00000020 00000007 FF*32"),
+            8
+        );
+    }
+
+    #[test]
+    fn lowest_first() {
+        assert_eq!(refused("000000FF 00000002 00000000 00000001 00000000"), 2);
+        assert_eq!(refused("EC0A00FF 00000002 00000000 00000001 00000000"), 3);
+        assert_eq!(refused("EC0A02FF 00000002 00000000 00000001 00000000"), 4);
+        assert_eq!(refused("EC0A0200 00000002 00000000 00000001 00000000"), 5);
+        assert_eq!(refused("EC0A0200 00000002 00000000 00000000 00000000"), 6);
+    }
+
+    #[test]
+    fn written() {
+        assert_eq!(
+            write(1, 0, STATUS, 9, &[0, 0, 0, 1], 24),
+            Ok(bytes(STATUS_UP))
+        );
+        assert_eq!(write(1, 0, STATUS, 9, &[0, 0, 0, 1], 23), Err(10));
+        assert_eq!(write(1, 2, 9, 9, &[], 0), Err(4));
+        assert_eq!(write(1, 0, 5, 9, &[], 0), Err(7));
+        assert_eq!(write(1, 0, 0, 9, &[], 99), Err(7));
+        assert_eq!(write(1, 0, PULL, 9, &[], 0), Err(8));
+        assert_eq!(write(1, 0, STATUS, 9, &[0, 0, 0, 2], 0), Err(9));
+        let operation = write(255, 1, 7, 8, b"hi", 22).unwrap();
+        assert_eq!(
+            operation,
+            bytes("EC0A0201 000000FF 00000007 00000002 00000008 6869")
+        );
+        let content = Content::Operation {
+            id: 7,
+            payload: b"hi".to_vec(),
+        };
+        assert_eq!(
+            read(0, &operation),
+            Ok(Message {
+                from: 255,
+                sequence: 8,
+                content
+            })
+        );
+        assert_eq!(read(255, &operation), Err(6));
+    }
+}

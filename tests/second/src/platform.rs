@@ -1,0 +1,141 @@
+//! Platform states and replies: 01, "Platform states and replies", 000, 6.3 and 6.4, with R4, R7,
+//! R8 and R28 to R30.
+
+use crate::message::{read, write, Content, ALL, PULL, STATUS, UNKNOWN};
+use crate::types::{check, Table};
+use std::collections::BTreeSet;
+
+#[derive(Clone, Debug, PartialEq, Eq)]
+pub struct Platform {
+    pub own: u8,
+    /// The others that are UP. This platform needs no entry: it always is (R28).
+    pub others: BTreeSet<u8>,
+    /// The next own sequence number.
+    pub next: u32,
+}
+
+#[derive(Clone, Debug, PartialEq, Eq)]
+pub enum What {
+    Status { up: bool },
+    Request,
+    Unknown(u32),
+    PullAll,
+    Pull(u32),
+    PullUnknown(u32),
+    Operation { id: u32, payload: Vec<u8> },
+    OperationUnknown(u32),
+}
+
+#[derive(Clone, Debug, PartialEq, Eq)]
+pub struct Answer {
+    pub what: What,
+    pub from: u8,
+    pub owed: Vec<u8>,
+}
+
+const UP: u32 = 1;
+
+impl Platform {
+    pub fn new(own: u8) -> Platform {
+        Platform {
+            own,
+            others: BTreeSet::new(),
+            next: 0,
+        }
+    }
+
+    pub fn is_up(&self, platform: u8) -> bool {
+        platform == self.own || self.others.contains(&platform)
+    }
+
+    /// How many of the 256 are UP, this one counted.
+    pub fn count(&self) -> usize {
+        (0..=255).filter(|platform| self.is_up(*platform)).count()
+    }
+
+    /// One message: what it was, and the replies owed to its sender. `room` is how many bytes of
+    /// replies may be given back; on a refusal nothing has changed.
+    pub fn call(&mut self, table: &[u8], message: &[u8], room: usize) -> Result<Answer, u8> {
+        let table = check(table)?;
+        self.call_checked(&table, message, room)
+    }
+
+    pub fn call_checked(
+        &mut self,
+        table: &Table,
+        message: &[u8],
+        room: usize,
+    ) -> Result<Answer, u8> {
+        let got = read(self.own, message)?;
+        // A reply is its ID, its sequence number and the one field of its payload.
+        let mut replies: Vec<(u32, u32, u32)> = Vec::new();
+        let mut after = self.clone();
+        let what = match got.content {
+            Content::Status { up } => {
+                let was_up = self.is_up(got.from);
+                if up && !was_up {
+                    after.others.insert(got.from);
+                    replies.push((STATUS, after.draw(), UP));
+                    replies.push((PULL, after.draw(), ALL));
+                }
+                if !up {
+                    after.others.remove(&got.from);
+                }
+                What::Status { up }
+            }
+            Content::Request => {
+                replies.push((STATUS, got.sequence, UP));
+                What::Request
+            }
+            Content::Unknown(id) => What::Unknown(id),
+            Content::Pull(id) => {
+                let versioned = |op: &&crate::types::Operation| op.kind == 1;
+                let here = table
+                    .operations
+                    .iter()
+                    .filter(versioned)
+                    .any(|op| id == ALL || op.id == id);
+                match (here, id) {
+                    (true, ALL) => What::PullAll,
+                    (true, _) => What::Pull(id),
+                    (false, _) => {
+                        replies.push((UNKNOWN, got.sequence, id));
+                        What::PullUnknown(id)
+                    }
+                }
+            }
+            Content::Operation { id, payload } => match table.operation(id) {
+                Some(_) => What::Operation { id, payload },
+                None => {
+                    replies.push((UNKNOWN, got.sequence, id));
+                    What::OperationUnknown(id)
+                }
+            },
+        };
+        let mut owed = Vec::new();
+        for (id, sequence, field) in replies {
+            let left = room - owed.len();
+            owed.extend(write(
+                self.own,
+                0,
+                id,
+                sequence,
+                &field.to_be_bytes(),
+                left,
+            )?);
+        }
+        *self = after;
+        Ok(Answer {
+            what,
+            from: got.from,
+            owed,
+        })
+    }
+
+    /// The next own number; after 0xFFFFFFFF comes 0.
+    fn draw(&mut self) -> u32 {
+        let number = self.next;
+        self.next = if number == 0xFFFF_FFFF { 0 } else { number + 1 };
+        number
+    }
+}
