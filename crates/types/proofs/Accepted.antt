@@ -1,30 +1,28 @@
 -- A table that `check` accepts: what the walk's and the platform's proofs may count on.
 -- Assumes nothing.
-use Prim.Native.Nat.{ℕ, _+_, _*_, _≤_, _<_}
-use mathlib.Core.Path.{_≡_, refl, sym, ap, subst, _∙_}
-use mathlib.Core.Bool.{Bool, true, false, _&&_, _||_, not, cond}
+use Prim.Native.Nat.{ℕ, _+_, _≤_, _<_}
+use mathlib.Core.Path.{_≡_, refl, subst, _∙_}
+use mathlib.Core.Bool.{Bool, true, false, _&&_, _||_, cond}
 use mathlib.Core.Logic.{_⊎_, inl, inr, ⊎-elim}
 use mathlib.Core.List.{List}
 use native.Mathlib.Omega.{arith}
 use borrow.Author.Tests.{eqb-true, eqb-false, leb-true, leb-false, ltb-true, lt-ltb, le-leb, not-true}
 use lib.Dec.{ltb, leb, eqb}
-use lib.ListN.{length}
 use Rattle.types.specs.declared.Sections.{Sections}
 use Rattle.types.specs.declared.Entry.{Entry}
 use Rattle.types.specs.declared.Operation.{Operation}
 use Rattle.types.specs.declared.Checked.{Checked}
 use Rattle.types.specs.declared.Checked.the-variants.{Refused, Table}
-use Rattle.types.specs.declared.Largest.{Largest}
-use Rattle.types.specs.declared.Largest.the-variants.{Bytes, Unknown}
+use Rattle.types.specs.declared.Largest.the-variants.{Bytes}
 use Rattle.types.specs.All.{allBelow, above}
 use Rattle.types.specs.Leaf.{isBase, isEnumBase, allowed}
 use Rattle.types.specs.Layout.{ruleBroken, tooLarge, mostTypes, sectionsOf, within}
-use Rattle.types.specs.Entries.{typeAt, memberAt, valueAt, idAt, operationAt, isType}
+use Rattle.types.specs.Entries.{typeAt, memberAt, valueAt, idAt, operationAt}
 use Rattle.types.specs.Rules.{baseFields, enumFields, recordFields, elementFields, fieldsOk}
 use Rattle.types.specs.Rules.{memberOk, membersOk, pointedOk, typeOk}
 use Rattle.types.specs.Values.{valueOf, valueOk, unlike, unlikeBefore, distinct, valuesOk}
 use Rattle.types.specs.Operations.{noId, noType, fieldsOk as operationFields, operationOk, idsRise}
-use Rattle.types.specs.Sizes.{mostBytes, sizes, largest, sizeFits, bytesUpTo, largestBelow, largestOf}
+use Rattle.types.specs.Sizes.{mostBytes, largest, sizeFits, bytesUpTo, largestBelow, largestOf}
 use Rattle.types.specs.Table.{entriesOk, sizesOk, judged, judging, checked}
 use Rattle.types.proofs.AllBelow.{and-left, and-right, at-below, all-below}
 use Rattle.types.proofs.TypeRules.{base-entry, enum-entry, record-entry, fixed-entry, array-entry, no-entry, points-to-values, points-to-members}

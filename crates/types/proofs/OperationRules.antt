@@ -1,15 +1,14 @@
 -- What the rules of an operation's entry come to, and what a scan for an ID finds.
 -- Assumes nothing.
-use Prim.Native.Nat.{ℕ, _+_, _-_, _≤_, _<_}
+use Prim.Native.Nat.{ℕ, _+_, _≤_, _<_}
 use mathlib.Core.Path.{_≡_, refl, sym, ap, _∙_}
-use mathlib.Core.Bool.{Bool, true, false, _&&_, _||_}
+use mathlib.Core.Bool.{Bool, true, false, _||_}
 use mathlib.Core.List.{List}
 use native.Mathlib.Omega.{arith}
 use borrow.Author.Count.{below-more}
 use lib.Dec.{ltb, eqb}
 use Rattle.types.specs.declared.Sections.{Sections}
 use Rattle.types.specs.declared.Operation.{Operation}
-use Rattle.types.specs.declared.Found.{Found}
 use Rattle.types.specs.declared.Found.the-variants.{At, Nothing}
 use Rattle.types.specs.All.{allBelow}
 use Rattle.types.specs.Entries.{idAt, operationAt}

@@ -1,14 +1,14 @@
 -- What checking a table comes to, return by return.
 -- Assumes nothing.
-use Prim.Native.Nat.{ℕ, _≤_}
-use mathlib.Core.Path.{_≡_, refl, sym, ap, _∙_}
-use mathlib.Core.Bool.{Bool, true, false, _&&_}
+use Prim.Native.Nat.{ℕ}
+use mathlib.Core.Path.{_≡_, refl}
+use mathlib.Core.Bool.{Bool, true, false}
 use mathlib.Core.List.{List}
 use Rattle.types.specs.declared.Sections.{Sections}
 use Rattle.types.specs.declared.Checked.{Checked}
 use Rattle.types.specs.declared.Checked.the-variants.{Refused, Table}
 use Rattle.types.specs.All.{allBelow}
-use Rattle.types.specs.Layout.{ruleBroken, tooLarge, mostTypes, sectionsOf}
+use Rattle.types.specs.Layout.{ruleBroken, tooLarge, sectionsOf}
 use Rattle.types.specs.Rules.{typeOk}
 use Rattle.types.specs.Operations.{operationOk}
 use Rattle.types.specs.Table.{entriesOk, sizesOk, judged, judging, checked}

@@ -6,7 +6,6 @@ use mathlib.Core.Bool.{Bool, true, false, not}
 use mathlib.Core.List.{List}
 use native.Mathlib.Omega.{arith}
 use borrow.Author.Tests.{lt-ltb, le-ltb, ne-eqb}
-use lib.Dec.{ltb, eqb}
 use Rattle.types.specs.declared.Sections.{Sections}
 use Rattle.types.specs.declared.Entry.{Entry}
 use Rattle.types.specs.All.{allBelow}

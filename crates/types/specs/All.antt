@@ -1,6 +1,6 @@
 -- Every entry below n passes a test; and entries that rise.
 use Prim.Native.Nat.{ℕ, zero, suc, _-_}
-use mathlib.Core.Bool.{Bool, true, false, _&&_, _||_}
+use mathlib.Core.Bool.{Bool, true, _&&_, _||_}
 use lib.Dec.{ltb, eqb}
 
 unfoldable pub allBelow : (ℕ → Bool) → ℕ → Bool

@@ -1,7 +1,7 @@
 -- 01, "The type table": four sections, each after its 16-bit count. Where the i-th entry of each stands, and what reading
 -- the sections finds. Numbers 30 and 31.
 use Prim.Native.Nat.{ℕ, _+_, _*_}
-use mathlib.Core.Bool.{Bool, true, false, _&&_, _||_, cond}
+use mathlib.Core.Bool.{Bool, _&&_, _||_, cond}
 use mathlib.Core.List.{List}
 use lib.Dec.{ltb, leb, eqb}
 use lib.ListN.{length}

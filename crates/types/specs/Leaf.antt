@@ -1,7 +1,7 @@
 -- The leaves: how many bytes a base code takes on the wire, and which 64-bit words are its values. One definition, for the
 -- table's enums and for packing and unpacking. 01, "The type table" (Base codes) and "Payload and words"; 000, Table 6.
 use Prim.Native.Nat.{ℕ, _-_, _/_, _%_, _^_}
-use mathlib.Core.Bool.{Bool, true, false, _&&_, _||_, not}
+use mathlib.Core.Bool.{Bool, false, _&&_, _||_, not}
 use mathlib.Core.List.{List, [], _∷_}
 use lib.Dec.{ltb, leb, eqb}
 use lib.ListN.{getD}

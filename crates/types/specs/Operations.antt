@@ -1,7 +1,7 @@
 -- 01, "The type table": the rules of an operation's entry (number 32), and an operation looked up by its ID.
 use Prim.Native.Nat.{ℕ, zero, suc, _<_}
 use mathlib.Core.Path.{_≡_}
-use mathlib.Core.Bool.{Bool, true, false, _&&_, _||_, cond}
+use mathlib.Core.Bool.{Bool, true, _&&_, _||_, cond}
 use mathlib.Core.List.{List}
 use lib.Dec.{ltb, leb, eqb}
 use Rattle.types.specs.declared.Sections.{Sections}

@@ -1,6 +1,6 @@
 -- 01, "The type table": the largest size of a type in bytes. Number 33.
 use Prim.Native.Nat.{ℕ, zero, suc, _+_, _*_}
-use mathlib.Core.Bool.{Bool, true, false, _&&_, _||_, cond}
+use mathlib.Core.Bool.{Bool, _&&_, cond}
 use mathlib.Core.List.{List, [], _∷_, _++_}
 use lib.Dec.{ltb, leb, eqb}
 use lib.ListN.{getD}
@@ -12,7 +12,7 @@ use Rattle.types.specs.All.{allBelow}
 use Rattle.types.specs.Leaf.{width}
 use Rattle.types.specs.Layout.{mostTypes}
 use Rattle.types.specs.Entries.{typeAt, memberAt, isType}
-use Rattle.types.specs.Rules.{recordKind, fixedKind, arrayKind}
+use Rattle.types.specs.Rules.{enumKind, recordKind, fixedKind, arrayKind}
 
 -- the most bytes that a type may take, and those of an array's count
 abbrev pub mostBytes : ℕ
@@ -30,7 +30,7 @@ sumOf t s known e (suc n) = sumOf t s known e n + getD known (memberAt t s (e .f
 -- array's product, an array's product plus 4
 unfoldable pub sizeOf : List ℕ → Sections → List ℕ → Entry → ℕ
 sizeOf t s known e =
-    cond (leb (e .kind) 1) (width (e .of))
+    cond (leb (e .kind) enumKind) (width (e .of))
     (cond (eqb (e .kind) recordKind) (sumOf t s known e (e .count))
     (cond (eqb (e .kind) fixedKind) (e .count * getD known (e .of) 0)
     (cond (eqb (e .kind) arrayKind) (e .count * getD known (e .of) 0 + countBytes) 0)))
@@ -46,6 +46,7 @@ largest t s i = sizeOf t s (sizes t s i) (typeAt t s i)
 unfoldable pub sizeFits : List ℕ → Sections → ℕ → Bool
 sizeFits t s i = leb (largest t s i) mostBytes
 
+-- the largest size looked up: that of a type of the table, where neither it nor a type before it is too large
 unfoldable pub bytesUpTo : ℕ → Largest
 bytesUpTo size = cond (leb size mostBytes) (Bytes size) Unknown
 

@@ -1,6 +1,6 @@
 -- 01, "The type table": the values of an enum are allowed in its base and distinct. Number 32.
 use Prim.Native.Nat.{ℕ, _+_, _%_, _^_}
-use mathlib.Core.Bool.{Bool, true, false, _&&_, not, cond}
+use mathlib.Core.Bool.{Bool, _&&_, not, cond}
 use mathlib.Core.List.{List}
 use lib.Dec.{ltb, eqb}
 use Rattle.types.specs.declared.Sections.{Sections}

@@ -5,10 +5,9 @@ use crate::Part;
 use crate::Section;
 use crate::Sections;
 ghost use mathlib.Core.Path.{_≡_};
-ghost use Prim.Native.Nat.{_+_, _*_, _≤_, _<_};
-ghost use lib.ListN.{length};
+ghost use Prim.Native.Nat.{_≤_};
 ghost use Rattle.types.specs.Layout.{entryPlace, sectionEnd, sectionAt, ended, afterValues, afterMembers, afterTypes};
-ghost use Rattle.types.specs.Layout.{sectionsOf, liesIn, within, typeWidth, memberWidth, valueWidth, operationWidth};
+ghost use Rattle.types.specs.Layout.{sectionsOf, liesIn, within, typeWidth, memberWidth, valueWidth};
 ghost use Rattle.types.specs.Layout.{typePlace, memberPlace, valuePlace, operationPlace};
 
 // The bytes of one entry of each section.

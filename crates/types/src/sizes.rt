@@ -6,7 +6,7 @@ use crate::entries;
 use crate::leaf;
 ghost use mathlib.Core.Path.{_≡_};
 ghost use mathlib.Core.Bool.{true};
-ghost use Prim.Native.Nat.{ℕ, _*_, _^_, _≤_, _<_};
+ghost use Prim.Native.Nat.{_*_, _^_, _≤_, _<_};
 ghost use lib.ListN.{length, getD, take};
 ghost use Rattle.types.specs.All.{allBelow};
 ghost use Rattle.types.specs.Layout.{mostTypes};

@@ -1,4 +1,4 @@
--- `types::check` meets its contract.
+-- `types::check` meets its contract: the sections first, and then what is in them.
 -- Assumes nothing.
 use borrow.Author.Needs.{needs}
 use Rattle.types.proofs.Tables.{no-sections, the-sections}

@@ -1,4 +1,4 @@
--- `types::entries_ok` meets its contract.
+-- `types::entries_ok` meets its contract: the types first, and then the operations.
 -- Assumes nothing.
 use borrow.Author.Needs.{needs}
 use Rattle.types.proofs.Tables.{types-then, types-bad}

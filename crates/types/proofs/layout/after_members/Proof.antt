@@ -1,4 +1,4 @@
--- `types::layout::after_members` meets its contract.
+-- `types::layout::after_members` meets its contract: the section behind the members, and what comes after it.
 -- Assumes nothing.
 use borrow.Author.Needs.{needs}
 use Rattle.types.specs.Layout.{afterMembers}

@@ -1,4 +1,4 @@
--- `types::layout::after_types` meets its contract.
+-- `types::layout::after_types` meets its contract: the section behind the types, and what comes after it.
 -- Assumes nothing.
 use borrow.Author.Needs.{needs}
 use Rattle.types.specs.Layout.{afterTypes}

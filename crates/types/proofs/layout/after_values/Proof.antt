@@ -1,4 +1,4 @@
--- `types::layout::after_values` meets its contract.
+-- `types::layout::after_values` meets its contract: the section behind the values, and the end.
 -- Assumes nothing.
 use borrow.Author.Needs.{needs}
 use Rattle.types.specs.Layout.{afterValues}

@@ -1,4 +1,4 @@
--- `types::layout::ended` meets its contract.
+-- `types::layout::ended` meets its contract: the last section ends where the bytes end, or it is 30.
 -- Assumes nothing.
 use borrow.Author.Needs.{needs}
 use Rattle.types.proofs.Places.{at-end, not-at-end}

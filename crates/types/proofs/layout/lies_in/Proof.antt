@@ -1,4 +1,4 @@
--- `types::layout::lies_in` meets its contract.
+-- `types::layout::lies_in` meets its contract: its two tests.
 -- Assumes nothing.
 use borrow.Author.Needs.{needs}
 use Rattle.types.proofs.Places.{lies}

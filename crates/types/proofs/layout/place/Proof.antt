@@ -1,4 +1,4 @@
--- `types::layout::place` meets its contract.
+-- `types::layout::place` meets its contract: 16 bits times 32 bits do not wrap.
 -- Assumes nothing.
 use borrow.Author.Needs.{needs}
 use Rattle.types.proofs.Places.{product-fits, place-fits}

@@ -1,4 +1,4 @@
--- `types::layout::read` meets its contract.
+-- `types::layout::read` meets its contract: the first section, and what comes after it.
 -- Assumes nothing.
 use borrow.Author.Needs.{needs}
 use Rattle.types.specs.Layout.{sectionsOf}

@@ -1,4 +1,4 @@
--- `types::layout::section` meets its contract.
+-- `types::layout::section` meets its contract: each return is a case of `sectionAt`, in reading order.
 -- Assumes nothing.
 use borrow.Author.Needs.{needs}
 use Rattle.types.proofs.Places.{cut-count, outside, cut-entries, found}

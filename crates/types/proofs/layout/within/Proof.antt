@@ -1,4 +1,4 @@
--- `types::layout::within` meets its contract.
+-- `types::layout::within` meets its contract: the four sections one by one.
 -- Assumes nothing.
 use borrow.Author.Needs.{needs}
 use Rattle.types.specs.Layout.{within}

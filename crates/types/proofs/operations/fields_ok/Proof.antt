@@ -1,6 +1,5 @@
 -- `types::operations::fields_ok` meets its contract: the test as it is written.
 -- Assumes nothing.
-use borrow.Author.Needs.{needs}
 use mathlib.Core.Path.{refl}
 use Rattle.types.specs.Operations.{fieldsOk}
 use Rattle.types.proofs.operations.fields_ok.Statement.{statement}

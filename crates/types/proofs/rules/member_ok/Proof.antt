@@ -1,4 +1,4 @@
--- `types::rules::member_ok` meets its contract.
+-- `types::rules::member_ok` meets its contract: the member as it is read.
 -- Assumes nothing.
 use borrow.Author.Needs.{needs}
 use Rattle.types.specs.Rules.{memberOk}

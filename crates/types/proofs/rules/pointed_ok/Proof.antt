@@ -1,4 +1,4 @@
--- `types::rules::pointed_ok` meets its contract.
+-- `types::rules::pointed_ok` meets its contract: an enum points to values, a record to members, and the rest to nothing.
 -- Assumes nothing.
 use borrow.Author.Needs.{needs}
 use Rattle.types.proofs.TypeRules.{points-to-values, points-to-members, points-to-none}

@@ -1,4 +1,4 @@
--- `types::rules::type_ok` meets its contract.
+-- `types::rules::type_ok` meets its contract: the fields first, and then what they point to.
 -- Assumes nothing.
 use borrow.Author.Needs.{needs}
 use Rattle.types.proofs.TypeRules.{whole-rule, bad-fields}

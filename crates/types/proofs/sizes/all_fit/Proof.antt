@@ -1,4 +1,4 @@
--- `types::sizes::all_fit` meets its contract.
+-- `types::sizes::all_fit` meets its contract: all of them are filled in.
 -- Assumes nothing.
 use borrow.Author.Needs.{needs}
 use Rattle.types.specs.Table.{sizesOk}

@@ -1,4 +1,4 @@
--- `types::sizes::bytes_up_to` meets its contract.
+-- `types::sizes::bytes_up_to` meets its contract: up to the limit and over it.
 -- Assumes nothing.
 use borrow.Author.Needs.{needs}
 use Rattle.types.proofs.SizeLaws.{up-to, over-it}

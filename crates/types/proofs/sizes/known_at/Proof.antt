@@ -1,4 +1,4 @@
--- `types::sizes::known_at` meets its contract.
+-- `types::sizes::known_at` meets its contract: past the end it is 0.
 -- Assumes nothing.
 use borrow.Author.Needs.{needs}
 use Rattle.types.proofs.SizeLaws.{not-known}

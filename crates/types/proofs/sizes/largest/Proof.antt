@@ -1,4 +1,4 @@
--- `types::sizes::largest` meets its contract.
+-- `types::sizes::largest` meets its contract: a type of the table, and one that the room holds.
 -- Assumes nothing.
 use borrow.Author.Needs.{needs}
 use Rattle.types.proofs.SizeLaws.{is-known, is-unknown, below-limit}

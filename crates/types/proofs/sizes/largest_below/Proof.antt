@@ -1,4 +1,4 @@
--- `types::sizes::largest_below` meets its contract.
+-- `types::sizes::largest_below` meets its contract: the size comes from those before it, or one of these is too large.
 -- Assumes nothing.
 use borrow.Author.Needs.{needs}
 use mathlib.Core.Path.{sym}

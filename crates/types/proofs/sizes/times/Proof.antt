@@ -1,4 +1,4 @@
--- `types::sizes::times` meets its contract.
+-- `types::sizes::times` meets its contract: 16 bits times 32 bits fit 48.
 -- Assumes nothing.
 use borrow.Author.Needs.{needs}
 use Rattle.types.proofs.SizeLaws.{times-fits, times-small}

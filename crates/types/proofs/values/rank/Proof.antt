@@ -1,4 +1,4 @@
--- `types::values::rank` meets its contract.
+-- `types::values::rank` meets its contract: the value, its top bit turned where the base is signed.
 -- Assumes nothing.
 use borrow.Author.Needs.{needs}
 use Rattle.types.proofs.ValueRules.{signed-rank, plain-rank}
