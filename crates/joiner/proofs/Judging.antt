@@ -21,13 +21,15 @@ use Rattle.joiner.specs.declared.Channel.{Channel}
 use Rattle.joiner.specs.declared.Joiner.{Joiner}
 use Rattle.joiner.specs.declared.Room.{Room}
 use Rattle.joiner.specs.declared.Step.{Step}
+use Rattle.joiner.specs.declared.Found.{Found}
+use Rattle.joiner.specs.declared.Found.the-variants.{Bad, Nobody, Somebody}
 use Rattle.joiner.specs.declared.Judged.{Judged}
 use Rattle.joiner.specs.declared.Judged.the-variants.{Refusal, Move}
 use Rattle.joiner.specs.Channel.{largestRoom, Steppable, roomStart, roomOf, steppedOf}
-use Rattle.joiner.specs.Setup.{channelLimit, badSetup, newChannel, placeOf, distinct, every, channelsOf, sendersOf, channelAt, goodSizes, goodChannel, good}
+use Rattle.joiner.specs.Setup.{channelLimit, badSetup, newChannel, placeOf, distinct, every, channelsOf, sendersOf, channelAt, goodSizes, goodChannel, good, foundOf}
 use Rattle.joiner.specs.Take.{notSetUp, sentTo, heardBy, judgedOf}
 use Rattle.joiner.proofs.Places.{and-true, and-left, and-right, every-at, every-by}
-use Rattle.joiner.proofs.Lookups.{Sizes, sizes-say, channels-length, channels-at}
+use Rattle.joiner.proofs.Lookups.{Sizes, sizes-say, channels-length, channels-at, Borne, found-bad, found-nobody, found-somebody}
 
 -- what a good record is
 pub record Sound (R : ℕ) (ch : Channel) : Type 0 where
@@ -70,21 +72,12 @@ unfolding good
 good-sizes j b e =
     sizes-say (j .count) (j .room) b (and-left (goodSizes (j .count) (j .room) b) (every (goodChannel (j .room)) (channelsOf j) && distinct (sendersOf j)) e)
 
-module _ (j : Joiner) (b : ℕ) {t : Bool} (e : t ≡ good j b) (g : t ≡ true) where
-  pub few-channels : j .count ≤ channelLimit
-  few-channels = good-sizes j b (sym e ∙ g) .few
-
-  pub few-rooms : (k : ℕ) → k < j .count → k ≤ channelLimit
-  few-rooms k h = omega (arith, few-channels)
+module _ (j : Joiner) (b x k : ℕ) (ch : Channel) {f : Found} (e : f ≡ foundOf j b x) (m : f ≡ Somebody k ch) where
+  pub few-rooms : k ≤ channelLimit
+  few-rooms = omega (arith, found-somebody j b x e k ch m .known, good-sizes j b (found-somebody j b x e k ch m .well) .few)
 
   pub narrow-rooms : j .room ≤ largestRoom
-  narrow-rooms = good-sizes j b (sym e ∙ g) .narrow
-
-  pub channel-known : (k : ℕ) → k < j .count → k < channelLimit
-  channel-known k h = omega (arith, few-channels)
-
-  pub record-fits : (k : ℕ) → k < j .count → Fits w64 (k * 12)
-  record-fits k h = record { fits = omega (arith, few-channels) }
+  narrow-rooms = good-sizes j b (found-somebody j b x e k ch m .well) .narrow
 
 module _ (d : List ℕ) (h : BindingHeader) {r : Heard} (e : r ≡ heardIn d) (m : r ≡ heard.Piece h) where
   pub long-enough : headerLength ≤ length d
@@ -102,44 +95,53 @@ room-within R n k h =
     let m : (k + 1) * R ≤ n * R = mul-le-mul-right R (omega arith) in
     omega arith
 
-pub steppable : {t : Bool} {r : Heard} {s : ℕ} (j : Joiner) (b : ℕ) (d : List ℕ) (h : BindingHeader) (k : ℕ) → length (j .channels) ≡ channelLimit → b < 2 ^ 64 → t ≡ good j b → t ≡ true → r ≡ heardIn d → r ≡ heard.Piece h → k < j .count → s ≡ roomStart (j .room) k → Steppable (record { start = s; size = j .room }) (channelAt j k) (length d - headerLength)
-steppable {t} {r} {s} j b d h k w f e g er m l es =
-    let y : Good j b = good-says j b w (sym e ∙ g) in
-    let x : Sound (j .room) (channelAt j k) = channel-says (j .room) (channelAt j k) (y .each k l) in
+pub steppable : {f : Found} {r : Heard} {s : ℕ} (j : Joiner) (b : ℕ) (d : List ℕ) (h : BindingHeader) (k : ℕ) (ch : Channel) → length (j .channels) ≡ channelLimit → b < 2 ^ 64 → f ≡ foundOf j b (h .sender) → f ≡ Somebody k ch → r ≡ heardIn d → r ≡ heard.Piece h → s ≡ roomStart (j .room) k → Steppable (record { start = s; size = j .room }) ch (length d - headerLength)
+steppable {f} {r} {s} j b d h k ch w l e m er n es =
+    let y : Borne j b (h .sender) k ch = found-somebody j b (h .sender) e k ch m in
+    let g : Good j b = good-says j b w (y .well) in
+    let x : Sound (j .room) ch = rw (y .channel) (channel-says (j .room) (channelAt j k) (g .each k (y .known))) in
     record {
-      size = y .sizes .narrow;
-      ends = omega (arith, room-within (j .room) (j .count) k l, y .sizes .whole);
+      size = g .sizes .narrow;
+      ends = omega (arith, room-within (j .room) (j .count) k (y .known), g .sizes .whole);
       last = x .last;
       held = x .held;
-      piece = is-a-piece d h er m;
+      piece = is-a-piece d h er n;
     }
 
-module _ (j : Joiner) (b : ℕ) (d : List ℕ) where
-  pub not-set-up-well : {t : Bool} → t ≡ good j b → t ≡ false → Refusal badSetup ≡ judgedOf j b d
+-- `judge`
+module _ (j : Joiner) (b : ℕ) (d : List ℕ) {r : Heard} (er : r ≡ heardIn d) where
+  not-well : good j b ≡ false → Refusal badSetup ≡ judgedOf j b d
   unfolding judgedOf
-  not-set-up-well e g = rw (sym e ∙ g)
+  not-well g = rw g
 
-  module _ {t : Bool} {r : Heard} (e : t ≡ good j b) (g : t ≡ true) (er : r ≡ heardIn d) where
-    by-header : judgedOf j b d ≡ heardBy j d r
-    unfolding judgedOf
-    by-header = rw (sym e ∙ g, er)
+  by-header : good j b ≡ true → judgedOf j b d ≡ heardBy j d r
+  unfolding judgedOf
+  by-header g = rw (g, er)
 
-    pub not-heard : {n : ℕ} → r ≡ heard.Refused n → Refusal n ≡ judgedOf j b d
+  pub not-heard : {t : Bool} {n : ℕ} → t ≡ good j b → t ≡ true → r ≡ heard.Refused n → Refusal n ≡ judgedOf j b d
+  unfolding heardBy
+  not-heard e g m = sym (by-header (sym e ∙ g) ∙ ap (heardBy j d) m)
+
+  pub not-heard-bad : {t : Bool} → t ≡ good j b → t ≡ false → Refusal badSetup ≡ judgedOf j b d
+  not-heard-bad e g = not-well (sym e ∙ g)
+
+  module _ (h : BindingHeader) {f : Found} (m : r ≡ heard.Piece h) (e : f ≡ foundOf j b (h .sender)) where
+    by-sender : good j b ≡ true → judgedOf j b d ≡ sentTo j d h
     unfolding heardBy
-    not-heard m = sym (by-header ∙ ap (heardBy j d) m)
+    by-sender g = by-header g ∙ ap (heardBy j d) m
 
-    module _ {k : ℕ} (h : BindingHeader) (m : r ≡ heard.Piece h) (ek : k ≡ placeOf (sendersOf j) (h .sender)) where
-      by-sender : judgedOf j b d ≡ sentTo j d h
-      unfolding heardBy
-      by-sender = by-header ∙ ap (heardBy j d) m
+    pub in-a-bad-one : f ≡ Bad → Refusal badSetup ≡ judgedOf j b d
+    in-a-bad-one q = not-well (sym (found-bad j b (h .sender) e q))
 
-      pub nobody : j .count ≤ k → Refusal notSetUp ≡ judgedOf j b d
-      unfolding sentTo
-      nobody l = rw (by-sender, ← ek, le-ltb k (j .count) l)
+    pub to-nobody : f ≡ Nobody → Refusal notSetUp ≡ judgedOf j b d
+    unfolding sentTo
+    to-nobody q = rw (by-sender (found-nobody j b (h .sender) e q .0), le-ltb (placeOf (sendersOf j) (h .sender)) (j .count) (found-nobody j b (h .sender) e q .1))
 
-      pub somebody : {s : ℕ} {x : Step} → k < j .count → s ≡ roomStart (j .room) k → x ≡ steppedOf (record { start = s; size = j .room }) (channelAt j k) (h .part) (h .counter) (length d - headerLength) → Move k x ≡ judgedOf j b d
-      unfolding sentTo
-      somebody l es ex = rw (by-sender, ← ek, lt-ltb k (j .count) l, piece-length d, ex, es)
+    pub to-somebody : {s : ℕ} {x : Step} (k : ℕ) (ch : Channel) → f ≡ Somebody k ch → s ≡ roomStart (j .room) k → x ≡ steppedOf (record { start = s; size = j .room }) ch (h .part) (h .counter) (length d - headerLength) → Move k x ≡ judgedOf j b d
+    unfolding sentTo
+    to-somebody k ch q es ex =
+        let y : Borne j b (h .sender) k ch = found-somebody j b (h .sender) e k ch q in
+        rw (by-sender (y .well), ← y .place, lt-ltb k (j .count) (y .known), piece-length d, ex, es, y .channel)
 
 -- what it says that a datagram moves a channel
 pub record Moved (j : Joiner) (b : ℕ) (d : List ℕ) (k : ℕ) (s : Step) : Type 0 where

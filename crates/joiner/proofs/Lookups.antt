@@ -2,12 +2,13 @@
 -- Assumes nothing.
 use Prim.Native.Nat.{ℕ, _+_, _*_, _≤_, _<_}
 use mathlib.Core.Path.{_≡_, refl, sym, ap, _∙_}
-use mathlib.Core.Bool.{Bool, true, false, _&&_}
+use mathlib.Core.Logic.{_⊎_, inl, inr, ⊎-elim}
+use mathlib.Core.Bool.{Bool, true, false, _&&_, cond}
 use mathlib.Core.List.{List, [], _∷_, map}
 use native.Mathlib.Omega.{arith}
 use native.Mathlib.Nat.{mul-le-mul}
 use borrow.Author.Count.{below-more}
-use borrow.Author.Tests.{leb-true, ltb-true, eqb-true}
+use borrow.Author.Tests.{leb-true, leb-false, ltb-true, ltb-false, eqb-true, eqb-false, lt-ltb, le-ltb}
 use mir.Syntax.{w16, w64}
 use mir.Val.{Fits}
 use lib.Dec.{leb, ltb, eqb}
@@ -16,8 +17,10 @@ use lib.Seq.{length-take-le, getD-take}
 use Rattle.binding.specs.Header.{senders, counters}
 use Rattle.joiner.specs.declared.Channel.{Channel}
 use Rattle.joiner.specs.declared.Joiner.{Joiner}
+use Rattle.joiner.specs.declared.Found.{Found}
+use Rattle.joiner.specs.declared.Found.the-variants.{Bad, Nobody, Somebody}
 use Rattle.joiner.specs.Channel.{largestRoom, smallestRoom, roomStart}
-use Rattle.joiner.specs.Setup.{channelLimit, placeOf, distinct, every, senderOf, channelsOf, sendersOf, channelAt, goodSizes, goodChannel, good, newChannel}
+use Rattle.joiner.specs.Setup.{channelLimit, placeOf, distinct, every, senderOf, channelsOf, sendersOf, channelAt, goodSizes, goodChannel, good, newChannel, foundOf}
 use Rattle.joiner.proofs.Places.{and-true, and-left, and-right, not-true-false, place-found, place-none, place-first, at-place, distinct-says, is-distinct, every-at, every-by}
 
 -- a room starts within a usize
@@ -146,28 +149,60 @@ rising-more j i n r f e = record { below = below; pairs = pairs }
     pairs : (a b : ℕ) → a < b → b < i + 1 → channelAt j a .sender < channelAt j b .sender
     pairs a b h l = below-more (λ m. a < m → channelAt j a .sender < channelAt j m .sender) i (λ m k g. old .pairs a m g k) (λ g. rises a g) b l h
 
-module _ (j : Joiner) (b : ℕ) where
-  pub bad-sizes : {t : Bool} → t ≡ goodSizes (j .count) (j .room) b → t ≡ false → false ≡ good j b
+-- `look`: where x was found among the first i records
+pub record Sought (j : Joiner) (x i at : ℕ) : Type 0 where
+  pub none : (k : ℕ) → k < i → k < at → channelAt j k .sender ≡ x → ⊥
+  pub some : (at ≡ j .count) ⊎ ((at < i) × (channelAt j at .sender ≡ x))
+
+pub sought-none : (j : Joiner) (x : ℕ) → Sought j x 0 (j .count)
+sought-none j x = record { none = λ k h l e. omega arith; some = inl refl }
+
+pub sought-more : {p : ℕ} (j : Joiner) (x i at : ℕ) → i < j .count → Sought j x i at → p ≡ cond (eqb (channelAt j i .sender) x && leb i at) i at → Sought j x (i + 1) p
+sought-more {p} j x i at h s e = rw e (go (eqb (channelAt j i .sender) x) refl (leb i at) refl)
+  where
+    others : (q : ℕ) → q ≤ at → ((channelAt j i .sender ≡ x → ⊥) ⊎ (q ≤ i)) → (k : ℕ) → k < i + 1 → k < q → channelAt j k .sender ≡ x → ⊥
+    others q m o =
+        below-more (λ k. k < q → channelAt j k .sender ≡ x → ⊥) i (λ k l n. s .none k l (omega arith)) (λ l f. ⊎-elim (λ n. n f) (λ n. omega arith) o)
+
+    go : (t : Bool) → eqb (channelAt j i .sender) x ≡ t → (u : Bool) → leb i at ≡ u → Sought j x (i + 1) (cond (t && u) i at)
+    go true f true g = record { none = others i (leb-true i at g) (inr (omega arith)); some = inr (omega arith, eqb-true (channelAt j i .sender) x f) }
+    go true f false g =
+        record {
+          none = others at (omega arith) (inr (omega (arith, leb-false i at g)));
+          some = ⊎-elim (λ c. absurd (omega (arith, leb-false i at g))) (λ c. inr (omega (arith, c .0), c .1)) (s .some);
+        }
+    go false f u g =
+        record {
+          none = others at (omega arith) (inl (eqb-false (channelAt j i .sender) x f));
+          some = ⊎-elim (λ c. inl c) (λ c. inr (omega (arith, c .0), c .1)) (s .some);
+        }
+
+module _ (j : Joiner) (b x : ℕ) where
+  bad : good j b ≡ false → Bad ≡ foundOf j b x
+  unfolding foundOf
+  bad e = rw e
+
+  pub bad-sizes : {t : Bool} → t ≡ goodSizes (j .count) (j .room) b → t ≡ false → Bad ≡ foundOf j b x
   unfolding good
-  bad-sizes e t = rw (sym e ∙ t)
+  bad-sizes e t = bad (rw (sym e ∙ t))
 
   module _ (g : goodSizes (j .count) (j .room) b ≡ true) (w : length (j .channels) ≡ channelLimit) where
     few : j .count ≤ channelLimit
     few = few-channels (j .count) (j .room) b g
 
-    pub bad-channel : {t : Bool} (i : ℕ) → i < j .count → t ≡ goodChannel (j .room) (channelAt j i) → t ≡ false → false ≡ good j b
+    pub bad-channel : {t : Bool} (i : ℕ) → i < j .count → t ≡ goodChannel (j .room) (channelAt j i) → t ≡ false → Bad ≡ foundOf j b x
     unfolding good
-    bad-channel {t} i l e f = sym (not-true-false (good j b) no)
+    bad-channel {t} i l e f = bad (not-true-false (good j b) no)
       where
         no : good j b ≡ true → ⊥
         no q =
-            let a : every (goodChannel (j .room)) (channelsOf j) ≡ true =
-            and-left (every (goodChannel (j .room)) (channelsOf j)) (distinct (sendersOf j)) (and-right (goodSizes (j .count) (j .room) b) (every (goodChannel (j .room)) (channelsOf j) && distinct (sendersOf j)) q) in
+            let a : every (goodChannel (j .room)) (channelsOf j) ≡ true = and-left (every (goodChannel (j .room)) (channelsOf j)) (distinct (sendersOf j)) (and-right (goodSizes (j .count) (j .room) b) (every (goodChannel (j .room)) (channelsOf j) && distinct (sendersOf j)) q) in
             let h : goodChannel (j .room) (getD (channelsOf j) i (newChannel 0)) ≡ true = every-at (goodChannel (j .room)) (newChannel 0) (channelsOf j) i a (omega (arith, channels-length j few w)) in
             let z : true ≡ false = sym h ∙ ap (goodChannel (j .room)) (channels-at j few w i l) ∙ sym e ∙ f in
             let y : _≡_ {A = ℕ} 0 1 = cc in
             omega arith
 
+    -- after the loop
     module _ (i : ℕ) (a : (k : ℕ) → k < i → goodChannel (j .room) (channelAt j k) ≡ true) (l : j .count ≤ i) where
       all-good : every (goodChannel (j .room)) (channelsOf j) ≡ true
       all-good = every-by (goodChannel (j .room)) (newChannel 0) (channelsOf j) (λ k h. go k (omega (arith, channels-length j few w)))
@@ -175,15 +210,92 @@ module _ (j : Joiner) (b : ℕ) where
           go : (k : ℕ) → k < j .count → goodChannel (j .room) (getD (channelsOf j) k (newChannel 0)) ≡ true
           go k h = ap (goodChannel (j .room)) (channels-at j few w k h) ∙ a k (omega arith)
 
-      pub distinct-good : {t : Bool} → t ≡ distinct (sendersOf j) → t ≡ good j b
-      unfolding good
-      distinct-good e = rw (g, all-good, e)
-
-      pub rising-good : (n : ℕ) (r : Bool) → (r ≡ true → Rising j i n) → r ≡ true → true ≡ good j b
-      rising-good n r f e = distinct-good (sym (is-distinct (sendersOf j) no))
+      rising-once : (n : ℕ) → Rising j i n → distinct (sendersOf j) ≡ true
+      rising-once n r = is-distinct (sendersOf j) no
         where
-          no : (x y : ℕ) → x < y → y < length (sendersOf j) → getD (sendersOf j) x 0 ≡ getD (sendersOf j) y 0 → ⊥
-          no x y h k q =
-              let m : y < j .count = omega (arith, senders-length j few w) in
-              let p : channelAt j x .sender < channelAt j y .sender = f e .pairs x y h (omega arith) in
-              omega (arith, senders-at j few w x (omega arith), senders-at j few w y m)
+          no : (y z : ℕ) → y < z → z < length (sendersOf j) → getD (sendersOf j) y 0 ≡ getD (sendersOf j) z 0 → ⊥
+          no y z h k q =
+              let m : z < j .count = omega (arith, senders-length j few w) in
+              let p : channelAt j y .sender < channelAt j z .sender = r .pairs y z h (omega arith) in
+              omega (arith, senders-at j few w y (omega arith), senders-at j few w z m)
+
+      good-once : {t : Bool} → t ≡ distinct (sendersOf j) → good j b ≡ t
+      unfolding good
+      good-once e = rw (g, all-good, e)
+
+      pub bad-twice : {t : Bool} → t ≡ distinct (sendersOf j) → t ≡ false → Bad ≡ foundOf j b x
+      bad-twice e f = bad (good-once e ∙ f)
+
+      module _ (at : ℕ) (s : Sought j x i at) (i-le : i ≤ j .count) where
+        found-at : at ≡ placeOf (sendersOf j) x
+        found-at =
+            ⊎-elim
+            (λ c. found-nowhere j few w x at (λ k h e. s .none k (omega arith) h e) (omega arith) (omega arith))
+            (λ c. found-here j few w x at (λ k h e. s .none k (omega (arith, c .0)) h e) (omega (arith, c .0)) (c .1))
+            (s .some)
+
+        pub somebody : {t : Bool} → t ≡ distinct (sendersOf j) → t ≡ true → at < j .count → Somebody at (channelAt j at) ≡ foundOf j b x
+        unfolding foundOf
+        somebody e f h = rw (good-once e ∙ f, ← found-at, lt-ltb at (j .count) h)
+
+        pub nobody : {t : Bool} → t ≡ distinct (sendersOf j) → t ≡ true → j .count ≤ at → Nobody ≡ foundOf j b x
+        unfolding foundOf
+        nobody e f h = rw (good-once e ∙ f, ← found-at, le-ltb at (j .count) h)
+
+      pub once-rising : {t : Bool} (n : ℕ) (r : Bool) → (r ≡ true → Rising j i n) → r ≡ true → t ≡ true → t ≡ distinct (sendersOf j)
+      once-rising n r f e t = t ∙ sym (rising-once n (f e))
+
+-- `earlier`
+pub is-earlier : {t : Bool} (i at : ℕ) → t ≡ true → i ≡ cond t i at
+is-earlier i at e = rw e
+
+pub not-earlier : {t : Bool} (i at : ℕ) → t ≡ false → at ≡ cond t i at
+not-earlier i at e = rw e
+
+-- what the look found says
+pub record Borne (j : Joiner) (b x k : ℕ) (ch : Channel) : Type 0 where
+  pub well : good j b ≡ true
+  pub place : k ≡ placeOf (sendersOf j) x
+  pub known : k < j .count
+  pub channel : ch ≡ channelAt j k
+
+module _ (j : Joiner) (b x : ℕ) {r : Found} (e : r ≡ foundOf j b x) where
+  is-bad : (t : Bool) → good j b ≡ t → r ≡ Bad → t ≡ false
+  unfolding foundOf
+  is-bad true g m = go (ltb (placeOf (sendersOf j) x) (j .count)) (sym m ∙ e ∙ rw g)
+    where
+      go : (u : Bool) → Bad ≡ cond u (Somebody (placeOf (sendersOf j) x) (channelAt j (placeOf (sendersOf j) x))) Nobody → true ≡ false
+      go true q = let z : _≡_ {A = ℕ} 0 1 = cc in absurd (omega arith)
+      go false q = let z : _≡_ {A = ℕ} 0 1 = cc in absurd (omega arith)
+  is-bad false g m = refl
+
+  pub found-bad : r ≡ Bad → false ≡ good j b
+  found-bad m = sym (is-bad (good j b) refl m)
+
+  pub found-nobody : r ≡ Nobody → (good j b ≡ true) × (j .count ≤ placeOf (sendersOf j) x)
+  unfolding foundOf
+  found-nobody m = go (good j b) refl (ltb (placeOf (sendersOf j) x) (j .count)) refl (sym m ∙ e)
+    where
+      go : (g : Bool) → good j b ≡ g → (u : Bool) → ltb (placeOf (sendersOf j) x) (j .count) ≡ u → Nobody ≡ cond g (cond u (Somebody (placeOf (sendersOf j) x) (channelAt j (placeOf (sendersOf j) x))) Nobody) Bad → (good j b ≡ true) × (j .count ≤ placeOf (sendersOf j) x)
+      go true g false h q = (g, ltb-false (placeOf (sendersOf j) x) (j .count) h)
+      go true g true h q = let z : _≡_ {A = ℕ} 0 1 = cc in absurd (omega arith)
+      go false g u h q = let z : _≡_ {A = ℕ} 0 1 = cc in absurd (omega arith)
+
+  pub found-somebody : (k : ℕ) (ch : Channel) → r ≡ Somebody k ch → Borne j b x k ch
+  unfolding foundOf
+  found-somebody k ch m = go (good j b) refl (ltb (placeOf (sendersOf j) x) (j .count)) refl (sym m ∙ e)
+    where
+      go : (g : Bool) → good j b ≡ g → (u : Bool) → ltb (placeOf (sendersOf j) x) (j .count) ≡ u → Somebody k ch ≡ cond g (cond u (Somebody (placeOf (sendersOf j) x) (channelAt j (placeOf (sendersOf j) x))) Nobody) Bad → Borne j b x k ch
+      go true g true h q =
+          let p : k ≡ placeOf (sendersOf j) x = cc in
+          let f : ch ≡ channelAt j (placeOf (sendersOf j) x) = cc in
+          record { well = g; place = p; known = omega (arith, ltb-true (placeOf (sendersOf j) x) (j .count) h); channel = rw p f }
+      go true g false h q = let z : _≡_ {A = ℕ} 0 1 = cc in absurd (omega arith)
+      go false g u h q = let z : _≡_ {A = ℕ} 0 1 = cc in absurd (omega arith)
+
+  -- `is_good`
+  pub nobody-good : r ≡ Nobody → true ≡ good j b
+  nobody-good m = sym (found-nobody m .0)
+
+  pub somebody-good : (k : ℕ) (ch : Channel) → r ≡ Somebody k ch → true ≡ good j b
+  somebody-good k ch m = sym (found-somebody k ch m .well)

@@ -9,6 +9,8 @@ use Rattle.binding.specs.Header.{senders, counters}
 use Rattle.joiner.specs.Channel.{smallestRoom, largestRoom, roomStart}
 use Rattle.joiner.specs.declared.Channel.{Channel}
 use Rattle.joiner.specs.declared.Joiner.{Joiner}
+use Rattle.joiner.specs.declared.Found.{Found}
+use Rattle.joiner.specs.declared.Found.the-variants.{Bad, Nobody, Somebody}
 use Rattle.joiner.specs.declared.Answer.{Answer}
 use Rattle.joiner.specs.declared.Answer.the-variants.{Accepted, Refused}
 use Rattle.joiner.specs.declared.NewJoiner.{NewJoiner}
@@ -65,6 +67,12 @@ goodChannel R ch = ltb (ch .sender) senders && (leb (ch .held) R && ltb (ch .las
 unfoldable pub good : Joiner → ℕ → Bool
 good j buffer =
     goodSizes (j .count) (j .room) buffer && (every (goodChannel (j .room)) (channelsOf j) && distinct (sendersOf j))
+
+-- the look for a sender ID: at the joiner first, then at whose it is
+unfoldable pub foundOf : Joiner → ℕ → ℕ → Found
+foundOf j buffer x =
+    let k = placeOf (sendersOf j) x in
+    cond (good j buffer) (cond (ltb k (j .count)) (Somebody k (channelAt j k)) Nobody) Bad
 
 unfoldable pub freshOf : List ℕ → ℕ → Joiner
 freshOf ids R = record { channels = map newChannel ids ++ replicate (channelLimit - length ids) (newChannel 0); count = length ids; room = R }

@@ -91,6 +91,13 @@ pub struct Step {
     pub put: Put,
 }
 
+// What the look at a joiner for a sender ID finds: it is not good, nobody bears the ID, or this channel.
+pub enum Found {
+    Bad,
+    Nobody,
+    Somebody { at: usize, channel: Channel },
+}
+
 // What a datagram comes to before anything is written: a refusal, or a step of the channel `at`.
 pub enum Judged {
     Refusal(u32),
@@ -198,26 +205,27 @@ fn new_channel(sender: u16) -> Channel
 fn judge(joiner: Joiner, rooms: usize, datagram: &[u8]) -> Judged
     ensures { λ r. ⌜ r ≡ judgedOf joiner rooms (now (datagram .entry)) ⌝ }
 {
-    if records::is_good(joiner, rooms) {
-        match BindingHeader::read(datagram) {
-            Heard::Refused(number) => Judged::Refusal(number),
-            Heard::Piece(header) => {
-                let at = records::find(joiner, header.sender);
-                if at < joiner.count {
-                    let room = Room {
-                        start: records::room_start(joiner.room, at),
-                        size: joiner.room,
-                    };
-                    let length = (datagram.len() - BindingHeader::LENGTH) as u32;
-                    let step = steps::stepped(room, joiner.channels[at], header, length);
-                    Judged::Move { at, step }
-                } else {
-                    Judged::Refusal(NOT_SET_UP)
-                }
+    match BindingHeader::read(datagram) {
+        Heard::Refused(number) => {
+            if records::is_good(joiner, rooms) {
+                Judged::Refusal(number)
+            } else {
+                Judged::Refusal(BAD_SETUP)
             }
         }
-    } else {
-        Judged::Refusal(BAD_SETUP)
+        Heard::Piece(header) => match records::look(joiner, rooms, header.sender) {
+            Found::Bad => Judged::Refusal(BAD_SETUP),
+            Found::Nobody => Judged::Refusal(NOT_SET_UP),
+            Found::Somebody { at, channel } => {
+                let room = Room {
+                    start: records::room_start(joiner.room, at),
+                    size: joiner.room,
+                };
+                let length = (datagram.len() - BindingHeader::LENGTH) as u32;
+                let step = steps::stepped(room, channel, header, length);
+                Judged::Move { at, step }
+            }
+        },
     }
 }
 

@@ -1,39 +1,69 @@
 // The look at a joiner: whether it is good, which of its records bears a sender ID, and where a room starts.
 ghost use mathlib.Core.Path.{_≡_};
 ghost use Prim.Native.Nat.{_≤_};
+ghost use mathlib.Core.Bool.{_&&_, cond};
+ghost use lib.Dec.{leb};
 ghost use Rattle.joiner.specs.Channel.{largestRoom, roomStart};
-ghost use Rattle.joiner.specs.Setup.{channelLimit, sendersOf, placeOf, distinct, goodChannel, goodSizes, good};
+ghost use Rattle.joiner.specs.Setup.{channelLimit, sendersOf, placeOf, distinct, goodChannel, goodSizes, good, foundOf};
 use crate::CHANNELS;
 use crate::Channel;
+use crate::Found;
 use crate::Joiner;
 use crate::LARGEST_ROOM;
 use crate::SMALLEST_ROOM;
 use binding::BindingHeader;
 
-// One pass where the IDs rise, as they do in most set-ups; only where they do not is each looked up among those before it.
 pub(crate) fn is_good(joiner: Joiner, buffer: usize) -> bool
     ensures { λ r. ⌜ r ≡ good joiner buffer ⌝ }
+{
+    match look(joiner, buffer, 0) {
+        Found::Bad => false,
+        Found::Nobody => true,
+        Found::Somebody { at: _, channel: _ } => true,
+    }
+}
+
+// Whether the joiner is good, and which channel bears the sender ID, in one pass: a joiner handed on is a joiner copied.
+// Only where the IDs do not rise, as they do in most set-ups, is each looked up among those before it.
+pub(crate) fn look(joiner: Joiner, buffer: usize, sender: u16) -> Found
+    ensures { λ r. ⌜ r ≡ foundOf joiner buffer sender ⌝ }
 {
     let count = joiner.count;
     let room = joiner.room;
     if has_good_sizes(count, room, buffer) {
         let mut rising = true;
         let mut next: u16 = 0;
+        let mut at = count;
         let mut i = 0;
         while i < count {
             let channel = joiner.channels[i];
             if is_good_channel(channel, room) {
                 rising = rising & (next <= channel.sender);
                 next = channel.sender + 1;
+                at = earlier(at, i, channel.sender == sender);
                 i += 1;
             } else {
-                return false;
+                return Found::Bad;
             }
         }
-        if rising { true } else { is_distinct(joiner) }
-    } else {
-        false
+        let once = if rising { true } else { is_distinct(joiner) };
+        if once {
+            if at < count {
+                let channel = joiner.channels[at];
+                return Found::Somebody { at, channel };
+            }
+            return Found::Nobody;
+        }
+        return Found::Bad;
     }
+    Found::Bad
+}
+
+// The first place so far, where `at` is one before `i` or none yet.
+fn earlier(at: usize, i: usize, same: bool) -> usize
+    ensures { λ r. ⌜ r ≡ cond (same && leb i at) i at ⌝ }
+{
+    if same & (i <= at) { i } else { at }
 }
 
 fn has_good_sizes(count: usize, room: u32, buffer: usize) -> bool
@@ -77,8 +107,8 @@ fn is_distinct(joiner: Joiner) -> bool
     true
 }
 
-// The place of the channel that bears the sender ID, or the count where none does.
-pub(crate) fn find(joiner: Joiner, sender: u16) -> usize
+// The place of the first channel that bears the sender ID, or the count where none does.
+fn find(joiner: Joiner, sender: u16) -> usize
     requires { ⌜ joiner .count ≤ channelLimit ⌝ }
     ensures { λ r. ⌜ r ≡ placeOf (sendersOf joiner) sender ⌝ }
 {

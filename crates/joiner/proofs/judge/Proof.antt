@@ -1,10 +1,10 @@
 -- `joiner::judge` meets its contract: the numbers in their order, then the step of the channel that was found.
 -- Assumes nothing.
-use borrow.Author.Needs.{needs}
 use mathlib.Core.Path.{_≡_}
+use borrow.Author.Needs.{needs}
 use lib.ListN.{length, length-map}
 use Rattle.joiner.specs.Setup.{channelLimit}
-use Rattle.joiner.proofs.Judging.{few-channels, few-rooms, narrow-rooms, channel-known, record-fits, long-enough, length-fits, steppable, not-set-up-well, not-heard, nobody, somebody}
+use Rattle.joiner.proofs.Judging.{few-rooms, narrow-rooms, long-enough, length-fits, steppable, not-heard, not-heard-bad, in-a-bad-one, to-nobody, to-somebody}
 use Rattle.joiner.proofs.judge.Statement.{statement}
 use Rattle.joiner.proofs.judge.Tie as tie
 
@@ -13,20 +13,22 @@ judge-spec =
     tie.close
     (tie.spec
     (λ c κs. search needs)
+    (λ c. search needs)
+    (λ c κs. search needs)
+    (λ c. search needs)
     (λ c κs. search needs)
     (λ c. search needs)
     (λ c. search needs)
-    (λ c κs. search few-channels)
+    (λ c. search needs)
     (λ c κs. (search (needs, few-rooms), search narrow-rooms))
     (λ c. search long-enough)
     (λ c. search length-fits)
-    (λ c. search record-fits)
-    (λ c. search channel-known)
     (λ c κs.
-    let start = c .before .before .before .before .before .before .before .before .before .before .before in
-    let w : length (start .args .t1 .channels) ≡ channelLimit = simp length-map at (start .good .0 .1 .1 .0 .1 .0 .1) in
+    let start = c .before .before .before .before .before .before .before .before .before .before in
+    let w : length (start .args .joiner .channels) ≡ channelLimit = simp length-map at (start .good .0 .1 .1 .0 .1 .0 .1) in
     search steppable)
     (λ c. search not-heard)
-    (λ c. search somebody)
-    (λ c. search nobody)
-    (λ c. search not-set-up-well))
+    (λ c. search not-heard-bad)
+    (λ c. search in-a-bad-one)
+    (λ c. search to-nobody)
+    (λ c. search to-somebody))
