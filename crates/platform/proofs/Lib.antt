@@ -1,0 +1,10 @@
+pub mod WordLaws
+pub mod Bits
+pub mod Ups
+pub mod ReactionLaws
+pub mod ReplyLaws
+pub mod ReadBack
+pub mod Silence
+pub mod Unchanged
+pub mod Unique
+pub mod Receipts

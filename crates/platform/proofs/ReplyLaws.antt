@@ -1,0 +1,119 @@
+-- What the functions of `replies`, and the writing of replies, come to at their returns.
+-- Assumes nothing.
+use Prim.Native.Nat.{ℕ, _+_, _-_, _≤_, _<_}
+use mathlib.Core.Path.{_≡_, refl, sym, ap, ap₂, _∙_}
+use mathlib.Core.List.{List, [], _∷_, _++_, append-nil}
+use native.Mathlib.Nat.{zero-add}
+use native.Mathlib.Omega.{arith}
+use borrow.Rule.Slice.PartMut.{putMid}
+use lib.ListN.{length, take, drop, length-append, length-drop}
+use lib.Seq.{take-all, drop-length, drop-drop}
+use lib.Dec.{ltb}
+use Rattle.wire.specs.Bytes.{bytes, over, written}
+use Rattle.wire.proofs.Runs.{over-over, length-over, over-none}
+use Rattle.wire.proofs.Cond.{yes-lt, no-lt}
+use Rattle.message.specs.declared.Header.{Header}
+use Rattle.message.specs.Header.{platformDomain}
+use Rattle.message.specs.Refusal.{writeRefusal}
+use Rattle.message.specs.Writing.{unlessRefused, outputAfter}
+use Rattle.platform.specs.declared.Standing.{Standing}
+use Rattle.platform.specs.declared.Outcome.{Outcome}
+use Rattle.platform.specs.declared.Reply.{Reply}
+use Rattle.platform.specs.declared.Reply.the-variants.{StatusUp, PullAll, Unknown}
+use Rattle.platform.specs.declared.Owed.{Owed}
+use Rattle.platform.specs.declared.Owed.the-variants.{Nothing, One, Two}
+use Rattle.platform.specs.declared.Reaction.{Reaction}
+use Rattle.platform.specs.Replies.{replyID, replyNumber, replyField, replyBytes, replyLength, owedBytes, owedLength}
+use Rattle.platform.specs.Receiving.{refused, taken, answered, laidOut}
+
+pub length-reply : (own : ℕ) (r : Reply) → length (replyBytes own r) ≡ replyLength
+unfolding replyBytes
+length-reply own r = refl
+
+pub length-owed : (own : ℕ) (o : Owed) → length (owedBytes own o) ≡ owedLength o
+unfolding owedBytes
+length-owed own Nothing = refl
+length-owed own (One r) = length-reply own r
+length-owed own (Two r q) = length-append (replyBytes own r) (replyBytes own q) ∙ ap₂ (λ (a b : ℕ). a + b) (length-reply own r) (length-reply own q)
+
+module _ (o : Owed) (out : List ℕ) (h : owedLength o ≤ length out) where
+  pub room-for-one : (r : Reply) → o ≡ One r → 0 + replyLength ≤ length out
+  room-for-one r e = rw e at h
+
+  pub room-for-first : (r q : Reply) → o ≡ Two r q → 0 + replyLength ≤ length out
+  room-for-first r q e = omega (arith, rw e at h)
+
+  pub room-for-second : (own : ℕ) (r q : Reply) (a : List ℕ) → o ≡ Two r q → a ≡ over out 0 (replyBytes own r) → replyLength + replyLength ≤ length a
+  room-for-second own r q a e w =
+      let k : replyLength + replyLength ≤ length out = rw e at h in
+      let l : length (replyBytes own r) ≡ replyLength = length-reply own r in
+      let z : length a ≡ length out = ap length w ∙ length-over out 0 (replyBytes own r) (omega arith) in
+      omega arith
+
+  module _ (own : ℕ) where
+    pub lay-none : o ≡ Nothing → out ≡ over out 0 (owedBytes own o)
+    unfolding owedBytes
+    lay-none e = rw e (over-none out 0 [])
+
+    pub lay-one : (r : Reply) (a : List ℕ) → o ≡ One r → a ≡ over out 0 (replyBytes own r) → a ≡ over out 0 (owedBytes own o)
+    unfolding owedBytes
+    lay-one r a e w = rw e w
+
+    pub lay-two : (r q : Reply) (a b : List ℕ) → o ≡ Two r q → a ≡ over out 0 (replyBytes own r) → b ≡ over a replyLength (replyBytes own q) → b ≡ over out 0 (owedBytes own o)
+    unfolding owedBytes replyBytes
+    lay-two r q a b e w v =
+        let k : replyLength + replyLength ≤ length out = rw e at h in
+        let R : List ℕ = replyBytes own r in
+        let Q : List ℕ = replyBytes own q in
+        let lr : length R ≡ replyLength = length-reply own r in
+        let l : length (R ++ Q) ≡ replyLength + replyLength = length-append R Q ∙ ap₂ (λ (x y : ℕ). x + y) lr (length-reply own q) in
+        v ∙ ap (λ (u : List ℕ). over u replyLength Q) w ∙ ap (λ (n : ℕ). over (over out 0 R) n Q) (sym lr)
+        ∙ over-over out 0 R Q (omega arith) ∙ ap (λ (x : Owed). over out 0 (owedBytes own x)) (sym e)
+
+-- no writer refuses a reply where it has room
+pub reply-writable : (r : Reply) (room : ℕ) → replyLength ≤ room → writeRefusal platformDomain (replyID r) (bytes 2 (replyField r)) room ≡ 0
+reply-writable (StatusUp n) room h = no-lt 10 0 room replyLength h
+reply-writable (PullAll n) room h = no-lt 10 0 room replyLength h
+reply-writable (Unknown n id) room h = no-lt 10 0 room replyLength h
+
+-- a reply written into the part of the output from p on
+pub reply-laid : {last field : List ℕ} {id n f : ℕ} (own : ℕ) (r : Reply) (p : ℕ) (out : List ℕ) → p + replyLength ≤ length out → f ≡ replyField r → field ≡ written (0 ∷ 0 ∷ 0 ∷ 0 ∷ []) 0 (bytes 2 f) → id ≡ replyID r → n ≡ replyNumber r → last ≡ outputAfter own platformDomain id n field (take (length out - p) (drop p out)) → putMid p (length out - p) out last ≡ over out p (replyBytes own r)
+unfolding replyBytes
+reply-laid {last} {field} {id} {n} {f} own r p out h ef ep ei en el =
+    let D : List ℕ = drop p out in
+    let M : List ℕ = replyBytes own r in
+    let lm : length M ≡ replyLength = length-reply own r in
+    let ld : length D ≡ length out - p = length-drop p out in
+    let d : take (length out - p) D ≡ D = take-all (length out - p) D (omega arith) in
+    let payload : field ≡ bytes 2 (replyField r) = ep ∙ ap (bytes 2) ef in
+    let w : writeRefusal platformDomain (replyID r) (bytes 2 (replyField r)) (length D) ≡ 0 = reply-writable r (length D) (omega arith) in
+    let k : last ≡ M ++ drop (0 + length M) D =
+    el ∙ ap₂ (λ (x : List ℕ) (y : List ℕ). outputAfter own platformDomain id n x y) payload d
+    ∙ ap₂ (λ (x y : ℕ). outputAfter own platformDomain x y (bytes 2 (replyField r)) D) ei en
+    ∙ ap (λ (z : ℕ). unlessRefused z (over D 0 M) D) w in
+    let b : drop (length out - p) D ≡ [] = ap (λ (z : ℕ). drop z D) (sym ld) ∙ drop-length D in
+    let g : drop (0 + length M) D ≡ drop (p + length M) out = drop-drop (0 + length M) p out ∙ ap (λ (z : ℕ). drop (p + z) out) (zero-add (length M)) in
+    ap₂ (λ (x y : List ℕ). take p out ++ (x ++ y)) k b ∙ ap (λ (x : List ℕ). take p out ++ x) (append-nil (M ++ drop (0 + length M) D))
+    ∙ ap (λ (x : List ℕ). take p out ++ (M ++ x)) g
+
+-- the replies fit, or 10
+module _ (p : Standing) (h : Header) (x : Reaction) (w : ℕ) (e : w ≡ owedLength (x .owed)) where
+  pub too-long : (room : ℕ) (r : Outcome) → room < w → r ≡ refused p 10 → r ≡ answered p h x room
+  unfolding answered
+  too-long room r l d = d ∙ sym (yes-lt {A = Outcome} (refused p 10) (taken h x (owedLength (x .owed))) room (owedLength (x .owed)) (omega arith))
+
+  pub fitting : (room : ℕ) (r : Outcome) → w ≤ room → r ≡ taken h x w → r ≡ answered p h x room
+  unfolding answered
+  fitting room r l d = d ∙ ap (taken h x) e ∙ sym (no-lt {A = Outcome} (refused p 10) (taken h x (owedLength (x .owed))) room (owedLength (x .owed)) (omega arith))
+
+module _ (own : ℕ) (x : Reaction) (w : ℕ) (e : w ≡ owedLength (x .owed)) (out : List ℕ) where
+  pub left-as-it-was : length out < w → out ≡ laidOut own x out
+  unfolding laidOut
+  left-as-it-was l = sym (yes-lt out (over out 0 (owedBytes own (x .owed))) (length out) (owedLength (x .owed)) (omega arith))
+
+  pub laid : (o : List ℕ) → w ≤ length out → o ≡ over out 0 (owedBytes own (x .owed)) → o ≡ laidOut own x out
+  unfolding laidOut
+  laid o l d = d ∙ sym (no-lt out (over out 0 (owedBytes own (x .owed))) (length out) (owedLength (x .owed)) (omega arith))
+
+pub room-for-all : (x : Reaction) (w : ℕ) (out : List ℕ) → w ≡ owedLength (x .owed) → w ≤ length out → owedLength (x .owed) ≤ length out
+room-for-all x w out e l = omega arith

@@ -1,0 +1,116 @@
+-- A refusal changes nothing: no state, no own number and no byte of the output; and the replies that a call writes stand at
+-- the output's start, the rest of it as it was.
+-- Assumes nothing.
+use Prim.Native.Nat.{ℕ, zero, suc, _+_, _-_, _≤_, _<_}
+use mathlib.Core.Path.{_≡_, refl, sym, ap, ap₂, _∙_}
+use mathlib.Core.Bool.{Bool, true, false, cond}
+use mathlib.Core.List.{List, [], _∷_, _++_, append-nil}
+use native.Mathlib.Omega.{arith}
+use borrow.Author.Tests.{ltb-false}
+use lib.Dec.{ltb}
+use lib.ListN.{length, drop, length-drop}
+use lib.Seq.{take-all}
+use Rattle.wire.specs.Bytes.{over, part}
+use Rattle.wire.proofs.Runs.{part-in, part-over}
+use Rattle.types.specs.declared.Sections.{Sections}
+use Rattle.types.specs.declared.Found.{Found}
+use Rattle.types.specs.declared.Checked.{Checked}
+use Rattle.types.specs.declared.Checked.the-variants as checked
+use Rattle.types.specs.Layout.{cutShort, within}
+use Rattle.types.specs.Table.{checked}
+use Rattle.message.specs.declared.Header.{Header}
+use Rattle.message.specs.declared.Reading.{Reading}
+use Rattle.message.specs.declared.Reading.the-variants as reading
+use Rattle.message.specs.Header.{headerLength, payloadSizeIn, payloadIn}
+use Rattle.message.specs.Refusal.{noRoom, readRefusal}
+use Rattle.message.specs.Reading.{readOf}
+use Rattle.message.proofs.Accepted.{Readable, readable}
+use Rattle.platform.specs.declared.Standing.{Standing}
+use Rattle.platform.specs.declared.Answer.the-variants.{Refused, Noted}
+use Rattle.platform.specs.declared.Outcome.{Outcome}
+use Rattle.platform.specs.declared.Reply.{Reply}
+use Rattle.platform.specs.declared.Owed.{Owed}
+use Rattle.platform.specs.declared.Owed.the-variants as owed
+use Rattle.platform.specs.declared.Reaction.{Reaction}
+use Rattle.platform.specs.Replies.{replyBytes, replies, owedBytes, owedLength}
+use Rattle.platform.specs.Reaction.{operationIn, reactionTo}
+use Rattle.platform.specs.Receiving.{refused, taken, answered, laidOut, outcomeOf, outputOf, receivedBy, receivedOf, leftBy, leftOf, sectionsOutcome, sectionsOutput, bytesWritten}
+use Rattle.platform.specs.Exchange.{written, sentOf}
+use Rattle.platform.proofs.ReplyLaws.{length-owed}
+
+never : {n k : ℕ} {h : Header} {x : _} → Noted h x k ≡ Refused n → ⊥
+never e = let z : _≡_ {A = ℕ} 0 1 = cc in omega arith
+
+-- what stays where the answer is a refusal
+pub record Unchanged (p : Standing) (out : List ℕ) (r : Outcome) (left : List ℕ) : Type 0 where
+  pub standing : r .standing ≡ p
+  pub output : left ≡ out
+
+module _ (own : ℕ) (p : Standing) (n : ℕ) (out : List ℕ) where
+  answered-unchanged : (h : Header) (x : Reaction) → answered p h x (length out) .answer ≡ Refused n → Unchanged p out (answered p h x (length out)) (laidOut own x out)
+  unfolding answered laidOut
+  answered-unchanged h x e = go (ltb (length out) (owedLength (x .owed))) refl e
+    where
+      go : (b : Bool) → ltb (length out) (owedLength (x .owed)) ≡ b → cond b (refused p noRoom) (taken h x (owedLength (x .owed))) .answer ≡ Refused n → Unchanged p out (answered p h x (length out)) (laidOut own x out)
+      go true q k = rw q (record { standing = refl; output = refl })
+      go false q k = absurd (never k)
+
+  outcome-unchanged : (t : List ℕ) (s : Sections) (f : Found) (x : Reading) → outcomeOf own t s f p x (length out) .answer ≡ Refused n → Unchanged p out (outcomeOf own t s f p x (length out)) (outputOf own t s f p x out)
+  unfolding outcomeOf outputOf
+  outcome-unchanged t s f (reading.Refused k) e = record { standing = refl; output = refl }
+  outcome-unchanged t s f (reading.Read h m start len) e = answered-unchanged h (reactionTo own t s f p h m start len) e
+
+  -- the call on table bytes
+  pub refusal-changes-nothing : (t m : List ℕ) → receivedOf own t p m (length out) .answer ≡ Refused n → Unchanged p out (receivedOf own t p m (length out)) (leftOf own t p m out)
+  unfolding receivedOf leftOf receivedBy leftBy
+  refusal-changes-nothing t m e = go (checked t) e
+    where
+      go : (c : Checked) → receivedBy c own t p m (length out) .answer ≡ Refused n → Unchanged p out (receivedBy c own t p m (length out)) (leftBy c own t p m out)
+      go (checked.Refused k) q = record { standing = refl; output = refl }
+      go (checked.Table s) q = outcome-unchanged t s (operationIn t s (readOf own m)) (readOf own m) q
+
+  -- the call on sections
+  pub sections-refusal-changes-nothing : (t : List ℕ) (s : Sections) (f : Found) (m : List ℕ) → sectionsOutcome own t s f p m (length out) .answer ≡ Refused n → Unchanged p out (sectionsOutcome own t s f p m (length out)) (sectionsOutput own t s f p m out)
+  unfolding sectionsOutcome sectionsOutput
+  sections-refusal-changes-nothing t s f m e = go (within t s) e
+    where
+      go : (b : Bool) → cond b (outcomeOf own t s f p (readOf own m) (length out)) (refused p cutShort) .answer ≡ Refused n → Unchanged p out (cond b (outcomeOf own t s f p (readOf own m) (length out)) (refused p cutShort)) (cond b (outputOf own t s f p (readOf own m) out) out)
+      go true q = outcome-unchanged t s f (readOf own m) q
+      go false q = record { standing = refl; output = refl }
+
+-- the bytes of replies, one behind another
+abbrev pub allBytes : ℕ → List Reply → List ℕ
+allBytes own [] = []
+allBytes own (r ∷ rs) = replyBytes own r ++ allBytes own rs
+
+owed-bytes : (own : ℕ) (o : Owed) → owedBytes own o ≡ allBytes own (replies o)
+unfolding owedBytes
+owed-bytes own owed.Nothing = refl
+owed-bytes own (owed.One r) = sym (append-nil (replyBytes own r))
+owed-bytes own (owed.Two r q) = ap (λ (u : List ℕ). replyBytes own r ++ u) (sym (append-nil (replyBytes own q)))
+
+-- what a call says that it wrote is the replies that it sends
+module _ (own : ℕ) (p : Standing) (out : List ℕ) where
+  laid-is-sent : (h : Header) (x : Reaction) → part (laidOut own x out) 0 (bytesWritten (answered p h x (length out) .answer)) ≡ allBytes own (written x (length out))
+  unfolding answered laidOut
+  laid-is-sent h x = go (ltb (length out) (owedLength (x .owed))) refl
+    where
+      go : (b : Bool) → ltb (length out) (owedLength (x .owed)) ≡ b → part (cond b out (over out 0 (owedBytes own (x .owed)))) 0 (bytesWritten (cond b (refused p noRoom) (taken h x (owedLength (x .owed))) .answer)) ≡ allBytes own (cond b [] (replies (x .owed)))
+      go true q = part-in out 0 0 (omega arith)
+      go false q =
+          let l : length (owedBytes own (x .owed)) ≡ owedLength (x .owed) = length-owed own (x .owed) in
+          let k : owedLength (x .owed) ≤ length out = ltb-false (length out) (owedLength (x .owed)) q in
+          ap (part (over out 0 (owedBytes own (x .owed))) 0) (sym l) ∙ part-over out 0 (owedBytes own (x .owed)) (omega arith) ∙ owed-bytes own (x .owed)
+
+  pub written-is-sent : (t : List ℕ) (s : Sections) (f : Found) (x : Reading) → part (outputOf own t s f p x out) 0 (bytesWritten (outcomeOf own t s f p x (length out) .answer)) ≡ allBytes own (sentOf own t s f p x (length out))
+  unfolding outcomeOf outputOf sentOf
+  written-is-sent t s f (reading.Refused k) = part-in out 0 0 (omega arith)
+  written-is-sent t s f (reading.Read h m start len) = laid-is-sent h (reactionTo own t s f p h m start len)
+
+-- where an operation's payload is said to stand, the payload stands
+pub payload-stands : (own : ℕ) (m : List ℕ) → readRefusal own m ≡ 0 → part m headerLength (payloadSizeIn m) ≡ payloadIn m
+payload-stands own m e =
+    let a : Readable own m = readable own m e in
+    let l = a .long in
+    let z = a .size in
+    part-in m headerLength (payloadSizeIn m) (omega arith) ∙ take-all (payloadSizeIn m) (drop headerLength m) (omega (arith, length-drop headerLength m))

@@ -1,0 +1,17 @@
+-- `platform::receive_checked` meets its contract: sections that do not lie in the bytes are refused.
+-- Assumes nothing.
+use borrow.Author.Needs.{needs}
+use Rattle.platform.proofs.Receipts.{is-in, not-within}
+use Rattle.platform.proofs.receive_checked.Statement.{statement}
+use Rattle.platform.proofs.receive_checked.Tie as tie
+
+pub receive-checked-spec : {M : Type 1} → statement M
+receive-checked-spec =
+    tie.close
+    (tie.spec
+    (λ c κs. search needs)
+    (λ c κs. search is-in)
+    (λ c κs. search needs)
+    (λ c. search needs)
+    (λ c. search needs)
+    (λ c. search not-within))

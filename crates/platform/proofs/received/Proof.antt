@@ -1,0 +1,16 @@
+-- `platform::received` meets its contract: the message is read, and what it asks for is looked up.
+-- Assumes nothing.
+use borrow.Author.Needs.{needs}
+use Rattle.platform.proofs.Receipts.{received-is}
+use Rattle.platform.proofs.received.Statement.{statement}
+use Rattle.platform.proofs.received.Tie as tie
+
+pub received-spec : {M : Type 1} → statement M
+received-spec =
+    tie.close
+    (tie.spec
+    (λ c κs. search needs)
+    (λ c κs. search needs)
+    (λ c κs. search needs)
+    (λ c. search needs)
+    (λ c. search received-is))

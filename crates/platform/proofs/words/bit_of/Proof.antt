@@ -1,0 +1,15 @@
+-- `platform::words::bit_of` meets its contract.
+-- Assumes nothing.
+use borrow.Author.Needs.{needs}
+use Rattle.platform.proofs.WordLaws.{the-bit}
+use Rattle.platform.proofs.words.bit_of.Statement.{statement}
+use Rattle.platform.proofs.words.bit_of.Tie as tie
+
+pub bit-of-spec : {M : Type 1} → statement M
+bit-of-spec =
+    tie.close
+    (tie.spec
+    (λ c κs. search needs)
+    (λ c. search needs)
+    (λ c. search needs)
+    (λ c. search the-bit))

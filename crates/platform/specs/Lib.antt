@@ -1,0 +1,5 @@
+pub mod States
+pub mod Replies
+pub mod Reaction
+pub mod Receiving
+pub mod Exchange

@@ -1,0 +1,107 @@
+-- 01, "Platform states and replies": what the one call for one message answers, the states and the own number after it, and
+-- the output.
+use Prim.Native.Nat.{ℕ}
+use mathlib.Core.Bool.{cond}
+use mathlib.Core.Path.{_≡_}
+use mathlib.Core.List.{List, []}
+use lib.Dec.{ltb}
+use lib.ListN.{length}
+use Rattle.wire.specs.Bytes.{over, part}
+use Rattle.types.specs.declared.Sections.{Sections}
+use Rattle.types.specs.declared.Found.{Found}
+use Rattle.types.specs.declared.Checked.{Checked}
+use Rattle.types.specs.declared.Checked.the-variants as checked
+use Rattle.types.specs.Layout.{cutShort, within}
+use Rattle.types.specs.Table.{checked}
+use Rattle.message.specs.declared.Header.{Header}
+use Rattle.message.specs.declared.Reading.{Reading}
+use Rattle.message.specs.declared.Reading.the-variants as reading
+use Rattle.message.specs.Refusal.{noRoom}
+use Rattle.message.specs.Reading.{readOf}
+use Rattle.platform.specs.declared.Standing.{Standing}
+use Rattle.platform.specs.declared.Heard.{Heard}
+use Rattle.platform.specs.declared.Heard.the-variants as heard
+use Rattle.platform.specs.declared.Answer.{Answer}
+use Rattle.platform.specs.declared.Answer.the-variants.{Refused, Noted}
+use Rattle.platform.specs.declared.Outcome.{Outcome}
+use Rattle.platform.specs.declared.Reaction.{Reaction}
+use Rattle.platform.specs.States.{freshStates}
+use Rattle.platform.specs.Replies.{firstNumber, owedLength, owedBytes}
+use Rattle.platform.specs.Reaction.{Looked, operationIn, reactionTo}
+
+-- at the start: the other 255 are DOWN, and own numbers start at 0
+abbrev pub freshStanding : ℕ → Standing
+freshStanding own = record { states = freshStates own; next = firstNumber }
+
+-- a refusal: states and own number stay
+abbrev pub refused : Standing → ℕ → Outcome
+refused p n = record { standing = p; answer = Refused n }
+
+-- the replies are written one behind another; where they don't all fit it is 10
+abbrev pub taken : Header → Reaction → ℕ → Outcome
+taken h r written = record { standing = r .standing; answer = Noted h (r .heard) written }
+
+unfoldable pub answered : Standing → Header → Reaction → ℕ → Outcome
+answered p h r room = cond (ltb room (owedLength (r .owed))) (refused p noRoom) (taken h r (owedLength (r .owed)))
+
+unfoldable pub laidOut : ℕ → Reaction → List ℕ → List ℕ
+laidOut own r out = cond (ltb (length out) (owedLength (r .owed))) out (over out 0 (owedBytes own (r .owed)))
+
+-- a message that was read, or refused, with the operation that was looked up for it
+unfoldable pub outcomeOf : ℕ → List ℕ → Sections → Found → Standing → Reading → ℕ → Outcome
+outcomeOf own t s f p (reading.Refused n) room = refused p n
+outcomeOf own t s f p (reading.Read h m start len) room = answered p h (reactionTo own t s f p h m start len) room
+
+unfoldable pub outputOf : ℕ → List ℕ → Sections → Found → Standing → Reading → List ℕ → List ℕ
+outputOf own t s f p (reading.Refused n) out = out
+outputOf own t s f p (reading.Read h m start len) out = laidOut own (reactionTo own t s f p h m start len) out
+
+-- the call on table bytes: 30 to 33 first
+unfoldable pub receivedBy : Checked → ℕ → List ℕ → Standing → List ℕ → ℕ → Outcome
+receivedBy (checked.Refused n) own t p m room = refused p n
+receivedBy (checked.Table s) own t p m room = outcomeOf own t s (operationIn t s (readOf own m)) p (readOf own m) room
+
+unfoldable pub receivedOf : ℕ → List ℕ → Standing → List ℕ → ℕ → Outcome
+receivedOf own t p m room = receivedBy (checked t) own t p m room
+
+unfoldable pub leftBy : Checked → ℕ → List ℕ → Standing → List ℕ → List ℕ → List ℕ
+leftBy (checked.Refused n) own t p m out = out
+leftBy (checked.Table s) own t p m out = outputOf own t s (operationIn t s (readOf own m)) p (readOf own m) out
+
+unfoldable pub leftOf : ℕ → List ℕ → Standing → List ℕ → List ℕ → List ℕ
+leftOf own t p m out = leftBy (checked t) own t p m out
+
+-- the call on sections, for the operation that was looked up: 30 where the sections don't lie in the bytes
+unfoldable pub sectionsOutcome : ℕ → List ℕ → Sections → Found → Standing → List ℕ → ℕ → Outcome
+sectionsOutcome own t s f p m room = cond (within t s) (outcomeOf own t s f p (readOf own m) room) (refused p cutShort)
+
+unfoldable pub sectionsOutput : ℕ → List ℕ → Sections → Found → Standing → List ℕ → List ℕ → List ℕ
+sectionsOutput own t s f p m out = cond (within t s) (outputOf own t s f p (readOf own m) out) out
+
+-- what is promised of a call on sections: outcome and output are those of one answer that the look-up may give. On a table
+-- that `check` accepts there is one such answer (`same-outcome` and `same-output` of proofs/Unique)
+pub record Received (own : ℕ) (t : List ℕ) (s : Sections) (p : Standing) (m out : List ℕ) (r : Outcome) (left : List ℕ) : Type 0 where
+  pub found : Found
+  pub looked : Looked t s (readOf own m) found
+  pub outcome : r ≡ sectionsOutcome own t s found p m (length out)
+  pub output : left ≡ sectionsOutput own t s found p m out
+
+-- by cases: the number that an answer gives back (0: none), and how many reply bytes were written
+abbrev pub numberGiven : Answer → ℕ
+numberGiven (Refused n) = n
+numberGiven (Noted h x n) = 0
+
+abbrev pub bytesWritten : Answer → ℕ
+bytesWritten (Refused n) = 0
+bytesWritten (Noted h x n) = n
+
+-- the payload of an operation, as a part of the message; none of anything else
+abbrev pub payloadHeard : List ℕ → Heard → List ℕ
+payloadHeard m (heard.Status x) = []
+payloadHeard m heard.Request = []
+payloadHeard m (heard.UnknownOperation id) = []
+payloadHeard m heard.PullOfAll = []
+payloadHeard m (heard.PullOfOne id i) = []
+payloadHeard m (heard.NotVersionedData id) = []
+payloadHeard m (heard.Operation i start len) = part m start len
+payloadHeard m (heard.NotInTable id) = []

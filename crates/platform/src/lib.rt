@@ -1,0 +1,263 @@
+// What a platform knows of the others, and what it owes them (01, "Platform states and replies"; 000, 6.3): one call reads
+// a message, notes the state it tells, and writes the owed replies one behind another. A refused call (1 to 10, and 30 to
+// 33 for the type table) changes no state, own number or output byte.
+mod reacting;
+mod replies;
+mod words;
+
+ghost use mathlib.Core.Path.{_≡_};
+ghost use lib.ListN.{length};
+ghost use mathlib.Core.Bool.{true};
+ghost use Rattle.types.specs.Layout.{within};
+ghost use Rattle.platform.specs.States.{isUp, howManyUp};
+ghost use Rattle.platform.specs.Receiving.{freshStanding, refused, taken, answered, laidOut, outcomeOf, outputOf, receivedOf, leftOf, Received, payloadHeard};
+use message::Header;
+use message::Own;
+use message::Reading;
+use message::Status;
+use types::Checked;
+use types::Found;
+use types::Sections;
+
+// The states of the 256 platforms: platform k is bit k % 64 of word k / 64.
+pub struct States {
+    pub w0: u64,
+    pub w1: u64,
+    pub w2: u64,
+    pub w3: u64,
+}
+
+// What a platform keeps from one message to the next: the states, and its next own sequence number.
+pub struct Standing {
+    pub states: States,
+    pub next: u32,
+}
+
+// What a message was.
+pub enum Heard {
+    Status(Status),
+    Request,
+    // Reported: an operation that its sender does not know.
+    UnknownOperation(u32),
+    PullOfAll,
+    // The ID, and the number of its entry in the table.
+    PullOfOne(u32, u16),
+    // What was pulled is not versioned data here.
+    NotVersionedData(u32),
+    // The number of the operation's entry, and its payload: `length` bytes of the message from `start` on.
+    Operation {
+        entry: u16,
+        start: usize,
+        length: usize,
+    },
+    NotInTable(u32),
+}
+
+pub enum Answer {
+    Refused(u32),
+    // The replies are owed to the header's platform.
+    Noted {
+        header: Header,
+        heard: Heard,
+        written: usize,
+    },
+}
+
+pub struct Outcome {
+    pub standing: Standing,
+    pub answer: Answer,
+}
+
+// A reply, with its sequence number.
+enum Reply {
+    StatusUp(u32),
+    PullAll(u32),
+    // And the ID that is unknown here.
+    Unknown(u32, u32),
+}
+
+enum Owed {
+    Nothing,
+    One(Reply),
+    Two(Reply, Reply),
+}
+
+// What a message comes to where the replies fit.
+struct Reaction {
+    standing: Standing,
+    heard: Heard,
+    owed: Owed,
+}
+
+const NO_ROOM: u32 = 10;
+
+const CUT_SHORT: u32 = 30;
+
+// This platform is UP, the others are DOWN, and own numbers start at 0.
+pub fn fresh(own: Own) -> Standing
+    ensures { λ r. ⌜ r ≡ freshStanding (own .platform) ⌝ }
+{
+    Standing {
+        states: words::fresh(own),
+        next: 0,
+    }
+}
+
+pub fn is_up(own: Own, states: States, platform: u8) -> bool
+    ensures { λ r. ⌜ r ≡ isUp (own .platform) states platform ⌝ }
+{
+    words::is_up(own, states, platform as u32)
+}
+
+// How many of the 256 are UP, this one counted.
+pub fn how_many_up(own: Own, states: States) -> u32
+    ensures { λ r. ⌜ r ≡ howManyUp (own .platform) states ⌝ }
+{
+    words::how_many_up(own, states)
+}
+
+// Reads a message, notes the state that it tells, and writes the owed replies at the output's start.
+pub fn receive(
+    own: Own,
+    table: &[u8],
+    standing: Standing,
+    message: &[u8],
+    out: &mut [u8],
+) -> Outcome
+    ensures answer { λ r. ⌜ r ≡ receivedOf (own .platform) (now (table .entry)) standing (now (message .entry)) (length (now (out .entry))) ⌝ }
+    ensures output { λ r. ⌜ now (out .exit) ≡ leftOf (own .platform) (now (table .entry)) standing (now (message .entry)) (now (out .entry)) ⌝ }
+{
+    match types::check(table) {
+        Checked::Refused(number) => refused(standing, number),
+        Checked::Table(s) => received(own, table, s, standing, message, out),
+    }
+}
+
+// The same on a table that was checked before: its bytes, and the sections that the check handed back.
+pub fn receive_checked(
+    own: Own,
+    table: &[u8],
+    s: Sections,
+    standing: Standing,
+    message: &[u8],
+    out: &mut [u8],
+) -> Outcome
+    ensures { λ r. ⌜ Received (own .platform) (now (table .entry)) s standing (now (message .entry)) (now (out .entry)) r (now (out .exit)) ⌝ }
+{
+    if types::layout::within(table, s) {
+        received(own, table, s, standing, message, out)
+    } else {
+        refused(standing, CUT_SHORT)
+    }
+}
+
+// The payload of an operation that was heard, as a part of its message; empty for anything else.
+pub fn payload(message: &[u8], heard: Heard) -> &[u8]
+    ensures { λ r. ⌜ now r ≡ payloadHeard (now (message .entry)) heard ⌝ }
+{
+    match heard {
+        Heard::Operation {
+            entry: _,
+            start,
+            length,
+        } => wire::part(message, start, length),
+        _ => &message[..0],
+    }
+}
+
+fn received(
+    own: Own,
+    table: &[u8],
+    s: Sections,
+    standing: Standing,
+    message: &[u8],
+    out: &mut [u8],
+) -> Outcome
+    requires { ⌜ within (now table) s ≡ true ⌝ }
+    ensures { λ r. ⌜ Received (own .platform) (now (table .entry)) s standing (now (message .entry)) (now (out .entry)) r (now (out .exit)) ⌝ }
+{
+    let reading = message::read(own, message);
+    let found = reacting::look_up(table, s, reading);
+    settled(own, table, s, found, standing, reading, out)
+}
+
+fn settled(
+    own: Own,
+    table: &[u8],
+    s: Sections,
+    found: Found,
+    standing: Standing,
+    reading: Reading,
+    out: &mut [u8],
+) -> Outcome
+    ensures answer { λ r. ⌜ r ≡ outcomeOf (own .platform) (now (table .entry)) s found standing reading (length (now (out .entry))) ⌝ }
+    ensures output { λ r. ⌜ now (out .exit) ≡ outputOf (own .platform) (now (table .entry)) s found standing reading (now (out .entry)) ⌝ }
+{
+    match reading {
+        Reading::Refused(number) => refused(standing, number),
+        Reading::Read {
+            header,
+            message,
+            start,
+            length,
+        } => {
+            let reaction = reacting::reaction_to(
+                own,
+                table,
+                s,
+                found,
+                standing,
+                header,
+                message,
+                start,
+                length,
+            );
+            answered(own, standing, header, reaction, out)
+        }
+    }
+}
+
+// The state is noted only where all replies fit.
+fn answered(
+    own: Own,
+    standing: Standing,
+    header: Header,
+    reaction: Reaction,
+    out: &mut [u8],
+) -> Outcome
+    ensures answer { λ r. ⌜ r ≡ answered standing header reaction (length (now (out .entry))) ⌝ }
+    ensures output { λ r. ⌜ now (out .exit) ≡ laidOut (own .platform) reaction (now (out .entry)) ⌝ }
+{
+    let owed = reaction.owed;
+    let written = replies::length_of(owed);
+    if out.len() < written {
+        refused(standing, NO_ROOM)
+    } else {
+        replies::lay(own, owed, out);
+        taken(header, reaction, written)
+    }
+}
+
+fn taken(header: Header, reaction: Reaction, written: usize) -> Outcome
+    ensures { λ r. ⌜ r ≡ taken header reaction written ⌝ }
+{
+    let standing = reaction.standing;
+    let heard = reaction.heard;
+    Outcome {
+        standing,
+        answer: Answer::Noted {
+            header,
+            heard,
+            written,
+        },
+    }
+}
+
+fn refused(standing: Standing, number: u32) -> Outcome
+    ensures { λ r. ⌜ r ≡ refused standing number ⌝ }
+{
+    Outcome {
+        standing,
+        answer: Answer::Refused(number),
+    }
+}
