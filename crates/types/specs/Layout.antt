@@ -111,7 +111,7 @@ sectionsOf t = after (sectionAt typeWidth 1 mostTypes t 0) (afterTypes t)
 unfoldable pub liesIn : ℕ → ℕ → ℕ → Section → Bool
 liesIn width most len s = leb (s .count) most && leb (sectionEnd width s) len
 
--- the sections could be a table's of these bytes. READINGS R13
+-- the sections could be a table's of these bytes (docs/DECISIONS.md, calls on a checked table)
 unfoldable pub within : List ℕ → Sections → Bool
 within t s =
     liesIn typeWidth mostTypes (length t) (s .types)

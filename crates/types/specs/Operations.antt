@@ -38,7 +38,8 @@ operationOk t s i = above (idAt t s) i && fieldsOk s (operationAt t s i)
 unfoldable pub idsRise : List ℕ → Sections → Bool
 idsRise t s = allBelow (above (idAt t s)) (s .operations .count)
 
--- an operation looked up: an entry that bears the ID, or none; and none means absent where the IDs rise. READINGS R13
+-- an operation looked up: an entry that bears the ID, or none; and none means absent where the IDs rise (docs/DECISIONS.md,
+-- calls on a checked table)
 unfoldable pub Answers : List ℕ → Sections → ℕ → Found → Type 0
 Answers t s id (At i) = (i < s .operations .count) × (idAt t s i ≡ id)
 Answers t s id Nothing = idsRise t s ≡ true → (i : ℕ) → i < s .operations .count → idAt t s i ≡ id → ⊥
