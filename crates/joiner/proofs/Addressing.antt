@@ -13,17 +13,14 @@ use lib.ListN.{length, getD}
 use Rattle.binding.specs.Header.{theVersion, smallestDatagram, largestDatagram, versionIn, partIn, senderIn, counterIn, headerIn, heardIn, pieceIn, wrongLength, wrongField}
 use Rattle.binding.specs.declared.Heard.{Heard}
 use Rattle.binding.specs.declared.Heard.the-variants as heard
-use Rattle.binding.proofs.Headers.{Headed, headed-heard, heard-headed, too-short, too-long, other-version}
+use Rattle.binding.proofs.Headers.{Headed, headed-heard, heard-headed}
 use Rattle.joiner.specs.declared.Joiner.{Joiner}
-use Rattle.joiner.specs.declared.Step.{Step}
-use Rattle.joiner.specs.declared.Judged.{Judged}
 use Rattle.joiner.specs.declared.Judged.the-variants.{Refusal, Move}
-use Rattle.joiner.specs.declared.Outcome.{Outcome}
 use Rattle.joiner.specs.declared.Outcome.the-variants.{Refused}
 use Rattle.joiner.specs.Channel.{roomOf, steppedOf}
-use Rattle.joiner.specs.Setup.{channelLimit, badSetup, placeOf, distinct, sendersOf, channelAt, good}
+use Rattle.joiner.specs.Setup.{badSetup, placeOf, distinct, sendersOf, channelAt}
 use Rattle.joiner.specs.Take.{notSetUp, sentTo, heardBy, judgedOf, takenOf, Addressed, Foreign}
-use Rattle.joiner.proofs.Places.{place-le, at-place, place-first, distinct-says}
+use Rattle.joiner.proofs.Places.{at-place, place-first, distinct-says}
 use Rattle.joiner.proofs.Lookups.{senders-length}
 use Rattle.joiner.proofs.Judging.{Good}
 use Rattle.joiner.proofs.Standing.{Standing, standing-good, refused-here}

@@ -1,9 +1,8 @@
 -- A step is one of seven: the case analysis of 01's steps 1 to 5, made once. And what each record and place is then.
 -- Assumes nothing.
-use Prim.Native.Nat.{ℕ, _+_, _-_, _^_, _≤_, _<_}
-use mathlib.Core.Path.{_≡_, refl, sym, ap, _∙_}
+use Prim.Native.Nat.{ℕ, _+_, _-_, _≤_, _<_}
+use mathlib.Core.Path.{_≡_, refl}
 use mathlib.Core.Bool.{Bool, true, false, _&&_, cond}
-use mathlib.Core.List.{List, [], _∷_}
 use native.Mathlib.Omega.{arith}
 use borrow.Author.Tests.{leb-true, eqb-true, eqb-false, lt-ltb, le-leb, lt-leb}
 use lib.Dec.{leb, ltb, eqb}
@@ -13,11 +12,8 @@ use Rattle.binding.specs.declared.MessagePart.the-variants.{Begin, Middle, End,
 use Rattle.joiner.specs.declared.Channel.{Channel}
 use Rattle.joiner.specs.declared.Room.{Room}
 use Rattle.joiner.specs.declared.Step.{Step}
-use Rattle.joiner.specs.declared.Put.{Put}
 use Rattle.joiner.specs.declared.Put.the-variants.{Nowhere, At}
-use Rattle.joiner.specs.declared.Place.{Place}
-use Rattle.joiner.specs.declared.Place.the-variants.{Datagram, Rooms}
-use Rattle.joiner.specs.declared.Outcome.{Outcome}
+use Rattle.joiner.specs.declared.Place.the-variants.{Rooms}
 use Rattle.joiner.specs.declared.Outcome.the-variants.{Refused, Repeated, Delivered, Held, Stray, TooLong}
 use Rattle.joiner.specs.Channel.{missedOf, repeated, keeping, notedOf, holding, tooLong, wholeOf, begunOf, joinedOf, followedOf, placedOf, steppedOf}
 use Rattle.joiner.specs.Setup.{goodChannel, newChannel}

@@ -8,10 +8,10 @@ use mathlib.Core.List.{List}
 use native.Mathlib.Nat.{mul-le-mul-right}
 use native.Mathlib.Omega.{arith}
 use borrow.Author.Tests.{leb-true, ltb-true, lt-ltb, le-ltb}
-use mir.Syntax.{w32, w64}
+use mir.Syntax.{w32}
 use mir.Val.{Fits}
 use lib.Dec.{leb, ltb}
-use lib.ListN.{length, length-drop}
+use lib.ListN.{length}
 use Rattle.binding.specs.Header.{headerLength, largestPiece, senders, counters, heardIn, headerIn, partIn, senderIn, counterIn, pieceIn}
 use Rattle.binding.specs.declared.BindingHeader.{BindingHeader}
 use Rattle.binding.specs.declared.Heard.{Heard}
@@ -19,16 +19,14 @@ use Rattle.binding.specs.declared.Heard.the-variants as heard
 use Rattle.binding.proofs.Headers.{Headed, heard-headed, piece-length}
 use Rattle.joiner.specs.declared.Channel.{Channel}
 use Rattle.joiner.specs.declared.Joiner.{Joiner}
-use Rattle.joiner.specs.declared.Room.{Room}
 use Rattle.joiner.specs.declared.Step.{Step}
 use Rattle.joiner.specs.declared.Found.{Found}
 use Rattle.joiner.specs.declared.Found.the-variants.{Bad, Nobody, Somebody}
-use Rattle.joiner.specs.declared.Judged.{Judged}
 use Rattle.joiner.specs.declared.Judged.the-variants.{Refusal, Move}
 use Rattle.joiner.specs.Channel.{largestRoom, Steppable, roomStart, roomOf, steppedOf}
 use Rattle.joiner.specs.Setup.{channelLimit, badSetup, newChannel, placeOf, distinct, every, channelsOf, sendersOf, channelAt, goodSizes, goodChannel, good, foundOf}
 use Rattle.joiner.specs.Take.{notSetUp, sentTo, heardBy, judgedOf}
-use Rattle.joiner.proofs.Places.{and-true, and-left, and-right, every-at, every-by}
+use Rattle.joiner.proofs.Places.{and-left, and-right, every-at}
 use Rattle.joiner.proofs.Lookups.{Sizes, sizes-say, channels-length, channels-at, Borne, found-bad, found-nobody, found-somebody}
 
 -- what a good record is

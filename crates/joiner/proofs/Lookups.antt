@@ -4,7 +4,7 @@ use Prim.Native.Nat.{ℕ, _+_, _*_, _≤_, _<_}
 use mathlib.Core.Path.{_≡_, refl, sym, ap, _∙_}
 use mathlib.Core.Logic.{_⊎_, inl, inr, ⊎-elim}
 use mathlib.Core.Bool.{Bool, true, false, _&&_, cond}
-use mathlib.Core.List.{List, [], _∷_, map}
+use mathlib.Core.List.{List}
 use native.Mathlib.Omega.{arith}
 use native.Mathlib.Nat.{mul-le-mul}
 use borrow.Author.Count.{below-more}
@@ -12,7 +12,7 @@ use borrow.Author.Tests.{leb-true, leb-false, ltb-true, ltb-false, eqb-true, eqb
 use mir.Syntax.{w16, w64}
 use mir.Val.{Fits}
 use lib.Dec.{leb, ltb, eqb}
-use lib.ListN.{length, getD, take, length-map, List·getD-map}
+use lib.ListN.{length, getD, length-map, List·getD-map}
 use lib.Seq.{length-take-le, getD-take}
 use Rattle.binding.specs.Header.{senders, counters}
 use Rattle.joiner.specs.declared.Channel.{Channel}
@@ -21,7 +21,7 @@ use Rattle.joiner.specs.declared.Found.{Found}
 use Rattle.joiner.specs.declared.Found.the-variants.{Bad, Nobody, Somebody}
 use Rattle.joiner.specs.Channel.{largestRoom, smallestRoom, roomStart}
 use Rattle.joiner.specs.Setup.{channelLimit, placeOf, distinct, every, senderOf, channelsOf, sendersOf, channelAt, goodSizes, goodChannel, good, newChannel, foundOf}
-use Rattle.joiner.proofs.Places.{and-true, and-left, and-right, not-true-false, place-found, place-none, place-first, at-place, distinct-says, is-distinct, every-at, every-by}
+use Rattle.joiner.proofs.Places.{and-left, and-right, not-true-false, place-found, place-none, place-first, at-place, distinct-says, is-distinct, every-at, every-by}
 
 -- a room starts within a usize
 pub room-fits : (k R : ℕ) → k ≤ channelLimit → R ≤ largestRoom → Fits w64 (k * R)

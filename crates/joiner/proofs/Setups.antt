@@ -1,27 +1,23 @@
 -- A set-up is accepted exactly where it is acceptable; the joiner is then the fresh one: the IDs in their order, and every
 -- channel with nothing seen and nothing held.
 -- Assumes nothing.
-use Prim.Native.Nat.{ℕ, _+_, _-_, _≤_, _<_}
+use Prim.Native.Nat.{ℕ, _-_, _≤_, _<_}
 use mathlib.Core.Path.{_≡_, refl, sym, ap, _∙_}
 use mathlib.Core.Bool.{Bool, true, false, _&&_, cond}
-use mathlib.Core.List.{List, [], _∷_, _++_, map}
+use mathlib.Core.List.{List, [], _∷_, map}
 use native.Mathlib.Omega.{arith}
-use borrow.Author.Tests.{le-leb, leb-true, leb-false}
+use borrow.Author.Tests.{le-leb, leb-true}
 use lib.Dec.{leb}
-use lib.ListN.{length, getD, take, replicate, length-map, length-append, length-replicate, List·getD-append, List·getD-map}
+use lib.ListN.{length, getD, replicate, length-map, length-append, length-replicate, List·getD-append, List·getD-map}
 use lib.Seq.{take-at}
-use Rattle.binding.specs.Header.{senders, counters}
-use Rattle.joiner.specs.declared.Channel.{Channel}
-use Rattle.joiner.specs.declared.Joiner.{Joiner}
+use Rattle.binding.specs.Header.{senders}
 use Rattle.joiner.specs.declared.NewJoiner.{NewJoiner}
-use Rattle.joiner.specs.declared.Answer.{Answer}
-use Rattle.joiner.specs.declared.Answer.the-variants.{Accepted, Refused}
-use Rattle.joiner.specs.Channel.{smallestRoom, largestRoom, roomStart}
-use Rattle.joiner.specs.Setup.{channelLimit, badSetup, newChannel, distinct, senderOf, channelsOf, sendersOf, channelAt, goodChannel, good, freshOf, refusedSetup, setupOf, Acceptable}
-use Rattle.joiner.specs.View.{View, viewOf}
-use Rattle.joiner.proofs.Places.{and-left, and-right, distinct-says, is-distinct}
+use Rattle.joiner.specs.declared.Answer.the-variants.{Accepted}
+use Rattle.joiner.specs.Setup.{channelLimit, newChannel, distinct, senderOf, sendersOf, channelAt, goodSizes, goodChannel, good, freshOf, refusedSetup, setupOf, Acceptable}
+use Rattle.joiner.specs.View.{viewOf}
+use Rattle.joiner.proofs.Places.{distinct-says, is-distinct}
 use Rattle.joiner.proofs.Lookups.{Sizes}
-use Rattle.joiner.proofs.Judging.{Sound, channel-says, Good, good-says}
+use Rattle.joiner.proofs.Judging.{channel-says, Good, good-says}
 use Rattle.joiner.proofs.Cases.{sound-good}
 use Rattle.joiner.proofs.Standing.{Standing, good-is}
 
@@ -96,3 +92,8 @@ module _ (ids : List ℕ) (R b : ℕ) where
 
   pub accepted-standing : setupOf ids R b .answer ≡ Accepted → Standing (setupOf ids R b .joiner) b
   accepted-standing e = rw (accepted-joiner e) (record { width = fresh-width ids R (accepted-by e .0); well = accepted-by e .1 })
+
+-- the joiner beside a refusal is not good: whatever it is handed in with gets 20
+pub refused-joiner : (b : ℕ) → good (refusedSetup .joiner) b ≡ false
+unfolding good goodSizes freshOf
+refused-joiner b = refl

@@ -1,35 +1,33 @@
 -- A set-up that was accepted stays good: no datagram can bring 20 afterwards, and senders, count and room size never
 -- change. A refusal changes no record and no byte of the rooms; a datagram of channel k changes no other record.
 -- Assumes nothing.
-use Prim.Native.Nat.{ℕ, _+_, _-_, _≤_, _<_}
+use Prim.Native.Nat.{ℕ, _-_, _≤_, _<_}
 use mathlib.Core.Path.{_≡_, refl, sym, ap, _∙_}
 use mathlib.Core.Bool.{Bool, true, false, _&&_}
-use mathlib.Core.List.{List, [], _∷_, map}
+use mathlib.Core.List.{List, map}
 use native.Mathlib.Omega.{arith}
 use borrow.Author.Tests.{le-leb, eq-eqb, eqb-true, eqb-false}
-use lib.Dec.{leb, eqb}
-use lib.ListN.{length, getD, set, take, length-set}
+use lib.Dec.{eqb}
+use lib.ListN.{length, getD, set, length-set}
 use lib.Seq.{getD-set-same, getD-set-other, getD-take, take-set-lt, map-set-same}
-use Rattle.wire.specs.Bytes.{written, Octets}
+use Rattle.wire.specs.Bytes.{Octets}
 use Rattle.wire.proofs.Runs.{length-written}
-use Rattle.binding.specs.Header.{counters, partIn, senderIn, counterIn, pieceIn}
+use Rattle.binding.specs.Header.{partIn, counterIn, pieceIn}
 use Rattle.binding.proofs.Headers.{counter-below}
 use Rattle.joiner.specs.declared.Channel.{Channel}
 use Rattle.joiner.specs.declared.Joiner.{Joiner}
 use Rattle.joiner.specs.declared.Step.{Step}
 use Rattle.joiner.specs.declared.Put.{Put}
 use Rattle.joiner.specs.declared.Put.the-variants.{Nowhere, At}
-use Rattle.joiner.specs.declared.Outcome.{Outcome}
 use Rattle.joiner.specs.declared.Outcome.the-variants.{Refused}
 use Rattle.joiner.specs.declared.Judged.{Judged}
 use Rattle.joiner.specs.declared.Judged.the-variants.{Refusal, Move}
-use Rattle.joiner.specs.declared.Taken.{Taken}
-use Rattle.joiner.specs.Channel.{smallestRoom, largestRoom, roomStart, roomOf, steppedOf}
-use Rattle.joiner.specs.Setup.{channelLimit, badSetup, newChannel, distinct, every, senderOf, channelsOf, sendersOf, channelAt, goodSizes, goodChannel, good}
+use Rattle.joiner.specs.Channel.{smallestRoom, largestRoom, roomStart, roomOf}
+use Rattle.joiner.specs.Setup.{channelLimit, newChannel, distinct, every, senderOf, channelsOf, sendersOf, channelAt, goodSizes, goodChannel, good}
 use Rattle.joiner.specs.Take.{judgedOf, changed, takenBy, takenOf, putBy, roomsBy, roomsAfter}
 use Rattle.joiner.proofs.Places.{and-true, every-by}
 use Rattle.joiner.proofs.Lookups.{Sizes, channels-length, channels-at}
-use Rattle.joiner.proofs.Judging.{Sound, channel-says, Good, good-says, Moved, judged-moved}
+use Rattle.joiner.proofs.Judging.{channel-says, Good, good-says, Moved, judged-moved}
 use Rattle.joiner.proofs.Cases.{Stepped, step-cases, step-sender, step-taken, step-sound, sound-good}
 
 pub sizes-are : (n R b : ℕ) → Sizes n R b → goodSizes n R b ≡ true

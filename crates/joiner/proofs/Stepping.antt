@@ -1,12 +1,12 @@
 -- What the functions of one channel's step show at their returns: 01, Joining, steps 1 to 5.
 -- Assumes nothing.
-use Prim.Native.Nat.{ℕ, _+_, _-_, _%_, _^_, _≤_, _<_}
-use mathlib.Core.Path.{_≡_, refl, sym, ap, _∙_}
+use Prim.Native.Nat.{ℕ, _+_, _-_, _%_, _≤_, _<_}
+use mathlib.Core.Path.{_≡_, sym, _∙_}
 use mathlib.Core.Bool.{Bool, true, false, cond}
 use native.Mathlib.Omega.{arith}
 use borrow.Author.Tests.{le-leb, lt-leb, eq-eqb, ne-eqb}
-use lib.Dec.{leb, eqb}
-use Rattle.binding.specs.Header.{headerLength, counters}
+use lib.Dec.{eqb}
+use Rattle.binding.specs.Header.{counters}
 use Rattle.binding.specs.declared.MessagePart.{MessagePart}
 use Rattle.binding.specs.declared.MessagePart.the-variants.{Begin, Middle, End, Whole}
 use Rattle.joiner.specs.declared.Channel.{Channel}
@@ -14,10 +14,8 @@ use Rattle.joiner.specs.declared.Room.{Room}
 use Rattle.joiner.specs.declared.Step.{Step}
 use Rattle.joiner.specs.declared.Put.{Put}
 use Rattle.joiner.specs.declared.Put.the-variants.{Nowhere, At}
-use Rattle.joiner.specs.declared.Place.{Place}
-use Rattle.joiner.specs.declared.Place.the-variants.{Datagram, Rooms}
-use Rattle.joiner.specs.declared.Outcome.{Outcome}
-use Rattle.joiner.specs.declared.Outcome.the-variants.{Repeated, Delivered, Held, Stray, TooLong}
+use Rattle.joiner.specs.declared.Place.the-variants.{Rooms}
+use Rattle.joiner.specs.declared.Outcome.the-variants.{Repeated, Delivered, Held, Stray}
 use Rattle.joiner.specs.Channel.{Steppable, missedOf, repeated, keeping, notedOf, holding, tooLong, wholeOf, begunOf, followedOf, joinedOf, behindOf, placedOf, steppedOf}
 
 module _ (ch : Channel) (c : ℕ) where

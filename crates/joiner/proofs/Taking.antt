@@ -1,6 +1,6 @@
 -- What taking a datagram and handing back a message show at their returns.
 -- Assumes nothing.
-use Prim.Native.Nat.{ℕ, _+_, _-_, _*_, _≤_, _<_}
+use Prim.Native.Nat.{ℕ, _-_, _*_, _≤_, _<_}
 use mathlib.Core.Path.{_≡_, refl, sym, ap, _∙_}
 use mathlib.Core.List.{List, [], _∷_}
 use mathlib.Core.Logic.{⊎-elim}
@@ -13,7 +13,7 @@ use denote.Enum.Declared.{tagOf}
 use types.Run.{OneOf}
 use Rattle.joiner.proofs.Outcome.{the-type}
 use Rattle.wire.specs.Bytes.{written, part}
-use Rattle.binding.specs.Header.{headerLength, pieceIn}
+use Rattle.binding.specs.Header.{headerLength}
 use Rattle.joiner.specs.declared.Joiner.{Joiner}
 use Rattle.joiner.specs.declared.Step.{Step}
 use Rattle.joiner.specs.declared.Judged.{Judged}
@@ -25,7 +25,7 @@ use Rattle.joiner.specs.declared.Put.the-variants.{Nowhere, At}
 use Rattle.joiner.specs.declared.Outcome.{Outcome}
 use Rattle.joiner.specs.declared.Outcome.the-variants.{Refused, Repeated, Delivered, Held, Stray, TooLong}
 use Rattle.joiner.specs.Setup.{channelLimit}
-use Rattle.joiner.specs.Take.{judgedOf, changed, takenBy, takenOf, putBy, roomsBy, roomsAfter, lyingAt, messageOf}
+use Rattle.joiner.specs.Take.{judgedOf, changed, takenBy, takenOf, putBy, roomsBy, roomsAfter, messageOf}
 use Rattle.joiner.proofs.Judging.{Moved, judged-moved, good-sizes}
 
 module _ {o : Outcome} {pl : Place} (d rooms : List ℕ) where

@@ -1,38 +1,33 @@
 -- One channel by itself: what a datagram does to its view depends on the view and the datagram alone, the message handed
 -- back is the view's, and the views and rooms of the other channels do not move.
 -- Assumes nothing.
-use Prim.Native.Nat.{ℕ, _+_, _-_, _*_, _≤_, _<_}
+use Prim.Native.Nat.{ℕ, _+_, _-_, _≤_, _<_}
 use mathlib.Core.Path.{_≡_, refl, sym, ap, _∙_}
 use mathlib.Core.Logic.{_⊎_, inl, inr, ⊎-elim}
 use mathlib.Core.Bool.{Bool, true, false, cond}
-use mathlib.Core.List.{List, [], _∷_, _++_, append-assoc}
-use native.Mathlib.Nat.{add-zero}
+use mathlib.Core.List.{List, [], _++_, append-assoc}
 use native.Mathlib.Omega.{arith}
 use borrow.Author.Tests.{ltb-true, ltb-false}
 use lib.Dec.{ltb, eqb}
 use lib.ListN.{length, take, drop, length-append, length-drop, take-append-drop}
-use lib.Seq.{length-take-le, take-length, take-at, take-append-le, drop-append-le, drop-at, drop-drop, take-add, drop-append-add, take-take}
-use Rattle.wire.specs.Bytes.{over, written, part, Octets}
+use lib.Seq.{length-take-le, take-length, take-at, take-append-le, drop-append-le, drop-drop, take-add, drop-append-add}
+use Rattle.wire.specs.Bytes.{over, written}
 use Rattle.wire.proofs.Runs.{written-in, part-in, drop-over, length-written}
-use Rattle.binding.specs.Header.{headerLength, partIn, senderIn, counterIn, pieceIn}
+use Rattle.binding.specs.Header.{headerLength, partIn, counterIn, pieceIn}
 use Rattle.binding.specs.declared.MessagePart.{MessagePart}
-use Rattle.binding.specs.declared.MessagePart.the-variants.{Begin, Middle, End, Whole}
-use Rattle.binding.proofs.Headers.{Headed, piece-length}
+use Rattle.binding.proofs.Headers.{piece-length}
 use Rattle.joiner.specs.declared.Channel.{Channel}
 use Rattle.joiner.specs.declared.Joiner.{Joiner}
 use Rattle.joiner.specs.declared.Room.{Room}
 use Rattle.joiner.specs.declared.Step.{Step}
-use Rattle.joiner.specs.declared.Put.{Put}
-use Rattle.joiner.specs.declared.Put.the-variants.{Nowhere, At}
 use Rattle.joiner.specs.declared.Judged.{Judged}
 use Rattle.joiner.specs.declared.Judged.the-variants.{Refusal, Move}
-use Rattle.joiner.specs.declared.Outcome.{Outcome}
-use Rattle.joiner.specs.Channel.{roomStart, roomOf, missedOf, keeping, notedOf, steppedOf}
-use Rattle.joiner.specs.Setup.{channelLimit, sendersOf, channelAt, good}
-use Rattle.joiner.specs.Take.{judgedOf, changed, takenBy, takenOf, putBy, roomsBy, roomsAfter, lyingAt, messageOf, Addressed, Foreign}
-use Rattle.joiner.specs.View.{View, bytesAt, viewOf, leading, joinedIn, heldBy, givenBy, viewStep, viewAfter, viewGiven, deliveredOf}
-use Rattle.joiner.proofs.Judging.{Sound, channel-says, Good, Moved, judged-moved, room-within}
-use Rattle.joiner.proofs.Cases.{Stepped, again, whole, begins, stray, long, goes-on, ends, step-cases, keeping-le}
+use Rattle.joiner.specs.Channel.{roomStart, roomOf, missedOf, keeping, notedOf}
+use Rattle.joiner.specs.Setup.{sendersOf, channelAt}
+use Rattle.joiner.specs.Take.{judgedOf, changed, takenBy, takenOf, putBy, roomsBy, roomsAfter, messageOf, Addressed, Foreign}
+use Rattle.joiner.specs.View.{View, bytesAt, viewOf, leading, heldBy, givenBy, viewStep, viewAfter, viewGiven, deliveredOf}
+use Rattle.joiner.proofs.Judging.{channel-says, Moved, judged-moved, room-within}
+use Rattle.joiner.proofs.Cases.{Stepped, again, whole, begins, stray, long, goes-on, ends}
 use Rattle.joiner.proofs.Standing.{Standing, standing-good, changed-here, changed-there, moved-cases}
 use Rattle.joiner.proofs.Addressing.{addressed-moves, foreign-refused}
 

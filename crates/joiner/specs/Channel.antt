@@ -11,9 +11,7 @@ use Rattle.joiner.specs.declared.Room.{Room}
 use Rattle.joiner.specs.declared.Step.{Step}
 use Rattle.joiner.specs.declared.Put.{Put}
 use Rattle.joiner.specs.declared.Put.the-variants.{Nowhere, At}
-use Rattle.joiner.specs.declared.Place.{Place}
 use Rattle.joiner.specs.declared.Place.the-variants.{Datagram, Rooms}
-use Rattle.joiner.specs.declared.Outcome.{Outcome}
 use Rattle.joiner.specs.declared.Outcome.the-variants.{Repeated, Delivered, Held, Stray, TooLong}
 
 -- 01, number 20: R is 24 to 65,560

@@ -1,5 +1,5 @@
 -- A set-up and the joiner it makes: 01, number 20, for a set-up and for one handed in with a datagram.
-use Prim.Native.Nat.{ℕ, zero, suc, _+_, _-_, _≤_, _<_}
+use Prim.Native.Nat.{ℕ, suc, _+_, _-_, _≤_, _<_}
 use mathlib.Core.Path.{_≡_}
 use mathlib.Core.Bool.{Bool, true, false, _&&_, cond}
 use mathlib.Core.List.{List, [], _∷_, _++_, map}
@@ -11,7 +11,6 @@ use Rattle.joiner.specs.declared.Channel.{Channel}
 use Rattle.joiner.specs.declared.Joiner.{Joiner}
 use Rattle.joiner.specs.declared.Found.{Found}
 use Rattle.joiner.specs.declared.Found.the-variants.{Bad, Nobody, Somebody}
-use Rattle.joiner.specs.declared.Answer.{Answer}
 use Rattle.joiner.specs.declared.Answer.the-variants.{Accepted, Refused}
 use Rattle.joiner.specs.declared.NewJoiner.{NewJoiner}
 
@@ -35,7 +34,7 @@ abbrev pub placeOf : List ℕ → ℕ → ℕ
 placeOf [] x = 0
 placeOf (y ∷ ys) x = cond (eqb y x) 0 (suc (placeOf ys x))
 
--- none twice: each that follows another is not the same
+-- none twice: the first is not among those behind it, and so on
 abbrev pub distinct : List ℕ → Bool
 distinct [] = true
 distinct (x ∷ xs) = eqb (placeOf xs x) (length xs) && distinct xs

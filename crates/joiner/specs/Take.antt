@@ -1,8 +1,8 @@
 -- One datagram taken: 01, numbers 20 to 23 in their order, and Joining.
-use Prim.Native.Nat.{ℕ, _+_, _-_, _≤_, _<_}
+use Prim.Native.Nat.{ℕ, _≤_, _<_}
 use mathlib.Core.Path.{_≡_}
 use mathlib.Core.Bool.{Bool, true, false, cond}
-use mathlib.Core.List.{List, [], _∷_}
+use mathlib.Core.List.{List, []}
 use lib.Dec.{ltb}
 use lib.ListN.{length, getD, set}
 use Rattle.wire.specs.Bytes.{written, part}
@@ -14,7 +14,6 @@ use Rattle.joiner.specs.Channel.{roomOf, steppedOf}
 use Rattle.joiner.specs.Setup.{badSetup, channelAt, sendersOf, placeOf, good}
 use Rattle.joiner.specs.declared.Channel.{Channel}
 use Rattle.joiner.specs.declared.Joiner.{Joiner}
-use Rattle.joiner.specs.declared.Step.{Step}
 use Rattle.joiner.specs.declared.Put.{Put}
 use Rattle.joiner.specs.declared.Put.the-variants.{Nowhere, At}
 use Rattle.joiner.specs.declared.Place.{Place}

@@ -2,7 +2,7 @@
 -- the rooms, the other channels and the number of the channel.
 use mathlib.Core.Bool.{cond}
 use Prim.Native.Nat.{ℕ}
-use mathlib.Core.List.{List, [], _∷_, _++_}
+use mathlib.Core.List.{List, [], _++_}
 use lib.Dec.{eqb}
 use lib.ListN.{length, take, drop}
 use Rattle.binding.specs.Header.{partIn, counterIn, pieceIn}
@@ -12,11 +12,10 @@ use Rattle.joiner.specs.declared.Channel.{Channel}
 use Rattle.joiner.specs.declared.Joiner.{Joiner}
 use Rattle.joiner.specs.declared.Room.{Room}
 use Rattle.joiner.specs.declared.Step.{Step}
-use Rattle.joiner.specs.declared.Place.{Place}
 use Rattle.joiner.specs.declared.Place.the-variants.{Datagram, Rooms}
 use Rattle.joiner.specs.declared.Outcome.{Outcome}
 use Rattle.joiner.specs.declared.Outcome.the-variants.{Refused, Repeated, Delivered, Held, Stray, TooLong}
-use Rattle.joiner.specs.Channel.{roomOf, roomStart, missedOf, steppedOf}
+use Rattle.joiner.specs.Channel.{roomStart, missedOf, steppedOf}
 use Rattle.joiner.specs.Setup.{channelAt}
 use Rattle.joiner.specs.Take.{takenOf, roomsAfter, messageOf}
 

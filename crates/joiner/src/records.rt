@@ -13,6 +13,7 @@ use crate::LARGEST_ROOM;
 use crate::SMALLEST_ROOM;
 use binding::BindingHeader;
 
+// For a set-up, and for a datagram whose header names no sender.
 pub(crate) fn is_good(joiner: Joiner, buffer: usize) -> bool
     ensures { λ r. ⌜ r ≡ good joiner buffer ⌝ }
 {

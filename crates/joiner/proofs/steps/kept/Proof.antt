@@ -1,6 +1,5 @@
 -- `joiner::steps::kept` meets its contract: what was held, where nothing is missed.
 -- Assumes nothing.
-use borrow.Author.Needs.{needs}
 use Rattle.joiner.proofs.Stepping.{is-kept, is-dropped}
 use Rattle.joiner.proofs.steps.kept.Statement.{statement}
 use Rattle.joiner.proofs.steps.kept.Tie as tie
