@@ -1,0 +1,18 @@
+-- `player::play_in` meets its contract: the rooms lie in the program's.
+-- Assumes nothing.
+use borrow.Author.Needs.{needs}
+use Rattle.player.proofs.Bounds.{rooms-part}
+use Rattle.player.proofs.play_in.Statement.{statement}
+use Rattle.player.proofs.play_in.Tie as tie
+
+pub play-in-spec : {M : Type 1} → statement M
+play-in-spec =
+    tie.close
+    (tie.spec
+    (λ c κs. search needs)
+    (λ c. search needs)
+    (λ c. search rooms-part)
+    (λ c κs. search needs)
+    (λ c. search needs)
+    (λ c. search needs)
+    (λ c. search needs))

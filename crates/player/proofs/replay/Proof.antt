@@ -1,0 +1,27 @@
+-- `player::replay` meets its contract: every part that it lends lies in its buffer.
+-- Assumes nothing.
+use borrow.Author.Needs.{needs}
+use Rattle.player.proofs.Bounds.{rooms-in}
+use Rattle.player.proofs.replay.Statement.{statement}
+use Rattle.player.proofs.replay.Tie as tie
+
+pub replay-spec : {M : Type 1} → statement M
+replay-spec =
+    tie.close
+    (tie.spec
+    (λ c κs. search needs)
+    (λ c. search needs)
+    (λ c κs. search needs)
+    (λ c. search needs)
+    (λ c κs. search needs)
+    (λ c. search needs)
+    (λ c κs. (search needs, search needs, search rooms-in))
+    (λ c. search needs)
+    (λ c κs. search needs)
+    (λ c. search needs)
+    (λ c κs. search needs)
+    (λ c κs. search needs)
+    (λ c. search needs)
+    (λ c. search needs)
+    (λ c. search needs)
+    (λ c. search needs))

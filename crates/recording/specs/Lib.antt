@@ -1,0 +1,6 @@
+pub mod Decimal
+pub mod Line
+pub mod Opening
+pub mod Datagrams
+pub mod Play
+pub mod Text

@@ -1,0 +1,135 @@
+// A recording: how it starts, where its datagrams stand, and the lines that they come to. It is read a block at a time:
+// each call is handed what has come so far and says what it needs more of.
+ghost use mathlib.Core.Path.{_≡_};
+ghost use lib.ListN.{length};
+ghost use Rattle.wire.specs.Bytes.{over, part};
+ghost use Rattle.recording.specs.Datagrams.{nextIn};
+ghost use Rattle.recording.specs.Play.{stateOf, played, steppedOf};
+ghost use Rattle.recording.specs.Line.{lineLimit};
+ghost use Prim.Native.Nat.{_+_, _≤_};
+use joiner::Joiner;
+
+mod line;
+mod start;
+
+pub use line::put_ending;
+pub use line::put_line;
+pub use start::open;
+
+// How a recording starts: more bytes are needed, it is refused, or its datagrams start at `start` and its rooms are
+// `rooms` bytes together.
+pub enum Opening {
+    Unfinished,
+    Refused(u32),
+    Open { start: usize, rooms: usize },
+}
+
+// An enum cannot hold an array, so the joiner stands beside it. It has no channels unless the recording is open.
+pub struct Opened {
+    pub opening: Opening,
+    pub joiner: Joiner,
+}
+
+// What stands at a place of the recording: a datagram that is all there, part of one, or nothing.
+pub enum Found {
+    Datagram { start: usize, length: usize },
+    Unfinished,
+    Nothing,
+}
+
+// How a run ends: after the last datagram, in the middle of something, or at its start.
+pub enum Ending {
+    Whole,
+    CutShort,
+    RefusedSetup(u32),
+}
+
+// A run between two calls: the next datagram's number, where it stands in the input, and how many bytes of the output
+// are lines already.
+pub struct Run {
+    pub joiner: Joiner,
+    pub number: u64,
+    pub at: usize,
+    pub made: usize,
+}
+
+// No line is longer.
+pub const LINE_LIMIT: usize = 73;
+
+// The next datagram in what has come so far.
+pub fn next(input: &[u8], at: usize) -> Found
+    ensures { λ r. ⌜ r ≡ nextIn (now (input .entry)) at ⌝ }
+{
+    if input.len() <= at {
+        return Found::Nothing;
+    }
+    if wire::has_room(input.len(), at, 2) {
+        let start = at + 2;
+        let length = wire::u16_at(input, at) as usize;
+        if wire::has_room(input.len(), start, length) {
+            return Found::Datagram { start, length };
+        }
+        return Found::Unfinished;
+    }
+    Found::Unfinished
+}
+
+// Takes the whole datagrams that stand in the input, one after the other, and puts their lines into the output, until it
+// has no room for another line.
+pub fn play(run: Run, rooms: &mut [u8], input: &[u8], output: &mut [u8]) -> Run
+    ensures { λ r. ⌜ stateOf r (now (rooms .exit)) (now (output .exit)) ≡ played (now (input .entry)) (stateOf run (now (rooms .entry)) (now (output .entry))) ⌝ }
+{
+    let mut run = run;
+    loop {
+        match next(input, run.at) {
+            Found::Datagram { start, length } => {
+                if wire::has_room(output.len(), run.made, LINE_LIMIT) {
+                    run = play_one(
+                        run,
+                        rooms,
+                        wire::part(input, start, length),
+                        start + length,
+                        output,
+                    );
+                } else {
+                    return run;
+                }
+            }
+            Found::Unfinished => return run,
+            Found::Nothing => return run,
+        }
+    }
+}
+
+// One datagram, which ends at `end` of the input.
+fn play_one(run: Run, rooms: &mut [u8], datagram: &[u8], end: usize, output: &mut [u8]) -> Run
+    ensures { λ r. ⌜ stateOf r (now (rooms .exit)) (now (output .exit)) ≡ steppedOf (stateOf run (now (rooms .entry)) (now (output .entry))) (now (datagram .entry)) end ⌝ }
+{
+    let taken = joiner::take(run.joiner, rooms, datagram);
+    let outcome = taken.outcome;
+    let joiner = taken.joiner;
+    let made = put_line(output, run.made, run.number, outcome);
+    Run {
+        joiner,
+        number: std::num::wrapping_add_u64(run.number, 1),
+        at: end,
+        made,
+    }
+}
+
+// Moves the `count` bytes from `from` on to the front, and answers how many they are: none where they do not all lie in
+// the buffer.
+pub fn keep(buffer: &mut [u8], from: usize, count: usize) -> usize
+    ensures { λ r. ⌜ r ≡ length (part (now (buffer .entry)) from count) ⌝ }
+    ensures { λ _. ⌜ now (buffer .exit) ≡ over (now (buffer .entry)) 0 (part (now (buffer .entry)) from count) ⌝ }
+{
+    if wire::has_room(buffer.len(), from, count) {
+        let mut i = 0;
+        while i < count {
+            buffer[i] = buffer[from + i];
+            i += 1;
+        }
+        return count;
+    }
+    0
+}
