@@ -53,7 +53,7 @@ frameRefusal s =
     (cond (leb reservedDomains (domainIn s)) reservedDomain
     0)))
 
--- 5 and 6. The sender has to be one of the other 255 platforms (READINGS R4)
+-- 5 and 6. The sender has to be one of the other 255 platforms (docs/DECISIONS.md, 4)
 abbrev pub platforms : ℕ
 platforms = 256
 
@@ -76,7 +76,7 @@ contentsRefusal domain id payload =
 abbrev pub readRefusal : ℕ → List ℕ → ℕ
 readRefusal own s = first (frameRefusal s) (first (addressRefusal own s) (contentsRefusal (domainIn s) (idIn s) (payloadIn s)))
 
--- writing (READINGS R9): 4, then a payload that is too long for the size field, 7 to 9 as in reading, and an output that
+-- writing (docs/DECISIONS.md, 7): 4, then a payload that is too long for the size field, 7 to 9 as in reading, and an output that
 -- is shorter than the message
 abbrev pub sizeLimit : ℕ
 sizeLimit = 2 ^ 32

@@ -70,7 +70,7 @@ module _ (own : ℕ) (t : List ℕ) (s : Sections) (p : Standing) (m out : List 
     pub the-output : o ≡ sectionsOutput own t s (operationIn t s (readOf own m)) p m out
     the-output = a .output ∙ ap (λ (f : Found). sectionsOutput own t s f p m out) the-operation
 
-  -- READINGS R13: on a table that `check` accepts, both forms of the call answer the same
+  -- docs/DECISIONS.md, 20: on a table that `check` accepts, both forms of the call answer the same
   module _ (e : checked t ≡ checked.Table s) (r : Outcome) (o : List ℕ) (a : Received own t s p m out r o) where
     good : Accepted t s
     good = accepted t s e

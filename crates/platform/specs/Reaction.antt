@@ -29,7 +29,7 @@ use Rattle.platform.specs.declared.Reaction.{Reaction}
 use Rattle.platform.specs.States.{isUp, turned}
 use Rattle.platform.specs.Replies.{allData, drawn}
 
--- the operation that a message asks for, looked up: a pull's ID, or the ID of a message of domain 1. READINGS R13: an entry
+-- the operation that a message asks for, looked up: a pull's ID, or the ID of a message of domain 1. docs/DECISIONS.md, 20: an entry
 -- that bears the ID, or none. No other message, and none that was refused, has anything looked up
 unfoldable pub LookedFor : List ℕ → Sections → Header → Message → Found → Type 0
 LookedFor t s h (message.PlatformStatus x) f = f ≡ found.Nothing
@@ -94,7 +94,7 @@ onStatus own p sender Up = cond (isUp own (p .states) sender) (silent p (heard.S
 onStatus own p sender Down = cond (isUp own (p .states) sender) (silent (noted p sender (p .next)) (heard.Status Down)) (silent p (heard.Status Down))
 
 -- VERSIONED_DATA_PULL: all, or the one operation; if the ID isn't versioned data here, or all is pulled where there is none
--- (READINGS R7), UNKNOWN_OPERATION with that ID
+-- (docs/DECISIONS.md, 24), UNKNOWN_OPERATION with that ID
 abbrev pub notVersioned : Standing → ℕ → ℕ → Reaction
 notVersioned p n id = replied p (heard.NotVersionedData id) (Unknown n id)
 

@@ -22,7 +22,7 @@ stateUp = 1
 abbrev pub allData : ℕ
 allData = 0xFFFFFFFF
 
--- the next own number: after 0xFFFFFFFF comes 0 (READINGS R8)
+-- the next own number: after 0xFFFFFFFF comes 0 (docs/DECISIONS.md, 25)
 abbrev pub firstNumber : ℕ
 firstNumber = 0
 

@@ -32,7 +32,7 @@ mask k = 2 ^ (k % wordBits)
 unfoldable pub bitOf : States → ℕ → ℕ
 bitOf s k = wordOf s (k / wordBits) / mask k % 2
 
--- this platform is UP, whatever its bit says (READINGS R28); of another the bit tells
+-- this platform is UP, whatever its bit says (docs/DECISIONS.md, 26); of another the bit tells
 unfoldable pub isUp : ℕ → States → ℕ → Bool
 isUp own s k = eqb k own || eqb (bitOf s k) 1
 
