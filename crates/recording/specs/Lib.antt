@@ -3,4 +3,3 @@ pub mod Line
 pub mod Opening
 pub mod Datagrams
 pub mod Play
-pub mod Text

@@ -1,0 +1,17 @@
+-- `leaves::extended` meets its contract.
+-- Assumes nothing.
+use borrow.Author.Needs.{needs}
+use Rattle.leaves.proofs.Returns.{sign-clear, sign-set}
+use Rattle.leaves.proofs.extended.Statement.{statement}
+use Rattle.leaves.proofs.extended.Tie as tie
+
+pub extended-spec : {M : Type 1} → statement M
+extended-spec =
+    tie.close
+    (tie.spec
+    (λ c. search needs)
+    (λ c. search needs)
+    (λ c. search needs)
+    (λ c. search needs)
+    (λ c. search sign-clear)
+    (λ c. search sign-set))

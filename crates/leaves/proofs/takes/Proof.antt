@@ -1,0 +1,16 @@
+-- `leaves::takes` meets its contract.
+-- Assumes nothing.
+use borrow.Author.Needs.{needs}
+use Rattle.leaves.proofs.Returns.{outside, of-enum, of-base}
+use Rattle.leaves.proofs.takes.Statement.{statement}
+use Rattle.leaves.proofs.takes.Tie as tie
+
+pub takes-spec : {M : Type 1} → statement M
+takes-spec =
+    tie.close
+    (tie.spec
+    (λ c κs. search needs)
+    (λ c κs. search needs)
+    (λ c. search of-enum)
+    (λ c. search of-base)
+    (λ c. search outside))

@@ -1,0 +1,13 @@
+-- `leaves::truth` meets its contract.
+-- Assumes nothing.
+use borrow.Author.Needs.{needs}
+use Rattle.leaves.proofs.Returns.{is-false, is-true}
+use Rattle.leaves.proofs.truth.Statement.{statement}
+use Rattle.leaves.proofs.truth.Tie as tie
+
+pub truth-spec : {M : Type 1} → statement M
+truth-spec =
+    tie.close
+    (tie.spec
+    (λ c. search is-false)
+    (λ c. search is-true))

@@ -1,0 +1,56 @@
+-- `leaves::word_at` meets its contract: each arm is the rule of its code.
+-- Assumes nothing.
+use borrow.Author.Needs.{needs}
+use mathlib.Core.Path.{refl}
+use Rattle.types.specs.Leaf.{base}
+use Rattle.leaves.specs.Forms.{wordAt, wordOf}
+use Rattle.leaves.proofs.Returns.{at-truth, at-extended, at-number, no-word}
+use Rattle.leaves.proofs.word_at.Statement.{statement}
+use Rattle.leaves.proofs.word_at.Tie as tie
+
+pub word-at-spec : {M : Type 1} → statement M
+unfolding wordAt base wordOf
+word-at-spec =
+    tie.close
+    (tie.spec
+    (λ c κs. search needs)
+    (λ c κs. search needs)
+    (λ c κs. search needs)
+    (λ c. search needs)
+    (λ c κs. search needs)
+    (λ c κs. search needs)
+    (λ c. search needs)
+    (λ c κs. search needs)
+    (λ c. search needs)
+    (λ c κs. search needs)
+    (λ c κs. search needs)
+    (λ c. search needs)
+    (λ c κs. search needs)
+    (λ c κs. search needs)
+    (λ c κs. search needs)
+    (λ c κs. search needs)
+    (λ c. search needs)
+    (λ c κs. search needs)
+    (λ c. search needs)
+    (λ c κs. search needs)
+    (λ c. search needs)
+    (λ c κs. search needs)
+    (λ c. search needs)
+    (λ c κs. search needs)
+    (λ c κs. search needs)
+    (λ c. search needs)
+    (λ c κs. search needs)
+    (λ c. search at-truth)
+    (λ c. search (at-extended 1 0 128 (λ s p. refl)))
+    (λ c. search (at-number 2 0 (λ s p. refl)))
+    (λ c. search (at-extended 3 1 32768 (λ s p. refl)))
+    (λ c. search (at-extended 4 2 2147483648 (λ s p. refl)))
+    (λ c. search (at-extended 5 3 9223372036854775808 (λ s p. refl)))
+    (λ c. search (at-number 6 0 (λ s p. refl)))
+    (λ c. search (at-number 7 0 (λ s p. refl)))
+    (λ c. search (at-number 8 1 (λ s p. refl)))
+    (λ c. search (at-number 9 2 (λ s p. refl)))
+    (λ c. search (at-number 10 3 (λ s p. refl)))
+    (λ c. search (at-number 11 2 (λ s p. refl)))
+    (λ c. search (at-number 12 3 (λ s p. refl)))
+    (λ c. search no-word))

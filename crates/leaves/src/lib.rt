@@ -1,0 +1,103 @@
+// A leaf on the wire and as a 64-bit word (01, "Payload and words"; 000, Table 6): the word that a leaf's bytes are, the
+// bytes that a word is, and whether an entry of the table takes a word. A code that is no base code has no bytes.
+use types::Entry;
+use types::Sections;
+ghost use mathlib.Core.Path.{_≡_};
+ghost use mathlib.Core.Bool.{cond};
+ghost use Prim.Native.Nat.{_+_, _-_, _*_, _^_, _≤_, _<_};
+ghost use lib.Dec.{ltb};
+ghost use Rattle.wire.specs.Bytes.{written};
+ghost use Rattle.leaves.specs.Forms.{truth, extended, wordAt, formOf};
+ghost use Rattle.leaves.specs.Choice.{other, among, takes};
+
+// The word of the leaf that stands at `at`. A byte past the end reads as 0.
+pub fn word_at(s: &[u8], at: usize, code: u16) -> u64
+    ensures { λ r. ⌜ r ≡ wordAt code (now (s .entry)) at ⌝ }
+{
+    match code {
+        0 => truth(wire::u8_at(s, at)),
+        1 => extended(wire::u8_at(s, at) as u64, 128),
+        2 => wire::u8_at(s, at) as u64,
+        3 => extended(wire::u16_at(s, at) as u64, 32768),
+        4 => extended(wire::u32_at(s, at) as u64, 2147483648),
+        5 => extended(wire::u64_at(s, at), 9223372036854775808),
+        6 => wire::u8_at(s, at) as u64,
+        7 => wire::u8_at(s, at) as u64,
+        8 => wire::u16_at(s, at) as u64,
+        9 => wire::u32_at(s, at) as u64,
+        10 => wire::u64_at(s, at),
+        11 => wire::u32_at(s, at) as u64,
+        12 => wire::u64_at(s, at),
+        _ => 0,
+    }
+}
+
+// Writes the bytes of the leaf's word at `at`, where they fit.
+pub fn put(s: &mut [u8], at: usize, code: u16, word: u64)
+    ensures { λ _. ⌜ now (s .exit) ≡ written (now (s .entry)) at (formOf code word) ⌝ }
+{
+    let width = types::leaf::width(code);
+    match width {
+        1 => wire::put_u8(s, at, (word % 256) as u8),
+        2 => wire::put_u16(s, at, (word % 65536) as u16),
+        4 => wire::put_u32(s, at, (word % 4294967296) as u32),
+        8 => wire::put_u64(s, at, word),
+        _ => {}
+    }
+}
+
+// Whether the word is a value of the entry's leaf: in its base's range, and for an enum among its own values.
+pub fn takes(table: &[u8], s: Sections, e: Entry, word: u64) -> bool
+    ensures { λ r. ⌜ r ≡ takes (now (table .entry)) s e word ⌝ }
+{
+    if types::leaf::allowed(e.of, word) {
+        if e.kind == 1 {
+            among(table, s, e, word)
+        } else {
+            true
+        }
+    } else {
+        false
+    }
+}
+
+// 0 is false and any other byte true.
+fn truth(x: u8) -> u64
+    ensures { λ r. ⌜ r ≡ truth x ⌝ }
+{
+    if x == 0 { 0 } else { 1 }
+}
+
+// A number of twice `half` in two's complement, with its sign carried up to 64 bits.
+fn extended(x: u64, half: u64) -> u64
+    requires { ⌜ (1 ≤ half) × (half ≤ 2 ^ 63) × (x < 2 * half) ⌝ }
+    ensures { λ r. ⌜ r ≡ extended half x ⌝ }
+{
+    if x < half {
+        x
+    } else {
+        x + (18446744073709551615 - (half - 1) - half)
+    }
+}
+
+fn among(table: &[u8], s: Sections, e: Entry, word: u64) -> bool
+    ensures { λ r. ⌜ r ≡ among (now (table .entry)) s e word ⌝ }
+{
+    let count = e.count;
+    let mut k: u16 = 0;
+    while k < count {
+        if other(table, s, e, word, k) {
+            k += 1;
+        } else {
+            return true;
+        }
+    }
+    false
+}
+
+// Whether the word is not the enum's k-th value.
+fn other(table: &[u8], s: Sections, e: Entry, word: u64, k: u16) -> bool
+    ensures { λ r. ⌜ r ≡ other (now (table .entry)) s e word k ⌝ }
+{
+    types::entries::value_at(table, s, e.first as u32 + k as u32) != word
+}

@@ -1,0 +1,16 @@
+-- `payload::first_read` meets its contract: there is no room to store in.
+-- Assumes nothing.
+use borrow.Author.Needs.{needs}
+use Rattle.payload.proofs.Calls.{nothing-left}
+use Rattle.payload.proofs.first_read.Statement.{statement}
+use Rattle.payload.proofs.first_read.Tie as tie
+
+pub first-read-spec : {M : Type 1} → statement M
+first-read-spec =
+    tie.close
+    (tie.spec
+    (λ c. search needs)
+    (λ c. search needs)
+    (λ c κs. search needs)
+    (λ c. search needs)
+    (λ c. (c .before .before .read-type .ensures .0, nothing-left (c .before .before .read-type .last .1 .1 .1 .1 .0) (c .before .before .before .before .before .before .before .args .words .now) (c .before .before .read-type .kept .1 .1 .1 .1 .0))))

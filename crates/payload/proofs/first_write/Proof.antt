@@ -1,0 +1,16 @@
+-- `payload::first_write` meets its contract: there is no room to store in.
+-- Assumes nothing.
+use borrow.Author.Needs.{needs}
+use Rattle.payload.proofs.Calls.{nothing-left}
+use Rattle.payload.proofs.first_write.Statement.{statement}
+use Rattle.payload.proofs.first_write.Tie as tie
+
+pub first-write-spec : {M : Type 1} → statement M
+first-write-spec =
+    tie.close
+    (tie.spec
+    (λ c. search needs)
+    (λ c. search needs)
+    (λ c κs. search needs)
+    (λ c. search needs)
+    (λ c. (c .before .before .write-type .ensures .0, nothing-left (c .before .before .write-type .last .1 .1 .1 .1 .0) (c .before .before .before .before .before .before .before .args .out .now) (c .before .before .write-type .kept .1 .1 .1 .1 .0))))

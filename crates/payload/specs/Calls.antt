@@ -1,0 +1,88 @@
+-- 01, "Numbers given back", 40 to 45: what the calls answer, and what they leave. 44 comes before the walk, 41 after it and 45
+-- last; a call handed table bytes gives 30 to 33 for them before anything else. READINGS R13: on sections, 30 where they do
+-- not lie in the bytes, and 32 for an entry that the walk meets and that breaks a rule.
+use Prim.Native.Nat.{ℕ}
+use mathlib.Core.Bool.{cond}
+use mathlib.Core.List.{List, []}
+use lib.Dec.{ltb, eqb}
+use lib.ListN.{length}
+use Rattle.types.specs.declared.Sections.{Sections}
+use Rattle.types.specs.declared.Checked.{Checked}
+use Rattle.types.specs.declared.Checked.the-variants as check
+use Rattle.types.specs.Layout.{cutShort, ruleBroken, within}
+use Rattle.types.specs.Entries.{isType}
+use Rattle.types.specs.Table.{checked}
+use Rattle.payload.specs.declared.Place.{Place}
+use Rattle.payload.specs.declared.Walked.{Walked}
+use Rattle.payload.specs.declared.Walked.the-variants as walked
+use Rattle.payload.specs.declared.Answer.{Answer}
+use Rattle.payload.specs.declared.Answer.the-variants.{Refused, Stopped, Gave}
+use Rattle.payload.specs.Walk.{Codec, leftOver, answer, left, typeWalk}
+use Rattle.payload.specs.Reading.{reader}
+use Rattle.payload.specs.Writing.{writer}
+
+abbrev pub noSuchType : ℕ
+noSuchType = 44
+
+abbrev pub tooShort : ℕ
+tooShort = 45
+
+abbrev pub start : Place
+start = record { from = 0; to = 0 }
+
+-- what the end of a walk comes to, over n bytes or words of input and with that much room
+unfoldable pub answered : ℕ → ℕ → Walked → Answer
+answered n room (walked.Stopped k q) = cond (eqb k ruleBroken) (Refused k) (Stopped k)
+answered n room (walked.Went q) =
+    cond (ltb (q .from) n) (Stopped leftOver) (cond (ltb room (q .to)) (Refused tooShort) (Gave (q .to)))
+
+-- the walk is over no room: what it comes to does not depend on what it writes into
+unfoldable pub answeredType : Codec → ℕ → List ℕ → Sections → ℕ → ℕ → Answer
+answeredType c n t s i room = answered n room (answer (typeWalk c t s i start []))
+
+unfoldable pub answeredIn : Codec → ℕ → List ℕ → Sections → ℕ → ℕ → Answer
+answeredIn c n t s i room =
+    cond (within t s) (cond (isType s i) (answeredType c n t s i room) (Refused noSuchType)) (Refused cutShort)
+
+-- what is left: what the walk writes where all of it is given, and as it was at a refusal
+unfoldable pub leftBy : Answer → List ℕ → List ℕ → List ℕ
+leftBy (Refused k) before after = before
+leftBy (Stopped k) before after = before
+leftBy (Gave k) before after = after
+
+unfoldable pub leftIn : Codec → ℕ → List ℕ → Sections → ℕ → List ℕ → List ℕ
+leftIn c n t s i x = leftBy (answeredIn c n t s i (length x)) x (left (typeWalk c t s i start x))
+
+-- the same, by what checking the table bytes answers
+unfoldable pub answeredIf : Checked → Codec → ℕ → List ℕ → ℕ → ℕ → Answer
+answeredIf (check.Refused k) c n t i room = Refused k
+answeredIf (check.Table s) c n t i room = answeredIn c n t s i room
+
+unfoldable pub leftIf : Checked → Codec → ℕ → List ℕ → ℕ → List ℕ → List ℕ
+leftIf (check.Refused k) c n t i x = x
+leftIf (check.Table s) c n t i x = leftIn c n t s i x
+
+-- the calls: a payload b unpacked into words, and words packed into bytes; on sections, and handed table bytes
+abbrev pub unpackedIn : List ℕ → Sections → ℕ → List ℕ → ℕ → Answer
+unpackedIn t s i b room = answeredIn (reader b) (length b) t s i room
+
+abbrev pub wordsIn : List ℕ → Sections → ℕ → List ℕ → List ℕ → List ℕ
+wordsIn t s i b words = leftIn (reader b) (length b) t s i words
+
+abbrev pub packedIn : List ℕ → Sections → ℕ → List ℕ → ℕ → Answer
+packedIn t s i ws room = answeredIn (writer ws) (length ws) t s i room
+
+abbrev pub bytesIn : List ℕ → Sections → ℕ → List ℕ → List ℕ → List ℕ
+bytesIn t s i ws out = leftIn (writer ws) (length ws) t s i out
+
+abbrev pub unpacked : List ℕ → ℕ → List ℕ → ℕ → Answer
+unpacked t i b room = answeredIf (checked t) (reader b) (length b) t i room
+
+abbrev pub wordsAfter : List ℕ → ℕ → List ℕ → List ℕ → List ℕ
+wordsAfter t i b words = leftIf (checked t) (reader b) (length b) t i words
+
+abbrev pub packed : List ℕ → ℕ → List ℕ → ℕ → Answer
+packed t i ws room = answeredIf (checked t) (writer ws) (length ws) t i room
+
+abbrev pub bytesAfter : List ℕ → ℕ → List ℕ → List ℕ → List ℕ
+bytesAfter t i ws out = leftIf (checked t) (writer ws) (length ws) t i out

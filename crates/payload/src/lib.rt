@@ -1,0 +1,189 @@
+// Payloads unpacked to words and packed from words, by a type of a table (01, "Payload and words"). The walk runs twice: once
+// over no room, to see that nothing is refused, and once to store, when it comes to the same place.
+mod meet;
+mod read;
+mod write;
+
+use types::Checked;
+use types::Entry;
+use types::Sections;
+ghost use mathlib.Core.Path.{_≡_};
+ghost use mathlib.Core.List.{[]};
+ghost use lib.ListN.{length};
+ghost use Rattle.payload.specs.Walk.{answer, left, typeWalk};
+ghost use Rattle.payload.specs.Reading.{reader};
+ghost use Rattle.payload.specs.Writing.{writer};
+ghost use Rattle.payload.specs.Calls.{start, answered, answeredType, leftBy, unpackedIn, wordsIn, unpacked, wordsAfter, packedIn, bytesIn, packed, bytesAfter};
+
+// What unpacking and packing answer: a number, which is a case of its own where it is the walk's (40 to 43), or how many words
+// or bytes were given.
+pub enum Answer {
+    Refused(u32),
+    Stopped(u32),
+    Gave(usize),
+}
+
+// A walk's place: how far it has come in what it reads, and in what it writes. One of the two counts words, so the leaves
+// completed, array counts included.
+struct Place {
+    from: usize,
+    to: usize,
+}
+
+// What a walk comes to: the place behind what was walked, or the number of a refusal and the place of what was refused.
+enum Walked {
+    Went(Place),
+    Stopped(u32, Place),
+}
+
+// What a walk meets at an entry of the table: an entry that breaks a rule is not walked into.
+enum Met {
+    Leaf(Entry),
+    Members(Entry),
+    Elements(Entry),
+    Broken,
+}
+
+// Unpacks a payload of the table's type of that number into the words.
+pub fn unpack(table: &[u8], number: u16, payload: &[u8], words: &mut [u64]) -> Answer
+    ensures { λ r. ⌜ r ≡ unpacked (now (table .entry)) number (now (payload .entry)) (length (now (words .entry))) ⌝ }
+    ensures { λ _. ⌜ now (words .exit) ≡ wordsAfter (now (table .entry)) number (now (payload .entry)) (now (words .entry)) ⌝ }
+{
+    match types::check(table) {
+        Checked::Refused(n) => Answer::Refused(n),
+        Checked::Table(s) => unpack_in(table, s, number, payload, words),
+    }
+}
+
+// The same by the sections that a check gave for these table bytes.
+pub fn unpack_in(
+    table: &[u8],
+    s: Sections,
+    number: u16,
+    payload: &[u8],
+    words: &mut [u64],
+) -> Answer
+    ensures { λ r. ⌜ r ≡ unpackedIn (now (table .entry)) s number (now (payload .entry)) (length (now (words .entry))) ⌝ }
+    ensures { λ _. ⌜ now (words .exit) ≡ wordsIn (now (table .entry)) s number (now (payload .entry)) (now (words .entry)) ⌝ }
+{
+    if types::layout::within(table, s) {
+        if types::entries::is_type(s, number) {
+            unpack_type(table, s, number, payload, words)
+        } else {
+            Answer::Refused(44)
+        }
+    } else {
+        Answer::Refused(30)
+    }
+}
+
+// Packs the words as a payload of the table's type of that number into the output.
+pub fn pack(table: &[u8], number: u16, words: &[u64], out: &mut [u8]) -> Answer
+    ensures { λ r. ⌜ r ≡ packed (now (table .entry)) number (now (words .entry)) (length (now (out .entry))) ⌝ }
+    ensures { λ _. ⌜ now (out .exit) ≡ bytesAfter (now (table .entry)) number (now (words .entry)) (now (out .entry)) ⌝ }
+{
+    match types::check(table) {
+        Checked::Refused(n) => Answer::Refused(n),
+        Checked::Table(s) => pack_in(table, s, number, words, out),
+    }
+}
+
+// The same by the sections that a check gave for these table bytes.
+pub fn pack_in(table: &[u8], s: Sections, number: u16, words: &[u64], out: &mut [u8]) -> Answer
+    ensures { λ r. ⌜ r ≡ packedIn (now (table .entry)) s number (now (words .entry)) (length (now (out .entry))) ⌝ }
+    ensures { λ _. ⌜ now (out .exit) ≡ bytesIn (now (table .entry)) s number (now (words .entry)) (now (out .entry)) ⌝ }
+{
+    if types::layout::within(table, s) {
+        if types::entries::is_type(s, number) {
+            pack_type(table, s, number, words, out)
+        } else {
+            Answer::Refused(44)
+        }
+    } else {
+        Answer::Refused(30)
+    }
+}
+
+fn unpack_type(table: &[u8], s: Sections, number: u16, payload: &[u8], words: &mut [u64]) -> Answer
+    ensures { λ r. ⌜ r ≡ answeredType (reader (now (payload .entry))) (length (now (payload .entry))) (now (table .entry)) s number (length (now (words .entry))) ⌝ }
+    ensures { λ r. ⌜ now (words .exit) ≡ leftBy r (now (words .entry)) (left (typeWalk (reader (now (payload .entry))) (now (table .entry)) s number start (now (words .entry)))) ⌝ }
+{
+    let walked = first_read(table, s, number, payload, words);
+    match answered(payload.len(), words.len(), walked) {
+        Answer::Refused(n) => Answer::Refused(n),
+        Answer::Stopped(n) => Answer::Stopped(n),
+        Answer::Gave(n) => {
+            read::read_type(table, s, number, payload, words, Place { from: 0, to: 0 });
+            Answer::Gave(n)
+        }
+    }
+}
+
+// The walk with no room for a word: it stores nothing.
+fn first_read(table: &[u8], s: Sections, number: u16, payload: &[u8], words: &mut [u64]) -> Walked
+    ensures { λ r. ⌜ r ≡ answer (typeWalk (reader (now (payload .entry))) (now (table .entry)) s number start []) ⌝ }
+    ensures { λ _. ⌜ now (words .exit) ≡ now (words .entry) ⌝ }
+{
+    read::read_type(
+        table,
+        s,
+        number,
+        payload,
+        &mut words[..0],
+        Place { from: 0, to: 0 },
+    )
+}
+
+// What the walk's end comes to: 41 where input is left over, and last 45 where the output is too short.
+fn answered(len: usize, room: usize, walked: Walked) -> Answer
+    ensures { λ r. ⌜ r ≡ answered len room walked ⌝ }
+{
+    match walked {
+        Walked::Stopped(n, _) => {
+            if n == 32 {
+                Answer::Refused(n)
+            } else {
+                Answer::Stopped(n)
+            }
+        }
+        Walked::Went(q) => {
+            if q.from < len {
+                return Answer::Stopped(41);
+            }
+            if room < q.to {
+                return Answer::Refused(45);
+            }
+            Answer::Gave(q.to)
+        }
+    }
+}
+
+fn pack_type(table: &[u8], s: Sections, number: u16, words: &[u64], out: &mut [u8]) -> Answer
+    ensures { λ r. ⌜ r ≡ answeredType (writer (now (words .entry))) (length (now (words .entry))) (now (table .entry)) s number (length (now (out .entry))) ⌝ }
+    ensures { λ r. ⌜ now (out .exit) ≡ leftBy r (now (out .entry)) (left (typeWalk (writer (now (words .entry))) (now (table .entry)) s number start (now (out .entry)))) ⌝ }
+{
+    let walked = first_write(table, s, number, words, out);
+    match answered(words.len(), out.len(), walked) {
+        Answer::Refused(n) => Answer::Refused(n),
+        Answer::Stopped(n) => Answer::Stopped(n),
+        Answer::Gave(n) => {
+            write::write_type(table, s, number, words, out, Place { from: 0, to: 0 });
+            Answer::Gave(n)
+        }
+    }
+}
+
+// The walk with no room for a byte: it stores nothing.
+fn first_write(table: &[u8], s: Sections, number: u16, words: &[u64], out: &mut [u8]) -> Walked
+    ensures { λ r. ⌜ r ≡ answer (typeWalk (writer (now (words .entry))) (now (table .entry)) s number start []) ⌝ }
+    ensures { λ _. ⌜ now (out .exit) ≡ now (out .entry) ⌝ }
+{
+    write::write_type(
+        table,
+        s,
+        number,
+        words,
+        &mut out[..0],
+        Place { from: 0, to: 0 },
+    )
+}
