@@ -162,7 +162,7 @@ low-lt k w = mod-lt w (one-le-pow (2 ^ k) 256 (zero-lt-suc 255))
 low-same : (k w : ℕ) → ltb w (span k) ≡ true → w % span k ≡ w
 low-same k w e = mod-eq-of-lt (ltb-true w (span k) e)
 
-truth-small : (b : ℕ) → truth b < 2
+pub truth-small : (b : ℕ) → truth b < 2
 unfolding truth
 truth-small b = go (eqb b 0) refl
   where

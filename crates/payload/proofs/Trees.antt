@@ -58,7 +58,7 @@ module _ (t : List ℕ) (s : Sections) where
   length-trees (suc n) =
       length-append (trees t s n) (treeOf t s (trees t s n) (look t s n) ∷ []) ∙ ap (λ (k : ℕ). k + 1) (length-trees n) ∙ add-one n
 
-  known : (n c : ℕ) → c < n → getD (trees t s n) c broken ≡ tree t s c
+  pub known : (n c : ℕ) → c < n → getD (trees t s n) c broken ≡ tree t s c
   unfolding trees tree
   known zero c h = absurd (omega arith)
   known (suc n) c h =

@@ -99,7 +99,7 @@ module _ (P : Place → List ℕ → Type 0) where
         go false g = rw g (item-holds 43 countCode (λ n. leb n (e .count)) p x h)
 
 -- every leaf has a byte at least
-value-bytes : (l : Leaf) (w : ℕ) → isValue l w ≡ true → 1 ≤ bytesOf l
+pub value-bytes : (l : Leaf) (w : ℕ) → isValue l w ≡ true → 1 ≤ bytesOf l
 unfolding isValue bytesOf
 value-bytes boolean w h = omega arith
 value-bytes (signed k) w h = one-le-pow k 2 (zero-lt-suc 1)
