@@ -11,13 +11,13 @@ use borrow.Author.Tests.{ltb-true, leb-true, leb-false, eqb-true, eqb-false}
 use lib.Dec.{ltb, leb, eqb}
 use lib.ListN.{length, getD}
 use Rattle.wire.proofs.Cond.{no-eq}
-use Rattle.types.specs.declared.Sections.{Sections}
-use Rattle.types.specs.declared.Entry.{Entry}
-use Rattle.types.specs.declared.Checked.{Checked}
-use Rattle.types.specs.declared.Checked.the-variants as check
-use Rattle.types.specs.Layout.{within}
-use Rattle.types.specs.Entries.{typeAt, memberAt, isType}
-use Rattle.types.specs.Leaf.{allowed}
+use Rattle.table.specs.declared.Sections.{Sections}
+use Rattle.table.specs.declared.Entry.{Entry}
+use Rattle.table.specs.declared.Checked.{Checked}
+use Rattle.table.specs.declared.Checked.the-variants as check
+use Rattle.table.specs.Layout.{within}
+use Rattle.table.specs.Entries.{typeAt, memberAt, isType}
+use Rattle.table.specs.Leaf.{allowed}
 use Rattle.types.specs.Rules.{fieldsOk}
 use Rattle.types.specs.Table.{checked}
 use Rattle.types.proofs.Accepted.{Accepted, accepted, is-within, fields-keep, kind-known, record-is, fixed-is, array-is}

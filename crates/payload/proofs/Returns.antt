@@ -13,10 +13,10 @@ use lib.ListN.{length, set}
 use Rattle.wire.specs.Bytes.{number, written}
 use Rattle.wire.proofs.Cond.{yes-eq, no-eq}
 use Rattle.wire.proofs.Runs.{held, set-over, written-in, written-out}
-use Rattle.types.specs.declared.Sections.{Sections}
-use Rattle.types.specs.declared.Entry.{Entry}
-use Rattle.types.specs.Entries.{memberAt}
-use Rattle.types.specs.Leaf.{base, bytesOf, isValue, width, allowed}
+use Rattle.table.specs.declared.Sections.{Sections}
+use Rattle.table.specs.declared.Entry.{Entry}
+use Rattle.table.specs.Entries.{memberAt}
+use Rattle.table.specs.Leaf.{base, bytesOf, isValue, width, allowed}
 use Rattle.leaves.specs.Forms.{wordOf, wordAt}
 use Rattle.leaves.specs.Choice.{choice, takes}
 use Rattle.payload.specs.declared.Place.{Place}

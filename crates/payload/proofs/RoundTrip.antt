@@ -14,10 +14,10 @@ use lib.ListN.{length, getD, take, drop, length-append, length-take, length-drop
 use lib.Seq.{drop-cons, drop-drop, drop-length, drop-nil, take-all, take-at, length-take-le, getD-append-add, getD-drop}
 use Rattle.wire.specs.Bytes.{over, Octets}
 use Rattle.wire.proofs.Cond.{no-lt}
-use Rattle.types.specs.declared.Sections.{Sections}
-use Rattle.types.specs.Leaf.{Leaf, boolean, signed, unsigned, float, none, base, bytesOf, isValue, width, allowed}
-use Rattle.types.specs.Layout.{within}
-use Rattle.types.specs.Entries.{isType}
+use Rattle.table.specs.declared.Sections.{Sections}
+use Rattle.table.specs.Leaf.{Leaf, boolean, signed, unsigned, float, none, base, bytesOf, isValue, width, allowed}
+use Rattle.table.specs.Layout.{within}
+use Rattle.table.specs.Entries.{isType}
 use Rattle.leaves.specs.Forms.{truth, wordOf, form, wordAt, formOf, Says}
 use Rattle.leaves.proofs.Leaves.{real, length-form, length-said, word-said, word-append, said-there, form-says, truth-small}
 use Rattle.payload.specs.declared.Place.{Place}

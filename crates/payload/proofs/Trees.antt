@@ -13,9 +13,9 @@ use lib.Dec.{ltb, leb, eqb}
 use lib.ListN.{length, getD, length-append, List·getD-eq-default, List·getD-append}
 use lib.Seq.{getD-at}
 use Rattle.wire.proofs.Cond.{yes-if, no-if, yes-lt, no-lt, yes-le, no-le, yes-eq, no-eq}
-use Rattle.types.specs.declared.Sections.{Sections}
-use Rattle.types.specs.declared.Entry.{Entry}
-use Rattle.types.specs.Entries.{typeAt}
+use Rattle.table.specs.declared.Sections.{Sections}
+use Rattle.table.specs.declared.Entry.{Entry}
+use Rattle.table.specs.Entries.{typeAt}
 use Rattle.types.specs.Rules.{fieldsOk}
 use Rattle.payload.specs.declared.Met.{Met}
 use Rattle.payload.specs.declared.Met.the-variants.{Leaf, Members, Elements, Broken}

@@ -12,8 +12,8 @@ use lib.ListN.{length, drop, length-append}
 use lib.Seq.{drop-drop, drop-append-seam}
 use Rattle.wire.specs.Bytes.{over, written}
 use Rattle.wire.proofs.Runs.{over-over, over-none, length-over, written-in}
-use Rattle.types.specs.Leaf.{allowed}
-use Rattle.types.proofs.AllBelow.{and-left, and-right}
+use Rattle.table.specs.Leaf.{allowed}
+use Rattle.table.proofs.AllBelow.{and-left, and-right}
 use Rattle.payload.specs.declared.Place.{Place}
 use Rattle.payload.specs.Tree.{Tree, leaf, row, array, broken}
 use Rattle.payload.specs.Walk.{Step, on, stop, next, through, Codec, item, counted, countCode, walk}

@@ -11,9 +11,9 @@ use native.Mathlib.Omega.{arith}
 use lib.Dec.{leb, eqb}
 use lib.ListN.{length}
 use Rattle.wire.specs.Bytes.{written}
-use Rattle.types.specs.declared.Entry.{Entry}
-use Rattle.types.specs.Leaf.{Leaf, boolean, signed, unsigned, float, none, base, bytesOf, isValue, width, allowed}
-use Rattle.types.proofs.AllBelow.{and-left}
+use Rattle.table.specs.declared.Entry.{Entry}
+use Rattle.table.specs.Leaf.{Leaf, boolean, signed, unsigned, float, none, base, bytesOf, isValue, width, allowed}
+use Rattle.table.proofs.AllBelow.{and-left}
 use Rattle.leaves.proofs.Leaves.{Real, real}
 use Rattle.payload.specs.declared.Place.{Place}
 use Rattle.payload.specs.declared.Walked.{Walked}

@@ -6,12 +6,12 @@ use mathlib.Core.Bool.{cond}
 use mathlib.Core.List.{List, []}
 use lib.Dec.{ltb, eqb}
 use lib.ListN.{length}
-use Rattle.types.specs.declared.Sections.{Sections}
-use Rattle.types.specs.declared.Checked.{Checked}
-use Rattle.types.specs.declared.Checked.the-variants as check
-use Rattle.types.specs.Layout.{cutShort, ruleBroken, within}
-use Rattle.types.specs.Entries.{isType}
-use Rattle.types.specs.Table.{checked}
+use Rattle.table.specs.declared.Sections.{Sections}
+use Rattle.table.specs.declared.Checked.{Checked}
+use Rattle.table.specs.declared.Checked.the-variants as check
+use Rattle.table.specs.Layout.{cutShort, within}
+use Rattle.table.specs.Entries.{isType}
+use Rattle.types.specs.Table.{ruleBroken, checked}
 use Rattle.payload.specs.declared.Place.{Place}
 use Rattle.payload.specs.declared.Walked.{Walked}
 use Rattle.payload.specs.declared.Walked.the-variants as walked

@@ -5,10 +5,10 @@ use mathlib.Core.Bool.{Bool, cond}
 use mathlib.Core.List.{List, [], _∷_, _++_}
 use lib.Dec.{ltb, leb, eqb}
 use lib.ListN.{getD}
-use Rattle.types.specs.declared.Sections.{Sections}
-use Rattle.types.specs.declared.Entry.{Entry}
-use Rattle.types.specs.Entries.{typeAt, memberAt}
-use Rattle.types.specs.Rules.{enumKind, recordKind, fixedKind, fieldsOk}
+use Rattle.table.specs.declared.Sections.{Sections}
+use Rattle.table.specs.declared.Entry.{Entry}
+use Rattle.table.specs.Entries.{enumKind, recordKind, fixedKind, typeAt, memberAt}
+use Rattle.types.specs.Rules.{fieldsOk}
 use Rattle.leaves.specs.Choice.{choice}
 use Rattle.payload.specs.declared.Met.{Met}
 use Rattle.payload.specs.declared.Met.the-variants.{Leaf, Members, Elements, Broken}

@@ -6,8 +6,8 @@ use mathlib.Core.Path.{_≡_}
 use mathlib.Core.Bool.{Bool, true}
 use mathlib.Core.List.{List, [], _∷_, _++_}
 use lib.Dec.{leb}
-use Rattle.types.specs.declared.Sections.{Sections}
-use Rattle.types.specs.Leaf.{Leaf, boolean, signed, unsigned, float, none, base, allowed}
+use Rattle.table.specs.declared.Sections.{Sections}
+use Rattle.table.specs.Leaf.{Leaf, boolean, signed, unsigned, float, none, base, allowed}
 use Rattle.leaves.specs.Forms.{truth, formOf, Truth, Says}
 use Rattle.payload.specs.Tree.{Tree, leaf, row, array, broken, tree}
 use Rattle.payload.specs.Walk.{countCode}

@@ -5,11 +5,11 @@ use mathlib.Core.Bool.{Bool, _&&_, cond}
 use mathlib.Core.List.{List}
 use lib.Dec.{leb, eqb}
 use Rattle.wire.specs.Bytes.{written}
-use Rattle.types.specs.declared.Sections.{Sections}
-use Rattle.types.specs.declared.Entry.{Entry}
-use Rattle.types.specs.Layout.{ruleBroken}
-use Rattle.types.specs.Leaf.{allowed}
-use Rattle.types.specs.Rules.{fixedKind}
+use Rattle.table.specs.declared.Sections.{Sections}
+use Rattle.table.specs.declared.Entry.{Entry}
+use Rattle.table.specs.Leaf.{allowed}
+use Rattle.table.specs.Entries.{fixedKind}
+use Rattle.types.specs.Table.{ruleBroken}
 use Rattle.leaves.specs.Choice.{choice}
 use Rattle.payload.specs.declared.Met.{Met}
 use Rattle.payload.specs.declared.Place.{Place}

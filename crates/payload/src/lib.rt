@@ -4,9 +4,9 @@ mod meet;
 mod read;
 mod write;
 
-use types::Checked;
-use types::Entry;
-use types::Sections;
+use table::Checked;
+use table::Entry;
+use table::Sections;
 ghost use mathlib.Core.Path.{_≡_};
 ghost use mathlib.Core.List.{[]};
 ghost use lib.ListN.{length};
@@ -66,8 +66,8 @@ pub fn unpack_in(
     ensures { λ r. ⌜ r ≡ unpackedIn (now (table .entry)) s number (now (payload .entry)) (length (now (words .entry))) ⌝ }
     ensures { λ _. ⌜ now (words .exit) ≡ wordsIn (now (table .entry)) s number (now (payload .entry)) (now (words .entry)) ⌝ }
 {
-    if types::layout::within(table, s) {
-        if types::entries::is_type(s, number) {
+    if table::layout::within(table, s) {
+        if table::entries::is_type(s, number) {
             unpack_type(table, s, number, payload, words)
         } else {
             Answer::Refused(44)
@@ -93,8 +93,8 @@ pub fn pack_in(table: &[u8], s: Sections, number: u16, words: &[u64], out: &mut 
     ensures { λ r. ⌜ r ≡ packedIn (now (table .entry)) s number (now (words .entry)) (length (now (out .entry))) ⌝ }
     ensures { λ _. ⌜ now (out .exit) ≡ bytesIn (now (table .entry)) s number (now (words .entry)) (now (out .entry)) ⌝ }
 {
-    if types::layout::within(table, s) {
-        if types::entries::is_type(s, number) {
+    if table::layout::within(table, s) {
+        if table::entries::is_type(s, number) {
             pack_type(table, s, number, words, out)
         } else {
             Answer::Refused(44)

@@ -1,7 +1,7 @@
 // What a walk meets at a type of the table.
 use crate::Met;
-use types::Entry;
-use types::Sections;
+use table::Entry;
+use table::Sections;
 ghost use mathlib.Core.Path.{_≡_};
 ghost use Rattle.payload.specs.Tree.{byKind, look, meet};
 
@@ -19,7 +19,7 @@ pub(crate) fn meet(table: &[u8], s: Sections, i: u16, c: u16) -> Met
 pub(crate) fn look(table: &[u8], s: Sections, i: u16) -> Met
     ensures { λ r. ⌜ r ≡ look (now (table .entry)) s i ⌝ }
 {
-    let e = types::entries::type_at(table, s, i);
+    let e = table::entries::type_at(table, s, i);
     if types::rules::fields_ok(s, i, e) {
         by_kind(e)
     } else {

@@ -4,8 +4,8 @@ use crate::Met;
 use crate::Place;
 use crate::Walked;
 use crate::meet;
-use types::Entry;
-use types::Sections;
+use table::Entry;
+use table::Sections;
 ghost use mathlib.Core.Path.{_≡_};
 ghost use Rattle.payload.specs.declared.Met.the-variants.{Members, Elements};
 ghost use Rattle.wire.specs.Bytes.{written};
@@ -52,7 +52,7 @@ fn read_members(
     let mut at = p;
     let mut k: u16 = 0;
     while k < count {
-        let child = types::entries::member_at(table, s, e.first as u32 + k as u32);
+        let child = table::entries::member_at(table, s, e.first as u32 + k as u32);
         let step = match meet::meet(table, s, i, child) {
             Met::Leaf(c) => read_leaf(table, s, c, payload, words, at),
             Met::Members(c) => read_members(table, s, child, c, payload, words, at),
@@ -161,7 +161,7 @@ fn read_leaf(
     ensures { λ r. ⌜ r ≡ answer (leafWalk (reader (now (payload .entry))) (now (table .entry)) s e p (now (words .entry))) ⌝ }
     ensures { λ _. ⌜ now (words .exit) ≡ left (leafWalk (reader (now (payload .entry))) (now (table .entry)) s e p (now (words .entry))) ⌝ }
 {
-    let width = types::leaf::width(e.of);
+    let width = table::leaf::width(e.of);
     if wire::has_room(payload.len(), p.from, width) {
         let word = leaves::word_at(payload, p.from, e.of);
         if leaves::takes(table, s, e, word) {

@@ -4,8 +4,8 @@ use crate::Met;
 use crate::Place;
 use crate::Walked;
 use crate::meet;
-use types::Entry;
-use types::Sections;
+use table::Entry;
+use table::Sections;
 ghost use mathlib.Core.Path.{_≡_};
 ghost use lib.ListN.{getD};
 ghost use Rattle.payload.specs.declared.Met.the-variants.{Members, Elements};
@@ -51,7 +51,7 @@ fn write_members(
     let mut at = p;
     let mut k: u16 = 0;
     while k < count {
-        let child = types::entries::member_at(table, s, e.first as u32 + k as u32);
+        let child = table::entries::member_at(table, s, e.first as u32 + k as u32);
         let step = match meet::meet(table, s, i, child) {
             Met::Leaf(c) => write_leaf(table, s, c, words, out, at),
             Met::Members(c) => write_members(table, s, child, c, words, out, at),
@@ -163,7 +163,7 @@ fn write_leaf(
     if p.from < words.len() {
         let word = word_at(words, p.from);
         if leaves::takes(table, s, e, word) {
-            let width = types::leaf::width(e.of);
+            let width = table::leaf::width(e.of);
             leaves::put(out, p.to, e.of, word);
             Walked::Went(Place {
                 from: p.from + 1,

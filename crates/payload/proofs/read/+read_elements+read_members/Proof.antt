@@ -9,7 +9,7 @@ use native.Mathlib.Omega.{arith}
 use lib.ListN.{length}
 use borrow.Fn.Kinds.{In}
 use borrow.Fn.PlainCycle.{Measures, is, falls, and}
-use Rattle.types.specs.Entries.{memberAt}
+use Rattle.table.specs.Entries.{memberAt}
 use Rattle.payload.specs.Tree.{child, meet}
 use Rattle.payload.specs.Walk.{on, through, walk}
 use Rattle.payload.specs.Reading.{reader, Reading}
@@ -27,7 +27,7 @@ use Rattle.payload.proofs.read.begin.Reads as begin-reads
 use Rattle.payload.proofs.read.read_leaf.Reads as read-leaf-reads
 use Rattle.payload.proofs.read.times.Reads as times-reads
 use Rattle.payload.proofs.meet.meet.Reads as meet-reads
-use Rattle.types.proofs.entries.member_at.Reads as member-at-reads
+use Rattle.table.proofs.entries.member_at.Reads as member-at-reads
 use Rattle.payload.proofs.read.+read_elements+read_members.{statement}
 use Rattle.payload.proofs.read.+read_elements+read_members.Tie.{close}
 
