@@ -14,13 +14,13 @@ use Rattle.table.specs.declared.Checked.the-variants as check
 use Rattle.table.specs.Layout.{within}
 use Rattle.table.specs.Entries.{isType}
 use Rattle.types.specs.Table.{checked}
-use Rattle.payload.specs.declared.Place.{Place}
-use Rattle.payload.specs.declared.Walked.{Walked}
-use Rattle.payload.specs.declared.Walked.the-variants as walked
+use Rattle.walk.specs.declared.Place.{Place}
+use Rattle.walk.specs.declared.Walked.{Walked}
+use Rattle.walk.specs.declared.Walked.the-variants as walked
 use Rattle.payload.specs.declared.Answer.{Answer}
 use Rattle.payload.specs.declared.Answer.the-variants.{Refused, Stopped, Gave}
-use Rattle.payload.specs.Walk.{Codec, answer, left, typeWalk}
-use Rattle.payload.specs.Calls.{start, answered, answeredType, answeredIn, leftBy, leftIn, answeredIf, leftIf}
+use Rattle.walk.specs.Walk.{Codec, start, answer, left, typeWalk}
+use Rattle.payload.specs.Calls.{answered, answeredType, answeredIn, leftBy, leftIn, answeredIf, leftIf}
 
 -- the end of a walk
 module _ (n room : ℕ) (w : Walked) where
