@@ -14,11 +14,11 @@ use lib.ListN.{length}
 use Rattle.wire.specs.Bytes.{span, number, bytes, written}
 use Rattle.wire.proofs.Cond.{yes-lt, no-lt, yes-eq, no-eq}
 use Rattle.wire.proofs.Runs.{over-none}
-use Rattle.types.specs.declared.Sections.{Sections}
-use Rattle.types.specs.declared.Entry.{Entry}
-use Rattle.types.specs.All.{allBelow}
-use Rattle.types.specs.Leaf.{Leaf, none, base, width, allowed}
-use Rattle.types.proofs.Leaves.{no-base}
+use Rattle.table.specs.declared.Sections.{Sections}
+use Rattle.table.specs.declared.Entry.{Entry}
+use Rattle.table.specs.All.{allBelow}
+use Rattle.table.specs.Leaf.{Leaf, none, base, width, allowed}
+use Rattle.table.proofs.Leaves.{no-base}
 use Rattle.leaves.specs.Forms.{truth, extended, wordOf, wordAt, formOf}
 use Rattle.leaves.proofs.Leaves.{Other, form-is, no-bytes}
 use Rattle.leaves.specs.Choice.{other, among, choice, takes}

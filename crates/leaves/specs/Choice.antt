@@ -4,12 +4,11 @@ use Prim.Native.Nat.{ℕ, _+_}
 use mathlib.Core.Bool.{Bool, true, _&&_, not, cond}
 use mathlib.Core.List.{List}
 use lib.Dec.{eqb}
-use Rattle.types.specs.declared.Sections.{Sections}
-use Rattle.types.specs.declared.Entry.{Entry}
-use Rattle.types.specs.All.{allBelow}
-use Rattle.types.specs.Leaf.{allowed}
-use Rattle.types.specs.Entries.{valueAt}
-use Rattle.types.specs.Rules.{enumKind}
+use Rattle.table.specs.declared.Sections.{Sections}
+use Rattle.table.specs.declared.Entry.{Entry}
+use Rattle.table.specs.All.{allBelow}
+use Rattle.table.specs.Leaf.{allowed}
+use Rattle.table.specs.Entries.{enumKind, valueAt}
 
 -- the word is not the enum's k-th value
 unfoldable pub other : List ℕ → Sections → Entry → ℕ → ℕ → Bool

@@ -6,7 +6,7 @@ use mathlib.Core.Bool.{Bool, cond}
 use mathlib.Core.List.{List, [], _∷_}
 use lib.Dec.{ltb, eqb}
 use Rattle.wire.specs.Bytes.{span, number, bytes}
-use Rattle.types.specs.Leaf.{Leaf, boolean, signed, unsigned, float, none, base}
+use Rattle.table.specs.Leaf.{Leaf, boolean, signed, unsigned, float, none, base}
 
 -- boolean8: 0 is false and any other byte true; its word is 0 or 1
 unfoldable pub truth : ℕ → ℕ

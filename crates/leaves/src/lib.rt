@@ -1,7 +1,7 @@
 // A leaf on the wire and as a 64-bit word (01, "Payload and words"; 000, Table 6): the word that a leaf's bytes are, the
 // bytes that a word is, and whether an entry of the table takes a word. A code that is no base code has no bytes.
-use types::Entry;
-use types::Sections;
+use table::Entry;
+use table::Sections;
 ghost use mathlib.Core.Path.{_≡_};
 ghost use mathlib.Core.Bool.{cond};
 ghost use Prim.Native.Nat.{_+_, _-_, _*_, _^_, _≤_, _<_};
@@ -36,7 +36,7 @@ pub fn word_at(s: &[u8], at: usize, code: u16) -> u64
 pub fn put(s: &mut [u8], at: usize, code: u16, word: u64)
     ensures { λ _. ⌜ now (s .exit) ≡ written (now (s .entry)) at (formOf code word) ⌝ }
 {
-    let width = types::leaf::width(code);
+    let width = table::leaf::width(code);
     match width {
         1 => wire::put_u8(s, at, (word % 256) as u8),
         2 => wire::put_u16(s, at, (word % 65536) as u16),
@@ -50,7 +50,7 @@ pub fn put(s: &mut [u8], at: usize, code: u16, word: u64)
 pub fn takes(table: &[u8], s: Sections, e: Entry, word: u64) -> bool
     ensures { λ r. ⌜ r ≡ takes (now (table .entry)) s e word ⌝ }
 {
-    if types::leaf::allowed(e.of, word) {
+    if table::leaf::allowed(e.of, word) {
         if e.kind == 1 {
             among(table, s, e, word)
         } else {
@@ -99,5 +99,5 @@ fn among(table: &[u8], s: Sections, e: Entry, word: u64) -> bool
 fn other(table: &[u8], s: Sections, e: Entry, word: u64, k: u16) -> bool
     ensures { λ r. ⌜ r ≡ other (now (table .entry)) s e word k ⌝ }
 {
-    types::entries::value_at(table, s, e.first as u32 + k as u32) != word
+    table::entries::value_at(table, s, e.first as u32 + k as u32) != word
 }

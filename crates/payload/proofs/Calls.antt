@@ -8,19 +8,19 @@ use native.Mathlib.Omega.{arith}
 use lib.Dec.{ltb, eqb}
 use lib.ListN.{length, take, drop}
 use Rattle.wire.proofs.Cond.{yes-eq, no-eq, yes-lt, no-lt, yes-if, no-if}
-use Rattle.types.specs.declared.Sections.{Sections}
-use Rattle.types.specs.declared.Checked.{Checked}
-use Rattle.types.specs.declared.Checked.the-variants as check
-use Rattle.types.specs.Layout.{within}
-use Rattle.types.specs.Entries.{isType}
+use Rattle.table.specs.declared.Sections.{Sections}
+use Rattle.table.specs.declared.Checked.{Checked}
+use Rattle.table.specs.declared.Checked.the-variants as check
+use Rattle.table.specs.Layout.{within}
+use Rattle.table.specs.Entries.{isType}
 use Rattle.types.specs.Table.{checked}
-use Rattle.payload.specs.declared.Place.{Place}
-use Rattle.payload.specs.declared.Walked.{Walked}
-use Rattle.payload.specs.declared.Walked.the-variants as walked
+use Rattle.walk.specs.declared.Place.{Place}
+use Rattle.walk.specs.declared.Walked.{Walked}
+use Rattle.walk.specs.declared.Walked.the-variants as walked
 use Rattle.payload.specs.declared.Answer.{Answer}
 use Rattle.payload.specs.declared.Answer.the-variants.{Refused, Stopped, Gave}
-use Rattle.payload.specs.Walk.{Codec, answer, left, typeWalk}
-use Rattle.payload.specs.Calls.{start, answered, answeredType, answeredIn, leftBy, leftIn, answeredIf, leftIf}
+use Rattle.walk.specs.Walk.{Codec, start, answer, left, typeWalk}
+use Rattle.payload.specs.Calls.{answered, answeredType, answeredIn, leftBy, leftIn, answeredIf, leftIf}
 
 -- the end of a walk
 module _ (n room : ℕ) (w : Walked) where

@@ -6,29 +6,25 @@ use mathlib.Core.Bool.{cond}
 use mathlib.Core.List.{List, []}
 use lib.Dec.{ltb, eqb}
 use lib.ListN.{length}
-use Rattle.types.specs.declared.Sections.{Sections}
-use Rattle.types.specs.declared.Checked.{Checked}
-use Rattle.types.specs.declared.Checked.the-variants as check
-use Rattle.types.specs.Layout.{cutShort, ruleBroken, within}
-use Rattle.types.specs.Entries.{isType}
-use Rattle.types.specs.Table.{checked}
-use Rattle.payload.specs.declared.Place.{Place}
-use Rattle.payload.specs.declared.Walked.{Walked}
-use Rattle.payload.specs.declared.Walked.the-variants as walked
+use Rattle.table.specs.declared.Sections.{Sections}
+use Rattle.table.specs.declared.Checked.{Checked}
+use Rattle.table.specs.declared.Checked.the-variants as check
+use Rattle.table.specs.Layout.{cutShort, within}
+use Rattle.table.specs.Entries.{isType}
+use Rattle.types.specs.Table.{ruleBroken, checked}
+use Rattle.walk.specs.declared.Walked.{Walked}
+use Rattle.walk.specs.declared.Walked.the-variants as walked
 use Rattle.payload.specs.declared.Answer.{Answer}
 use Rattle.payload.specs.declared.Answer.the-variants.{Refused, Stopped, Gave}
-use Rattle.payload.specs.Walk.{Codec, leftOver, answer, left, typeWalk}
-use Rattle.payload.specs.Reading.{reader}
-use Rattle.payload.specs.Writing.{writer}
+use Rattle.walk.specs.Walk.{Codec, start, leftOver, answer, left, typeWalk}
+use Rattle.unpacking.specs.Reading.{reader}
+use Rattle.packing.specs.Writing.{writer}
 
 abbrev pub noSuchType : ℕ
 noSuchType = 44
 
 abbrev pub tooShort : ℕ
 tooShort = 45
-
-abbrev pub start : Place
-start = record { from = 0; to = 0 }
 
 -- what the end of a walk comes to, over n bytes or words of input and with that much room
 unfoldable pub answered : ℕ → ℕ → Walked → Answer

@@ -1,19 +1,15 @@
 // Payloads unpacked to words and packed from words, by a type of a table (01, "Payload and words"). The walk runs twice: once
 // over no room, to see that nothing is refused, and once to store, when it comes to the same place.
-mod meet;
-mod read;
-mod write;
-
-use types::Checked;
-use types::Entry;
-use types::Sections;
+use table::Checked;
+use table::Sections;
+use walk::Walked;
 ghost use mathlib.Core.Path.{_≡_};
 ghost use mathlib.Core.List.{[]};
 ghost use lib.ListN.{length};
-ghost use Rattle.payload.specs.Walk.{answer, left, typeWalk};
-ghost use Rattle.payload.specs.Reading.{reader};
-ghost use Rattle.payload.specs.Writing.{writer};
-ghost use Rattle.payload.specs.Calls.{start, answered, answeredType, leftBy, unpackedIn, wordsIn, unpacked, wordsAfter, packedIn, bytesIn, packed, bytesAfter};
+ghost use Rattle.walk.specs.Walk.{start, answer, left, typeWalk};
+ghost use Rattle.unpacking.specs.Reading.{reader};
+ghost use Rattle.packing.specs.Writing.{writer};
+ghost use Rattle.payload.specs.Calls.{answered, answeredType, leftBy, unpackedIn, wordsIn, unpacked, wordsAfter, packedIn, bytesIn, packed, bytesAfter};
 
 // What unpacking and packing answer: a number, which is a case of its own where it is the walk's (40 to 43), or how many words
 // or bytes were given.
@@ -21,27 +17,6 @@ pub enum Answer {
     Refused(u32),
     Stopped(u32),
     Gave(usize),
-}
-
-// A walk's place: how far it has come in what it reads, and in what it writes. One of the two counts words, so the leaves
-// completed, array counts included.
-struct Place {
-    from: usize,
-    to: usize,
-}
-
-// What a walk comes to: the place behind what was walked, or the number of a refusal and the place of what was refused.
-enum Walked {
-    Went(Place),
-    Stopped(u32, Place),
-}
-
-// What a walk meets at an entry of the table: an entry that breaks a rule is not walked into.
-enum Met {
-    Leaf(Entry),
-    Members(Entry),
-    Elements(Entry),
-    Broken,
 }
 
 // Unpacks a payload of the table's type of that number into the words.
@@ -66,8 +41,8 @@ pub fn unpack_in(
     ensures { λ r. ⌜ r ≡ unpackedIn (now (table .entry)) s number (now (payload .entry)) (length (now (words .entry))) ⌝ }
     ensures { λ _. ⌜ now (words .exit) ≡ wordsIn (now (table .entry)) s number (now (payload .entry)) (now (words .entry)) ⌝ }
 {
-    if types::layout::within(table, s) {
-        if types::entries::is_type(s, number) {
+    if table::layout::within(table, s) {
+        if table::entries::is_type(s, number) {
             unpack_type(table, s, number, payload, words)
         } else {
             Answer::Refused(44)
@@ -93,8 +68,8 @@ pub fn pack_in(table: &[u8], s: Sections, number: u16, words: &[u64], out: &mut 
     ensures { λ r. ⌜ r ≡ packedIn (now (table .entry)) s number (now (words .entry)) (length (now (out .entry))) ⌝ }
     ensures { λ _. ⌜ now (out .exit) ≡ bytesIn (now (table .entry)) s number (now (words .entry)) (now (out .entry)) ⌝ }
 {
-    if types::layout::within(table, s) {
-        if types::entries::is_type(s, number) {
+    if table::layout::within(table, s) {
+        if table::entries::is_type(s, number) {
             pack_type(table, s, number, words, out)
         } else {
             Answer::Refused(44)
@@ -113,7 +88,7 @@ fn unpack_type(table: &[u8], s: Sections, number: u16, payload: &[u8], words: &m
         Answer::Refused(n) => Answer::Refused(n),
         Answer::Stopped(n) => Answer::Stopped(n),
         Answer::Gave(n) => {
-            read::read_type(table, s, number, payload, words, Place { from: 0, to: 0 });
+            unpacking::read_type(table, s, number, payload, words);
             Answer::Gave(n)
         }
     }
@@ -124,14 +99,7 @@ fn first_read(table: &[u8], s: Sections, number: u16, payload: &[u8], words: &mu
     ensures { λ r. ⌜ r ≡ answer (typeWalk (reader (now (payload .entry))) (now (table .entry)) s number start []) ⌝ }
     ensures { λ _. ⌜ now (words .exit) ≡ now (words .entry) ⌝ }
 {
-    read::read_type(
-        table,
-        s,
-        number,
-        payload,
-        &mut words[..0],
-        Place { from: 0, to: 0 },
-    )
+    unpacking::read_type(table, s, number, payload, &mut words[..0])
 }
 
 // What the walk's end comes to: 41 where input is left over, and last 45 where the output is too short.
@@ -167,7 +135,7 @@ fn pack_type(table: &[u8], s: Sections, number: u16, words: &[u64], out: &mut [u
         Answer::Refused(n) => Answer::Refused(n),
         Answer::Stopped(n) => Answer::Stopped(n),
         Answer::Gave(n) => {
-            write::write_type(table, s, number, words, out, Place { from: 0, to: 0 });
+            packing::write_type(table, s, number, words, out);
             Answer::Gave(n)
         }
     }
@@ -178,12 +146,5 @@ fn first_write(table: &[u8], s: Sections, number: u16, words: &[u64], out: &mut 
     ensures { λ r. ⌜ r ≡ answer (typeWalk (writer (now (words .entry))) (now (table .entry)) s number start []) ⌝ }
     ensures { λ _. ⌜ now (out .exit) ≡ now (out .entry) ⌝ }
 {
-    write::write_type(
-        table,
-        s,
-        number,
-        words,
-        &mut out[..0],
-        Place { from: 0, to: 0 },
-    )
+    packing::write_type(table, s, number, words, &mut out[..0])
 }

@@ -5,14 +5,14 @@ use mathlib.Core.Path.{_≡_, refl, sym, ap, ap₂, _∙_}
 use mathlib.Core.Bool.{Bool, true, false, not}
 use mathlib.Core.List.{List}
 use lib.Dec.{eqb}
-use Rattle.types.specs.declared.Sections.{Sections}
-use Rattle.types.specs.declared.Operation.{Operation}
-use Rattle.types.specs.declared.Found.{Found}
-use Rattle.types.specs.declared.Found.the-variants as found
-use Rattle.types.specs.All.{allBelow}
-use Rattle.types.specs.Entries.{operationAt}
-use Rattle.types.specs.Operations.{Answers}
-use Rattle.types.proofs.AllBelow.{none-below, next-below, stop-below, done-below}
+use Rattle.table.specs.declared.Sections.{Sections}
+use Rattle.table.specs.declared.Operation.{Operation}
+use Rattle.table.specs.declared.Found.{Found}
+use Rattle.table.specs.declared.Found.the-variants as found
+use Rattle.table.specs.All.{allBelow}
+use Rattle.table.specs.Entries.{operationAt}
+use Rattle.table.specs.Operations.{Answers}
+use Rattle.table.proofs.AllBelow.{none-below, next-below, stop-below, done-below}
 use Rattle.message.specs.declared.Header.{Header}
 use Rattle.message.specs.declared.Status.{Status}
 use Rattle.message.specs.declared.Status.the-variants.{Down, Up}

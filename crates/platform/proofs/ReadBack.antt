@@ -15,9 +15,9 @@ use Rattle.wire.specs.Bytes.{number, bytes, over, part}
 use Rattle.wire.proofs.Numbers.{number-bytes}
 use Rattle.wire.proofs.Runs.{part-over}
 use Rattle.wire.proofs.Cond.{no-lt}
-use Rattle.types.specs.declared.Sections.{Sections}
-use Rattle.types.specs.declared.Found.{Found}
-use Rattle.types.specs.declared.Found.the-variants as found
+use Rattle.table.specs.declared.Sections.{Sections}
+use Rattle.table.specs.declared.Found.{Found}
+use Rattle.table.specs.declared.Found.the-variants as found
 use Rattle.message.specs.declared.Header.{Header}
 use Rattle.message.specs.declared.Status.{Status}
 use Rattle.message.specs.declared.Status.the-variants.{Down, Up}

@@ -9,11 +9,11 @@ use types.Run.{OneOf, miss}
 use lib.ListN.{length}
 use Rattle.wire.specs.Bytes.{part}
 use Rattle.wire.proofs.Cond.{yes-if, no-if}
-use Rattle.types.specs.declared.Sections.{Sections}
-use Rattle.types.specs.declared.Found.{Found}
-use Rattle.types.specs.declared.Checked.{Checked}
-use Rattle.types.specs.declared.Checked.the-variants as checked
-use Rattle.types.specs.Layout.{cutShort, within}
+use Rattle.table.specs.declared.Sections.{Sections}
+use Rattle.table.specs.declared.Found.{Found}
+use Rattle.table.specs.declared.Checked.{Checked}
+use Rattle.table.specs.declared.Checked.the-variants as checked
+use Rattle.table.specs.Layout.{cutShort, within}
 use Rattle.types.specs.Table.{checked}
 use Rattle.types.proofs.Accepted.{accepted, is-within}
 use Rattle.message.specs.declared.Header.{Header}

@@ -12,11 +12,11 @@ use lib.ListN.{length, drop, length-drop}
 use lib.Seq.{take-all}
 use Rattle.wire.specs.Bytes.{over, part}
 use Rattle.wire.proofs.Runs.{part-in, part-over}
-use Rattle.types.specs.declared.Sections.{Sections}
-use Rattle.types.specs.declared.Found.{Found}
-use Rattle.types.specs.declared.Checked.{Checked}
-use Rattle.types.specs.declared.Checked.the-variants as checked
-use Rattle.types.specs.Layout.{cutShort, within}
+use Rattle.table.specs.declared.Sections.{Sections}
+use Rattle.table.specs.declared.Found.{Found}
+use Rattle.table.specs.declared.Checked.{Checked}
+use Rattle.table.specs.declared.Checked.the-variants as checked
+use Rattle.table.specs.Layout.{cutShort, within}
 use Rattle.types.specs.Table.{checked}
 use Rattle.message.specs.declared.Header.{Header}
 use Rattle.message.specs.declared.Reading.{Reading}

@@ -7,15 +7,15 @@ use mathlib.Core.Bool.{true}
 use mathlib.Core.List.{List}
 use lib.ListN.{length}
 use Rattle.wire.proofs.Cond.{yes-if}
-use Rattle.types.specs.declared.Sections.{Sections}
-use Rattle.types.specs.declared.Found.{Found}
-use Rattle.types.specs.declared.Checked.{Checked}
-use Rattle.types.specs.declared.Checked.the-variants as checked
-use Rattle.types.specs.Layout.{cutShort}
-use Rattle.types.specs.Operations.{idsRise}
+use Rattle.table.specs.declared.Sections.{Sections}
+use Rattle.table.specs.declared.Found.{Found}
+use Rattle.table.specs.declared.Checked.{Checked}
+use Rattle.table.specs.declared.Checked.the-variants as checked
+use Rattle.table.specs.Layout.{cutShort}
+use Rattle.table.specs.Operations.{idsRise}
 use Rattle.types.specs.Table.{checked}
 use Rattle.types.proofs.Accepted.{Accepted, accepted, is-within, ids-rise}
-use Rattle.types.proofs.Unique.{operation-answers, answers-are}
+use Rattle.table.proofs.Unique.{operation-answers, answers-are}
 use Rattle.message.specs.declared.Header.{Header}
 use Rattle.message.specs.declared.Message.{Message}
 use Rattle.message.specs.declared.Message.the-variants as message

@@ -4,8 +4,8 @@ use Prim.Native.Nat.{ℕ, zero, suc}
 use mathlib.Core.Bool.{cond}
 use mathlib.Core.List.{List, [], _∷_, _++_}
 use lib.Dec.{ltb}
-use Rattle.types.specs.declared.Sections.{Sections}
-use Rattle.types.specs.declared.Found.{Found}
+use Rattle.table.specs.declared.Sections.{Sections}
+use Rattle.table.specs.declared.Found.{Found}
 use Rattle.message.specs.declared.Reading.{Reading}
 use Rattle.message.specs.declared.Reading.the-variants as reading
 use Rattle.message.specs.Reading.{readOf}

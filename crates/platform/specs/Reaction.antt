@@ -5,12 +5,12 @@ use mathlib.Core.Bool.{Bool, true, false, cond, not}
 use mathlib.Core.Path.{_≡_}
 use mathlib.Core.List.{List}
 use lib.Dec.{eqb}
-use Rattle.types.specs.declared.Sections.{Sections}
-use Rattle.types.specs.declared.Found.{Found}
-use Rattle.types.specs.declared.Found.the-variants as found
-use Rattle.types.specs.All.{allBelow}
-use Rattle.types.specs.Entries.{operationAt}
-use Rattle.types.specs.Operations.{dataKind, Answers, operationOf}
+use Rattle.table.specs.declared.Sections.{Sections}
+use Rattle.table.specs.declared.Found.{Found}
+use Rattle.table.specs.declared.Found.the-variants as found
+use Rattle.table.specs.All.{allBelow}
+use Rattle.table.specs.Entries.{dataKind, operationAt}
+use Rattle.table.specs.Operations.{Answers, operationOf}
 use Rattle.message.specs.declared.Header.{Header}
 use Rattle.message.specs.declared.Status.{Status}
 use Rattle.message.specs.declared.Status.the-variants.{Down, Up}

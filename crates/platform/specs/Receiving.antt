@@ -7,11 +7,11 @@ use mathlib.Core.List.{List, []}
 use lib.Dec.{ltb}
 use lib.ListN.{length}
 use Rattle.wire.specs.Bytes.{over, part}
-use Rattle.types.specs.declared.Sections.{Sections}
-use Rattle.types.specs.declared.Found.{Found}
-use Rattle.types.specs.declared.Checked.{Checked}
-use Rattle.types.specs.declared.Checked.the-variants as checked
-use Rattle.types.specs.Layout.{cutShort, within}
+use Rattle.table.specs.declared.Sections.{Sections}
+use Rattle.table.specs.declared.Found.{Found}
+use Rattle.table.specs.declared.Checked.{Checked}
+use Rattle.table.specs.declared.Checked.the-variants as checked
+use Rattle.table.specs.Layout.{cutShort, within}
 use Rattle.types.specs.Table.{checked}
 use Rattle.message.specs.declared.Header.{Header}
 use Rattle.message.specs.declared.Reading.{Reading}

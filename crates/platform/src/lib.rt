@@ -8,16 +8,16 @@ mod words;
 ghost use mathlib.Core.Path.{_≡_};
 ghost use lib.ListN.{length};
 ghost use mathlib.Core.Bool.{true};
-ghost use Rattle.types.specs.Layout.{within};
+ghost use Rattle.table.specs.Layout.{within};
 ghost use Rattle.platform.specs.States.{isUp, howManyUp};
 ghost use Rattle.platform.specs.Receiving.{freshStanding, refused, taken, answered, laidOut, outcomeOf, outputOf, receivedOf, leftOf, Received, payloadHeard};
 use message::Header;
 use message::Own;
 use message::Reading;
 use message::Status;
-use types::Checked;
-use types::Found;
-use types::Sections;
+use table::Checked;
+use table::Found;
+use table::Sections;
 
 // The states of the 256 platforms: platform k is bit k % 64 of word k / 64.
 pub struct States {
@@ -144,7 +144,7 @@ pub fn receive_checked(
 ) -> Outcome
     ensures { λ r. ⌜ Received (own .platform) (now (table .entry)) s standing (now (message .entry)) (now (out .entry)) r (now (out .exit)) ⌝ }
 {
-    if types::layout::within(table, s) {
+    if table::layout::within(table, s) {
         received(own, table, s, standing, message, out)
     } else {
         refused(standing, CUT_SHORT)

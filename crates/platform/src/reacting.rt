@@ -11,8 +11,8 @@ use message::Message;
 use message::Own;
 use message::Reading;
 use message::Status;
-use types::Found;
-use types::Sections;
+use table::Found;
+use table::Sections;
 ghost use mathlib.Core.Path.{_≡_};
 ghost use Rattle.platform.specs.Reaction.{Looked, LookedFor, isData, notData, noData, silent, replied, noted, cameUp, onStatus, notVersioned, onPullAll, onPullOne, onPull, onOperation, reactionTo};
 
@@ -69,8 +69,8 @@ fn looked_for(table: &[u8], s: Sections, header: Header, message: Message) -> Fo
         Message::PlatformStatus(_) => Found::Nothing,
         Message::PlatformStatusRequest => Found::Nothing,
         Message::UnknownOperation(_) => Found::Nothing,
-        Message::VersionedDataPull(id) => types::operations::find(table, s, id),
-        Message::Operation => types::operations::find(table, s, header.id),
+        Message::VersionedDataPull(id) => table::operations::find(table, s, id),
+        Message::Operation => table::operations::find(table, s, header.id),
     }
 }
 
@@ -226,7 +226,7 @@ fn no_data(table: &[u8], s: Sections) -> bool
 fn is_data(table: &[u8], s: Sections, i: u16) -> bool
     ensures { λ r. ⌜ r ≡ isData (now (table .entry)) s i ⌝ }
 {
-    types::entries::operation_at(table, s, i).kind == DATA_KIND
+    table::entries::operation_at(table, s, i).kind == DATA_KIND
 }
 
 fn silent(standing: Standing, heard: Heard) -> Reaction

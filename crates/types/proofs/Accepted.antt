@@ -8,25 +8,26 @@ use mathlib.Core.List.{List}
 use native.Mathlib.Omega.{arith}
 use borrow.Author.Tests.{eqb-true, eqb-false, leb-true, leb-false, ltb-true, lt-ltb, le-leb, not-true}
 use lib.Dec.{ltb, leb, eqb}
-use Rattle.types.specs.declared.Sections.{Sections}
-use Rattle.types.specs.declared.Entry.{Entry}
-use Rattle.types.specs.declared.Operation.{Operation}
-use Rattle.types.specs.declared.Checked.{Checked}
-use Rattle.types.specs.declared.Checked.the-variants.{Refused, Table}
+use Rattle.table.specs.declared.Sections.{Sections}
+use Rattle.table.specs.declared.Entry.{Entry}
+use Rattle.table.specs.declared.Operation.{Operation}
+use Rattle.table.specs.declared.Checked.{Checked}
+use Rattle.table.specs.declared.Checked.the-variants.{Refused, Table}
 use Rattle.types.specs.declared.Largest.the-variants.{Bytes}
-use Rattle.types.specs.All.{allBelow, above}
-use Rattle.types.specs.Leaf.{isBase, isEnumBase, allowed}
-use Rattle.types.specs.Layout.{ruleBroken, tooLarge, mostTypes, sectionsOf, within}
-use Rattle.types.specs.Entries.{typeAt, memberAt, valueAt, idAt, operationAt}
+use Rattle.table.specs.All.{allBelow, above}
+use Rattle.table.specs.Leaf.{isBase, isEnumBase, allowed}
+use Rattle.table.specs.Layout.{mostTypes, sectionsOf, within}
+use Rattle.table.specs.Entries.{noId, noType, typeAt, memberAt, valueAt, idAt, operationAt}
 use Rattle.types.specs.Rules.{baseFields, enumFields, recordFields, elementFields, fieldsOk}
 use Rattle.types.specs.Rules.{memberOk, membersOk, pointedOk, typeOk}
 use Rattle.types.specs.Values.{valueOf, valueOk, unlike, unlikeBefore, distinct, valuesOk}
-use Rattle.types.specs.Operations.{noId, noType, fieldsOk as operationFields, operationOk, idsRise}
+use Rattle.table.specs.Operations.{idsRise}
+use Rattle.types.specs.Operations.{fieldsOk as operationFields, operationOk}
 use Rattle.types.specs.Sizes.{mostBytes, largest, sizeFits, bytesUpTo, largestBelow, largestOf}
-use Rattle.types.specs.Table.{entriesOk, sizesOk, judged, judging, checked}
-use Rattle.types.proofs.AllBelow.{and-left, and-right, at-below, all-below}
+use Rattle.types.specs.Table.{ruleBroken, tooLarge, entriesOk, sizesOk, judged, judging, checked}
+use Rattle.table.proofs.AllBelow.{and-left, and-right, at-below, all-below}
 use Rattle.types.proofs.TypeRules.{base-entry, enum-entry, record-entry, fixed-entry, array-entry, no-entry, points-to-values, points-to-members}
-use Rattle.types.proofs.Chain.{Chain, chain, finished, chain-within}
+use Rattle.table.proofs.Chain.{Chain, chain, finished, chain-within}
 
 -- a table that `check` accepts
 pub record Accepted (t : List ℕ) (s : Sections) : Type 0 where

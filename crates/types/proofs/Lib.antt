@@ -1,13 +1,6 @@
-pub mod Leaves
-pub mod AllBelow
-pub mod Rising
-pub mod Places
-pub mod Lookups
 pub mod TypeRules
 pub mod ValueRules
 pub mod OperationRules
 pub mod SizeLaws
 pub mod Tables
-pub mod Chain
 pub mod Accepted
-pub mod Unique

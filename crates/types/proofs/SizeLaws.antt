@@ -14,15 +14,15 @@ use mir.Val.{Fits}
 use lib.Dec.{ltb}
 use lib.ListN.{length, getD, set, take, length-append, List·getD-eq-default, List·getD-append}
 use lib.Seq.{take-suc-set, getD-at}
-use Rattle.types.specs.declared.Sections.{Sections}
-use Rattle.types.specs.declared.Entry.{Entry}
+use Rattle.table.specs.declared.Sections.{Sections}
+use Rattle.table.specs.declared.Entry.{Entry}
 use Rattle.types.specs.declared.Largest.{Largest}
 use Rattle.types.specs.declared.Largest.the-variants.{Bytes, Unknown}
-use Rattle.types.specs.All.{allBelow}
-use Rattle.types.specs.Leaf.{width}
-use Rattle.types.specs.Entries.{typeAt, memberAt, isType}
+use Rattle.table.specs.All.{allBelow}
+use Rattle.table.specs.Leaf.{width}
+use Rattle.table.specs.Entries.{typeAt, memberAt, isType}
 use Rattle.types.specs.Sizes.{mostBytes, sumOf, sizeOf, sizes, largest, sizeFits, bytesUpTo, largestBelow, largestOf}
-use Rattle.types.proofs.AllBelow.{and-right, next-below, stop-below}
+use Rattle.table.proofs.AllBelow.{and-right, next-below, stop-below}
 
 -- a 16-bit count times a 32-bit size
 product : (n z : ℕ) → Fits w16 n → Fits w32 z → n * z ≤ 65535 * 4294967295

@@ -4,14 +4,14 @@ use Prim.Native.Nat.{ℕ}
 use mathlib.Core.Path.{_≡_, refl}
 use mathlib.Core.Bool.{Bool, true, false}
 use mathlib.Core.List.{List}
-use Rattle.types.specs.declared.Sections.{Sections}
-use Rattle.types.specs.declared.Checked.{Checked}
-use Rattle.types.specs.declared.Checked.the-variants.{Refused, Table}
-use Rattle.types.specs.All.{allBelow}
-use Rattle.types.specs.Layout.{ruleBroken, tooLarge, sectionsOf}
+use Rattle.table.specs.declared.Sections.{Sections}
+use Rattle.table.specs.declared.Checked.{Checked}
+use Rattle.table.specs.declared.Checked.the-variants.{Refused, Table}
+use Rattle.table.specs.All.{allBelow}
+use Rattle.table.specs.Layout.{sectionsOf}
 use Rattle.types.specs.Rules.{typeOk}
 use Rattle.types.specs.Operations.{operationOk}
-use Rattle.types.specs.Table.{entriesOk, sizesOk, judged, judging, checked}
+use Rattle.types.specs.Table.{ruleBroken, tooLarge, entriesOk, sizesOk, judged, judging, checked}
 
 module _ (t : List ℕ) (s : Sections) where
   module _ (a : Bool) (p : a ≡ allBelow (typeOk t s) (s .types .count)) where

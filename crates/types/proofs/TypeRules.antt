@@ -1,16 +1,16 @@
 -- What the rules of a type's entry come to, return by return.
 -- Assumes nothing.
-use Prim.Native.Nat.{ℕ}
+use Prim.Native.Nat.{ℕ, _+_}
 use mathlib.Core.Path.{_≡_, refl, ap}
 use mathlib.Core.Bool.{Bool, true, false}
 use mathlib.Core.List.{List}
 use borrow.Author.Tests.{eq-eqb, ne-eqb}
-use lib.Dec.{eqb}
-use Rattle.types.specs.declared.Sections.{Sections}
-use Rattle.types.specs.declared.Entry.{Entry}
-use Rattle.types.specs.Entries.{typeAt}
+use lib.Dec.{ltb, eqb}
+use Rattle.table.specs.declared.Sections.{Sections}
+use Rattle.table.specs.declared.Entry.{Entry}
+use Rattle.table.specs.Entries.{typeAt, memberAt}
 use Rattle.types.specs.Values.{valuesOk}
-use Rattle.types.specs.Rules.{baseFields, enumFields, recordFields, elementFields, fieldsOk, membersOk, pointedOk, typeOk}
+use Rattle.types.specs.Rules.{baseFields, enumFields, recordFields, elementFields, fieldsOk, memberOk, membersOk, pointedOk, typeOk}
 
 -- the fields, by the kind
 module _ (s : Sections) (i : ℕ) (e : Entry) (r : Bool) where
@@ -61,3 +61,7 @@ module _ (t : List ℕ) (s : Sections) (i : ℕ) (e : Entry) where
   pub bad-fields : (f : Bool) → e ≡ typeAt t s i → f ≡ fieldsOk s i e → f ≡ false → false ≡ typeOk t s i
   unfolding typeOk
   bad-fields f is p h = rw (← is, ← p, h) refl
+
+pub smaller-member : (t : List ℕ) (s : Sections) (i : ℕ) (e : Entry) (k m : ℕ) → m ≡ memberAt t s (e .first + k) → ltb m i ≡ memberOk t s i e k
+unfolding memberOk
+smaller-member t s i e k m h = ap (λ (n : ℕ). ltb n i) h

@@ -6,12 +6,23 @@ use mathlib.Core.Bool.{Bool, true, false, not}
 use mathlib.Core.List.{List}
 use native.Mathlib.Omega.{arith}
 use borrow.Author.Tests.{lt-ltb, le-ltb, ne-eqb}
-use Rattle.types.specs.declared.Sections.{Sections}
-use Rattle.types.specs.declared.Entry.{Entry}
-use Rattle.types.specs.All.{allBelow}
+use lib.Dec.{eqb}
+use Rattle.table.specs.declared.Sections.{Sections}
+use Rattle.table.specs.declared.Entry.{Entry}
+use Rattle.table.specs.All.{allBelow}
+use Rattle.table.specs.Leaf.{allowed}
 use Rattle.types.specs.Values.{valueOf, valueOk, unlike, unlikeBefore, distinct, valuesOk, rank, rising}
-use Rattle.types.proofs.AllBelow.{all-below, stop-below, done-below}
-use Rattle.types.proofs.Rising.{rising-apart}
+use Rattle.table.proofs.AllBelow.{all-below, stop-below, done-below}
+use Rattle.table.proofs.Rising.{rising-apart}
+
+-- the value as it is read
+pub judged-value : (t : List ℕ) (s : Sections) (e : Entry) (k v : ℕ) (r : Bool) → v ≡ valueOf t s e k → r ≡ allowed (e .of) v → r ≡ valueOk t s e k
+unfolding valueOk
+judged-value t s e k v r a b = b ∙ ap (allowed (e .of)) a
+
+pub compared : (t : List ℕ) (s : Sections) (e : Entry) (word j v : ℕ) → v ≡ valueOf t s e j → not (eqb v word) ≡ unlike t s e word j
+unfolding unlike
+compared t s e word j v a = ap (λ (n : ℕ). not (eqb n word)) a
 
 -- the words of a signed base are compared with their top bits turned
 module _ (t : List ℕ) (s : Sections) (e : Entry) (k v r : ℕ) (is : v ≡ valueOf t s e k) where

@@ -1,7 +1,3 @@
-pub mod Leaf
-pub mod All
-pub mod Layout
-pub mod Entries
 pub mod Values
 pub mod Rules
 pub mod Operations

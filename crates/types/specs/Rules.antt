@@ -3,28 +3,12 @@ use Prim.Native.Nat.{ℕ, _+_}
 use mathlib.Core.Bool.{Bool, true, false, _&&_, _||_, cond}
 use mathlib.Core.List.{List}
 use lib.Dec.{ltb, leb, eqb}
-use Rattle.types.specs.declared.Sections.{Sections}
-use Rattle.types.specs.declared.Entry.{Entry}
-use Rattle.types.specs.All.{allBelow}
-use Rattle.types.specs.Leaf.{isBase, isEnumBase}
-use Rattle.types.specs.Entries.{typeAt, memberAt}
+use Rattle.table.specs.declared.Sections.{Sections}
+use Rattle.table.specs.declared.Entry.{Entry}
+use Rattle.table.specs.All.{allBelow}
+use Rattle.table.specs.Leaf.{isBase, isEnumBase}
+use Rattle.table.specs.Entries.{baseKind, enumKind, recordKind, fixedKind, arrayKind, typeAt, memberAt}
 use Rattle.types.specs.Values.{valuesOk}
-
--- kinds
-abbrev pub baseKind : ℕ
-baseKind = 0
-
-abbrev pub enumKind : ℕ
-enumKind = 1
-
-abbrev pub recordKind : ℕ
-recordKind = 2
-
-abbrev pub fixedKind : ℕ
-fixedKind = 3
-
-abbrev pub arrayKind : ℕ
-arrayKind = 4
 
 -- 0 base: of is the code, and first and count are unused
 abbrev pub baseFields : Entry → Bool

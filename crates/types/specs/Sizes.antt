@@ -4,15 +4,14 @@ use mathlib.Core.Bool.{Bool, _&&_, cond}
 use mathlib.Core.List.{List, [], _∷_, _++_}
 use lib.Dec.{ltb, leb, eqb}
 use lib.ListN.{getD}
-use Rattle.types.specs.declared.Sections.{Sections}
-use Rattle.types.specs.declared.Entry.{Entry}
+use Rattle.table.specs.declared.Sections.{Sections}
+use Rattle.table.specs.declared.Entry.{Entry}
 use Rattle.types.specs.declared.Largest.{Largest}
 use Rattle.types.specs.declared.Largest.the-variants.{Bytes, Unknown}
-use Rattle.types.specs.All.{allBelow}
-use Rattle.types.specs.Leaf.{width}
-use Rattle.types.specs.Layout.{mostTypes}
-use Rattle.types.specs.Entries.{typeAt, memberAt, isType}
-use Rattle.types.specs.Rules.{enumKind, recordKind, fixedKind, arrayKind}
+use Rattle.table.specs.All.{allBelow}
+use Rattle.table.specs.Leaf.{width}
+use Rattle.table.specs.Layout.{mostTypes}
+use Rattle.table.specs.Entries.{enumKind, recordKind, fixedKind, arrayKind, typeAt, memberAt, isType}
 
 -- the most bytes that a type may take, and those of an array's count
 abbrev pub mostBytes : ℕ

@@ -2,14 +2,21 @@
 use Prim.Native.Nat.{ℕ}
 use mathlib.Core.Bool.{Bool, _&&_, cond}
 use mathlib.Core.List.{List}
-use Rattle.types.specs.declared.Sections.{Sections}
-use Rattle.types.specs.declared.Checked.{Checked}
-use Rattle.types.specs.declared.Checked.the-variants.{Refused, Table}
-use Rattle.types.specs.All.{allBelow}
-use Rattle.types.specs.Layout.{ruleBroken, tooLarge, sectionsOf}
+use Rattle.table.specs.declared.Sections.{Sections}
+use Rattle.table.specs.declared.Checked.{Checked}
+use Rattle.table.specs.declared.Checked.the-variants.{Refused, Table}
+use Rattle.table.specs.All.{allBelow}
+use Rattle.table.specs.Layout.{sectionsOf}
 use Rattle.types.specs.Rules.{typeOk}
 use Rattle.types.specs.Operations.{operationOk}
 use Rattle.types.specs.Sizes.{sizeFits}
+
+-- the numbers of 01 for an entry and for a size
+abbrev pub ruleBroken : ℕ
+ruleBroken = 32
+
+abbrev pub tooLarge : ℕ
+tooLarge = 33
 
 -- every entry keeps its rule
 unfoldable pub entriesOk : List ℕ → Sections → Bool

@@ -3,11 +3,11 @@ use Prim.Native.Nat.{ℕ, _+_, _%_, _^_}
 use mathlib.Core.Bool.{Bool, _&&_, not, cond}
 use mathlib.Core.List.{List}
 use lib.Dec.{ltb, eqb}
-use Rattle.types.specs.declared.Sections.{Sections}
-use Rattle.types.specs.declared.Entry.{Entry}
-use Rattle.types.specs.All.{allBelow, above}
-use Rattle.types.specs.Leaf.{allowed}
-use Rattle.types.specs.Entries.{valueAt}
+use Rattle.table.specs.declared.Sections.{Sections}
+use Rattle.table.specs.declared.Entry.{Entry}
+use Rattle.table.specs.All.{allBelow, above}
+use Rattle.table.specs.Leaf.{allowed}
+use Rattle.table.specs.Entries.{valueAt}
 
 -- the k-th value of an enum
 abbrev pub valueOf : List ℕ → Sections → Entry → ℕ → ℕ

@@ -1,26 +1,10 @@
-// The rules of an operation's entry (number 32), and an operation looked up by its ID.
-use crate::Found;
-use crate::Operation;
-use crate::Sections;
-use crate::entries;
+// The rules of an operation's entry: number 32.
+use table::Operation;
+use table::Sections;
+use table::entries;
 ghost use mathlib.Core.Path.{_≡_};
-ghost use Rattle.types.specs.All.{allBelow};
-ghost use Rattle.types.specs.Operations.{operationOk, fieldsOk, Answers};
-
-// An entry that bears the ID, or none; and none means absent where the IDs rise.
-pub fn find(table: &[u8], s: Sections, id: u32) -> Found
-    ensures { λ r. ⌜ Answers (now (table .entry)) s id r ⌝ }
-{
-    let count = s.operations.count;
-    let mut i: u16 = 0;
-    while i < count {
-        if entries::id_at(table, s, i) == id {
-            return Found::At(i);
-        }
-        i += 1;
-    }
-    Found::Nothing
-}
+ghost use Rattle.table.specs.All.{allBelow};
+ghost use Rattle.types.specs.Operations.{operationOk, fieldsOk};
 
 // Every operation of the table keeps its rule.
 pub(crate) fn operations_ok(table: &[u8], s: Sections) -> bool

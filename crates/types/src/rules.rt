@@ -1,11 +1,11 @@
 // The rules of a type's entry and of what it points to: number 32. Members and values that no type points to are not
 // looked at.
-use crate::Entry;
-use crate::Sections;
-use crate::entries;
 use crate::values;
+use table::Entry;
+use table::Sections;
+use table::entries;
 ghost use mathlib.Core.Path.{_≡_};
-ghost use Rattle.types.specs.All.{allBelow};
+ghost use Rattle.table.specs.All.{allBelow};
 ghost use Rattle.types.specs.Rules.{typeOk, fieldsOk, pointedOk, membersOk, memberOk};
 ghost use Rattle.types.specs.Rules.{baseFields, enumFields, recordFields, elementFields};
 

@@ -1,15 +1,15 @@
 // The largest sizes of the types, each from those of the types before it: number 33.
-use crate::Entry;
 use crate::Largest;
-use crate::Sections;
-use crate::entries;
-use crate::leaf;
+use table::Entry;
+use table::Sections;
+use table::entries;
+use table::leaf;
 ghost use mathlib.Core.Path.{_≡_};
 ghost use mathlib.Core.Bool.{true};
 ghost use Prim.Native.Nat.{_*_, _^_, _≤_, _<_};
 ghost use lib.ListN.{length, getD, take};
-ghost use Rattle.types.specs.All.{allBelow};
-ghost use Rattle.types.specs.Layout.{mostTypes};
+ghost use Rattle.table.specs.All.{allBelow};
+ghost use Rattle.table.specs.Layout.{mostTypes};
 ghost use Rattle.types.specs.Sizes.{sizeOf, sumOf, sizes, sizeFits, bytesUpTo, largestBelow, largestOf};
 ghost use Rattle.types.specs.Table.{sizesOk};
 

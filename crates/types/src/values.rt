@@ -1,10 +1,10 @@
 // The values of an enum: each is allowed in its base, and no two are alike. Number 32.
-use crate::Entry;
-use crate::Sections;
-use crate::entries;
-use crate::leaf;
+use table::Entry;
+use table::Sections;
+use table::entries;
+use table::leaf;
 ghost use mathlib.Core.Path.{_≡_};
-ghost use Rattle.types.specs.All.{allBelow};
+ghost use Rattle.table.specs.All.{allBelow};
 ghost use Rattle.types.specs.Values.{valueOf, valueOk, unlike, unlikeBefore, distinct, valuesOk, rank, rising};
 
 // Values that rise, as most do, are distinct after one pass; the others are compared each with each.

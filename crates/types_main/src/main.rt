@@ -32,25 +32,25 @@ fn answer_line(line: &[u8]) {
 
 fn answer(table: &[u8]) {
     match types::check(table) {
-        types::Checked::Refused(n) => write_number(b" refused ", n),
-        types::Checked::Table(s) => answer_table(table, s),
+        table::Checked::Refused(n) => write_number(b" refused ", n),
+        table::Checked::Table(s) => answer_table(table, s),
     }
 }
 
-fn answer_table(table: &[u8], s: types::Sections) {
+fn answer_table(table: &[u8], s: table::Sections) {
     answer_counts(s);
     answer_sizes(table, s);
     answer_operations(table, s);
 }
 
-fn answer_counts(s: types::Sections) {
+fn answer_counts(s: table::Sections) {
     write_number(b" table ", s.types.count as u32);
     write_number(b" ", s.members.count as u32);
     write_number(b" ", s.values.count as u32);
     write_number(b" ", s.operations.count as u32);
 }
 
-fn answer_sizes(table: &[u8], s: types::Sections) {
+fn answer_sizes(table: &[u8], s: table::Sections) {
     let count = s.types.count;
     io::write_all(STDOUT_FILENO, b", sizes");
     for i in 0..count {
@@ -65,19 +65,19 @@ fn answer_size(l: types::Largest) {
     }
 }
 
-fn answer_operations(table: &[u8], s: types::Sections) {
+fn answer_operations(table: &[u8], s: table::Sections) {
     let count = s.operations.count;
     io::write_all(STDOUT_FILENO, b", found");
     for i in 0..count {
-        let id = types::entries::id_at(table, s, i);
-        answer_found(types::operations::find(table, s, id));
+        let id = table::entries::id_at(table, s, i);
+        answer_found(table::operations::find(table, s, id));
     }
 }
 
-fn answer_found(f: types::Found) {
+fn answer_found(f: table::Found) {
     match f {
-        types::Found::At(i) => write_number(b" ", i as u32),
-        types::Found::Nothing => write_number(b" nothing", 0),
+        table::Found::At(i) => write_number(b" ", i as u32),
+        table::Found::Nothing => write_number(b" nothing", 0),
     }
 }
 

@@ -4,8 +4,8 @@ use borrow.Author.Needs.{needs}
 use Prim.Native.Nat.{_-_, _≤_}
 use mathlib.Core.Path.{_≡_}
 use mathlib.Core.Bool.{true}
-use Rattle.types.specs.All.{allBelow}
-use Rattle.types.proofs.AllBelow.{none-below, next-below, stop-below, done-below}
+use Rattle.table.specs.All.{allBelow}
+use Rattle.table.proofs.AllBelow.{none-below, next-below, stop-below, done-below}
 use Rattle.leaves.specs.Choice.{other}
 use Rattle.leaves.proofs.Returns.{found, not-found}
 use Rattle.leaves.proofs.among.Statement.{statement}

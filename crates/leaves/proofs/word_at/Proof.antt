@@ -2,7 +2,7 @@
 -- Assumes nothing.
 use borrow.Author.Needs.{needs}
 use mathlib.Core.Path.{refl}
-use Rattle.types.specs.Leaf.{base}
+use Rattle.table.specs.Leaf.{base}
 use Rattle.leaves.specs.Forms.{wordAt, wordOf}
 use Rattle.leaves.proofs.Returns.{at-truth, at-extended, at-number, no-word}
 use Rattle.leaves.proofs.word_at.Statement.{statement}

@@ -2,7 +2,7 @@
 -- Assumes nothing.
 use borrow.Author.Needs.{needs}
 use Rattle.types.proofs.Tables.{no-sections, the-sections}
-use Rattle.types.proofs.Chain.{few-types}
+use Rattle.table.proofs.Chain.{few-types}
 use Rattle.types.proofs.check.Statement.{statement}
 use Rattle.types.proofs.check.Tie as tie
 

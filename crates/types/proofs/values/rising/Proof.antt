@@ -4,10 +4,10 @@ use borrow.Author.Needs.{needs}
 use Prim.Native.Nat.{_-_, _≤_}
 use mathlib.Core.Path.{_≡_}
 use mathlib.Core.Bool.{true}
-use Rattle.types.specs.All.{allBelow, above}
+use Rattle.table.specs.All.{allBelow, above}
 use Rattle.types.specs.Values.{rank, rising}
-use Rattle.types.proofs.AllBelow.{none-below, done-below}
-use Rattle.types.proofs.Rising.{Carried, carried-none, carried-next, rises-next, rises-no-more}
+use Rattle.table.proofs.AllBelow.{none-below, done-below}
+use Rattle.table.proofs.Rising.{Carried, carried-none, carried-next, rises-next, rises-no-more}
 use Rattle.types.proofs.values.rising.Statement.{statement}
 use Rattle.types.proofs.values.rising.Tie as tie
 

@@ -1,15 +1,14 @@
 -- `types::values::value_ok` meets its contract: the value as it is read.
 -- Assumes nothing.
 use borrow.Author.Needs.{needs}
-use Rattle.types.specs.Values.{valueOk}
+use Rattle.types.proofs.ValueRules.{judged-value}
 use Rattle.types.proofs.values.value_ok.Statement.{statement}
 use Rattle.types.proofs.values.value_ok.Tie as tie
 
 pub value-ok-spec : {M : Type 1} → statement M
-unfolding valueOk
 value-ok-spec =
     tie.close
     (tie.spec
     (λ c κs. search needs)
     (λ c κs. search needs)
-    (λ c. cc))
+    (λ c. search judged-value))

@@ -1,0 +1,177 @@
+// Writing a payload: the writer of a record's members and the writer of an array's elements call each other, each by the kind
+// of what it meets, and the type number falls at each entry.
+use table::Entry;
+use table::Sections;
+use walk::Met;
+use walk::Place;
+use walk::Walked;
+ghost use mathlib.Core.Path.{_≡_};
+ghost use lib.ListN.{getD};
+ghost use Rattle.walk.specs.declared.Met.the-variants.{Members, Elements};
+ghost use Rattle.walk.specs.Walk.{start, answer, left, begun, times, leafWalk, metWalk, typeWalk};
+ghost use Rattle.packing.specs.Writing.{writer, Writing};
+
+// Packs the words as a payload of type i, and stores the bytes of each where there is room for them.
+pub fn write_type(table: &[u8], s: Sections, i: u16, words: &[u64], out: &mut [u8]) -> Walked
+    ensures { λ r. ⌜ r ≡ answer (typeWalk (writer (now (words .entry))) (now (table .entry)) s i start (now (out .entry))) ⌝ }
+    ensures { λ _. ⌜ now (out .exit) ≡ left (typeWalk (writer (now (words .entry))) (now (table .entry)) s i start (now (out .entry))) ⌝ }
+{
+    let p = Place { from: 0, to: 0 };
+    match walk::look(table, s, i) {
+        Met::Leaf(e) => write_leaf(table, s, e, words, out, p),
+        Met::Members(e) => write_members(table, s, i, e, words, out, p),
+        Met::Elements(e) => write_elements(table, s, i, e, words, out, p),
+        Met::Broken => Walked::Stopped(32, p),
+    }
+}
+
+// Writes the members of a record, whose type number is i and entry e.
+fn write_members(
+    table: &[u8],
+    s: Sections,
+    i: u16,
+    e: Entry,
+    words: &[u64],
+    out: &mut [u8],
+    p: Place,
+) -> Walked
+    requires { ⌜ Writing (now words) p ⌝ }
+    ensures { λ r. ⌜ r ≡ answer (metWalk (writer (now (words .entry))) (now (table .entry)) s i (Members e) p (now (out .entry))) ⌝ }
+    ensures { λ _. ⌜ now (out .exit) ≡ left (metWalk (writer (now (words .entry))) (now (table .entry)) s i (Members e) p (now (out .entry))) ⌝ }
+{
+    let count = e.count;
+    let mut at = p;
+    let mut k: u16 = 0;
+    while k < count {
+        let child = table::entries::member_at(table, s, e.first as u32 + k as u32);
+        let step = match walk::meet(table, s, i, child) {
+            Met::Leaf(c) => write_leaf(table, s, c, words, out, at),
+            Met::Members(c) => write_members(table, s, child, c, words, out, at),
+            Met::Elements(c) => write_elements(table, s, child, c, words, out, at),
+            Met::Broken => Walked::Stopped(32, at),
+        };
+        match step {
+            Walked::Went(q) => {
+                at = q;
+                k += 1;
+            }
+            Walked::Stopped(n, q) => return Walked::Stopped(n, q),
+        }
+    }
+    Walked::Went(at)
+}
+
+// Writes the elements of an array, whose type number is i and entry e, behind its count where it has one.
+fn write_elements(
+    table: &[u8],
+    s: Sections,
+    i: u16,
+    e: Entry,
+    words: &[u64],
+    out: &mut [u8],
+    p: Place,
+) -> Walked
+    requires { ⌜ Writing (now words) p ⌝ }
+    ensures { λ r. ⌜ r ≡ answer (metWalk (writer (now (words .entry))) (now (table .entry)) s i (Elements e) p (now (out .entry))) ⌝ }
+    ensures { λ _. ⌜ now (out .exit) ≡ left (metWalk (writer (now (words .entry))) (now (table .entry)) s i (Elements e) p (now (out .entry))) ⌝ }
+{
+    let child = e.of;
+    let met = walk::meet(table, s, i, child);
+    let count = times(words, e, p);
+    match begin(words, out, e, p) {
+        Walked::Stopped(n, q) => Walked::Stopped(n, q),
+        Walked::Went(q) => {
+            let mut at = q;
+            let mut k: u64 = 0;
+            while k < count {
+                let step = match met {
+                    Met::Leaf(c) => write_leaf(table, s, c, words, out, at),
+                    Met::Members(c) => write_members(table, s, child, c, words, out, at),
+                    Met::Elements(c) => write_elements(table, s, child, c, words, out, at),
+                    Met::Broken => Walked::Stopped(32, at),
+                };
+                match step {
+                    Walked::Went(q) => {
+                        at = q;
+                        k += 1;
+                    }
+                    Walked::Stopped(n, q) => return Walked::Stopped(n, q),
+                }
+            }
+            Walked::Went(at)
+        }
+    }
+}
+
+// How many elements there are: a fixed array's length, or the count that stands at the place.
+fn times(words: &[u64], e: Entry, p: Place) -> u64
+    ensures { λ r. ⌜ r ≡ times (writer (now (words .entry))) e p ⌝ }
+{
+    if e.kind == 3 {
+        e.count as u64
+    } else {
+        word_at(words, p.from)
+    }
+}
+
+// What comes before the elements: nothing, or a count of at most the entry's.
+fn begin(words: &[u64], out: &mut [u8], e: Entry, p: Place) -> Walked
+    requires { ⌜ Writing (now words) p ⌝ }
+    ensures { λ r. ⌜ r ≡ answer (begun (writer (now (words .entry))) e p (now (out .entry))) ⌝ }
+    ensures { λ _. ⌜ now (out .exit) ≡ left (begun (writer (now (words .entry))) e p (now (out .entry))) ⌝ }
+{
+    if e.kind == 3 {
+        return Walked::Went(p);
+    }
+    if p.from < words.len() {
+        let count = word_at(words, p.from);
+        if count <= e.count as u64 {
+            leaves::put(out, p.to, 9, count);
+            Walked::Went(Place {
+                from: p.from + 1,
+                to: p.to + 4,
+            })
+        } else {
+            Walked::Stopped(43, p)
+        }
+    } else {
+        Walked::Stopped(40, p)
+    }
+}
+
+// A base or an enum.
+fn write_leaf(
+    table: &[u8],
+    s: Sections,
+    e: Entry,
+    words: &[u64],
+    out: &mut [u8],
+    p: Place,
+) -> Walked
+    requires { ⌜ Writing (now words) p ⌝ }
+    ensures { λ r. ⌜ r ≡ answer (leafWalk (writer (now (words .entry))) (now (table .entry)) s e p (now (out .entry))) ⌝ }
+    ensures { λ _. ⌜ now (out .exit) ≡ left (leafWalk (writer (now (words .entry))) (now (table .entry)) s e p (now (out .entry))) ⌝ }
+{
+    if p.from < words.len() {
+        let word = word_at(words, p.from);
+        if leaves::takes(table, s, e, word) {
+            let width = table::leaf::width(e.of);
+            leaves::put(out, p.to, e.of, word);
+            Walked::Went(Place {
+                from: p.from + 1,
+                to: p.to + width,
+            })
+        } else {
+            Walked::Stopped(42, p)
+        }
+    } else {
+        Walked::Stopped(40, p)
+    }
+}
+
+// A word, or 0 past the end.
+fn word_at(words: &[u64], at: usize) -> u64
+    ensures { λ r. ⌜ r ≡ getD (now (words .entry)) at 0 ⌝ }
+{
+    if at < words.len() { words[at] } else { 0 }
+}

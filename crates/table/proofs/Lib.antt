@@ -1,0 +1,8 @@
+pub mod Leaves
+pub mod AllBelow
+pub mod Rising
+pub mod Places
+pub mod Lookups
+pub mod Scans
+pub mod Chain
+pub mod Unique

@@ -1,0 +1,20 @@
+-- `table::entries::type_at` meets its contract: each field stands at its place.
+-- Assumes nothing.
+use borrow.Author.Needs.{needs}
+use Rattle.table.proofs.Lookups.{type-read}
+use Rattle.table.proofs.entries.type_at.Statement.{statement}
+use Rattle.table.proofs.entries.type_at.Tie as tie
+
+pub type-at-spec : {M : Type 1} → statement M
+type-at-spec =
+    tie.close
+    (tie.spec
+    (λ c κs. search needs)
+    (λ c κs. search needs)
+    (λ c. search needs)
+    (λ c κs. search needs)
+    (λ c. search needs)
+    (λ c κs. search needs)
+    (λ c. search needs)
+    (λ c κs. search needs)
+    (λ c. search type-read))

@@ -1,0 +1,5 @@
+pub mod Leaf
+pub mod All
+pub mod Layout
+pub mod Entries
+pub mod Operations

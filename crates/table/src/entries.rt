@@ -1,0 +1,57 @@
+// What stands in the i-th entry of each section. The look-ups answer for any bytes, sections and number: a byte past the
+// end reads as 0.
+use crate::Entry;
+use crate::Operation;
+use crate::Sections;
+use crate::layout;
+ghost use mathlib.Core.Path.{_≡_};
+ghost use Rattle.table.specs.Entries.{typeAt, memberAt, valueAt, idAt, operationAt, isType};
+
+pub fn type_at(table: &[u8], s: Sections, i: u16) -> Entry
+    ensures { λ r. ⌜ r ≡ typeAt (now (table .entry)) s i ⌝ }
+{
+    let at = layout::type_place(s, i as u32);
+    Entry {
+        kind: wire::u16_at(table, at),
+        of: wire::u16_at(table, at + 2),
+        first: wire::u16_at(table, at + 4),
+        count: wire::u16_at(table, at + 6),
+    }
+}
+
+// Whether the table has a type of that number.
+pub fn is_type(s: Sections, i: u16) -> bool
+    ensures { λ r. ⌜ r ≡ isType s i ⌝ }
+{
+    i < s.types.count
+}
+
+pub fn member_at(table: &[u8], s: Sections, i: u32) -> u16
+    ensures { λ r. ⌜ r ≡ memberAt (now (table .entry)) s i ⌝ }
+{
+    wire::u16_at(table, layout::member_place(s, i))
+}
+
+pub fn value_at(table: &[u8], s: Sections, i: u32) -> u64
+    ensures { λ r. ⌜ r ≡ valueAt (now (table .entry)) s i ⌝ }
+{
+    wire::u64_at(table, layout::value_place(s, i))
+}
+
+pub fn operation_at(table: &[u8], s: Sections, i: u16) -> Operation
+    ensures { λ r. ⌜ r ≡ operationAt (now (table .entry)) s i ⌝ }
+{
+    let at = layout::operation_place(s, i as u32);
+    Operation {
+        id: wire::u32_at(table, at),
+        kind: wire::u16_at(table, at + 4),
+        carries: wire::u16_at(table, at + 6),
+    }
+}
+
+// The ID of an operation alone.
+pub fn id_at(table: &[u8], s: Sections, i: u16) -> u32
+    ensures { λ r. ⌜ r ≡ idAt (now (table .entry)) s i ⌝ }
+{
+    wire::u32_at(table, layout::operation_place(s, i as u32))
+}

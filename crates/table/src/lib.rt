@@ -1,0 +1,54 @@
+// The bytes of a type table (01, "The type table"): where its four sections lie, what stands in each entry, what a base code
+// is, and an operation looked up by its ID. Nothing here judges an entry. Bytes that are no table's are refused: 30 cut short
+// or too long, 31 a count outside its limits.
+pub mod entries;
+pub mod layout;
+pub mod leaf;
+pub mod operations;
+
+// A section of a table: where its first entry stands, and how many there are.
+pub struct Section {
+    pub at: u16,
+    pub count: u16,
+}
+
+// The sections of a table, in reading order.
+pub struct Sections {
+    pub types: Section,
+    pub members: Section,
+    pub values: Section,
+    pub operations: Section,
+}
+
+// What is answered of table bytes: the number of a refusal, or the sections.
+pub enum Checked {
+    Refused(u32),
+    Table(Sections),
+}
+
+// A type's entry.
+pub struct Entry {
+    pub kind: u16,
+    pub of: u16,
+    pub first: u16,
+    pub count: u16,
+}
+
+// An operation's entry; `carries` is its type, or 0xFFFF for none.
+pub struct Operation {
+    pub id: u32,
+    pub kind: u16,
+    pub carries: u16,
+}
+
+// What looking up an operation finds: the number of its entry.
+pub enum Found {
+    At(u16),
+    Nothing,
+}
+
+// What reading a section finds.
+enum Part {
+    Missing(u32),
+    Found(Section),
+}

@@ -1,0 +1,23 @@
+-- 01, "Payload and words": reading a payload.
+use Prim.Native.Nat.{ℕ, _+_, _≤_}
+use mathlib.Core.List.{List, [], _∷_}
+use lib.Dec.{leb}
+use lib.ListN.{length}
+use Rattle.table.specs.Leaf.{width}
+use Rattle.leaves.specs.Forms.{wordAt}
+use Rattle.walk.specs.declared.Place.{Place}
+use Rattle.walk.specs.Walk.{Codec}
+
+-- a leaf of a payload is its word, one for each leaf
+unfoldable pub reader : List ℕ → Codec
+reader b =
+    record {
+      word = λ code p. wordAt code b (p .from);
+      there = λ code p. leb (p .from + width code) (length b);
+      after = λ code p. record { from = p .from + width code; to = p .to + 1 };
+      gives = λ code w. w ∷ [];
+    }
+
+-- a place that reading can come to: every leaf has a byte at least
+abbrev pub Reading : List ℕ → Place → Type 0
+Reading b p = (p .to ≤ p .from) × (p .from ≤ length b)

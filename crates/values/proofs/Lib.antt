@@ -1,0 +1,6 @@
+pub mod Belonging
+pub mod Codecs
+pub mod Exactly
+pub mod RoundTrip
+pub mod Settling
+pub mod Checked

@@ -1,0 +1,94 @@
+-- Laws of a type's tree: what a walk meets at an entry is the tree of the type there.
+-- Assumes nothing.
+use Prim.Native.Nat.{ℕ, zero, suc, _+_, _≤_, _<_}
+use mathlib.Core.Path.{_≡_, refl, sym, ap, _∙_}
+use mathlib.Core.Bool.{Bool, true, false, cond}
+use mathlib.Core.Logic.{⊎-elim}
+use mathlib.Core.List.{List, [], _∷_, _++_}
+use native.Mathlib.Nat.{eq-or-lt-of-le}
+use native.Mathlib.Numerals.{add-one}
+use native.Mathlib.Omega.{arith}
+use borrow.Author.Tests.{ltb-true, ltb-false}
+use lib.Dec.{ltb, leb, eqb}
+use lib.ListN.{length, getD, length-append, List·getD-eq-default, List·getD-append}
+use lib.Seq.{getD-at}
+use Rattle.wire.proofs.Cond.{yes-if, no-if, yes-lt, no-lt, yes-le, no-le, yes-eq, no-eq}
+use Rattle.table.specs.declared.Sections.{Sections}
+use Rattle.table.specs.declared.Entry.{Entry}
+use Rattle.table.specs.Entries.{typeAt}
+use Rattle.types.specs.Rules.{fieldsOk}
+use Rattle.walk.specs.declared.Met.{Met}
+use Rattle.walk.specs.declared.Met.the-variants.{Leaf, Members, Elements, Broken}
+use Rattle.walk.specs.Tree.{Tree, broken, byKind, look, meet, treeOf, trees, tree, child}
+
+-- by the kind
+pub a-leaf : (e : Entry) → e .kind ≤ 1 → Leaf e ≡ byKind e
+unfolding byKind
+a-leaf e h = sym (yes-le (Leaf e) (cond (eqb (e .kind) 2) (Members e) (Elements e)) (e .kind) 1 h)
+
+pub a-record : (e : Entry) → 1 < e .kind → e .kind ≡ 2 → Members e ≡ byKind e
+unfolding byKind
+a-record e h k = sym (no-le (Leaf e) (cond (eqb (e .kind) 2) (Members e) (Elements e)) (e .kind) 1 h ∙ yes-eq (Members e) (Elements e) (e .kind) 2 k)
+
+pub an-array : (e : Entry) → 1 < e .kind → (e .kind ≡ 2 → ⊥) → Elements e ≡ byKind e
+unfolding byKind
+an-array e h k = sym (no-le (Leaf e) (cond (eqb (e .kind) 2) (Members e) (Elements e)) (e .kind) 1 h ∙ no-eq (Members e) (Elements e) (e .kind) 2 k)
+
+module _ (t : List ℕ) (s : Sections) where
+  pub looked : (i : ℕ) (e : Entry) (b : Bool) (m : Met) → e ≡ typeAt t s i → b ≡ fieldsOk s i e → b ≡ true → m ≡ byKind e → m ≡ look t s i
+  unfolding look
+  looked i e b m h p q r = r ∙ rw (← h, ← p, q) refl
+
+  pub not-looked : (i : ℕ) (e : Entry) (b : Bool) → e ≡ typeAt t s i → b ≡ fieldsOk s i e → b ≡ false → Broken ≡ look t s i
+  unfolding look
+  not-looked i e b h p q = rw (← h, ← p, q) refl
+
+  pub met : (i c : ℕ) (m : Met) → c < i → m ≡ look t s c → m ≡ meet t s i c
+  unfolding meet
+  met i c m h p = p ∙ sym (yes-lt (look t s c) Broken c i h)
+
+  pub not-met : (i c : ℕ) → i ≤ c → Broken ≡ meet t s i c
+  unfolding meet
+  not-met i c h = sym (no-lt (look t s c) Broken c i h)
+
+  -- the trees below n are those of the types below n
+  length-trees : (n : ℕ) → length (trees t s n) ≡ n
+  unfolding trees
+  length-trees zero = refl
+  length-trees (suc n) =
+      length-append (trees t s n) (treeOf t s (trees t s n) (look t s n) ∷ []) ∙ ap (λ (k : ℕ). k + 1) (length-trees n) ∙ add-one n
+
+  pub known : (n c : ℕ) → c < n → getD (trees t s n) c broken ≡ tree t s c
+  unfolding trees tree
+  known zero c h = absurd (omega arith)
+  known (suc n) c h =
+      let l : c ≤ n = omega arith in
+      ⊎-elim
+      (λ (e : c ≡ n). ap (λ (k : ℕ). getD (trees t s (suc n)) k broken) e ∙ getD-at (trees t s n) (tree t s n) [] broken n (length-trees n) ∙ ap (tree t s) (sym e))
+      (λ (g : c < n). List·getD-append (trees t s n) (tree t s n ∷ []) broken c (omega (arith, length-trees n)) ∙ known n c g)
+      (eq-or-lt-of-le l)
+
+  pub child-met : (i c : ℕ) (m : Met) → m ≡ meet t s i c → child t s i c ≡ treeOf t s (trees t s c) m
+  unfolding child meet tree treeOf
+  child-met i c m h = go (ltb c i) refl ∙ ap (treeOf t s (trees t s c)) (sym h)
+    where
+      go : (b : Bool) → ltb c i ≡ b → child t s i c ≡ treeOf t s (trees t s c) (meet t s i c)
+      go true e = known i c (ltb-true c i e) ∙ ap (treeOf t s (trees t s c)) (sym (yes-if (look t s c) Broken e))
+      go false e =
+          List·getD-eq-default (trees t s i) broken (omega (arith, length-trees i, ltb-false c i e))
+          ∙ ap (treeOf t s (trees t s c)) (sym (no-if (look t s c) Broken e))
+
+  -- a type that was met from type i has a smaller number
+  met-smaller : (i c : ℕ) (m : Met) → m ≡ meet t s i c → (m ≡ Broken → ⊥) → c < i
+  unfolding meet
+  met-smaller i c m h d = go (ltb c i) refl
+    where
+      go : (b : Bool) → ltb c i ≡ b → c < i
+      go true e = ltb-true c i e
+      go false e = absurd (d (h ∙ no-if (look t s c) Broken e))
+
+  pub members-smaller : (i c : ℕ) (m : Met) (e : Entry) → m ≡ meet t s i c → m ≡ Members e → c < i
+  members-smaller i c m e h g = met-smaller i c m h (λ n. let z : _≡_ {A = ℕ} 0 1 = cc in omega arith)
+
+  pub elements-smaller : (i c : ℕ) (m : Met) (e : Entry) → m ≡ meet t s i c → m ≡ Elements e → c < i
+  elements-smaller i c m e h g = met-smaller i c m h (λ n. let z : _≡_ {A = ℕ} 0 1 = cc in omega arith)

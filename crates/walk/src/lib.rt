@@ -1,0 +1,62 @@
+// A walk over a type of a table, leaf by leaf from left to right (01, "Payload and words"): what it meets at an entry, how far it
+// has come, and what it comes to. Unpacking and packing are such walks.
+use table::Entry;
+use table::Sections;
+ghost use mathlib.Core.Path.{_≡_};
+ghost use Rattle.walk.specs.Tree.{byKind, look, meet};
+
+// A walk's place: how far it has come in what it reads, and in what it writes. One of the two counts words, so the leaves
+// completed, array counts included.
+pub struct Place {
+    pub from: usize,
+    pub to: usize,
+}
+
+// What a walk comes to: the place behind what was walked, or the number of a refusal and the place of what was refused.
+pub enum Walked {
+    Went(Place),
+    Stopped(u32, Place),
+}
+
+// What a walk meets at an entry of the table: an entry that breaks a rule is not walked into.
+pub enum Met {
+    Leaf(Entry),
+    Members(Entry),
+    Elements(Entry),
+    Broken,
+}
+
+// At type c, coming from type i: its number has to be smaller.
+pub fn meet(table: &[u8], s: Sections, i: u16, c: u16) -> Met
+    ensures { λ r. ⌜ r ≡ meet (now (table .entry)) s i c ⌝ }
+{
+    if c < i {
+        look(table, s, c)
+    } else {
+        Met::Broken
+    }
+}
+
+// At type i itself.
+pub fn look(table: &[u8], s: Sections, i: u16) -> Met
+    ensures { λ r. ⌜ r ≡ look (now (table .entry)) s i ⌝ }
+{
+    let e = table::entries::type_at(table, s, i);
+    if types::rules::fields_ok(s, i, e) {
+        by_kind(e)
+    } else {
+        Met::Broken
+    }
+}
+
+fn by_kind(e: Entry) -> Met
+    ensures { λ r. ⌜ r ≡ byKind e ⌝ }
+{
+    if e.kind <= 1 {
+        return Met::Leaf(e);
+    }
+    if e.kind == 2 {
+        return Met::Members(e);
+    }
+    Met::Elements(e)
+}
