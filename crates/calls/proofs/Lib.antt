@@ -1,0 +1,4 @@
+mod Arrivals
+mod Judging
+mod Placing
+mod Walking

@@ -1,0 +1,3 @@
+pub mod Arguments
+pub mod Finding
+pub mod Shapes

@@ -1,0 +1,3 @@
+mod Decimals
+mod Putting
+mod Hexes
