@@ -25,6 +25,7 @@ pub mod make_senders;
 pub mod sent;
 
 // The comparison with the program under test.
+pub mod program;
 pub mod run;
 
 // Models of the other calls.
@@ -40,3 +41,30 @@ pub mod take;
 pub mod types;
 #[cfg(test)]
 mod types_tests;
+
+// Files of calls for `answers`: the lines that they must give.
+pub mod answers;
+pub mod call;
+
+// Files of calls from a seed.
+pub mod calls;
+pub mod calls_bad;
+pub mod calls_compose;
+pub mod calls_cutting;
+pub mod calls_damage;
+pub mod calls_joiners;
+pub mod calls_messages;
+pub mod calls_payloads;
+pub mod calls_platforms;
+pub mod calls_tables;
+pub mod calls_values;
+
+// Files of calls worked out by hand.
+pub mod calls_cases;
+pub mod calls_cases_bad;
+pub mod calls_cases_joining;
+pub mod calls_cases_payload;
+pub mod calls_cases_platform;
+
+// The comparison with `answers`.
+pub mod compare;

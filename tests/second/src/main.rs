@@ -1,7 +1,9 @@
 //! The command line; `README.md` says how to use it.
 
-use second::run::{run, By};
-use second::{edges, genuine, make, replay, sent};
+use second::program::By;
+use second::run::run;
+use second::{answers, calls, compare, edges, genuine, make, replay, sent};
+use std::io::Read;
 use std::path::Path;
 use std::process::ExitCode;
 
@@ -13,7 +15,15 @@ usage: second make SEED FILE         write a recording of any kind
        second run COUNT CMD...       run CMD... FILE on recordings and compare every byte
        second run FROM..TO CMD...    the same on these seeds
        second run-input COUNT CMD... the same with the recording on standard input
-       second edges DIR              write the fixed edge recordings and their lines";
+       second edges DIR              write the fixed edge recordings and their lines
+
+       second calls SEED FILE        write a file of calls
+       second answers FILE           print the lines that a file of calls must give; - reads standard input
+       second run-answers COUNT CMD...
+                                     run CMD... FILE and CMD... - on files of calls, compare every byte,
+                                     and require that every code and every number arose
+       second run-answers FROM..TO CMD...
+                                     the same on these seeds only, requiring nothing more";
 
 type Outcome = Result<bool, String>;
 
@@ -39,8 +49,7 @@ fn command(words: &[&str]) -> Outcome {
             Ok(true)
         }
         ["lines", file] => {
-            let recording = std::fs::read(file).map_err(|error| format!("{file}: {error}"))?;
-            print!("{}", replay::lines(&recording));
+            print!("{}", replay::lines(&read(file)?));
             Ok(true)
         }
         ["edges", directory] => {
@@ -54,6 +63,19 @@ fn command(words: &[&str]) -> Outcome {
         }
         ["run-input", seeds, program @ ..] if !program.is_empty() => {
             run(range(seeds)?, program, By::Input).map_err(|error| error.to_string())
+        }
+        ["calls", seed, file] => write(file, &calls::file(number(seed)?)),
+        ["answers", file] => {
+            print!("{}", answers::tell(&read(file)?).lines);
+            Ok(true)
+        }
+        ["run-answers", seeds, program @ ..] if !program.is_empty() => {
+            let same = if seeds.contains("..") {
+                compare::run_again(range(seeds)?, program)
+            } else {
+                compare::run(number(seeds)?, program)
+            };
+            same.map_err(|error| error.to_string())
         }
         _ => Err(USAGE.to_string()),
     }
@@ -69,6 +91,16 @@ fn range(word: &str) -> Result<std::ops::Range<u64>, String> {
         None => Ok(0..number(word)?),
         Some((from, to)) => Ok(number(from)?..number(to)?),
     }
+}
+
+/// A file's bytes, or standard input's.
+fn read(file: &str) -> Result<Vec<u8>, String> {
+    let mut bytes = Vec::new();
+    let result = match file {
+        "-" => std::io::stdin().read_to_end(&mut bytes).map(|_| bytes),
+        name => std::fs::read(name),
+    };
+    result.map_err(|error| format!("{file}: {error}"))
 }
 
 fn write(file: &str, bytes: &[u8]) -> Outcome {

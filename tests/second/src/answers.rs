@@ -1,0 +1,207 @@
+//! The lines that a file of calls must give: each call answered by its model.
+
+use crate::call::{next, Argument, Next};
+use crate::cutting::{piece, pieces};
+use crate::message::{self, Content};
+use crate::payload::{pack, pack_checked, unpack, unpack_checked};
+use crate::platform::{Platform, What};
+use crate::take::{Joiner, Record};
+use crate::types::check;
+use Argument::{Bytes, Number, Records, Words};
+
+/// What a file of calls gives.
+pub struct Told {
+    /// Every line, ended by one LF each.
+    pub lines: String,
+    /// The calls that were answered, in order: the code, and the number of a refusal.
+    pub calls: Vec<(u64, Option<u8>)>,
+    pub ending: Ending,
+}
+
+#[derive(Clone, Copy, Debug, PartialEq, Eq)]
+pub enum Ending {
+    BehindACall,
+    BadCall,
+    CutShort,
+}
+
+pub fn tell(file: &[u8]) -> Told {
+    let mut rest = file;
+    let mut platform = Platform::new(0);
+    let mut lines = String::new();
+    let mut calls = Vec::new();
+    let ending = loop {
+        let place = calls.len();
+        match next(&mut rest) {
+            Next::End => break Ending::BehindACall,
+            Next::CutShort => {
+                lines.push_str("cut short\n");
+                break Ending::CutShort;
+            }
+            Next::Bad => {
+                lines.push_str(&format!("{place} bad call\n"));
+                break Ending::BadCall;
+            }
+            Next::Call(code, arguments) => {
+                let told = answer(&mut platform, code, &arguments);
+                calls.push((code, told.as_ref().err().copied()));
+                let text = told.unwrap_or_else(|refusal| format!("refused {refusal}"));
+                lines.push_str(&format!("{place} {text}\n"));
+            }
+        }
+    };
+    Told {
+        lines,
+        calls,
+        ending,
+    }
+}
+
+/// One call: its answer without the number and the LF, or the number it is refused with.
+fn answer(platform: &mut Platform, code: u64, arguments: &[Argument]) -> Result<String, u8> {
+    match (code, arguments) {
+        (1, [Number(own), Bytes(bytes)]) => {
+            message::read(*own as u8, bytes).map(|got| message_read(&got))
+        }
+        (
+            2,
+            [Number(own), Number(domain), Number(id), Number(sequence), Bytes(payload), Number(room)],
+        ) => {
+            let (own, id, sequence) = (*own as u8, *id as u32, *sequence as u32);
+            let written = message::write(own, *domain, id, sequence, payload, *room as usize)?;
+            Ok(format!("written {}", hex(&written)))
+        }
+        (
+            3,
+            [Bytes(whole), Number(size), Number(sender), Number(first), Number(wanted), Number(room)],
+        ) => {
+            let cut = piece(whole, *size, *sender, *first, *wanted, *room as usize)?;
+            Ok(format!("piece {}", hex(&cut)))
+        }
+        (4, [Bytes(table)]) => {
+            let table = check(table)?;
+            let (types, operations) = (table.types.len(), table.operations.len());
+            Ok(format!(
+                "table {types} {} {} {operations}",
+                table.members, table.values
+            ))
+        }
+        (5, [Bytes(table), Number(of), Bytes(payload), Number(room)]) => {
+            unpack(table, *of as usize, payload, *room as usize).map(|words| words_line(&words))
+        }
+        (13, [Bytes(table), Number(of), Bytes(payload), Number(room)]) => {
+            unpack_checked(&check(table)?, *of as usize, payload, *room as usize)
+                .map(|words| words_line(&words))
+        }
+        (6, [Bytes(table), Number(of), Words(words), Number(room)]) => {
+            let packed = pack(table, *of as usize, words, *room as usize)?;
+            Ok(format!("bytes {}", hex(&packed)))
+        }
+        (14, [Bytes(table), Number(of), Words(words), Number(room)]) => {
+            let packed = pack_checked(&check(table)?, *of as usize, words, *room as usize)?;
+            Ok(format!("bytes {}", hex(&packed)))
+        }
+        (7, [Number(own)]) => {
+            *platform = Platform::new(*own as u8);
+            Ok(format!("platform {own}"))
+        }
+        (8, [Bytes(table), Bytes(message), Number(room)]) => {
+            let got = platform.call(table, message, *room as usize)?;
+            let (from, owed) = (got.from, hex(&got.owed));
+            Ok(format!("{} from {from} owed {owed}", what(&got.what)))
+        }
+        (9, [Number(asked)]) => {
+            let up = platform.is_up(*asked as u8);
+            Ok(up_or_down(up).to_string())
+        }
+        (10, []) => Ok(format!("count {}", platform.count())),
+        (11, [Number(room), Records(records), Bytes(rooms), Bytes(datagram)]) => {
+            let joiner = Joiner {
+                room: *room,
+                records: records.clone(),
+                rooms: rooms.to_vec(),
+            };
+            taken(joiner, datagram)
+        }
+        (12, [Number(length), Number(size)]) => Ok(format!("pieces {}", pieces(*length, *size)?)),
+        (15, [Bytes(table), Number(id)]) => Ok(match check(table)?.operation(*id as u32) {
+            None => "none".to_string(),
+            Some(entry) => format!("entry {} {}", entry.kind, entry.of),
+        }),
+        _ => unreachable!("a call that was taken apart has its code's arguments"),
+    }
+}
+
+fn message_read(got: &message::Message) -> String {
+    let place = format!("{} {}", got.from, got.sequence);
+    match &got.content {
+        Content::Status { up } => format!("status {} {place}", up_or_down(*up)),
+        Content::Request => format!("request {place}"),
+        Content::Unknown(id) => format!("unknown {id} {place}"),
+        Content::Pull(id) => format!("pull {id} {place}"),
+        Content::Operation { id, payload } => format!("operation {id} {place} {}", hex(payload)),
+    }
+}
+
+/// What a platform made of a message; the operation's payload is not printed again.
+fn what(got: &What) -> String {
+    match got {
+        What::Status { up } => format!("status {}", up_or_down(*up)),
+        What::Request => "request".to_string(),
+        What::Unknown(id) => format!("unknown {id}"),
+        What::PullAll => "pull all".to_string(),
+        What::Pull(id) => format!("pull {id}"),
+        What::PullUnknown(id) => format!("pull unknown {id}"),
+        What::Operation { id, .. } => format!("operation {id}"),
+        What::OperationUnknown(id) => format!("operation unknown {id}"),
+    }
+}
+
+fn taken(mut joiner: Joiner, datagram: &[u8]) -> Result<String, u8> {
+    let got = joiner.take(datagram)?;
+    let records: Vec<u8> = joiner.records.iter().flat_map(record_bytes).collect();
+    Ok(format!(
+        "{} {} {} {} {} {}",
+        got.name,
+        got.missed,
+        got.bytes,
+        hex(&got.message.unwrap_or_default()),
+        hex(&records),
+        hex(&joiner.rooms)
+    ))
+}
+
+fn record_bytes(record: &Record) -> Vec<u8> {
+    let mut out = record.sender.to_be_bytes().to_vec();
+    out.push(u8::from(record.seen));
+    out.extend(record.last.to_be_bytes());
+    out.extend(record.held.to_be_bytes());
+    out
+}
+
+fn up_or_down(up: bool) -> &'static str {
+    if up {
+        "up"
+    } else {
+        "down"
+    }
+}
+
+/// Lower-case hex, `-` for no bytes.
+fn hex(bytes: &[u8]) -> String {
+    if bytes.is_empty() {
+        return "-".to_string();
+    }
+    let digits = bytes.iter().flat_map(|byte| [byte / 16, byte % 16]);
+    digits
+        .map(|digit| char::from(b"0123456789abcdef"[usize::from(digit)]))
+        .collect()
+}
+
+fn words_line(words: &[u64]) -> String {
+    if words.is_empty() {
+        return "words -".to_string();
+    }
+    let each: String = words.iter().map(|word| format!(" {word}")).collect();
+    format!("words{each}")
+}

@@ -1,0 +1,189 @@
+//! Tables that were good, spoilt so that each of 30 to 33 is met.
+
+use crate::calls_tables::{at_the_limits, ends, Plan, NO_TYPE};
+use crate::prng::Prng;
+
+/// A spoilt table's bytes. What it is refused with, if at all, the model says.
+pub fn damaged(rng: &mut Prng, good: &Plan) -> Vec<u8> {
+    match rng.below(20) {
+        0..=2 => cut(rng, good.bytes()),
+        3 => longer(rng, good.bytes()),
+        4 | 5 => miscounted(rng, good),
+        6 => any_byte(rng, good.bytes()),
+        7 | 8 => too_large(rng),
+        9 => {
+            // Two at once: which is given is a matter of order.
+            let mut plan = good.clone();
+            let with = too_large_plan(rng);
+            plan.types = with.types;
+            plan.members = with.members;
+            break_a_rule(rng, &mut plan);
+            plan.bytes()
+        }
+        10 => {
+            let mut plan = good.clone();
+            break_a_rule(rng, &mut plan);
+            match rng.below(3) {
+                0 => miscounted(rng, &plan),
+                1 => longer(rng, plan.bytes()),
+                _ => cut(rng, plan.bytes()),
+            }
+        }
+        _ => {
+            let mut plan = good.clone();
+            break_a_rule(rng, &mut plan);
+            plan.bytes()
+        }
+    }
+}
+
+fn cut(rng: &mut Prng, mut bytes: Vec<u8>) -> Vec<u8> {
+    let length = match rng.below(3) {
+        0 => bytes.len() - 1,
+        1 => rng.below(bytes.len()),
+        _ => bytes.len() - rng.from_to(1, bytes.len().min(9)),
+    };
+    bytes.truncate(length);
+    bytes
+}
+
+fn longer(rng: &mut Prng, mut bytes: Vec<u8>) -> Vec<u8> {
+    for _ in 0..rng.pick(&[1, 1, 2, 8]) {
+        bytes.push(rng.pick(&[0, 0, 1, 255]));
+    }
+    bytes
+}
+
+fn any_byte(rng: &mut Prng, mut bytes: Vec<u8>) -> Vec<u8> {
+    let at = rng.below(bytes.len());
+    match rng.below(4) {
+        0 => bytes[at] = rng.below(256) as u8,
+        1 => {
+            bytes.remove(at);
+        }
+        2 => bytes.insert(at, rng.below(256) as u8),
+        _ => bytes[at] ^= 1 << rng.below(8),
+    }
+    bytes
+}
+
+/// One section's count changed, its entries as they were.
+fn miscounted(rng: &mut Prng, plan: &Plan) -> Vec<u8> {
+    let counts = [
+        plan.types.len(),
+        plan.members.len(),
+        plan.values.len(),
+        plan.operations.len(),
+    ];
+    let widths = [8, 2, 8, 8];
+    let section = rng.below(4);
+    let at: usize = (0..section).map(|s| 2 + counts[s] * widths[s]).sum();
+    let most = if section == 0 { 256 } else { 1024 };
+    let count = match rng.below(7) {
+        0 => 0,
+        1 => most,
+        2 | 3 => most + 1,
+        4 => 65535,
+        5 => counts[section] + 1,
+        _ => counts[section].max(1) - 1,
+    };
+    let mut bytes = plan.bytes();
+    bytes[at..at + 2].copy_from_slice(&(count as u16).to_be_bytes());
+    bytes
+}
+
+/// A type one step too large: by product, by sum, by an array's own four bytes, or by far.
+fn too_large_plan(rng: &mut Prng) -> Plan {
+    let mut plan = at_the_limits(rng);
+    let number = plan.types.len() as u16;
+    match rng.below(5) {
+        0 => plan.types[1][3] = (65536 / plan.sizes[0] + 1).min(65535) as u16,
+        1 => plan.types[2][3] = ((65536 - 4) / plan.sizes[0] + 1) as u16,
+        2 => {
+            let first = plan.members.len() as u16;
+            plan.members.extend([0, 1, 0]);
+            plan.types.push([2, 0, first, 3]);
+        }
+        // The largest element: 65,535 of it wrap at 32 bits if nothing minds.
+        3 => plan.types.push([rng.pick(&[3, 4]), 1, 0, 65535]),
+        _ => {
+            for of in number - 1..number + 5 {
+                plan.types.push([3, of, 0, rng.pick(&[32768, 65535, 2])]);
+            }
+        }
+    }
+    plan
+}
+
+fn too_large(rng: &mut Prng) -> Vec<u8> {
+    too_large_plan(rng).bytes()
+}
+
+/// One field changed so that a rule of number 32 is broken; now and then so that none is.
+fn break_a_rule(rng: &mut Prng, plan: &mut Plan) {
+    if !plan.operations.is_empty() && rng.chance(1, 4) {
+        return break_an_operation(rng, plan);
+    }
+    let at = rng.below(plan.types.len());
+    let known = plan.types.len() as u16;
+    let [kind, of, first, count] = plan.types[at];
+    let section = match kind {
+        1 => plan.values.len() as u16,
+        _ => plan.members.len() as u16,
+    };
+    let entry = &mut plan.types[at];
+    match (kind, rng.below(6)) {
+        (_, 0) => entry[0] = rng.pick(&[5, 6, 256, 0xFFFF]),
+        (1..=4, 1) => entry[3] = 0,
+        (0, 1) => entry[1] = rng.pick(&[13, 14, 256, 0x0100 + of]),
+        (0, 2 | 3) => entry[2] = 1,
+        (0, _) => entry[3] = 1,
+        (1, 2) => entry[1] = rng.pick(&[0, 2, 11, 12, 13, 0xFFFF]),
+        (1, 3) => plan.values[usize::from(first)] = beyond(rng, of),
+        (1, 4) if count > 1 => {
+            let (one, other) = (first, first + count - 1);
+            plan.values[usize::from(other)] = plan.values[usize::from(one)];
+        }
+        (2, 2) => entry[1] = rng.pick(&[1, 0xFFFF]),
+        (2, 3 | 4) => {
+            let member = first + rng.below(usize::from(count)) as u16;
+            let late = [at as u16, at as u16 + 1, known, NO_TYPE];
+            plan.members[usize::from(member)] = rng.pick(&late);
+        }
+        (3 | 4, 2) => entry[2] = rng.pick(&[1, 0xFFFF]),
+        (3 | 4, _) => entry[1] = rng.pick(&[at as u16, at as u16 + 1, known, 0xFFFF]),
+        // Beyond the section's end: by one, by far, and beyond 65,535, which must not be cut off.
+        (_, _) => match rng.below(4) {
+            0 => entry[2] = section,
+            1 => entry[3] = section - first + 1,
+            2 => entry[2] = 0xFFFF,
+            _ => entry[3] = 0xFFFF,
+        },
+    }
+}
+
+/// A word just outside an enum's base, or one that would be inside if it were cut off.
+fn beyond(rng: &mut Prng, code: u16) -> u64 {
+    let (least, greatest) = ends(code);
+    match rng.below(3) {
+        0 => (greatest + 1) as u64,
+        1 => (least - 1) as u64,
+        // An int8 of -1 written as 0xFF.
+        _ => (greatest * 2 + 1) as u64,
+    }
+}
+
+fn break_an_operation(rng: &mut Prng, plan: &mut Plan) {
+    let known = plan.types.len() as u16;
+    let last = plan.operations.len() - 1;
+    let at = rng.below(last + 1);
+    match rng.below(6) {
+        0 => plan.operations[last].0 = 0xFFFF_FFFF,
+        1 => plan.operations[at].1 = rng.pick(&[2, 256, 0xFFFF]),
+        2 => plan.operations[at].2 = known,
+        3 => (plan.operations[at].1, plan.operations[at].2) = (1, NO_TYPE),
+        4 if last > 0 => plan.operations[last].0 = plan.operations[last - 1].0,
+        _ if last > 0 => plan.operations.swap(0, last),
+        _ => plan.operations[at].2 = 0xFFFE,
+    }
+}

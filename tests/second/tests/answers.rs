@@ -1,0 +1,102 @@
+//! The comparison of files of calls, with this program in the place of the one under test: it
+//! finds nothing where there is nothing, and it finds every kind of damage.
+
+use std::path::{Path, PathBuf};
+use std::process::Command;
+
+const SECOND: &str = env!("CARGO_BIN_EXE_second");
+
+/// A folder for the files that a comparison keeps.
+struct Scratch(PathBuf);
+
+impl Scratch {
+    fn new(name: &str) -> Scratch {
+        let folder = Path::new(env!("CARGO_TARGET_TMPDIR")).join(name);
+        std::fs::create_dir_all(&folder).unwrap();
+        Scratch(folder)
+    }
+
+    /// Whether `run-answers` is content, and what it says.
+    fn run_answers(&self, arguments: &[&str]) -> (bool, String) {
+        let mut command = Command::new(SECOND);
+        command.arg("run-answers").args(arguments);
+        let said = command.env("TMPDIR", &self.0).output().unwrap();
+        (
+            said.status.success(),
+            String::from_utf8(said.stdout).unwrap(),
+        )
+    }
+
+    fn kept(&self) -> usize {
+        let folders = std::fs::read_dir(&self.0).unwrap();
+        let files = folders.map(|f| std::fs::read_dir(f.unwrap().path()).unwrap().count());
+        files.sum()
+    }
+}
+
+impl Drop for Scratch {
+    fn drop(&mut self) {
+        let _ = std::fs::remove_dir_all(&self.0);
+    }
+}
+
+#[test]
+fn the_model_beside_itself() {
+    let scratch = Scratch::new("itself");
+    let (content, said) = scratch.run_answers(&["0..32", SECOND, "answers"]);
+    assert!(content, "{said}");
+    assert_eq!(scratch.kept(), 0);
+}
+
+/// Each damage is done to the model's own lines, both ways of running it.
+#[test]
+fn a_damaged_line_is_found() {
+    let damages = [
+        ("another-number", "sed 's/refused 42/refused 43/'"),
+        ("upper-case", "sed 's/^\\([0-9]* bytes .*\\)a/\\1A/'"),
+        ("another-digit", "sed '100s/0$/1/;100s/[1-9]$/0/'"),
+        ("a-space-behind", "sed '7s/$/ /'"),
+        ("a-line-lost", "sed '$d'"),
+        ("a-line-more", "sed '$p'"),
+        ("the-last-lf-lost", "head -c -1"),
+        ("a-byte-in-front", "sed '1s/^/ /'"),
+        ("cr-lf", "sed 's/$/\\r/'"),
+        ("nothing-said", "cat >/dev/null"),
+        ("killed", "cat; kill -9 $$"),
+    ];
+    for (name, damage) in damages {
+        let scratch = Scratch::new(name);
+        let script = format!("\"$0\" answers \"$1\" | {damage}");
+        let (content, said) = scratch.run_answers(&["0..32", "sh", "-c", &script, SECOND]);
+        assert!(!content, "{name}: {said}");
+        assert!(said.contains("first difference: calls-"), "{name}: {said}");
+        assert!(scratch.kept() > 0, "{name}");
+    }
+}
+
+/// A program that answers by name and not on standard input, or the other way round, is found.
+#[test]
+fn both_ways_are_run() {
+    for (name, script) in [
+        (
+            "by-name",
+            "case $1 in -) ;; *) \"$0\" answers \"$1\" ;; esac",
+        ),
+        ("by-input", "case $1 in -) \"$0\" answers - ;; esac"),
+    ] {
+        let scratch = Scratch::new(name);
+        let (content, said) = scratch.run_answers(&["0..1", "sh", "-c", script, SECOND]);
+        assert!(!content && said.contains("1 differ"), "{name}: {said}");
+    }
+}
+
+/// The whole run asks for more than equality.
+#[test]
+fn too_little_is_not_enough() {
+    let scratch = Scratch::new("too-little");
+    let (content, said) = scratch.run_answers(&["3", SECOND, "answers"]);
+    assert!(!content, "{said}");
+    assert!(said.contains("too little was compared: only"), "{said}");
+    let (content, said) = scratch.run_answers(&["0..3", SECOND, "answers"]);
+    assert!(content, "{said}");
+}
