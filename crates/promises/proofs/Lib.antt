@@ -6,3 +6,4 @@ mod Agrees
 mod Arrivals
 pub mod Demand3
 pub mod CutAndJoined
+pub mod Starred
