@@ -7,3 +7,6 @@ mod Arrivals
 pub mod Demand3
 pub mod CutAndJoined
 pub mod Starred
+pub mod Headers
+pub mod Payloads
+pub mod Demand2

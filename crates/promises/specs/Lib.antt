@@ -4,3 +4,6 @@ pub mod Demand3
 pub mod CutAndJoined
 pub mod Cases
 pub mod Starred
+pub mod Headers
+pub mod Payloads
+pub mod Demand2
