@@ -1,14 +1,13 @@
 -- Messages and binding headers, written and read.
 -- Assumes nothing.
-use Prim.Native.Nat.{ℕ, zero, suc, _+_, _^_, _≤_, _<_}
-use mathlib.Core.Path.{_≡_, refl, sym, ap, ap₂, subst, _∙_}
-use mathlib.Core.List.{List, [], _∷_, _++_}
+use Prim.Native.Nat.{ℕ, zero, suc, _+_, _≤_}
+use mathlib.Core.Path.{_≡_, refl, sym, ap, subst, _∙_}
+use mathlib.Core.List.{List, []}
 use native.Mathlib.Omega.{arith}
 use lib.ListN.{length, take, drop, length-drop}
-use lib.Seq.{take-at, take-all}
-use Rattle.wire.specs.Bytes.{Octets, number, bytes, over, part}
+use lib.Seq.{take-at}
+use Rattle.wire.specs.Bytes.{Octets, number, bytes, over}
 use Rattle.wire.proofs.Numbers.{number-bytes}
-use Rattle.wire.proofs.Runs.{part-in}
 use Rattle.message.specs.declared.Header.{Header}
 use Rattle.message.specs.declared.Status.{Status}
 use Rattle.message.specs.declared.Status.the-variants.{Down, Up}
@@ -16,27 +15,26 @@ use Rattle.message.specs.declared.Message.{Message}
 use Rattle.message.specs.declared.Message.the-variants.{PlatformStatus, PlatformStatusRequest, UnknownOperation, VersionedDataPull}
 use Rattle.message.specs.declared.Reading.{Reading}
 use Rattle.message.specs.declared.Reading.the-variants as reading
-use Rattle.message.specs.declared.Writing.{Writing}
 use Rattle.message.specs.declared.Writing.the-variants as writing
-use Rattle.message.specs.Header.{headerLength, platformDomain, domainIn, senderIn, idIn, sequenceIn, payloadSizeIn, payloadIn, headerIn}
+use Rattle.message.specs.Header.{headerLength, platformDomain, domainIn, senderIn, idIn, sequenceIn, payloadIn, headerIn}
 use Rattle.message.specs.Platform.{platformStatus, platformStatusRequest, unknownOperation, versionedDataPull, statusValue, messageOf}
 use Rattle.message.specs.Refusal.{contentsRefusal, readRefusal, writeRefusal}
 use Rattle.message.specs.Reading.{readOut, readOf, payloadOf}
 use Rattle.message.specs.Reading as reads
 use Rattle.message.specs.Writing.{headerFor, messageBytes, unlessRefused, writeOf, outputAfter}
 use Rattle.message.specs.Writing as writes
-use Rattle.message.proofs.Accepted.{Readable, readable, admits}
+use Rattle.message.proofs.Accepted.{readable, admits}
 use Rattle.message.proofs.RoundTrip.{reads-back, payload-back, same-bytes, writes-again}
 use Rattle.platform.proofs.Unchanged.{payload-stands}
 use Rattle.binding.proofs.Headers.{header-back, piece-back, bytes-back}
 use Rattle.promises.specs.Headers.{ReadsAs, Addressed, WrittenThenRead, ReadThenWritten, IsSentAs, PlatformMessages, HeaderThenRead, HeaderReadThenWritten}
 
 -- what an answer says of the refusal behind it
-not-refused : (r k n : ℕ) → writes.answered r k ≡ writing.Written n → (r ≡ 0) × (n ≡ k)
+pub not-refused : (r k n : ℕ) → writes.answered r k ≡ writing.Written n → (r ≡ 0) × (n ≡ k)
 not-refused zero k n e = (refl, cc)
 not-refused (suc r) k n e = let z : _≡_ {A = ℕ} 0 1 = cc in absurd (omega arith)
 
-was-read : (r : ℕ) (x : Reading) (h : Header) (m : Message) (start len : ℕ) → reads.answered r x ≡ reading.Read h m start len → (r ≡ 0) × (x ≡ reading.Read h m start len)
+pub was-read : (r : ℕ) (x : Reading) (h : Header) (m : Message) (start len : ℕ) → reads.answered r x ≡ reading.Read h m start len → (r ≡ 0) × (x ≡ reading.Read h m start len)
 was-read zero x h m start len e = (refl, e)
 was-read (suc r) x h m start len e = let z : _≡_ {A = ℕ} 0 1 = cc in absurd (omega arith)
 
@@ -76,7 +74,7 @@ again own s out o e l =
       written-out (senderIn s) (domainIn s) (idIn s) (sequenceIn s) (payloadIn s) out w ∙ ap (over out 0) (same-bytes own s o e),
     )
 
-abbrev headerRead : Header → Reading → Header
+abbrev pub headerRead : Header → Reading → Header
 headerRead h (reading.Read x m start len) = x
 headerRead h (reading.Refused n) = h
 

@@ -10,3 +10,5 @@ pub mod Starred
 pub mod Headers
 pub mod Payloads
 pub mod Demand2
+pub mod Platforms
+mod Replying

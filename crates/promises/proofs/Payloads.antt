@@ -1,15 +1,13 @@
 -- Payloads, on table bytes that `check` accepts.
 -- Assumes nothing.
-use Prim.Native.Nat.{ℕ, _+_, _≤_, _<_}
-use mathlib.Core.Path.{_≡_, refl, sym, ap, subst, _∙_}
-use mathlib.Core.Bool.{true}
+use Prim.Native.Nat.{ℕ, _≤_}
+use mathlib.Core.Path.{_≡_, sym, ap, subst, _∙_}
 use mathlib.Core.List.{List}
 use borrow.Author.Tests.{lt-ltb}
 use lib.ListN.{length, take}
 use Rattle.wire.specs.Bytes.{Octets, over}
 use Rattle.types.specs.declared.Sections.{Sections}
 use Rattle.types.proofs.Accepted.{accepted, is-within}
-use Rattle.payload.specs.declared.Answer.{Answer}
 use Rattle.payload.specs.declared.Answer.the-variants.{Gave}
 use Rattle.payload.specs.Values.{Value, Spoken, BooleansAsOne, exact}
 use Rattle.payload.specs.Reading.{reader}

@@ -1,11 +1,10 @@
 -- The starred cases, computed; the lengths of pieces by their law.
 -- Assumes nothing.
-use Prim.Native.Nat.{ℕ, zero, suc, _+_, _-_, _*_, min}
-use mathlib.Core.Path.{_≡_, refl, sym, ap, ap₂, _∙_}
+use Prim.Native.Nat.{ℕ, zero, suc, _-_, _*_, min}
+use mathlib.Core.Path.{_≡_, refl, ap, ap₂, _∙_}
 use mathlib.Core.List.{List, [], _∷_}
 use lib.ListN.{length}
-use Rattle.binding.specs.declared.MessagePart.{MessagePart}
-use Rattle.binding.specs.Cutting.{pieceCount, pieceAt, partOfPiece}
+use Rattle.binding.specs.Cutting.{pieceCount, partOfPiece}
 use Rattle.binding.proofs.Cutting.{piece-length}
 use Rattle.joiner.specs.Channel.{missedOf, keeping, notedOf, begunOf, followedOf, placedOf, steppedOf}
 use Rattle.joiner.specs.Setup.{goodSizes, good, freshOf, setupOf}

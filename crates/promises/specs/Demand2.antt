@@ -4,6 +4,7 @@
 use Rattle.promises.specs.Headers.{WrittenThenRead, ReadThenWritten, PlatformMessages, HeaderThenRead, HeaderReadThenWritten}
 use Rattle.promises.specs.CutAndJoined.{CutAndJoined}
 use Rattle.promises.specs.Payloads.{Payloads}
+use Rattle.promises.specs.Platforms.{Replies}
 
 pub record Demand2 : Type 0 where
   -- headers: a message, and the binding header
@@ -16,3 +17,5 @@ pub record Demand2 : Type 0 where
   pub cut-and-joined : CutAndJoined
   -- payloads: packing takes exactly the values, unpacking exactly their byte forms, and both ways round
   pub payloads : Payloads
+  -- replies: each is read by its receiver as what is meant, and bears the number it must
+  pub replies : Replies

@@ -7,3 +7,4 @@ pub mod Starred
 pub mod Headers
 pub mod Payloads
 pub mod Demand2
+pub mod Platforms

@@ -1,7 +1,7 @@
 -- 01, "Values at the edges": the starred cases, each part of each line, as one table with one statement. What a case says
 -- is `Holds` (specs/Cases.antt); the theorem is in proofs/Starred.antt.
 use Prim.{Unit}
-use Prim.Native.Nat.{ℕ, _-_}
+use Prim.Native.Nat.{_-_}
 use mathlib.Core.List.{List, [], _∷_, _++_}
 use lib.ListN.{replicate}
 use Rattle.binding.specs.declared.MessagePart.the-variants.{Begin, End, Whole}
