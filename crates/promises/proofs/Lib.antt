@@ -12,3 +12,7 @@ pub mod Payloads
 pub mod Demand2
 pub mod Platforms
 mod Replying
+pub mod Checks
+pub mod Order
+mod TakeOrder
+pub mod TableOrder

@@ -8,3 +8,6 @@ pub mod Headers
 pub mod Payloads
 pub mod Demand2
 pub mod Platforms
+pub mod Checks
+pub mod Order
+pub mod TableOrder
