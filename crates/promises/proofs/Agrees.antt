@@ -1,10 +1,9 @@
 -- A channel's view steps as the machine of `Machine` does.
 -- Assumes nothing.
-use Prim.Native.Nat.{ℕ, _+_, _≤_, _<_}
+use Prim.Native.Nat.{ℕ, _+_}
 use mathlib.Core.Path.{_≡_, refl, sym, ap, ap₂, _∙_}
-use mathlib.Core.Bool.{Bool, true, false, cond, _&&_}
+use mathlib.Core.Bool.{Bool, true, false, cond}
 use mathlib.Core.List.{List, [], _∷_, _++_, map}
-use native.Mathlib.Omega.{arith}
 use borrow.Author.Tests.{eqb-true}
 use lib.Dec.{leb, eqb}
 use lib.ListN.{length, length-append}
@@ -14,9 +13,9 @@ use Rattle.binding.specs.Header.{partIn, counterIn, pieceIn}
 use Rattle.joiner.specs.declared.Room.{Room}
 use Rattle.joiner.specs.declared.Step.{Step}
 use Rattle.joiner.specs.Channel.{missedOf, repeated, keeping, notedOf, begunOf, followedOf, placedOf, steppedOf}
-use Rattle.joiner.specs.View.{View, leading, joinedIn, heldBy, givenBy, viewStep, viewAfter, viewGiven}
+use Rattle.joiner.specs.View.{View, leading, heldBy, givenBy, viewAfter, viewGiven}
 use Rattle.promises.specs.Traffic.{Datagram}
-use Rattle.promises.proofs.Machine.{Channel, Moved, Event, kept, moved, move, deliveries}
+use Rattle.promises.proofs.Machine.{Channel, Event, kept, moved, deliveries}
 use Rattle.promises.proofs.Apart.{given, viewDelivers}
 
 abbrev pub machine : View → Channel

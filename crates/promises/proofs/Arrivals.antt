@@ -7,11 +7,10 @@ use mathlib.Core.List.{List, [], _∷_, _++_, map}
 use borrow.Author.Tests.{leb-true}
 use lib.Dec.{leb, eqb}
 use lib.ListN.{length, replicate}
-use Rattle.binding.specs.declared.MessagePart.{MessagePart}
 use Rattle.binding.specs.declared.BindingHeader.{BindingHeader}
-use Rattle.binding.specs.Header.{senders, counters, largestPiece, headerOf, headerBytes, headerIn, partIn, counterIn, pieceIn}
+use Rattle.binding.specs.Header.{senders, counters, largestPiece, headerOf, headerBytes}
 use Rattle.binding.proofs.Headers.{Headed, header-back, heard-headed, piece-back}
-use Rattle.promises.specs.Senders.{Piece, Message, Sent, markOf, sentFrom, sentBy, after, arriving, together, goodPieces, goodMessage, goodMessages}
+use Rattle.promises.specs.Senders.{Piece, Message, Sent, sentFrom, sentBy, after, arriving, together, goodPieces, goodMessage, goodMessages}
 use Rattle.promises.specs.Traffic.{Datagram}
 use Rattle.promises.proofs.Machine.{Event}
 use Rattle.promises.proofs.OneChannel.{eventOf, eventsOf, both, after-below}

@@ -1,20 +1,20 @@
 -- Over a genuine sender's messages the channel delivers exactly the complete ones: by induction over the messages, and within
 -- one over its pieces. `h` is what the pieces so far come to, and is empty once one of them was lost.
 -- Assumes nothing.
-use Prim.Native.Nat.{ℕ, zero, suc, _+_, _≤_, _<_}
+use Prim.Native.Nat.{ℕ, suc, _+_, _≤_, _<_}
 use mathlib.Core.Path.{_≡_, refl, sym, ap, _∙_}
 use mathlib.Core.Bool.{Bool, true, false, cond, not, _&&_, _||_, true≢false}
 use mathlib.Core.List.{List, [], _∷_, _++_, append-nil, append-assoc}
 use native.Mathlib.Omega.{arith}
-use borrow.Author.Tests.{ne-eqb, leb-true, eqb-true, eqb-false}
+use borrow.Author.Tests.{ne-eqb, leb-true, eqb-false}
 use lib.Dec.{leb, eqb}
 use lib.ListN.{length, length-append}
 use Rattle.wire.proofs.Cond.{yes-if, no-if, yes-le}
 use Rattle.binding.specs.declared.MessagePart.{MessagePart}
 use Rattle.binding.specs.declared.MessagePart.the-variants.{Begin, Middle, End, Whole}
 use Rattle.binding.specs.Header.{counters, largestPiece}
-use Rattle.promises.specs.Senders.{Piece, Message, Sent, markOf, sentFrom, sentBy, after, arrived, lossesWithin, together, allArrived, completeOf, goodPieces, goodMessage, goodMessages}
-use Rattle.promises.proofs.Machine.{Channel, Moved, at, followed, placed, moved, deliveries}
+use Rattle.promises.specs.Senders.{Piece, Message, Sent, sentFrom, sentBy, after, arrived, lossesWithin, together, allArrived, completeOf, goodPieces, goodMessage, goodMessages}
+use Rattle.promises.proofs.Machine.{Channel, Moved, at, followed, placed, deliveries}
 use Rattle.promises.proofs.OneChannel.{Stands, standsAt, eventsOf, both, slot-lost, slot-arrived, losses-lost, losses-arrived, after-below, arrives-here, lost-here, stands-next}
 
 -- step 5 with nothing to follow, and with h to follow where there is room

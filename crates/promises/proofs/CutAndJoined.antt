@@ -1,32 +1,32 @@
 -- A message cut up is what a sender sends whose one message has all its pieces arrive once.
 -- Assumes nothing.
-use Prim.Native.Nat.{ℕ, zero, suc, _+_, _-_, _*_, _%_, _≤_, _<_}
+use Prim.Native.Nat.{ℕ, zero, suc, _+_, _-_, _*_, _≤_, _<_}
 use mathlib.Core.Path.{_≡_, refl, sym, ap, ap₂, _∙_}
-use mathlib.Core.Bool.{Bool, true, false, cond, not, _&&_, _||_}
-use mathlib.Core.List.{List, [], _∷_, _++_, append-nil}
-use mathlib.Core.Logic.{_⊎_, inl, inr, ⊎-elim}
+use mathlib.Core.Bool.{Bool, true, false, cond, _&&_, _||_}
+use mathlib.Core.List.{List, [], _∷_, _++_}
+use mathlib.Core.Logic.{⊎-elim}
 use native.Mathlib.Nat.{suc-mul, zero-mul}
 use native.Mathlib.Omega.{arith}
-use borrow.Author.Tests.{eq-eqb, ne-eqb, le-leb}
+use borrow.Author.Tests.{eq-eqb, le-leb}
 use lib.Dec.{leb, eqb}
 use lib.ListN.{length, getD, take, drop}
 use lib.Seq.{take-add, take-all, drop-drop}
 use Rattle.wire.specs.Bytes.{Octets}
 use Rattle.wire.proofs.Numbers.{octets-drop, octets-take}
-use Rattle.wire.proofs.Cond.{yes-eq, no-eq, yes-if}
+use Rattle.wire.proofs.Cond.{yes-eq, no-eq}
 use Rattle.binding.specs.declared.MessagePart.{MessagePart}
 use Rattle.binding.specs.declared.MessagePart.the-variants.{Begin, Middle, End, Whole}
 use Rattle.binding.specs.Header.{senders, counters, largestPiece, headerOf, headerBytes}
 use Rattle.binding.specs.declared.BindingHeader.{BindingHeader}
-use Rattle.binding.specs.Cutting.{canCut, pieceCount, pieceAt, partOfPiece, counterOf, headerOfPiece, datagramOf}
+use Rattle.binding.specs.Cutting.{pieceCount, pieceAt, partOfPiece, counterOf, headerOfPiece, datagramOf}
 use Rattle.binding.proofs.Headers.{Headed, heard-headed, header-octets}
 use Rattle.binding.proofs.Cutting.{Cuttable, cuttable, covered, count-some, one-piece, piece-some, piece-most, counter-lt, datagram-heard}
-use Rattle.promises.specs.Senders.{Piece, Message, Sent, Sender, Genuine, markOf, sentFrom, sentBy, after, arriving, arrives, arrived, lossesWithin, together, allArrived, completeOf, goodPieces, goodMessage}
-use Rattle.promises.specs.Traffic.{Datagram, isOf, ofChannel, deliveredOn, AreBytes, none, more}
+use Rattle.promises.specs.Senders.{Piece, Message, Sender, markOf, sentFrom, after, arriving, arrives, lossesWithin, together, allArrived, goodPieces, goodMessage}
+use Rattle.promises.specs.Traffic.{Datagram, isOf, ofChannel, AreBytes, none, more}
 use Rattle.joiner.proofs.Setups.{accepted}
 use Rattle.promises.proofs.Apart.{addressed-is}
 use Rattle.promises.proofs.Demand3.{on-channel}
-use Rattle.promises.specs.CutAndJoined.{datagramsFrom, cutUp, Cut, CutAndJoined}
+use Rattle.promises.specs.CutAndJoined.{datagramsFrom, cutUp, CutAndJoined}
 
 -- the pieces from piece i on, each arriving once
 module _ (msg : List ℕ) (s : ℕ) where

@@ -13,10 +13,10 @@ use Rattle.joiner.specs.View.{View, viewOf}
 use Rattle.joiner.proofs.Setups.{accepted, accepted-joiner, accepted-standing, fresh-senders, fresh-view}
 use Rattle.promises.specs.Senders.{Sender, Genuine, sentBy, arrives, completeOf}
 use Rattle.promises.specs.Traffic.{Datagram, ofChannel, deliveredOn, AreBytes}
-use Rattle.promises.specs.Demand3.{fresh, Granted, Demand3, Alike, Same, MixMakesNoDifference}
+use Rattle.promises.specs.Demand3.{fresh, Demand3, MixMakesNoDifference}
 use Rattle.promises.proofs.Machine.{deliveries}
 use Rattle.promises.proofs.Complete.{messages}
-use Rattle.promises.proofs.Apart.{Underway, Passed, through, viewDelivers, viewOutcomes, viewLeft}
+use Rattle.promises.proofs.Apart.{Underway, through, viewDelivers, viewOutcomes, viewLeft}
 use Rattle.promises.proofs.Agrees.{machine, same-deliveries}
 use Rattle.promises.proofs.Arrivals.{events, fit-messages}
 

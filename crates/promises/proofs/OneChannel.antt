@@ -5,19 +5,18 @@
 use Prim.Native.Nat.{ℕ, zero, suc, _+_, _-_, _%_, _≤_, _<_}
 use mathlib.Core.Path.{_≡_, refl, sym, ap, ap₂, _∙_}
 use mathlib.Core.Bool.{Bool, true, false, cond, not, _&&_, _||_, true≢false}
-use mathlib.Core.List.{List, [], _∷_, _++_, append-nil, append-assoc}
+use mathlib.Core.List.{List, [], _∷_, _++_}
 use mathlib.Core.Logic.{_⊎_, inl, inr, ⊎-elim}
 use native.Mathlib.Nat.{suc-ne-zero}
 use native.Mathlib.Omega.{arith}
-use borrow.Author.Tests.{eq-eqb, ne-eqb, ltb-true, ltb-false, leb-true, le-leb}
-use lib.Dec.{leb, ltb, eqb}
-use lib.ListN.{length, replicate, length-append}
-use Rattle.wire.proofs.Cond.{yes-if, no-if, yes-eq, no-eq, yes-le}
+use borrow.Author.Tests.{eq-eqb, ne-eqb, ltb-true, ltb-false, leb-true}
+use lib.Dec.{leb, eqb}
+use lib.ListN.{replicate}
+use Rattle.wire.proofs.Cond.{yes-if, no-if, no-eq}
 use Rattle.binding.specs.declared.MessagePart.{MessagePart}
-use Rattle.binding.specs.declared.MessagePart.the-variants.{Begin, Middle, End, Whole}
 use Rattle.binding.specs.Header.{counters}
-use Rattle.promises.specs.Senders.{Piece, Message, Sent, markOf, sentFrom, sentBy, after, arrived, mostLost, lossesWithin, together, allArrived, completeOf, goodPieces, goodMessage, goodMessages}
-use Rattle.promises.proofs.Machine.{Channel, Moved, at, missed, kept, placed, repeats, moved, Event, move, deliveries}
+use Rattle.promises.specs.Senders.{Sent, after, arrived, mostLost, lossesWithin}
+use Rattle.promises.proofs.Machine.{Channel, Moved, at, missed, kept, placed, moved, Event, deliveries}
 
 -- where the channel stands before the datagram with counter c, with h to go on with: either something was seen and g were lost
 -- since, in which case c is as many counters further, or nothing was seen and nothing is held

@@ -2,3 +2,12 @@ pub mod Senders
 pub mod Traffic
 pub mod Demand3
 pub mod CutAndJoined
+pub mod Cases
+pub mod Starred
+pub mod Headers
+pub mod Payloads
+pub mod Demand2
+pub mod Platforms
+pub mod Checks
+pub mod Order
+pub mod TableOrder

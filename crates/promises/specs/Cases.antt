@@ -1,0 +1,134 @@
+-- What a case of 01's "Values at the edges" says, over the definitions that the contracts of `unpack`, `pack`, `cut`, `setup`,
+-- `take` and `message` cite.
+use Prim.Native.Nat.{ℕ, zero, suc}
+use mathlib.Core.Path.{_≡_}
+use mathlib.Core.List.{List, [], _∷_, _++_}
+use lib.ListN.{length, replicate}
+use Rattle.binding.specs.declared.MessagePart.{MessagePart}
+use Rattle.binding.specs.Header.{headerOf, headerBytes}
+use Rattle.binding.specs.Cutting.{pieceCount, pieceAt, partOfPiece}
+use Rattle.joiner.specs.declared.Outcome.{Outcome}
+use Rattle.payload.specs.declared.Answer.{Answer}
+use Rattle.payload.specs.declared.Answer.the-variants.{Stopped, Gave}
+use Rattle.payload.specs.Calls.{unpacked, wordsAfter, packed, bytesAfter}
+use Rattle.promises.specs.Traffic.{Datagram, deliveredOn, outcomesOn}
+use Rattle.promises.specs.Demand3.{fresh}
+
+-- a type table with the types of the cases, and their numbers in it
+abbrev pub table : List ℕ
+table =
+    0 ∷ 7
+    -- kind, of, first and count of each: six base types, and an array of type 3 with a maximum of 3
+    ∷ 0 ∷ 0 ∷ 0 ∷ 8 ∷ 0 ∷ 0 ∷ 0 ∷ 0
+    ∷ 0 ∷ 0 ∷ 0 ∷ 3 ∷ 0 ∷ 0 ∷ 0 ∷ 0
+    ∷ 0 ∷ 0 ∷ 0 ∷ 1 ∷ 0 ∷ 0 ∷ 0 ∷ 0
+    ∷ 0 ∷ 0 ∷ 0 ∷ 6 ∷ 0 ∷ 0 ∷ 0 ∷ 0
+    ∷ 0 ∷ 0 ∷ 0 ∷ 0 ∷ 0 ∷ 0 ∷ 0 ∷ 0
+    ∷ 0 ∷ 0 ∷ 0 ∷ 11 ∷ 0 ∷ 0 ∷ 0 ∷ 0
+    ∷ 0 ∷ 4 ∷ 0 ∷ 3 ∷ 0 ∷ 0 ∷ 0 ∷ 3
+    -- no members, enum values and operations
+    ∷ 0 ∷ 0 ∷ 0 ∷ 0 ∷ 0 ∷ 0 ∷ []
+
+abbrev pub uint16 : ℕ
+uint16 = 0
+
+abbrev pub int16 : ℕ
+int16 = 1
+
+abbrev pub int8 : ℕ
+int8 = 2
+
+abbrev pub uint8 : ℕ
+uint8 = 3
+
+abbrev pub boolean8 : ℕ
+boolean8 = 4
+
+abbrev pub float32 : ℕ
+float32 = 5
+
+abbrev pub upToThree : ℕ
+upToThree = 6
+
+-- a datagram that arrives: its mark, its counter, its piece
+pub record Arrival : Type 0 where
+  pub mark : MessagePart
+  pub counter : ℕ
+  pub piece : List ℕ
+
+-- a piece that a message is cut into: its mark, its length
+pub record Cut : Type 0 where
+  pub mark : MessagePart
+  pub bytes : ℕ
+
+pub data Case : Type 0 where
+  -- the payload of the type gives the words, or is refused with the number; and the words give the payload, or are refused
+  unpacks : ℕ → List ℕ → List ℕ → Case
+  unpack-refused : ℕ → List ℕ → ℕ → Case
+  packs : ℕ → List ℕ → List ℕ → Case
+  pack-refused : ℕ → List ℕ → ℕ → Case
+  -- a message of m bytes at piece size s gives these pieces
+  cuts : ℕ → ℕ → List Cut → Case
+  -- in a room of R bytes, from fresh, the datagrams have these outcomes, and these messages are delivered
+  joins : ℕ → List Arrival → List Outcome → List (List ℕ) → Case
+
+-- the pieces of a message from piece i on, by their definitions
+abbrev pub piecesOf : List ℕ → ℕ → ℕ → ℕ → List Cut
+piecesOf msg s i zero = []
+piecesOf msg s i (suc n) =
+    record { mark = partOfPiece (pieceCount (length msg) s) i; bytes = length (pieceAt msg s i) } ∷ piecesOf msg s (suc i) n
+
+-- the datagrams of one sender, and one channel with its room
+abbrev pub sender : ℕ
+sender = 0x102
+
+abbrev pub datagrams : List Arrival → List Datagram
+datagrams [] = []
+datagrams (x ∷ xs) = (headerBytes (headerOf (x .mark) sender (x .counter)) ++ x .piece) ∷ datagrams xs
+
+abbrev pub ids : List ℕ
+ids = sender ∷ []
+
+abbrev pub room : ℕ → List ℕ
+room R = replicate R 0
+
+-- what a call answers and leaves, in an output that is full of 9s
+pub record Done : Type 0 where
+  pub answer : Answer
+  pub left : List ℕ
+
+abbrev pub lent : ℕ → List ℕ
+lent n = replicate n 9
+
+abbrev pub unpacking : ℕ → List ℕ → ℕ → Done
+unpacking i b n = record { answer = unpacked table i b n; left = wordsAfter table i b (lent n) }
+
+abbrev pub packing : ℕ → List ℕ → ℕ → Done
+packing i ws n = record { answer = packed table i ws n; left = bytesAfter table i ws (lent n) }
+
+abbrev pub gives : List ℕ → Done
+gives xs = record { answer = Gave (length xs); left = xs }
+
+abbrev pub refusedWith : ℕ → Done
+refusedWith n = record { answer = Stopped n; left = lent 8 }
+
+-- what taking the datagrams comes to
+pub record Joined : Type 0 where
+  pub outcomes : List Outcome
+  pub delivered : List (List ℕ)
+
+abbrev pub joining : ℕ → List Arrival → Joined
+joining R xs =
+    record {
+      outcomes = outcomesOn ids 0 (fresh ids R (room R)) (room R) (datagrams xs);
+      delivered = deliveredOn ids 0 (fresh ids R (room R)) (room R) (datagrams xs);
+    }
+
+-- what a case says
+abbrev pub Holds : Case → Type 0
+Holds (unpacks i b ws) = unpacking i b (length ws) ≡ gives ws
+Holds (unpack-refused i b n) = unpacking i b 8 ≡ refusedWith n
+Holds (packs i ws b) = packing i ws (length b) ≡ gives b
+Holds (pack-refused i ws n) = packing i ws 8 ≡ refusedWith n
+Holds (cuts m s ps) = (msg : List ℕ) → length msg ≡ m → piecesOf msg s 0 (pieceCount (length msg) s) ≡ ps
+Holds (joins R xs outcomes delivered) = joining R xs ≡ record { outcomes = outcomes; delivered = delivered }

@@ -1,0 +1,31 @@
+-- Demand 1: "Bad ones get a numbered refusal under a fixed order of checks, and a refusal changes no channel, room, platform state,
+-- sequence number or output byte." The two forms in which it is said of every call.
+use Prim.Native.Nat.{ℕ, _<_}
+use mathlib.Core.Path.{_≡_}
+use mathlib.Core.List.{List, [], _∷_}
+
+-- a check: its number, and when it applies
+pub record Check : Type 1 where
+  pub number : ℕ
+  pub applies : Type 0
+
+infix 68 _when_
+
+abbrev pub _when_ : ℕ → Type 0 → Check
+_when_ n A = record { number = n; applies = A }
+
+-- under these checks, in this order, a call whose answer is `good` where none of them applies answers so: the first that applies
+-- gives its number, whatever those behind it would say
+pub data Answers {A : Type 0} (refused : ℕ → A) (good : A) : List Check → A → Type 1 where
+  none : Answers refused good [] good
+  this : {c : Check} {cs : List Check} → c .applies → Answers refused good (c ∷ cs) (refused (c .number))
+  next : {c : Check} {cs : List Check} {x : A} → ¬ (c .applies) → Answers refused good cs x → Answers refused good (c ∷ cs) x
+
+-- a call that gives this number back (0: it does not refuse), and what it was lent or handed, before and after
+abbrev pub Keeps : {A : Type 0} → ℕ → A → A → Type 0
+Keeps number before after = ¬ (number ≡ 0) → after ≡ before
+
+-- outside of lo to hi
+pub data Outside (lo hi x : ℕ) : Type 0 where
+  below : x < lo → Outside lo hi x
+  above : hi < x → Outside lo hi x

@@ -1,0 +1,70 @@
+-- Demand 2: "Headers, pieces .. and replies are those of ECOA Part 6, Issue 6". What is written reads back as what was meant, and
+-- what is read gives the same bytes when it is written again. The layouts themselves are Tables 2 to 4 and 9 of 000
+-- (message/specs/Header and Platform, binding/specs/Header).
+use Prim.Native.Nat.{ℕ, _+_, _^_, _≤_, _<_}
+use mathlib.Core.Path.{_≡_}
+use mathlib.Core.List.{List, [], _++_}
+use lib.ListN.{length, take}
+use Rattle.wire.specs.Bytes.{Octets, number, bytes, over}
+use Rattle.message.specs.declared.Header.{Header}
+use Rattle.message.specs.declared.Status.{Status}
+use Rattle.message.specs.declared.Message.{Message}
+use Rattle.message.specs.declared.Message.the-variants.{PlatformStatus, PlatformStatusRequest, UnknownOperation, VersionedDataPull}
+use Rattle.message.specs.declared.Reading.the-variants.{Read}
+use Rattle.message.specs.declared.Writing.the-variants.{Written}
+use Rattle.message.specs.Header.{headerLength, platformDomain}
+use Rattle.message.specs.Platform.{platformStatus, platformStatusRequest, unknownOperation, versionedDataPull, statusValue, messageOf}
+use Rattle.message.specs.Reading.{readOf, payloadOf}
+use Rattle.message.specs.Writing.{headerFor, writeOf, outputAfter}
+use Rattle.binding.specs.declared.BindingHeader.{BindingHeader}
+use Rattle.binding.specs.declared.Heard.the-variants.{Piece}
+use Rattle.binding.specs.Header.{senders, counters, largestPiece, heardIn, pieceIn, headerBytes}
+
+-- at this platform the bytes read as a message with this header, of this kind and with this payload
+pub record ReadsAs (reader : ℕ) (s : List ℕ) (header : Header) (kind : Message) (its-payload : List ℕ) : Type 0 where
+  pub answer : readOf reader s ≡ Read header kind headerLength (length its-payload)
+  pub payload : payloadOf s (readOf reader s) ≡ its-payload
+
+-- the numbers of a message are as wide as their fields, and the reader is not its sender
+pub record Addressed (own reader id seq : ℕ) : Type 0 where
+  pub platform : own < 256
+  pub other : own ≡ reader → ⊥
+  pub id-fits : id < 2 ^ 32
+  pub sequence-fits : seq < 2 ^ 32
+
+-- "A written message .. reads back the same at any platform but its sender"
+abbrev pub WrittenThenRead : Type 0
+WrittenThenRead =
+    (own reader domain id seq n : ℕ) (payload out : List ℕ) → Addressed own reader id seq
+    → writeOf domain id payload (length out) ≡ Written n
+    → ReadsAs reader (take n (outputAfter own domain id seq payload out)) (headerFor own domain id seq payload) (messageOf domain id (number 2 payload 0)) payload
+
+-- what was read, written again with its own fields, is the same bytes
+abbrev pub ReadThenWritten : Type 0
+ReadThenWritten =
+    (own : ℕ) (s : List ℕ) (h : Header) (m : Message) (start len : ℕ) (out : List ℕ) → Octets s → readOf own s ≡ Read h m start len → length s ≤ length out
+    → (writeOf (h .domain) (h .id) (payloadOf s (readOf own s)) (length out) ≡ Written (length s))
+    × (outputAfter (h .platform) (h .domain) (h .id) (h .sequence) (payloadOf s (readOf own s)) out ≡ over out 0 s)
+
+-- a message of this ID and payload is written wherever there is room, and reads back as this kind
+abbrev pub IsSentAs : ℕ → List ℕ → Message → Type 0
+IsSentAs id payload kind =
+    (own reader seq : ℕ) (out : List ℕ) → Addressed own reader id seq → headerLength + length payload ≤ length out
+    → (writeOf platformDomain id payload (length out) ≡ Written (headerLength + length payload))
+    × ReadsAs reader (take (headerLength + length payload) (outputAfter own platformDomain id seq payload out)) (headerFor own platformDomain id seq payload) kind payload
+
+-- 000, Tables 3 and 4: each platform message
+pub record PlatformMessages : Type 0 where
+  pub status : (x : Status) → IsSentAs platformStatus (bytes 2 (statusValue x)) (PlatformStatus x)
+  pub request : IsSentAs platformStatusRequest [] PlatformStatusRequest
+  pub unknown : (id : ℕ) → id < 2 ^ 32 → IsSentAs unknownOperation (bytes 2 id) (UnknownOperation id)
+  pub pull : (id : ℕ) → id < 2 ^ 32 → IsSentAs versionedDataPull (bytes 2 id) (VersionedDataPull id)
+
+-- 000, Table 9: the binding header before a piece of 1 to 65,503 bytes
+abbrev pub HeaderThenRead : Type 0
+HeaderThenRead =
+    (h : BindingHeader) (piece : List ℕ) → h .sender < senders → h .counter < counters → 1 ≤ length piece → length piece ≤ largestPiece
+    → (heardIn (headerBytes h ++ piece) ≡ Piece h) × (pieceIn (headerBytes h ++ piece) ≡ piece)
+
+abbrev pub HeaderReadThenWritten : Type 0
+HeaderReadThenWritten = (d : List ℕ) (h : BindingHeader) → Octets d → heardIn d ≡ Piece h → headerBytes h ++ pieceIn d ≡ d

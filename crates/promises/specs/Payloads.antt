@@ -1,0 +1,48 @@
+-- Demand 2: "What we pack unpacks to the same values. What unpacks packs again to the same bytes, except that a true boolean
+-- always goes out as 1." Which words are a value of a type, and what its bytes are, is said apart from any reading and writing
+-- in payload/specs/Values: `Value` (words and bytes), `Spoken` (a true boolean may be any byte but 0), `BooleansAsOne`.
+use Prim.Native.Nat.{ℕ, _≤_, _<_}
+use mathlib.Core.Path.{_≡_}
+use mathlib.Core.List.{List}
+use lib.ListN.{length, take}
+use Rattle.wire.specs.Bytes.{Octets, over}
+use Rattle.types.specs.declared.Sections.{Sections}
+use Rattle.types.specs.declared.Checked.the-variants.{Table}
+use Rattle.types.specs.Table.{checked}
+use Rattle.payload.specs.declared.Answer.the-variants.{Gave}
+use Rattle.payload.specs.Values.{Value, Spoken, BooleansAsOne}
+use Rattle.payload.specs.Calls.{unpackedIn, wordsIn, packedIn, bytesIn, unpacked, wordsAfter, packed, bytesAfter}
+
+-- a type table that `check` accepts, and the number of a type in it
+pub record Known (t : List ℕ) (s : Sections) (i : ℕ) : Type 0 where
+  pub accepted : checked t ≡ Table s
+  pub known : i < s .types .count
+
+-- a call gives just these bytes, or words, at the start of what was lent to it; the rest stays
+abbrev pub PackGives : List ℕ → ℕ → List ℕ → List ℕ → List ℕ → Type 0
+PackGives t i ws out bs = (packed t i ws (length out) ≡ Gave (length bs)) × (bytesAfter t i ws out ≡ over out 0 bs)
+
+abbrev pub UnpackGives : List ℕ → ℕ → List ℕ → List ℕ → List ℕ → Type 0
+UnpackGives t i b words ws = (unpacked t i b (length words) ≡ Gave (length ws)) × (wordsAfter t i b words ≡ over words 0 ws)
+
+-- packing accepts the values of the type, wherever there is room, and nothing else; and gives their bytes
+pub record PacksExactly (t : List ℕ) (s : Sections) (i : ℕ) : Type 0 where
+  pub values : (ws bs out : List ℕ) → Value t s i ws bs → length bs ≤ length out → PackGives t i ws out bs
+  pub only : (ws out : List ℕ) (k : ℕ) → packed t i ws (length out) ≡ Gave k → (bs : List ℕ) × Value t s i ws bs × PackGives t i ws out bs
+
+-- unpacking accepts the byte forms of values, wherever there is room, and nothing else; and gives their words
+pub record UnpacksExactly (t : List ℕ) (s : Sections) (i : ℕ) : Type 0 where
+  pub forms : (ws b words : List ℕ) → Spoken t s i ws b → length ws ≤ length words → UnpackGives t i b words ws
+  pub only : (b words : List ℕ) (k : ℕ) → Octets b → unpacked t i b (length words) ≡ Gave k → (ws : List ℕ) × Spoken t s i ws b × UnpackGives t i b words ws
+
+pub record RoundTrips (t : List ℕ) (s : Sections) (i : ℕ) : Type 0 where
+  pub pack-then-unpack : (ws out words : List ℕ) (k : ℕ) → packed t i ws (length out) ≡ Gave k → length ws ≤ length words → UnpackGives t i (take k (bytesAfter t i ws out)) words ws
+  pub unpack-then-pack : (b words out : List ℕ) (k : ℕ) → Octets b → unpacked t i b (length words) ≡ Gave k → length b ≤ length out → (cs : List ℕ) × BooleansAsOne t s i b cs × (length cs ≡ length b) × PackGives t i (take k (wordsAfter t i b words)) out cs
+
+-- the same calls on the sections that `check` gave answer and leave the same
+pub record OnSections (t : List ℕ) (s : Sections) (i : ℕ) : Type 0 where
+  pub packing : (ws out : List ℕ) → (packedIn t s i ws (length out) ≡ packed t i ws (length out)) × (bytesIn t s i ws out ≡ bytesAfter t i ws out)
+  pub unpacking : (b words : List ℕ) → (unpackedIn t s i b (length words) ≡ unpacked t i b (length words)) × (wordsIn t s i b words ≡ wordsAfter t i b words)
+
+abbrev pub Payloads : Type 0
+Payloads = (t : List ℕ) (s : Sections) (i : ℕ) → Known t s i → PacksExactly t s i × UnpacksExactly t s i × RoundTrips t s i × OnSections t s i

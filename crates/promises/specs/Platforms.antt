@@ -1,0 +1,139 @@
+-- 01, "Platform states and replies", and demand 2 for replies. This platform is UP and the others start DOWN; a call that reads a
+-- message notes what it says and writes the owed replies, each of which its receiver reads as what is meant; and two platforms
+-- fall silent. The theorems are in proofs/Platforms.antt.
+use Prim.Native.Nat.{ℕ, _*_, _^_, _≤_, _<_}
+use mathlib.Core.Path.{_≡_}
+use mathlib.Core.Bool.{Bool, true, false, not, cond}
+use mathlib.Core.List.{List, [], _∷_}
+use lib.Dec.{eqb}
+use lib.ListN.{length, take, drop}
+use Rattle.wire.specs.Bytes.{Octets}
+use Rattle.types.specs.declared.Sections.{Sections}
+use Rattle.types.specs.declared.Found.{Found}
+use Rattle.types.specs.declared.Found.the-variants as found
+use Rattle.types.specs.declared.Checked.the-variants.{Table}
+use Rattle.types.specs.Operations.{operationOf}
+use Rattle.types.specs.Table.{checked}
+use Rattle.message.specs.declared.Header.{Header}
+use Rattle.message.specs.declared.Status.the-variants.{Down, Up}
+use Rattle.message.specs.declared.Message.{Message}
+use Rattle.message.specs.declared.Message.the-variants as message
+use Rattle.message.specs.declared.Reading.the-variants.{Read}
+use Rattle.message.specs.Header.{headerLength}
+use Rattle.message.specs.Refusal.{platforms, noRoom}
+use Rattle.message.specs.Reading.{readOf}
+use Rattle.platform.specs.declared.States.{States}
+use Rattle.platform.specs.declared.Standing.{Standing}
+use Rattle.platform.specs.declared.Heard.{Heard}
+use Rattle.platform.specs.declared.Answer.the-variants.{Refused, Noted}
+use Rattle.platform.specs.States.{isUp, howManyUp, countBelow, Words}
+use Rattle.platform.specs.Replies.{allData, drawn}
+use Rattle.platform.specs.Reaction.{noData, foundData}
+use Rattle.platform.specs.Receiving.{freshStanding, receivedOf, leftOf}
+use Rattle.platform.specs.Exchange.{Pair, Exchange, started, longestExchange}
+
+-- "the states can be asked for one by one, or as how many of the 256 are UP, this one counted"
+pub record StatesAre : Type 0 where
+  pub own-is-up : (own : ℕ) (s : States) → isUp own s own ≡ true
+  pub others-start-down : (own k : ℕ) → own < platforms → k < platforms → (k ≡ own → ⊥) → isUp own (freshStanding own .states) k ≡ false
+  pub numbers-start-at-0 : (own : ℕ) → freshStanding own .next ≡ 0
+  pub counted : (own : ℕ) (s : States) → own < platforms → Words s → howManyUp own s ≡ countBelow (isUp own s) platforms
+
+-- a reply: its sequence number, and what it means
+pub record Owed : Type 0 where
+  pub number : ℕ
+  pub means : Message
+
+-- the ID is versioned data here; all of it, where there is any
+abbrev pub versionedHere : List ℕ → Sections → ℕ → Bool
+versionedHere t s id = cond (eqb id allData) (not (noData t s)) (foundData t s (operationOf t s id))
+
+abbrev pub isThere : Found → Bool
+isThere (found.At i) = true
+isThere found.Nothing = false
+
+-- what is owed for a message of each kind: "The pair at DOWN to UP take the platform's next two own numbers", and "a reply to a
+-- request, a pull or an operation repeats its sequence number"
+abbrev pub owedFor : ℕ → List ℕ → Sections → Standing → Header → Message → List Owed
+owedFor own t s p h (message.PlatformStatus Up) =
+    cond (isUp own (p .states) (h .platform)) []
+    (record { number = p .next; means = message.PlatformStatus Up } ∷ record { number = drawn (p .next); means = message.VersionedDataPull allData } ∷ [])
+owedFor own t s p h (message.PlatformStatus Down) = []
+owedFor own t s p h message.PlatformStatusRequest = record { number = h .sequence; means = message.PlatformStatus Up } ∷ []
+owedFor own t s p h (message.UnknownOperation id) = []
+owedFor own t s p h (message.VersionedDataPull id) =
+    cond (versionedHere t s id) [] (record { number = h .sequence; means = message.UnknownOperation id } ∷ [])
+owedFor own t s p h message.Operation =
+    cond (isThere (operationOf t s (h .id))) [] (record { number = h .sequence; means = message.UnknownOperation (h .id) } ∷ [])
+
+-- the state of platform k, and the next own number, after it
+abbrev pub stateAfter : ℕ → Standing → Header → Message → ℕ → Bool
+stateAfter own p h (message.PlatformStatus Up) k = cond (eqb k (h .platform)) true (isUp own (p .states) k)
+stateAfter own p h (message.PlatformStatus Down) k = cond (eqb k (h .platform)) false (isUp own (p .states) k)
+stateAfter own p h message.PlatformStatusRequest k = isUp own (p .states) k
+stateAfter own p h (message.UnknownOperation id) k = isUp own (p .states) k
+stateAfter own p h (message.VersionedDataPull id) k = isUp own (p .states) k
+stateAfter own p h message.Operation k = isUp own (p .states) k
+
+abbrev pub nextAfter : ℕ → Standing → Header → Message → ℕ
+nextAfter own p h (message.PlatformStatus Up) = cond (isUp own (p .states) (h .platform)) (p .next) (drawn (drawn (p .next)))
+nextAfter own p h (message.PlatformStatus Down) = p .next
+nextAfter own p h message.PlatformStatusRequest = p .next
+nextAfter own p h (message.UnknownOperation id) = p .next
+nextAfter own p h (message.VersionedDataPull id) = p .next
+nextAfter own p h message.Operation = p .next
+
+-- a reply is 24 bytes long; its receiver reads it as what is meant, from this platform and with its number
+abbrev pub replyLength : ℕ
+replyLength = 24
+
+pub record HeardAs (reader own : ℕ) (b : List ℕ) (o : Owed) : Type 0 where
+  pub header : Header
+  pub reads : readOf reader b ≡ Read header (o .means) headerLength 4
+  pub sender : header .platform ≡ own
+  pub number : header .sequence ≡ o .number
+
+-- just these replies, one behind another
+abbrev pub AreReplies : ℕ → ℕ → List ℕ → List Owed → Type 0
+AreReplies reader own b [] = b ≡ []
+AreReplies reader own b (o ∷ os) = HeardAs reader own (take replyLength b) o × AreReplies reader own (drop replyLength b) os
+
+-- a call that reads a message with this header and of this kind
+pub record Receives (own : ℕ) (t : List ℕ) (s : Sections) (p : Standing) (m : List ℕ) (h : Header) (kind : Message) : Type 0 where
+  pub platform : own < platforms
+  pub next : p .next < 2 ^ 32
+  pub bytes : Octets m
+  pub table : checked t ≡ Table s
+  pub start : ℕ
+  pub len : ℕ
+  pub read : readOf own m ≡ Read h kind start len
+
+-- what it comes to where the n bytes of replies fit: "One call reads a message, notes the state and writes the owed replies"
+pub record Notes (own : ℕ) (t : List ℕ) (s : Sections) (p : Standing) (m out : List ℕ) (h : Header) (kind : Message) (n : ℕ) : Type 0 where
+  pub heard : Heard
+  pub answer : receivedOf own t p m (length out) .answer ≡ Noted h heard n
+  pub written : AreReplies (h .platform) own (take n (leftOf own t p m out)) (owedFor own t s p h kind)
+  pub rest : drop n (leftOf own t p m out) ≡ drop n out
+  pub next : receivedOf own t p m (length out) .standing .next ≡ nextAfter own p h kind
+  pub states : (k : ℕ) → k < platforms → isUp own (receivedOf own t p m (length out) .standing .states) k ≡ stateAfter own p h kind k
+
+-- and where they don't, "it is 10"
+pub record Replies : Type 0 where
+  pub fit : (own : ℕ) (t : List ℕ) (s : Sections) (p : Standing) (m out : List ℕ) (h : Header) (kind : Message) → Receives own t s p m h kind → replyLength * length (owedFor own t s p h kind) ≤ length out → Notes own t s p m out h kind (replyLength * length (owedFor own t s p h kind))
+  pub do-not-fit : (own : ℕ) (t : List ℕ) (s : Sections) (p : Standing) (m out : List ℕ) (h : Header) (kind : Message) → Receives own t s p m h kind → length out < replyLength * length (owedFor own t s p h kind) → receivedOf own t p m (length out) .answer ≡ Refused noRoom
+
+-- "two platforms would answer for ever": they do not. From any two states, whatever their tables and outputs, in whatever order
+-- messages arrive and whichever are lost, an exchange that one status starts ends after at most seven, with none under way
+pub record Starts (a b : ℕ) (p q : Standing) (number : ℕ) : Type 0 where
+  pub one : a < platforms
+  pub other : b < platforms
+  pub two : a ≡ b → ⊥
+  pub next-of-one : p .next < 2 ^ 32
+  pub next-of-other : q .next < 2 ^ 32
+  pub number-fits : number < 2 ^ 32
+
+pub record FallSilent : Type 0 where
+  pub at-most : (a b : ℕ) (p q : Standing) (number : ℕ) → Starts a b p q number → (n : ℕ) (z : Pair) → Exchange a b n (started p q number) z → n ≤ longestExchange
+  pub then-none : (a b : ℕ) (p q : Standing) (number : ℕ) → Starts a b p q number → (z : Pair) → Exchange a b longestExchange (started p q number) z → (z .toA ≡ []) × (z .toB ≡ [])
+  -- and seven are reached: two that start, neither of which provides versioned data
+  pub reached : (z : Pair) × Exchange 1 2 longestExchange (started (freshStanding 1) (freshStanding 2) 0) z

@@ -1,0 +1,56 @@
+-- Demand 1, "a fixed order of checks", for type tables: "30 and 31: whichever is met first in reading order", then 32 for any
+-- entry, then 33 (docs/DECISIONS.md, 21). The theorem is in proofs/TableOrder.antt.
+use Prim.Native.Nat.{ℕ, _+_, _<_}
+use mathlib.Core.Path.{_≡_}
+use mathlib.Core.Bool.{false}
+use mathlib.Core.List.{List, [], _∷_, _++_}
+use lib.ListN.{length}
+use Rattle.types.specs.declared.Section.{Section}
+use Rattle.types.specs.declared.Sections.{Sections}
+use Rattle.types.specs.declared.Checked.the-variants.{Refused, Table}
+use Rattle.types.specs.Layout.{typeWidth, memberWidth, valueWidth, operationWidth, mostTypes, mostMembers, mostValues, mostOperations, sectionEnd, counted}
+use Rattle.types.specs.Rules.{typeOk}
+use Rattle.types.specs.Operations.{operationOk}
+use Rattle.types.specs.Sizes.{mostBytes, largest}
+use Rattle.types.specs.Table.{checked}
+use Rattle.promises.specs.Checks.{Check, _when_, Answers, Outside}
+
+-- the four sections, each behind the one before it
+abbrev pub sectionsIn : List ℕ → Sections
+sectionsIn t =
+    let types : Section = counted t 0 in
+    let members : Section = counted t (sectionEnd typeWidth types) in
+    let values : Section = counted t (sectionEnd memberWidth members) in
+    let operations : Section = counted t (sectionEnd valueWidth values) in
+    record { types = types; members = members; values = values; operations = operations }
+
+-- a section whose count stands at p: the count is cut off, or outside its limit, or the entries are cut off
+abbrev pub sectionChecks : ℕ → ℕ → ℕ → List ℕ → ℕ → List Check
+sectionChecks width least most t p =
+    30 when (length t < p + 2)
+    ∷ 31 when Outside least most (counted t p .count)
+    ∷ 30 when (length t < sectionEnd width (counted t p))
+    ∷ []
+
+-- an entry breaks a rule (types/specs/Rules and Operations); a type can exceed 65,536 bytes (types/specs/Sizes)
+pub data BreaksARule (t : List ℕ) (s : Sections) : Type 0 where
+  a-type : (i : ℕ) → i < s .types .count → typeOk t s i ≡ false → BreaksARule t s
+  an-operation : (i : ℕ) → i < s .operations .count → operationOk t s i ≡ false → BreaksARule t s
+
+pub data IsTooLarge (t : List ℕ) (s : Sections) : Type 0 where
+  a-type : (i : ℕ) → i < s .types .count → mostBytes < largest t s i → IsTooLarge t s
+
+-- in reading order; the last 30 is for bytes after the end
+abbrev pub tableChecks : List ℕ → List Check
+tableChecks t =
+    sectionChecks typeWidth 1 mostTypes t 0
+    ++ (sectionChecks memberWidth 0 mostMembers t (sectionEnd typeWidth (sectionsIn t .types))
+    ++ (sectionChecks valueWidth 0 mostValues t (sectionEnd memberWidth (sectionsIn t .members))
+    ++ (sectionChecks operationWidth 0 mostOperations t (sectionEnd valueWidth (sectionsIn t .values))
+    ++ (30 when (¬ (sectionEnd operationWidth (sectionsIn t .operations) ≡ length t))
+    ∷ 32 when BreaksARule t (sectionsIn t)
+    ∷ 33 when IsTooLarge t (sectionsIn t)
+    ∷ []))))
+
+abbrev pub TableInOrder : Type 1
+TableInOrder = (t : List ℕ) → Answers Refused (Table (sectionsIn t)) (tableChecks t) (checked t)
