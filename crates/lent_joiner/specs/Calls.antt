@@ -1,0 +1,84 @@
+-- What set-up and take answer in lent words. Too few words for the answer or for a new joiner come before anything else.
+use Prim.Native.Nat.{ℕ}
+use mathlib.Core.Bool.{cond}
+use mathlib.Core.List.{List, [], _∷_}
+use Rattle.wire.specs.Bytes.{written}
+use Rattle.binding.specs.Header.{senderIn}
+use Rattle.joiner.specs.Setup.{setupOf, sendersOf, placeOf, channelAt}
+use Rattle.joiner.specs.Take.{takenOf, roomsAfter}
+use Rattle.joiner.specs.Outcomes.{answerIn, refusalIn}
+use Rattle.joiner.specs.declared.Answer.{Answer}
+use Rattle.joiner.specs.declared.Answer.the-variants.{Accepted, Refused}
+use Rattle.joiner.specs.declared.Joiner.{Joiner}
+use Rattle.joiner.specs.declared.NewJoiner.{NewJoiner}
+use Rattle.joiner.specs.declared.Place.{Place}
+use Rattle.joiner.specs.declared.Place.the-variants.{Datagram, Rooms}
+use Rattle.joiner.specs.declared.Outcome.{Outcome}
+use Rattle.joiner.specs.declared.Outcome.the-variants as outcome
+use Rattle.joiner.specs.declared.Taken.{Taken}
+use Rattle.lent.specs.Words.{outputTooShort, tooFew}
+use Rattle.lent_joiner.specs.Words.{joinerWords, recordAt, joinerIn, recordWords, wordsOf}
+
+-- a joiner that was accepted, as words; none of one that was refused
+abbrev pub acceptedWords : Answer → Joiner → List ℕ
+acceptedWords Accepted j = wordsOf j
+acceptedWords (Refused n) j = []
+
+abbrev pub newWords : NewJoiner → List ℕ
+newWords new = acceptedWords (new .answer) (new .joiner)
+
+unfoldable pub setupNumber : List ℕ → ℕ → ℕ → List ℕ → ℕ
+setupNumber ids R b ws = cond (tooFew joinerWords ws) outputTooShort (answerIn (setupOf ids R b .answer))
+
+unfoldable pub setupWords : List ℕ → ℕ → ℕ → List ℕ → List ℕ
+setupWords ids R b ws = cond (tooFew joinerWords ws) ws (written ws 0 (newWords (setupOf ids R b)))
+
+-- what an outcome is in words: which, missed, the bytes held or delivered, in which slice a delivered message lies (0 none, 1
+-- the datagram, 2 the rooms), and from which byte on
+abbrev pub answerWords : ℕ
+answerWords = 5
+
+abbrev pub deliveredWords : ℕ → Place → List ℕ
+deliveredWords m (Datagram p n) = 2 ∷ m ∷ n ∷ 1 ∷ p ∷ []
+deliveredWords m (Rooms p n) = 2 ∷ m ∷ n ∷ 2 ∷ p ∷ []
+
+abbrev pub outcomeWords : Outcome → List ℕ
+outcomeWords (outcome.Refused n) = []
+outcomeWords outcome.Repeated = 1 ∷ 0 ∷ 0 ∷ 0 ∷ 0 ∷ []
+outcomeWords (outcome.Delivered m p) = deliveredWords m p
+outcomeWords (outcome.Held m n) = 3 ∷ m ∷ n ∷ 0 ∷ 0 ∷ []
+outcomeWords (outcome.Stray m) = 4 ∷ m ∷ 0 ∷ 0 ∷ 0 ∷ []
+outcomeWords (outcome.TooLong m) = 5 ∷ m ∷ 0 ∷ 0 ∷ 0 ∷ []
+
+-- what a refusal leaves as it is
+abbrev pub unlessRefused : Outcome → List ℕ → List ℕ → List ℕ
+unlessRefused (outcome.Refused n) old new = old
+unlessRefused outcome.Repeated old new = new
+unlessRefused (outcome.Delivered m p) old new = new
+unlessRefused (outcome.Held m n) old new = new
+unlessRefused (outcome.Stray m) old new = new
+unlessRefused (outcome.TooLong m) old new = new
+
+-- the words with channel k's record as it is in j
+abbrev pub withRecord : List ℕ → ℕ → Joiner → List ℕ
+withRecord ws k j = written ws (recordAt k) (recordWords (channelAt j k))
+
+-- whose the datagram is
+abbrev pub placeIn : Joiner → List ℕ → ℕ
+placeIn j d = placeOf (sendersOf j) (senderIn d)
+
+-- the words after a datagram was taken: the record of the channel whose it is
+abbrev pub wordsBy : List ℕ → ℕ → Taken → List ℕ
+wordsBy ws k t = unlessRefused (t .outcome) ws (withRecord ws k (t .joiner))
+
+unfoldable pub takeNumber : List ℕ → List ℕ → List ℕ → List ℕ → ℕ
+takeNumber ws rooms d out = cond (tooFew answerWords out) outputTooShort (refusalIn (takenOf (joinerIn ws) rooms d .outcome))
+
+unfoldable pub takeWords : List ℕ → List ℕ → List ℕ → List ℕ → List ℕ
+takeWords ws rooms d out = cond (tooFew answerWords out) ws (wordsBy ws (placeIn (joinerIn ws) d) (takenOf (joinerIn ws) rooms d))
+
+unfoldable pub takeRooms : List ℕ → List ℕ → List ℕ → List ℕ → List ℕ
+takeRooms ws rooms d out = cond (tooFew answerWords out) rooms (roomsAfter (joinerIn ws) rooms d)
+
+unfoldable pub takeAnswer : List ℕ → List ℕ → List ℕ → List ℕ → List ℕ
+takeAnswer ws rooms d out = cond (tooFew answerWords out) out (written out 0 (outcomeWords (takenOf (joinerIn ws) rooms d .outcome)))

@@ -1,0 +1,140 @@
+// Joining with the joiner and the answers in lent words: set-up and take as the C interface has them.
+mod stored;
+
+ghost use mathlib.Core.Path.{_≡_};
+ghost use mathlib.Core.List.{[], _∷_};
+ghost use Prim.Native.Nat.{_≤_};
+ghost use Rattle.wire.specs.Bytes.{written};
+ghost use Rattle.binding.specs.Header.{senderIn};
+ghost use Rattle.joiner.specs.Setup.{channelLimit, sendersOf, placeOf};
+ghost use Rattle.lent_joiner.specs.Calls.{setupNumber, setupWords, outcomeWords, takeNumber, takeWords, takeRooms, takeAnswer};
+use joiner::Answer;
+use joiner::Joiner;
+use joiner::Outcome;
+use joiner::Place;
+
+// How many words a joiner is.
+pub const JOINER_WORDS: usize = 130;
+
+// How many words an answer of `take` is.
+pub const ANSWER_WORDS: usize = 5;
+
+// Which outcome a datagram had.
+pub const REPEATED: u64 = 1;
+
+pub const DELIVERED: u64 = 2;
+
+pub const HELD: u64 = 3;
+
+pub const STRAY: u64 = 4;
+
+pub const TOO_LONG: u64 = 5;
+
+// Where a delivered message lies.
+pub const IN_DATAGRAM: u64 = 1;
+
+pub const IN_ROOMS: u64 = 2;
+
+// A fresh joiner for these sender IDs, with `room` bytes for each in rooms of `rooms` bytes: 10 for too few words, 20.
+pub fn setup(ids: &[u16], room: u32, rooms: usize, state: &mut [u32]) -> u32
+    ensures { λ r. ⌜ r ≡ setupNumber (now (ids .entry)) room rooms (now (state .entry)) ⌝ }
+    ensures { λ _. ⌜ now (state .exit) ≡ setupWords (now (ids .entry)) room rooms (now (state .entry)) ⌝ }
+{
+    if state.len() < JOINER_WORDS {
+        return lent::OUTPUT_TOO_SHORT;
+    }
+    let made = joiner::setup(ids, room, rooms);
+    let answer = made.answer;
+    let joiner = made.joiner;
+    match answer {
+        Answer::Refused(number) => number,
+        Answer::Accepted => {
+            stored::put_joiner(state, joiner);
+            0
+        }
+    }
+}
+
+// Takes one datagram: 10 for too few words of answer, 20 to 23, or 0 and what it was to its channel, whose record alone
+// changes.
+pub fn take(state: &mut [u32], rooms: &mut [u8], datagram: &[u8], answer: &mut [u64]) -> u32
+    ensures { λ r. ⌜ r ≡ takeNumber (now (state .entry)) (now (rooms .entry)) (now (datagram .entry)) (now (answer .entry)) ⌝ }
+    ensures { λ _. ⌜ now (state .exit) ≡ takeWords (now (state .entry)) (now (rooms .entry)) (now (datagram .entry)) (now (answer .entry)) ⌝ }
+    ensures { λ _. ⌜ now (rooms .exit) ≡ takeRooms (now (state .entry)) (now (rooms .entry)) (now (datagram .entry)) (now (answer .entry)) ⌝ }
+    ensures { λ _. ⌜ now (answer .exit) ≡ takeAnswer (now (state .entry)) (now (rooms .entry)) (now (datagram .entry)) (now (answer .entry)) ⌝ }
+{
+    if answer.len() < ANSWER_WORDS {
+        return lent::OUTPUT_TOO_SHORT;
+    }
+    let before = stored::joiner_in(state);
+    let taken = joiner::take(before, rooms, datagram);
+    let outcome = taken.outcome;
+    let after = taken.joiner;
+    match outcome {
+        Outcome::Refused(number) => number,
+        _ => {
+            let at = place(before, sender_in(datagram));
+            stored::put_record(state, at, after.channels[at]);
+            put_outcome(answer, outcome);
+            0
+        }
+    }
+}
+
+fn sender_in(datagram: &[u8]) -> u16
+    ensures { λ r. ⌜ r ≡ senderIn (now (datagram .entry)) ⌝ }
+{
+    (wire::u8_at(datagram, 0) % 16) as u16 * 256 + wire::u8_at(datagram, 1) as u16
+}
+
+// The place of the first channel that bears the sender ID, or the count where none does.
+fn place(joiner: Joiner, sender: u16) -> usize
+    requires { ⌜ joiner .count ≤ channelLimit ⌝ }
+    ensures { λ r. ⌜ r ≡ placeOf (sendersOf joiner) sender ⌝ }
+{
+    let mut i = 0;
+    while i < joiner.count {
+        if joiner.channels[i].sender == sender {
+            return i;
+        }
+        i += 1;
+    }
+    i
+}
+
+fn put_outcome(answer: &mut [u64], outcome: Outcome)
+    ensures { λ _. ⌜ now (answer .exit) ≡ written (now (answer .entry)) 0 (outcomeWords outcome) ⌝ }
+{
+    match outcome {
+        Outcome::Refused(_) => {}
+        Outcome::Repeated => put_words(answer, REPEATED, 0, 0, 0, 0),
+        Outcome::Delivered { missed, place } => match place {
+            Place::Datagram { start, length } => put_words(
+                answer,
+                DELIVERED,
+                missed as u64,
+                length as u64,
+                IN_DATAGRAM,
+                start as u64,
+            ),
+            Place::Rooms { start, length } => put_words(
+                answer,
+                DELIVERED,
+                missed as u64,
+                length as u64,
+                IN_ROOMS,
+                start as u64,
+            ),
+        },
+        Outcome::Held { missed, held } => put_words(answer, HELD, missed as u64, held as u64, 0, 0),
+        Outcome::Stray { missed } => put_words(answer, STRAY, missed as u64, 0, 0, 0),
+        Outcome::TooLong { missed } => put_words(answer, TOO_LONG, missed as u64, 0, 0, 0),
+    }
+}
+
+fn put_words(answer: &mut [u64], outcome: u64, missed: u64, bytes: u64, slice: u64, start: u64)
+    ensures { λ _. ⌜ now (answer .exit) ≡ written (now (answer .entry)) 0 (outcome ∷ missed ∷ bytes ∷ slice ∷ start ∷ []) ⌝ }
+{
+    let words = [outcome, missed, bytes, slice, start];
+    lent::put_u64(answer, 0, &words);
+}

@@ -1,0 +1,25 @@
+-- `lent_messages::reading::read` meets its contract.
+-- Assumes nothing.
+use borrow.Author.Needs.{needs}
+use Rattle.lent.proofs.Answers.{short, long}
+use Rattle.lent_messages.proofs.Answering.{read-refused, read-nothing, read-number, read-words}
+use Rattle.lent_messages.proofs.reading.read.Statement.{statement}
+use Rattle.lent_messages.proofs.reading.read.Tie as tie
+
+pub read-spec : {M : Type 1} → statement M
+read-spec =
+    tie.close
+    (tie.spec
+    (λ c. (search short, search short))
+    (λ c κs. search needs)
+    (λ c. search needs)
+    (λ c. search needs)
+    (λ c κs. search needs)
+    (λ c κs. search needs)
+    (λ c. search needs)
+    (λ c. search needs)
+    (λ c. search needs)
+    (λ c κs. search needs)
+    (λ c. (search (long, read-refused), search (long, read-nothing)))
+    (λ c. search needs)
+    (λ c. (search (long, read-number), search (long, read-words))))

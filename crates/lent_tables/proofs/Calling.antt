@@ -1,0 +1,81 @@
+-- What checking and looking up show at their returns.
+-- Assumes nothing.
+use Prim.Native.Nat.{ℕ, _≤_, _<_}
+use mathlib.Core.Path.{_≡_, refl, sym, ap, _∙_}
+use mathlib.Core.Bool.{Bool, true, false, cond}
+use mathlib.Core.List.{List, [], _∷_}
+use lib.ListN.{length}
+use Rattle.wire.specs.Bytes.{written}
+use Rattle.types.specs.declared.Sections.{Sections}
+use Rattle.types.specs.declared.Operation.{Operation}
+use Rattle.types.specs.declared.Checked.{Checked}
+use Rattle.types.specs.declared.Checked.the-variants.{Refused, Table}
+use Rattle.types.specs.declared.Found.{Found}
+use Rattle.types.specs.declared.Found.the-variants.{At, Nothing}
+use Rattle.types.specs.Layout.{cutShort, within}
+use Rattle.types.specs.Entries.{operationAt}
+use Rattle.types.specs.Operations.{Answers, operationOf}
+use Rattle.types.proofs.Unique.{operation-answers}
+use Rattle.lent.specs.Words.{outputTooShort}
+use Rattle.lent.proofs.Answers.{short, long, none-written}
+use Rattle.lent_tables.specs.Words.{wordsOf}
+use Rattle.lent_tables.specs.Calls.{checkRefusal, checkWords, foundLength, operationWords, foundWords, findNumber, findAnswer, Finds}
+
+-- `check`
+module _ {r : Checked} (a : Checked) (e : r ≡ a) where
+  pub check-refused : (n : ℕ) → r ≡ Refused n → n ≡ checkRefusal a
+  check-refused n f = sym (ap checkRefusal (sym e ∙ f))
+
+  pub check-nothing : (ws : List ℕ) (n : ℕ) → r ≡ Refused n → ws ≡ written ws 0 (checkWords a)
+  check-nothing ws n f = none-written ws ∙ ap (λ (x : Checked). written ws 0 (checkWords x)) (sym (sym e ∙ f))
+
+  pub check-number : (s : Sections) → r ≡ Table s → 0 ≡ checkRefusal a
+  check-number s f = sym (ap checkRefusal (sym e ∙ f))
+
+  pub check-words : {x : List ℕ} (ws : List ℕ) (s : Sections) → r ≡ Table s → x ≡ written ws 0 (wordsOf s) → x ≡ written ws 0 (checkWords a)
+  check-words ws s f g = g ∙ ap (λ (x : Checked). written ws 0 (checkWords x)) (sym (sym e ∙ f))
+
+-- `find`
+module _ (t : List ℕ) (s : Sections) (id : ℕ) (answer : List ℕ) where
+  pub short-find : length answer < foundLength → Finds t s id answer answer
+  short-find h =
+      record {
+        found = operationOf t s id;
+        answers = operation-answers t s id;
+        words = short foundLength answer answer (cond (within t s) (written answer 0 (foundWords t s (operationOf t s id))) answer) h;
+      }
+
+  module _ {b : Bool} {z : Sections} (h : foundLength ≤ length answer) (ez : z ≡ s) (eb : b ≡ within t z) where
+    is-within : b ≡ within t s
+    is-within = eb ∙ ap (within t) ez
+
+    pub not-within-number : b ≡ false → cutShort ≡ findNumber t s answer
+    not-within-number f = long foundLength answer outputTooShort (cond (within t s) 0 cutShort) h (rw (sym is-within ∙ f))
+
+    pub not-within : b ≡ false → Finds t s id answer answer
+    not-within f =
+        record {
+          found = operationOf t s id;
+          answers = operation-answers t s id;
+          words = long foundLength answer answer (cond (within t s) (written answer 0 (foundWords t s (operationOf t s id))) answer) h (rw (sym is-within ∙ f));
+        }
+
+    module _ (f : b ≡ true) where
+      pub within-number : 0 ≡ findNumber t s answer
+      within-number = long foundLength answer outputTooShort (cond (within t s) 0 cutShort) h (rw (sym is-within ∙ f))
+
+      pub found-there : {x : List ℕ} {r : Found} {o : Operation} (i : ℕ) → Answers t z id r → r ≡ At i → o ≡ operationAt t z i → x ≡ written answer 0 (operationWords o) → Finds t s id answer x
+      found-there {x} {r} {o} i a er eo ex =
+          record {
+            found = At i;
+            answers = rw (ez, er) at a;
+            words = long foundLength answer answer (cond (within t s) (written answer 0 (foundWords t s (At i))) answer) h (rw (sym is-within ∙ f) (ex ∙ ap (λ (y : Operation). written answer 0 (operationWords y)) (eo ∙ ap (λ (y : Sections). operationAt t y i) ez)));
+          }
+
+      pub found-none : {x : List ℕ} {r : Found} → Answers t z id r → r ≡ Nothing → x ≡ written answer 0 (0 ∷ 0 ∷ 0 ∷ []) → Finds t s id answer x
+      found-none {x} {r} a er ex =
+          record {
+            found = Nothing;
+            answers = rw (ez, er) at a;
+            words = long foundLength answer answer (cond (within t s) (written answer 0 (foundWords t s Nothing)) answer) h (rw (sym is-within ∙ f) ex);
+          }

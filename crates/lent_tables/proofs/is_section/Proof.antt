@@ -1,0 +1,15 @@
+-- `lent_tables::is_section` meets its contract.
+-- Assumes nothing.
+use borrow.Author.Needs.{needs}
+use Rattle.lent_tables.proofs.Storing.{is-section}
+use Rattle.lent_tables.proofs.is_section.Statement.{statement}
+use Rattle.lent_tables.proofs.is_section.Tie as tie
+
+pub is-section-spec : {M : Type 1} → statement M
+is-section-spec =
+    tie.close
+    (tie.spec
+    (λ c κs. search needs)
+    (λ c. search needs)
+    (λ c κs. search needs)
+    (λ c. search is-section))
