@@ -5,9 +5,10 @@
 
 #include "nyrkovash.h"
 
-/* Randomness, the same from run to run for one seed. */
+/* Randomness, the same for one seed with every compiler: no expression draws twice in an order that C leaves open. */
 void seed(uint64_t from);
 uint64_t any(void);
+uint64_t narrow(void);                  /* any number, of any width */
 size_t below(size_t limit);             /* 0 to limit - 1 */
 int one_in(size_t times);
 size_t near(size_t right);              /* mostly right; sometimes one off, 0, small, or anything */

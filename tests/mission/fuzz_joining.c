@@ -33,9 +33,9 @@ static void make_ids(uint16_t *ids, size_t channels)
         }
     }
     if (one_in(20) && channels > 0)
-        ids[below(channels)] = (uint16_t)(one_in(2) ? 4095 + below(3) : any());
+        ids[channels - 1] = (uint16_t)(one_in(2) ? 4095 + below(3) : any());
     if (one_in(20) && channels > 0)
-        ids[below(channels)] = ids[below(channels)];
+        ids[channels / 2] = ids[below(channels)];
 }
 
 static int good_sizes(size_t channels, size_t room, size_t length)
@@ -181,8 +181,10 @@ void fuzz_take(void)
     int good;
     fill(before, sizeof before);
     memcpy(before, joiner, sizeof joiner);
-    if (one_in(16))
-        before[below(FIRST + RECORD * (1 + joiner[0] % 33)) % NYR_JOINER_WORDS] = one_in(2) ? (uint32_t)below(40) : (uint32_t)any();
+    if (one_in(16)) {
+        size_t at = below(FIRST + RECORD * (1 + joiner[0] % NYR_CHANNELS));
+        before[at] = (uint32_t)(one_in(2) ? below(40) : narrow());
+    }
     if (one_in(64))
         fill(before, sizeof before);
     if (one_in(24))

@@ -31,6 +31,12 @@ uint64_t any(void)
     return z ^ z >> 31;
 }
 
+uint64_t narrow(void)
+{
+    uint64_t bits = any();
+    return bits >> below(64);
+}
+
 size_t below(size_t limit)
 {
     return (size_t)(any() % limit);
@@ -48,7 +54,7 @@ size_t near(size_t right)
     case 1: return right - 1;
     case 2: return 0;
     case 3: return below(70000);
-    case 4: return (size_t)(any() >> below(64));
+    case 4: return (size_t)narrow();
     default: return right;
     }
 }
@@ -62,8 +68,10 @@ size_t about(size_t needed)
 
 void scramble(uint8_t *bytes, size_t length)
 {
-    for (size_t i = 1 + below(3); length > 0 && i > 0; i--)
-        bytes[below(length)] = (uint8_t)(one_in(2) ? any() : below(4));
+    for (size_t i = 1 + below(3); length > 0 && i > 0; i--) {
+        size_t at = below(length);
+        bytes[at] = (uint8_t)(one_in(2) ? any() : below(4));
+    }
 }
 
 void fill(void *bytes, size_t length)

@@ -35,8 +35,9 @@ static uint32_t make_id(void)
 }
 
 /* A message that is mostly good, from mostly another platform. */
-static size_t make_message(unsigned sender, uint32_t id)
+static size_t make_message(unsigned sender)
 {
+    uint32_t id = make_id();
     int domain = id <= 4 && one_in(2) ? 0 : (int)below(2);
     size_t length = domain == 1 ? below(one_in(20) ? 40000 : 60) : id == 2 ? 0 : 4;
     static const uint8_t start[3] = {0xEC, 0x0A, 2};
@@ -60,7 +61,7 @@ static size_t make_message(unsigned sender, uint32_t id)
 void fuzz_read(void)
 {
     uint8_t own = (uint8_t)any();
-    size_t length = make_message(one_in(16) ? own : (unsigned)below(one_in(16) ? 300 : 256), make_id());
+    size_t length = make_message(one_in(16) ? own : (unsigned)below(one_in(16) ? 300 : 256));
     size_t answers = about(NYR_READ_ANSWER);
     uint32_t number;
     if (one_in(64))
@@ -176,7 +177,7 @@ void fuzz_receive(void)
     if (!good)
         scramble(spoilt, table.length);
     bytes = good ? table.length : near(table.length) % sizeof table.bytes;
-    length = make_message(one_in(16) ? own : (unsigned)below(one_in(3) ? 256 : 4), make_id());
+    length = make_message(one_in(16) ? own : (unsigned)below(one_in(3) ? 256 : 4));
     fill(before, sizeof before);
     memcpy(before, platform, sizeof platform);
     if (one_in(64))

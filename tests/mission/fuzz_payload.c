@@ -17,8 +17,10 @@ static void make_sections(uint64_t *sections, size_t room)
 {
     fill(sections, room * sizeof *sections);
     memcpy(sections, table.sections, sizeof table.sections);
-    if (one_in(16))
-        sections[below(8)] = one_in(2) ? below(21000) : any() >> below(64);
+    if (one_in(16)) {
+        size_t at = below(8);
+        sections[at] = one_in(2) ? below(21000) : narrow();
+    }
     if (one_in(64))
         fill(sections, room * sizeof *sections);
 }
@@ -154,8 +156,8 @@ void fuzz_pack(void)
     length = make_payload(type, &count);
     room = whole ? length + below(3) : near(length) % MOST_BYTES;
     if (!whole) {
-        if (count > 0)
-            words[below(count)] = one_in(2) ? any() >> below(64) : below(300);
+        size_t at = below(count + 1);
+        words[at] = one_in(2) ? narrow() : below(300);
         count = near(count) % 5000;
         type = near(type);
     }

@@ -112,15 +112,44 @@ impl Judge<'_> {
     fn meet(&mut self, i: usize) -> Result<(), u32> {
         let e = entry_of(&self.table, i)?;
         match e.kind {
-            BASE | ENUM => self.leaves(&e, 1),
-            RECORD => {
-                for member in self.table.members(&e).chunks_exact(2) {
-                    self.meet(smaller(be16(member, 0), i)?)?;
-                }
-                Ok(())
-            }
+            BASE | ENUM => self.leaf(&e),
+            RECORD => self.members(i, &e),
             _ => self.elements(i, &e),
         }
+    }
+
+    fn members(&mut self, i: usize, e: &Entry) -> Result<(), u32> {
+        for member in self.table.members(e).chunks_exact(2) {
+            let child = smaller(be16(member, 0), i)?;
+            let e = entry_of(&self.table, child)?;
+            match e.kind {
+                BASE | ENUM => self.leaf(&e)?,
+                RECORD => self.members(child, &e)?,
+                _ => self.elements(child, &e)?,
+            }
+        }
+        Ok(())
+    }
+
+    #[inline]
+    fn leaf(&mut self, e: &Entry) -> Result<(), u32> {
+        let width = width(e.of);
+        if self.rest.len() < width {
+            return Err(40);
+        }
+        let (leaf, rest) = self.rest.split_at(width);
+        let good = match (e.kind, e.of) {
+            (ENUM, code) => self.table.has_value(e, word(code, leaf)),
+            (_, 11) => allowed(11, u64::from(be32(leaf, 0))),
+            (_, 12) => allowed(12, be64(leaf, 0)),
+            _ => true,
+        };
+        if !good {
+            return Err(42);
+        }
+        self.rest = rest;
+        self.words += 1;
+        Ok(())
     }
 
     fn elements(&mut self, i: usize, e: &Entry) -> Result<(), u32> {
@@ -189,14 +218,28 @@ impl Store<'_, '_> {
     fn meet(&mut self, i: usize) {
         let e = self.table.entry(i);
         match e.kind {
-            BASE | ENUM => self.leaves(e.of, 1),
-            RECORD => {
-                for member in self.table.members(&e).chunks_exact(2) {
-                    self.meet(usize::from(be16(member, 0)));
-                }
-            }
+            BASE | ENUM => self.leaf(e.of),
+            RECORD => self.members(&e),
             _ => self.elements(&e),
         }
+    }
+
+    fn members(&mut self, e: &Entry) {
+        for member in self.table.members(e).chunks_exact(2) {
+            let e = self.table.entry(usize::from(be16(member, 0)));
+            match e.kind {
+                BASE | ENUM => self.leaf(e.of),
+                RECORD => self.members(&e),
+                _ => self.elements(&e),
+            }
+        }
+    }
+
+    #[inline]
+    fn leaf(&mut self, code: u16) {
+        let (leaf, rest) = self.rest.split_at(width(code));
+        self.rest = rest;
+        self.next(1)[0] = word(code, leaf);
     }
 
     fn elements(&mut self, e: &Entry) {
@@ -227,10 +270,6 @@ impl Store<'_, '_> {
         let (run, rest) = self.rest.split_at(count * width);
         self.rest = rest;
         let out = self.next(count);
-        if count == 1 {
-            out[0] = word(code, run);
-            return;
-        }
         // A loop for each form, so that each can be vectorised.
         macro_rules! each {
             ($width:literal, $word:expr) => {
@@ -263,15 +302,34 @@ impl Weigh<'_> {
     fn meet(&mut self, i: usize) -> Result<(), u32> {
         let e = entry_of(&self.table, i)?;
         match e.kind {
-            BASE | ENUM => self.leaves(&e, 1),
-            RECORD => {
-                for member in self.table.members(&e).chunks_exact(2) {
-                    self.meet(smaller(be16(member, 0), i)?)?;
-                }
-                Ok(())
-            }
+            BASE | ENUM => self.leaf(&e),
+            RECORD => self.members(i, &e),
             _ => self.elements(i, &e),
         }
+    }
+
+    fn members(&mut self, i: usize, e: &Entry) -> Result<(), u32> {
+        for member in self.table.members(e).chunks_exact(2) {
+            let child = smaller(be16(member, 0), i)?;
+            let e = entry_of(&self.table, child)?;
+            match e.kind {
+                BASE | ENUM => self.leaf(&e)?,
+                RECORD => self.members(child, &e)?,
+                _ => self.elements(child, &e)?,
+            }
+        }
+        Ok(())
+    }
+
+    #[inline]
+    fn leaf(&mut self, e: &Entry) -> Result<(), u32> {
+        let (word, rest) = self.rest.split_first().ok_or(40u32)?;
+        if !allowed(e.of, *word) || e.kind == ENUM && !self.table.has_value(e, *word) {
+            return Err(42);
+        }
+        self.rest = rest;
+        self.bytes += width(e.of);
+        Ok(())
     }
 
     fn elements(&mut self, i: usize, e: &Entry) -> Result<(), u32> {
@@ -344,13 +402,35 @@ impl Lay<'_, '_> {
     fn meet(&mut self, i: usize) {
         let e = self.table.entry(i);
         match e.kind {
-            BASE | ENUM => self.leaves(e.of, 1),
-            RECORD => {
-                for member in self.table.members(&e).chunks_exact(2) {
-                    self.meet(usize::from(be16(member, 0)));
-                }
-            }
+            BASE | ENUM => self.leaf(e.of),
+            RECORD => self.members(&e),
             _ => self.elements(&e),
+        }
+    }
+
+    fn members(&mut self, e: &Entry) {
+        for member in self.table.members(e).chunks_exact(2) {
+            let e = self.table.entry(usize::from(be16(member, 0)));
+            match e.kind {
+                BASE | ENUM => self.leaf(e.of),
+                RECORD => self.members(&e),
+                _ => self.elements(&e),
+            }
+        }
+    }
+
+    #[inline]
+    fn leaf(&mut self, code: u16) {
+        let width = width(code);
+        let (word, rest) = self.rest.split_first().unwrap();
+        self.rest = rest;
+        let (out, left) = std::mem::take(&mut self.out).split_at_mut(width);
+        self.out = left;
+        match width {
+            1 => out[0] = *word as u8,
+            2 => out.copy_from_slice(&(*word as u16).to_be_bytes()),
+            4 => out.copy_from_slice(&(*word as u32).to_be_bytes()),
+            _ => out.copy_from_slice(&word.to_be_bytes()),
         }
     }
 
@@ -358,7 +438,7 @@ impl Lay<'_, '_> {
         let mut count = usize::from(e.count);
         if e.kind == ARRAY {
             count = self.rest[0] as usize;
-            self.leaves(9, 1);
+            self.leaf(9);
         }
         let child = usize::from(e.of);
         let element = self.table.entry(child);

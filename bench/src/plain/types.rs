@@ -99,12 +99,12 @@ impl<'a> Table<'a> {
     }
 
     pub fn entry(&self, i: usize) -> Entry {
-        let e = &self.types[8 * i..8 * i + 8];
+        let word = be64(self.types, 8 * i);
         Entry {
-            kind: be16(e, 0),
-            of: be16(e, 2),
-            first: be16(e, 4),
-            count: be16(e, 6),
+            kind: (word >> 48) as u16,
+            of: (word >> 32) as u16,
+            first: (word >> 16) as u16,
+            count: word as u16,
         }
     }
 
