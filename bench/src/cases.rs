@@ -20,40 +20,58 @@ type Unpack = fn(&[u8], &Sections, u16, &[u8], &mut [u64]) -> Result<usize, u32>
 type Pack = fn(&[u8], &Sections, u16, &[u64], &mut [u8]) -> Result<usize, u32>;
 type Check = fn(&[u8]) -> Result<Sections, u32>;
 
-pub fn all() -> Vec<Case> {
-    let mut cases = Vec::new();
+/// A case by name, made when it is measured.
+pub struct Named {
+    pub name: String,
+    pub make: Box<dyn Fn() -> Case>,
+}
+
+pub fn all() -> Vec<Named> {
+    let mut cases: Vec<Named> = Vec::new();
+    let mut add = |name: &str, make: Box<dyn Fn() -> Case>| {
+        cases.push(Named {
+            name: name.to_string(),
+            make,
+        })
+    };
     for channels in [4, 32] {
         for piece in [64, 1_400, 60_000] {
-            cases.push(joining(channels, piece));
+            let name = format!("join pieces of {}, {channels} channels", digits(piece));
+            add(&name, Box::new(move || joining(channels, piece)));
         }
     }
     for piece in [64, 1_400, 60_000] {
-        cases.push(cutting(piece));
+        add(&format!("cut pieces of {}", digits(piece)), Box::new(move || cutting(piece)));
     }
-    let operation = message(1, 2, 0x109, 7, &[3; 32]);
-    cases.push(reading("read the header of an operation", &operation));
-    cases.push(reading("read a status", &message(0, 2, 1, 7, &[0, 0, 0, 1])));
-    let few = tables::record_of_all();
-    let many = tables::large_table(64, 1_000);
-    cases.push(receiving("platform call, status with no change", &few, &message(0, 2, 1, 7, &[0; 4])));
-    cases.push(receiving("platform call, status request", &few, &message(0, 2, 2, 7, &[])));
-    cases.push(receiving("platform call, operation, 16 in the table", &few, &operation));
-    let last = message(1, 2, 0x100 + 3 * 999, 7, &[3; 32]);
-    cases.push(receiving("platform call, operation, last of 1,000", &many, &last));
-    let uint16: Vec<u64> = (0..64).map(|i| i * 1_000).collect();
-    let floats: Vec<u64> = std::iter::once(1_000)
-        .chain((0..1_000).map(|i| u64::from((i as f32 * 1.25).to_bits())))
-        .collect();
-    for (name, table, number, words) in [
-        ("record of 64 uint16", tables::record_of_uint16(), 1, uint16),
-        ("record of 64, mixed codes", tables::record_of_all(), 14, tables::words_of_all()),
-        ("array of 1,000 float32", tables::array_of_floats(), 1, floats),
-    ] {
-        cases.extend(payloads(name, table, number, words));
+    add("read the header of an operation", Box::new(|| reading(&operation(3))));
+    add("read a status", Box::new(|| reading(&message(0, 2, 1, 7, &[0, 0, 0, 1]))));
+    let few = tables::record_of_all;
+    let many = || tables::large_table(64, 1_000);
+    add("platform call, status with no change", Box::new(move || receiving(&few(), &message(0, 2, 1, 7, &[0; 4]))));
+    add("platform call, status request", Box::new(move || receiving(&few(), &message(0, 2, 2, 7, &[]))));
+    add("platform call, operation, 16 in the table", Box::new(move || receiving(&few(), &operation(3))));
+    add("platform call, operation, last of 1,000", Box::new(move || receiving(&many(), &operation(999))));
+    let types: [(&str, fn() -> (Vec<u8>, u16, Vec<u64>)); 3] = [
+        ("record of 64 uint16", || {
+            (tables::record_of_uint16(), 1, (0..64).map(|i| i * 1_000).collect())
+        }),
+        ("record of 64, mixed codes", || (tables::record_of_all(), 14, tables::words_of_all())),
+        ("array of 1,000 float32", || {
+            let floats = (0..1_000).map(|i| u64::from((i as f32 * 1.25).to_bits()));
+            (tables::array_of_floats(), 1, std::iter::once(1_000).chain(floats).collect())
+        }),
+    ];
+    for (name, value) in types {
+        add(&format!("unpack {name}"), Box::new(move || unpacking(value())));
+        add(&format!("pack {name}"), Box::new(move || packing(value())));
     }
-    cases.push(checking("check a table of 64 types, 64 operations", tables::large_table(64, 64)));
-    cases.push(checking("check a table of 256 types, 1,024 operations", tables::large_table(256, 1_024)));
+    add("check a table of 64 types, 64 operations", Box::new(|| checking(tables::large_table(64, 64))));
+    add("check a table of 256 types, 1,024 operations", Box::new(|| checking(tables::large_table(256, 1_024))));
     cases
+}
+
+fn operation(entry: u32) -> Vec<u8> {
+    message(1, 2, tables::operations(entry + 1)[entry as usize].0, 7, &[3; 32])
 }
 
 /// One stream of datagrams, the channels by turns: messages of four pieces, or where two do not fit a room their first alone.
@@ -112,7 +130,6 @@ fn joining(channels: u16, piece: usize) -> Case {
         }
     });
     Case {
-        name: format!("join pieces of {}, {channels} channels", digits(piece)),
         ours: Box::new(move |count| {
             for _ in 0..count {
                 stream.next();
@@ -144,7 +161,6 @@ fn cutting(piece: usize) -> Case {
     }
     let (plain_bytes, mut at, mut plain_at) = (bytes.clone(), 0, 0);
     Case {
-        name: format!("cut pieces of {}", digits(piece)),
         ours: Box::new(move |calls| {
             for _ in 0..calls {
                 assert_eq!(ours::cut(&bytes, piece, 0x102, 65_530, at, &mut out, &mut answer), 0);
@@ -162,13 +178,12 @@ fn cutting(piece: usize) -> Case {
     }
 }
 
-fn reading(name: &str, bytes: &[u8]) -> Case {
+fn reading(bytes: &[u8]) -> Case {
     let mut answer = [0; 6];
     assert_eq!(ours::read(OWN, bytes, &mut answer), 0);
     assert_eq!(answer, read_words(&plain_message::read(OWN, bytes).unwrap()));
     let (bytes, plain_bytes) = (bytes.to_vec(), bytes.to_vec());
     Case {
-        name: name.to_string(),
         ours: Box::new(move |count| {
             for _ in 0..count {
                 assert_eq!(ours::read(OWN, &bytes, &mut answer), 0);
@@ -192,7 +207,7 @@ fn checked(table: &[u8]) -> ([u64; 8], Sections) {
     (words, sections)
 }
 
-fn receiving(name: &str, table: &[u8], bytes: &[u8]) -> Case {
+fn receiving(table: &[u8], bytes: &[u8]) -> Case {
     let (words, sections) = checked(table);
     let (mut state, mut answer, mut out, mut plain_out) = ([0; 5], [0; 7], [0; 48], [0; 48]);
     assert_eq!(ours::platform(OWN, &mut state), 0);
@@ -205,7 +220,6 @@ fn receiving(name: &str, table: &[u8], bytes: &[u8]) -> Case {
     let (table, bytes) = (table.to_vec(), bytes.to_vec());
     let (plain_table, plain_bytes) = (table.clone(), bytes.clone());
     Case {
-        name: name.to_string(),
         ours: Box::new(move |count| {
             for _ in 0..count {
                 assert_eq!(ours::receive_in(OWN, &mut state, &table, &words, &bytes, &mut out, &mut answer), 0);
@@ -221,66 +235,65 @@ fn receiving(name: &str, table: &[u8], bytes: &[u8]) -> Case {
     }
 }
 
-fn payloads(name: &str, table: Vec<u8>, number: u16, words: Vec<u64>) -> [Case; 2] {
-    let (section_words, sections) = checked(&table);
-    let mut answer = [0];
-    let mut bytes = vec![0; 8 * words.len()];
-    assert_eq!(ours::pack_in(&table, &section_words, number, &words, &mut bytes, &mut answer), 0);
-    bytes.truncate(answer[0] as usize);
-    let mut plain_bytes = vec![0; bytes.len()];
-    assert_eq!(payload::pack_in(&table, &sections, number, &words, &mut plain_bytes), Ok(bytes.len()));
+fn packed(table: &[u8], number: u16, words: &[u64]) -> ([u64; 8], Sections, Vec<u8>) {
+    let (section_words, sections) = checked(table);
+    let (mut bytes, mut plain_bytes, mut answer) = (vec![0; 8 * words.len()], vec![0; 8 * words.len()], [0]);
+    assert_eq!(ours::pack_in(table, &section_words, number, words, &mut bytes, &mut answer), 0);
+    let length = answer[0] as usize;
+    assert_eq!(payload::pack_in(table, &sections, number, words, &mut plain_bytes), Ok(length));
     assert_eq!(bytes, plain_bytes);
-    let (mut unpacked, mut plain_unpacked) = (vec![0; words.len()], vec![0; words.len()]);
-    assert_eq!(ours::unpack_in(&table, &section_words, number, &bytes, &mut unpacked, &mut answer), 0);
-    assert_eq!(payload::unpack_in(&table, &sections, number, &bytes, &mut plain_unpacked), Ok(words.len()));
-    assert_eq!(answer[0], words.len() as u64);
-    assert_eq!(unpacked, words);
-    assert_eq!(plain_unpacked, words);
-    let (t1, t2, t3, t4) = (table.clone(), table.clone(), table.clone(), table);
-    let (b1, b2) = (bytes.clone(), bytes.clone());
-    let (w1, w2) = (words.clone(), words);
-    let (mut o1, mut o2) = (bytes.clone(), bytes);
-    let mut packed_answer = [0];
-    [
-        Case {
-            name: format!("unpack {name}"),
-            ours: Box::new(move |count| {
-                for _ in 0..count {
-                    assert_eq!(ours::unpack_in(&t1, &section_words, number, &b1, &mut unpacked, &mut answer), 0);
-                }
-            }),
-            plain: Box::new(move |count| {
-                let unpack = opaque(payload::unpack_in as Unpack);
-                for _ in 0..count {
-                    assert!(unpack(&t2, &sections, number, &b2, &mut plain_unpacked).is_ok());
-                }
-            }),
-            bare: None,
-        },
-        Case {
-            name: format!("pack {name}"),
-            ours: Box::new(move |count| {
-                for _ in 0..count {
-                    assert_eq!(ours::pack_in(&t3, &section_words, number, &w1, &mut o1, &mut packed_answer), 0);
-                }
-            }),
-            plain: Box::new(move |count| {
-                let pack = opaque(payload::pack_in as Pack);
-                for _ in 0..count {
-                    assert!(pack(&t4, &sections, number, &w2, &mut o2).is_ok());
-                }
-            }),
-            bare: None,
-        },
-    ]
+    bytes.truncate(length);
+    (section_words, sections, bytes)
 }
 
-fn checking(name: &str, table: Vec<u8>) -> Case {
+fn unpacking((table, number, words): (Vec<u8>, u16, Vec<u64>)) -> Case {
+    let (section_words, sections, bytes) = packed(&table, number, &words);
+    let (mut out, mut plain_out, mut answer) = (vec![0; words.len()], vec![0; words.len()], [0]);
+    assert_eq!(ours::unpack_in(&table, &section_words, number, &bytes, &mut out, &mut answer), 0);
+    assert_eq!(payload::unpack_in(&table, &sections, number, &bytes, &mut plain_out), Ok(words.len()));
+    assert_eq!((answer[0], &out, &plain_out), (words.len() as u64, &words, &words));
+    let (plain_table, plain_bytes) = (table.clone(), bytes.clone());
+    Case {
+        ours: Box::new(move |count| {
+            for _ in 0..count {
+                assert_eq!(ours::unpack_in(&table, &section_words, number, &bytes, &mut out, &mut answer), 0);
+            }
+        }),
+        plain: Box::new(move |count| {
+            let unpack = opaque(payload::unpack_in as Unpack);
+            for _ in 0..count {
+                assert!(unpack(&plain_table, &sections, number, &plain_bytes, &mut plain_out).is_ok());
+            }
+        }),
+        bare: None,
+    }
+}
+
+fn packing((table, number, words): (Vec<u8>, u16, Vec<u64>)) -> Case {
+    let (section_words, sections, mut out) = packed(&table, number, &words);
+    let (plain_table, plain_words, mut plain_out) = (table.clone(), words.clone(), out.clone());
+    let mut answer = [0];
+    Case {
+        ours: Box::new(move |count| {
+            for _ in 0..count {
+                assert_eq!(ours::pack_in(&table, &section_words, number, &words, &mut out, &mut answer), 0);
+            }
+        }),
+        plain: Box::new(move |count| {
+            let pack = opaque(payload::pack_in as Pack);
+            for _ in 0..count {
+                assert!(pack(&plain_table, &sections, number, &plain_words, &mut plain_out).is_ok());
+            }
+        }),
+        bare: None,
+    }
+}
+
+fn checking(table: Vec<u8>) -> Case {
     checked(&table);
     let plain_table = table.clone();
     let mut sections = [0; 8];
     Case {
-        name: name.to_string(),
         ours: Box::new(move |count| {
             for _ in 0..count {
                 assert_eq!(ours::check(&table, &mut sections), 0);

@@ -27,7 +27,8 @@ fn main() {
         }
         ["list"] => cases::all().iter().for_each(|case| println!("{}", case.name)),
         ["calls", case, side, count] => {
-            let case = cases::all().into_iter().nth(number(case)).unwrap_or_else(|| usage());
+            let all = cases::all();
+            let case = (all.get(number(case)).unwrap_or_else(|| usage()).make)();
             let calls = match *side {
                 "ours" => Some(case.ours),
                 "plain" => Some(case.plain),
@@ -49,8 +50,8 @@ fn table() {
     println!("Both programs gave the same on {COMPARED} inputs of each family from seed {SEED}.\n");
     println!("| Case | Ours, ns | Rust, ns | Ours / Rust | Copy, ns | Ours / copy |");
     println!("|---|---:|---:|---:|---:|---:|");
-    for mut case in cases::all() {
-        let times = measure::measure(&mut case);
+    for case in cases::all() {
+        let times = measure::measure(&mut (case.make)());
         let bare = times.bare.map_or("| ".to_string(), |copy| format!("{copy:.1} | {:.2}", times.ours / copy));
         let ratio = times.ours / times.plain;
         println!("| {} | {:.1} | {:.1} | {ratio:.2} | {bare} |", case.name, times.ours, times.plain);

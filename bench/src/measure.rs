@@ -6,7 +6,6 @@ use std::time::Instant;
 pub type Calls = Box<dyn FnMut(usize)>;
 
 pub struct Case {
-    pub name: String,
     pub ours: Calls,
     pub plain: Calls,
     /// The copy that the call cannot do without, alone.

@@ -57,14 +57,15 @@ impl Joiner {
         {
             return Err(20);
         }
+        // In one pass and without a way out: it is short, and mostly nothing is wrong. IDs mostly rise, and are distinct then.
         let channels = &self.channels[..self.count];
-        // Without a way out of the loop: it is short, and mostly nothing is wrong.
-        let good = channels.iter().fold(true, |good, channel| {
-            good & (usize::from(channel.sender) < SENDERS)
-                & (channel.held <= self.room)
-                & (channel.last < COUNTERS)
-        });
-        if good && distinct(channels) {
+        let (mut good, mut rising, mut above) = (true, true, 0);
+        for channel in channels {
+            good &= usize::from(channel.sender) < SENDERS && channel.held <= self.room && channel.last < COUNTERS;
+            rising &= channel.sender >= above;
+            above = channel.sender.wrapping_add(1);
+        }
+        if good && (rising || distinct(channels)) {
             Ok(())
         } else {
             Err(20)
@@ -86,17 +87,13 @@ impl Joiner {
     }
 }
 
-/// IDs mostly rise, and then they are distinct after one pass.
+#[cold]
 fn distinct(channels: &[Channel]) -> bool {
-    let rising = channels
-        .windows(2)
-        .fold(true, |rising, pair| rising & (pair[0].sender < pair[1].sender));
-    rising
-        || channels.iter().enumerate().all(|(i, channel)| {
-            channels[..i]
-                .iter()
-                .all(|other| other.sender != channel.sender)
-        })
+    channels.iter().enumerate().all(|(i, channel)| {
+        channels[..i]
+            .iter()
+            .all(|other| other.sender != channel.sender)
+    })
 }
 
 impl Channel {
