@@ -1,0 +1,59 @@
+//! The proved library beside the plain program, in one process.
+//!
+//!     bench                     compare both, then measure both: a table
+//!     bench compare COUNT SEED  compare both on so many inputs of each family
+//!     bench list                the cases, a line each
+//!     bench calls CASE SIDE N   N calls of one case (its number in the list) and nothing else measured: for a counter
+
+mod cases;
+mod equal;
+mod measure;
+mod ours;
+mod pair;
+mod tables;
+
+const COMPARED: usize = 20_000;
+const SEED: u64 = 1;
+
+fn main() {
+    let arguments: Vec<String> = std::env::args().skip(1).collect();
+    let words: Vec<&str> = arguments.iter().map(String::as_str).collect();
+    let number = |word: &str| word.parse::<usize>().unwrap_or_else(|_| usage());
+    match words.as_slice() {
+        [] => table(),
+        ["compare", count, seed] => {
+            equal::compare(number(count), number(seed) as u64);
+            println!("both programs gave the same on {count} inputs of each family from seed {seed}");
+        }
+        ["list"] => cases::all().iter().for_each(|case| println!("{}", case.name)),
+        ["calls", case, side, count] => {
+            let all = cases::all();
+            let case = (all.get(number(case)).unwrap_or_else(|| usage()).make)();
+            let calls = match *side {
+                "ours" => Some(case.ours),
+                "plain" => Some(case.plain),
+                _ => case.bare,
+            };
+            calls.unwrap_or_else(|| usage())(number(count));
+        }
+        _ => usage(),
+    }
+}
+
+fn usage() -> ! {
+    eprintln!("usage: bench [compare COUNT SEED | list | calls CASE ours|plain|bare N]");
+    std::process::exit(2)
+}
+
+fn table() {
+    equal::compare(COMPARED, SEED);
+    println!("Both programs gave the same on {COMPARED} inputs of each family from seed {SEED}.\n");
+    println!("| Case | Ours, ns | Rust, ns | Ours / Rust | Copy, ns | Ours / copy |");
+    println!("|---|---:|---:|---:|---:|---:|");
+    for case in cases::all() {
+        let times = measure::measure(&mut (case.make)());
+        let bare = times.bare.map_or("| ".to_string(), |copy| format!("{copy:.1} | {:.2}", times.ours / copy));
+        let ratio = times.ours / times.plain;
+        println!("| {} | {:.1} | {:.1} | {ratio:.2} | {bare} |", case.name, times.ours, times.plain);
+    }
+}

@@ -1,0 +1,21 @@
+//! The library's calls as plain Rust: typed state behind `&mut`, slices, `Result`, the standard library, no proofs. Every
+//! check that 01 asks for is made at each call, as the proved library makes it. A refusal is its number.
+
+pub mod binding;
+pub mod joiner;
+pub mod message;
+pub mod payload;
+pub mod platform;
+pub mod types;
+
+fn be16(bytes: &[u8], at: usize) -> u16 {
+    u16::from_be_bytes(bytes[at..at + 2].try_into().unwrap())
+}
+
+fn be32(bytes: &[u8], at: usize) -> u32 {
+    u32::from_be_bytes(bytes[at..at + 4].try_into().unwrap())
+}
+
+fn be64(bytes: &[u8], at: usize) -> u64 {
+    u64::from_be_bytes(bytes[at..at + 8].try_into().unwrap())
+}

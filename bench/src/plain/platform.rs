@@ -1,0 +1,123 @@
+//! Platform states and replies.
+
+use super::message::{self, Kind, ALL, PLATFORM, PULL, STATUS, UNKNOWN};
+use super::types::{Sections, Table};
+
+#[derive(Clone, Debug, PartialEq, Eq)]
+pub struct Platform {
+    pub own: u8,
+    pub up: [u64; 4],
+    pub next: u32,
+}
+
+#[derive(Clone, Copy, Debug, PartialEq, Eq)]
+pub enum Heard<'a> {
+    Status { up: bool },
+    Request,
+    Unknown(u32),
+    PullOfAll,
+    PullOfOne(u32, usize),
+    NotVersionedData(u32),
+    Operation { id: u32, entry: usize, payload: &'a [u8] },
+    NotInTable(u32),
+}
+
+#[derive(Clone, Copy, Debug, PartialEq, Eq)]
+pub struct Answer<'a> {
+    pub heard: Heard<'a>,
+    pub sender: u8,
+    pub written: usize,
+}
+
+/// A reply's ID, sequence number and the one field of its payload.
+type Reply = (u32, u32, u32);
+
+const REPLY: usize = message::HEADER + 4;
+
+impl Platform {
+    pub fn new(own: u8) -> Platform {
+        let mut platform = Platform {
+            own,
+            up: [0; 4],
+            next: 0,
+        };
+        platform.up[usize::from(own / 64)] = 1 << (own % 64);
+        platform
+    }
+
+    pub fn is_up(&self, platform: u8) -> bool {
+        platform == self.own || self.up[usize::from(platform / 64)] >> (platform % 64) & 1 == 1
+    }
+
+    pub fn how_many_up(&self) -> u32 {
+        let ones: u32 = self.up.iter().map(|word| word.count_ones()).sum();
+        let own = self.up[usize::from(self.own / 64)] >> (self.own % 64) & 1;
+        ones + u32::from(own == 0)
+    }
+
+    /// One message: what it was; the state is noted, and the replies owed to its sender are written at the output's start.
+    #[inline(never)]
+    pub fn receive_in<'m>(
+        &mut self,
+        bytes: &[u8],
+        sections: &Sections,
+        message: &'m [u8],
+        out: &mut [u8],
+    ) -> Result<Answer<'m>, u32> {
+        let table = Table::within(bytes, sections)?;
+        let got = message::read(self.own, message)?;
+        let none = |heard| (heard, [None, None]);
+        let one = |heard, id, field| (heard, [Some((id, got.sequence, field)), None]);
+        let (heard, replies): (Heard, [Option<Reply>; 2]) = match got.kind {
+            Kind::Status { up: true } if !self.is_up(got.sender) => (
+                Heard::Status { up: true },
+                [
+                    Some((STATUS, self.next, 1)),
+                    Some((PULL, self.next.wrapping_add(1), ALL)),
+                ],
+            ),
+            Kind::Status { up } => none(Heard::Status { up }),
+            Kind::Request => one(Heard::Request, STATUS, 1),
+            Kind::Unknown(id) => none(Heard::Unknown(id)),
+            Kind::Pull(ALL) if table.has_data() => none(Heard::PullOfAll),
+            Kind::Pull(id) => match table.find(id) {
+                Some(entry) if table.operation(entry).kind == 1 => none(Heard::PullOfOne(id, entry)),
+                _ => one(Heard::NotVersionedData(id), UNKNOWN, id),
+            },
+            Kind::Operation(id) => match table.find(id) {
+                Some(entry) => none(Heard::Operation {
+                    id,
+                    entry,
+                    payload: got.payload,
+                }),
+                None => one(Heard::NotInTable(id), UNKNOWN, id),
+            },
+        };
+        let written = REPLY * replies.iter().flatten().count();
+        if out.len() < written {
+            return Err(10);
+        }
+        for (place, (id, sequence, field)) in
+            out.chunks_exact_mut(REPLY).zip(replies.iter().flatten())
+        {
+            message::write(self.own, PLATFORM, *id, *sequence, &field.to_be_bytes(), place)?;
+        }
+        if let Kind::Status { up } = got.kind {
+            self.note(got.sender, up);
+        }
+        Ok(Answer {
+            heard,
+            sender: got.sender,
+            written,
+        })
+    }
+
+    fn note(&mut self, sender: u8, up: bool) {
+        if self.is_up(sender) != up {
+            self.up[usize::from(sender / 64)] ^= 1 << (sender % 64);
+            if up {
+                self.next = self.next.wrapping_add(2);
+            }
+        }
+    }
+}

@@ -1,0 +1,119 @@
+//! What the cases are made of: tables, messages, datagrams, and a random number.
+
+pub fn be(numbers: &[u16]) -> Vec<u8> {
+    numbers.iter().flat_map(|number| number.to_be_bytes()).collect()
+}
+
+pub struct Random(pub u64);
+
+impl Random {
+    /// xorshift64*
+    pub fn next(&mut self) -> u64 {
+        self.0 ^= self.0 >> 12;
+        self.0 ^= self.0 << 25;
+        self.0 ^= self.0 >> 27;
+        self.0.wrapping_mul(0x2545_F491_4F6C_DD1D)
+    }
+
+    pub fn below(&mut self, limit: usize) -> usize {
+        (self.next() >> 11) as usize % limit
+    }
+
+    pub fn bytes(&mut self, count: usize) -> Vec<u8> {
+        (0..count).map(|_| self.next() as u8).collect()
+    }
+}
+
+/// A table of these types (kind, of, first, count), members, values and operations (ID, kind, type).
+pub fn table(types: &[[u16; 4]], members: &[u16], values: &[u64], operations: &[(u32, u16, u16)]) -> Vec<u8> {
+    let mut bytes = be(&[types.len() as u16]);
+    types.iter().for_each(|entry| bytes.extend(be(entry)));
+    bytes.extend(be(&[members.len() as u16]));
+    bytes.extend(be(members));
+    bytes.extend(be(&[values.len() as u16]));
+    values.iter().for_each(|value| bytes.extend(value.to_be_bytes()));
+    bytes.extend(be(&[operations.len() as u16]));
+    for (id, kind, of) in operations {
+        bytes.extend(id.to_be_bytes());
+        bytes.extend(be(&[*kind, *of]));
+    }
+    bytes
+}
+
+pub fn operations(count: u32) -> Vec<(u32, u16, u16)> {
+    (0..count).map(|i| (0x100 + 3 * i, (i % 2) as u16, 0)).collect()
+}
+
+/// Type 1: a record of 64 uint16.
+pub fn record_of_uint16() -> Vec<u8> {
+    table(&[[0, 8, 0, 0], [2, 0, 0, 64]], &[0; 64], &[], &operations(16))
+}
+
+/// Types 0 to 12 are the base codes, type 13 an enum of uint8, and type 14 a record of 64, each type in turn.
+pub fn record_of_all() -> Vec<u8> {
+    let mut types: Vec<[u16; 4]> = (0..13).map(|code| [0, code, 0, 0]).collect();
+    types.push([1, 6, 0, 4]);
+    types.push([2, 0, 0, 64]);
+    let members: Vec<u16> = (0..64).map(|i| i % 14).collect();
+    table(&types, &members, &[1, 2, 3, 5], &operations(16))
+}
+
+/// Type 1: an array of up to 1,000 float32.
+pub fn array_of_floats() -> Vec<u8> {
+    table(&[[0, 11, 0, 0], [4, 0, 0, 1000]], &[], &[], &operations(16))
+}
+
+/// Every kind in turn: so many types, with four members or values for each record and enum.
+pub fn large_table(count: u16, operation_count: u32) -> Vec<u8> {
+    let (mut types, mut members, mut values) = (Vec::new(), Vec::new(), Vec::new());
+    for i in 0..count {
+        types.push(match i % 4 {
+            1 => {
+                values.extend((0..4).map(|k| u64::from(k * 7 + i)));
+                [1, 9, values.len() as u16 - 4, 4]
+            }
+            2 => {
+                members.extend([i - 2, i - 1, i - 2, i - 1]);
+                [2, 0, members.len() as u16 - 4, 4]
+            }
+            3 => [4, i - 1, 0, 10],
+            _ => [0, i / 4 % 13, 0, 0],
+        });
+    }
+    table(&types, &members, &values, &operations(operation_count))
+}
+
+/// The words of a value of `record_of_all`.
+pub fn words_of_all() -> Vec<u64> {
+    let one = [
+        1,
+        -3i64 as u64,
+        65,
+        -300i64 as u64,
+        -70_000i64 as u64,
+        -5_000_000_000i64 as u64,
+        200,
+        7,
+        60_000,
+        4_000_000_000,
+        1 << 63,
+        0x3FC0_0000,
+        0x4000_1234_5678_9ABC,
+        5,
+    ];
+    (0..64).map(|i| one[i % 14]).collect()
+}
+
+pub fn message(domain: u8, sender: u32, id: u32, sequence: u32, payload: &[u8]) -> Vec<u8> {
+    let mut bytes = vec![0xEC, 0x0A, 2, domain];
+    for field in [sender, id, payload.len() as u32, sequence] {
+        bytes.extend(field.to_be_bytes());
+    }
+    bytes.extend(payload);
+    bytes
+}
+
+pub fn put_binding_header(datagram: &mut [u8], part: u8, sender: u16, counter: u16) {
+    let word = u32::from(part) << 28 | u32::from(sender) << 16 | u32::from(counter);
+    datagram[..4].copy_from_slice(&word.to_be_bytes());
+}

@@ -1,0 +1,69 @@
+/* A fuzz run over the C interface: random lengths, bytes, words and state, most of them nearly right. Every buffer is lent
+ * between pages that may not be touched, and after each call everything that it may not have changed is compared. */
+#ifndef FUZZ_H
+#define FUZZ_H
+
+#include "nyrkovash.h"
+
+/* Randomness, the same for one seed with every compiler: no expression draws twice in an order that C leaves open. */
+void seed(uint64_t from);
+uint64_t any(void);
+uint64_t narrow(void);                  /* any number, of any width */
+size_t below(size_t limit);             /* 0 to limit - 1 */
+int one_in(size_t times);
+size_t near(size_t right);              /* mostly right; sometimes one off, 0, small, or anything */
+size_t about(size_t needed);            /* a length: mostly just as needed, sometimes shorter, sometimes longer */
+void scramble(uint8_t *bytes, size_t length);   /* a few bytes changed */
+void fill(void *bytes, size_t length);
+
+/* A buffer that is lent: its end, or its start, stands against a page that may not be touched. */
+typedef struct {
+    uint8_t *pages, *at, *before;
+    size_t room, length, from, to;
+} Lent;
+
+enum { IDS, JOINER, ROOMS, DATAGRAM, ANSWER, MESSAGE, OUT, PAYLOAD, TABLE, SECTIONS, WORDS, PLATFORM, BUFFERS };
+
+void lent_start(void);
+/* A buffer of so many elements of that width, with these bytes, or any where they are null. Of no elements: null, or a place
+ * that may not be touched. */
+void *lend(int buffer, const void *bytes, size_t elements, size_t width);
+/* The call may have changed these elements, and no others, of a buffer. */
+void may_change(int buffer, size_t from, size_t to, size_t width);
+
+/* A call starts, by name; it ended, with one of these numbers (a bit each) or 0. The number is handed on. */
+void calling(const char *name);
+uint32_t called(uint32_t number, uint64_t numbers);
+void expect(int holds, const char *what);
+#define N(number) (UINT64_C(1) << (number))
+
+/* What was met, a bit each: numbers, outcomes of a take, kinds read, and what was heard. A run that misses one says nothing. */
+extern uint64_t calls, accepted, numbers_met, outcomes_met, kinds_met, heard_met;
+
+/* A table that keeps every rule, made at random, and the words of a value of one of its types. */
+typedef struct {
+    uint8_t bytes[20488];
+    size_t length, types;
+    uint16_t kind[256], of[256], first[256], count[256];
+    uint16_t members[1024];
+    uint64_t values[1024], sections[8];
+    size_t members_count, values_count, operations;
+    uint32_t ids[64];
+} Table;
+
+void make_table(Table *table);
+size_t make_words(const Table *table, size_t type, uint64_t *words, size_t room);   /* 0 where they would not fit */
+
+/* One or more calls of each family, with their checks. */
+void fuzz_setup(void);
+void fuzz_take(void);
+void fuzz_cut(void);
+void fuzz_read(void);
+void fuzz_write(void);
+void fuzz_receive(void);
+void fuzz_states(void);
+void fuzz_table(void);
+void fuzz_unpack(void);
+void fuzz_pack(void);
+
+#endif
