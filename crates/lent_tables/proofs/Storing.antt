@@ -11,9 +11,9 @@ use mir.Syntax.{w16}
 use mir.Val.{Fits}
 use lib.Dec.{leb, ltb}
 use lib.ListN.{length, getD}
-use Rattle.types.specs.declared.Section.{Section}
-use Rattle.types.specs.declared.Sections.{Sections}
-use Rattle.types.specs.Layout.{within, liesIn}
+use Rattle.table.specs.declared.Section.{Section}
+use Rattle.table.specs.declared.Sections.{Sections}
+use Rattle.table.specs.Layout.{within, liesIn}
 use Rattle.lent_tables.specs.Words.{sectionsWords, wordLimit, isSection, sectionIn, areSections, outside, sectionsIn, wordsOf}
 
 both-left : (a b : Bool) → (a && b) ≡ true → a ≡ true

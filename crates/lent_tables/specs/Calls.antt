@@ -5,15 +5,15 @@ use mathlib.Core.Bool.{cond}
 use mathlib.Core.Path.{_≡_}
 use mathlib.Core.List.{List, [], _∷_}
 use Rattle.wire.specs.Bytes.{written}
-use Rattle.types.specs.declared.Sections.{Sections}
-use Rattle.types.specs.declared.Operation.{Operation}
-use Rattle.types.specs.declared.Checked.{Checked}
-use Rattle.types.specs.declared.Checked.the-variants.{Refused, Table}
-use Rattle.types.specs.declared.Found.{Found}
-use Rattle.types.specs.declared.Found.the-variants.{At, Nothing}
-use Rattle.types.specs.Layout.{cutShort, within}
-use Rattle.types.specs.Entries.{operationAt}
-use Rattle.types.specs.Operations.{Answers}
+use Rattle.table.specs.declared.Sections.{Sections}
+use Rattle.table.specs.declared.Operation.{Operation}
+use Rattle.table.specs.declared.Checked.{Checked}
+use Rattle.table.specs.declared.Checked.the-variants.{Refused, Table}
+use Rattle.table.specs.declared.Found.{Found}
+use Rattle.table.specs.declared.Found.the-variants.{At, Nothing}
+use Rattle.table.specs.Layout.{cutShort, within}
+use Rattle.table.specs.Entries.{operationAt}
+use Rattle.table.specs.Operations.{Answers}
 use Rattle.types.specs.Table.{checked}
 use Rattle.lent.specs.Words.{outputTooShort, tooFew}
 use Rattle.lent_tables.specs.Words.{sectionsWords, wordsOf}

@@ -4,8 +4,8 @@ use mathlib.Core.Bool.{Bool, _&&_, cond}
 use mathlib.Core.List.{List, [], _∷_}
 use lib.Dec.{leb, ltb}
 use lib.ListN.{length, getD}
-use Rattle.types.specs.declared.Section.{Section}
-use Rattle.types.specs.declared.Sections.{Sections}
+use Rattle.table.specs.declared.Section.{Section}
+use Rattle.table.specs.declared.Sections.{Sections}
 
 abbrev pub sectionsWords : ℕ
 sectionsWords = 8

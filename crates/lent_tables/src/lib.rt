@@ -5,10 +5,10 @@ ghost use Prim.Native.Nat.{_<_};
 ghost use Rattle.wire.specs.Bytes.{written};
 ghost use Rattle.lent_tables.specs.Words.{sectionsWords, isSection, sectionIn, areSections, sectionsIn, wordsOf};
 ghost use Rattle.lent_tables.specs.Calls.{checkNumber, checkAnswer, findNumber, Finds};
-use types::Checked;
-use types::Found;
-use types::Section;
-use types::Sections;
+use table::Checked;
+use table::Found;
+use table::Section;
+use table::Sections;
 
 // How many words the sections of a table are.
 pub const SECTIONS_WORDS: usize = 8;
@@ -66,10 +66,10 @@ pub fn find(table: &[u8], sections: &[u64], id: u32, answer: &mut [u64]) -> u32
         return lent::OUTPUT_TOO_SHORT;
     }
     let s = sections_in(sections);
-    if types::layout::within(table, s) {
-        match types::operations::find(table, s, id) {
+    if table::layout::within(table, s) {
+        match table::operations::find(table, s, id) {
             Found::At(i) => {
-                let operation = types::entries::operation_at(table, s, i);
+                let operation = table::entries::operation_at(table, s, i);
                 let words = [FOUND, operation.kind as u64, operation.carries as u64];
                 lent::put_u64(answer, 0, &words);
                 0

@@ -6,15 +6,16 @@ use mathlib.Core.List.{List}
 use borrow.Author.Tests.{lt-ltb}
 use lib.ListN.{length, take}
 use Rattle.wire.specs.Bytes.{Octets, over}
-use Rattle.types.specs.declared.Sections.{Sections}
+use Rattle.table.specs.declared.Sections.{Sections}
 use Rattle.types.proofs.Accepted.{accepted, is-within}
 use Rattle.payload.specs.declared.Answer.the-variants.{Gave}
-use Rattle.payload.specs.Values.{Value, Spoken, BooleansAsOne, exact}
-use Rattle.payload.specs.Reading.{reader}
-use Rattle.payload.specs.Writing.{writer}
+use Rattle.values.specs.Values.{Value, Spoken, BooleansAsOne, exact}
+use Rattle.unpacking.specs.Reading.{reader}
+use Rattle.packing.specs.Writing.{writer}
 use Rattle.payload.specs.Calls.{unpackedIn, wordsIn, packedIn, bytesIn, unpacked, wordsAfter, packed, bytesAfter}
-use Rattle.payload.proofs.RoundTrip.{Callable, Calls, packs-values, values-pack, Unpacks, unpacks-forms, forms-unpack, pack-then-unpack, PacksAgain, unpack-then-pack}
-use Rattle.payload.proofs.Checked.{same-answer, same-left}
+use Rattle.values.proofs.Exactly.{Callable, Calls, packs-values, values-pack, Unpacks, unpacks-forms, forms-unpack}
+use Rattle.values.proofs.RoundTrip.{pack-then-unpack, PacksAgain, unpack-then-pack}
+use Rattle.values.proofs.Checked.{same-answer, same-left}
 use Rattle.promises.specs.Payloads.{Known, PackGives, UnpackGives, PacksExactly, UnpacksExactly, RoundTrips, OnSections, Payloads}
 
 module _ (t : List ℕ) (s : Sections) (i : ℕ) (h : Known t s i) where

@@ -2,9 +2,9 @@
 -- Assumes nothing.
 use mathlib.Core.Path.{refl}
 use mathlib.Core.List.{[]}
-use Rattle.types.specs.declared.Section.{Section}
-use Rattle.types.specs.declared.Found.the-variants as found
-use Rattle.types.specs.All.{allBelow}
+use Rattle.table.specs.declared.Section.{Section}
+use Rattle.table.specs.declared.Found.the-variants as found
+use Rattle.table.specs.All.{allBelow}
 use Rattle.platform.specs.States.{wordOf, withWord, bitOf, isUp, turned, withOwn}
 use Rattle.platform.specs.Replies.{replyBytes}
 use Rattle.platform.specs.Reaction.{noData, cameUp, onStatus, onPullAll, onPull, reactionTo}

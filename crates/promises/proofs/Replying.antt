@@ -15,11 +15,11 @@ use Rattle.wire.specs.Bytes.{span, number, over, part}
 use Rattle.wire.proofs.Numbers.{number-lt, octets-drop}
 use Rattle.wire.proofs.Runs.{length-over, part-in}
 use Rattle.wire.proofs.Cond.{yes-lt, no-lt}
-use Rattle.types.specs.declared.Sections.{Sections}
-use Rattle.types.specs.declared.Found.{Found}
-use Rattle.types.specs.declared.Found.the-variants as found
-use Rattle.types.specs.declared.Checked.{Checked}
-use Rattle.types.specs.Operations.{operationOf}
+use Rattle.table.specs.declared.Sections.{Sections}
+use Rattle.table.specs.declared.Found.{Found}
+use Rattle.table.specs.declared.Found.the-variants as found
+use Rattle.table.specs.declared.Checked.{Checked}
+use Rattle.table.specs.Operations.{operationOf}
 use Rattle.message.specs.declared.Header.{Header}
 use Rattle.message.specs.declared.Status.the-variants.{Down, Up}
 use Rattle.message.specs.declared.Message.{Message}

@@ -9,20 +9,20 @@ use Rattle.binding.proofs.Cutting.{piece-length}
 use Rattle.joiner.specs.Channel.{missedOf, keeping, notedOf, begunOf, followedOf, placedOf, steppedOf}
 use Rattle.joiner.specs.Setup.{goodSizes, good, freshOf, setupOf}
 use Rattle.joiner.specs.Take.{sentTo, heardBy, judgedOf, takenBy, takenOf, putBy, roomsBy, roomsAfter, messageOf}
-use Rattle.types.specs.All.{allBelow, above}
-use Rattle.types.specs.Layout.{sectionAt, after, ended, afterValues, afterMembers, afterTypes, sectionsOf, liesIn, within}
-use Rattle.types.specs.Entries.{typeAt, memberAt, valueAt, idAt, operationAt}
-use Rattle.types.specs.Leaf.{base, bytesOf, inSigned, finite, isValue, width, allowed}
+use Rattle.table.specs.All.{allBelow, above}
+use Rattle.table.specs.Layout.{sectionAt, after, ended, afterValues, afterMembers, afterTypes, sectionsOf, liesIn, within}
+use Rattle.table.specs.Entries.{typeAt, memberAt, valueAt, idAt, operationAt}
+use Rattle.table.specs.Leaf.{base, bytesOf, inSigned, finite, isValue, width, allowed}
 use Rattle.types.specs.Rules.{fieldsOk, memberOk, membersOk, pointedOk, typeOk}
 use Rattle.types.specs.Operations.{operationOk}
 use Rattle.types.specs.Sizes.{sizeOf, sizes, largest, sizeFits}
 use Rattle.types.specs.Table.{entriesOk, sizesOk, judged, judging, checked}
 use Rattle.leaves.specs.Forms.{truth, extended, wordOf, form, wordAt, formOf}
 use Rattle.leaves.specs.Choice.{choice}
-use Rattle.payload.specs.Tree.{byKind, look, elementsOf, treeOf, trees, tree}
-use Rattle.payload.specs.Walk.{answer, left, next, through, item, counted, walk, typeWalk}
-use Rattle.payload.specs.Reading.{reader}
-use Rattle.payload.specs.Writing.{writer}
+use Rattle.walk.specs.Tree.{byKind, look, elementsOf, treeOf, trees, tree}
+use Rattle.walk.specs.Walk.{answer, left, next, through, item, counted, walk, typeWalk}
+use Rattle.unpacking.specs.Reading.{reader}
+use Rattle.packing.specs.Writing.{writer}
 use Rattle.payload.specs.Calls.{answered, answeredType, answeredIn, leftBy, leftIn, answeredIf, leftIf}
 use Rattle.promises.specs.Cases.{Cut, piecesOf}
 use Rattle.promises.specs.Starred.{Starred}

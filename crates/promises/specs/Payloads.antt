@@ -6,11 +6,11 @@ use mathlib.Core.Path.{_≡_}
 use mathlib.Core.List.{List}
 use lib.ListN.{length, take}
 use Rattle.wire.specs.Bytes.{Octets, over}
-use Rattle.types.specs.declared.Sections.{Sections}
-use Rattle.types.specs.declared.Checked.the-variants.{Table}
+use Rattle.table.specs.declared.Sections.{Sections}
+use Rattle.table.specs.declared.Checked.the-variants.{Table}
 use Rattle.types.specs.Table.{checked}
 use Rattle.payload.specs.declared.Answer.the-variants.{Gave}
-use Rattle.payload.specs.Values.{Value, Spoken, BooleansAsOne}
+use Rattle.values.specs.Values.{Value, Spoken, BooleansAsOne}
 use Rattle.payload.specs.Calls.{unpackedIn, wordsIn, packedIn, bytesIn, unpacked, wordsAfter, packed, bytesAfter}
 
 -- a type table that `check` accepts, and the number of a type in it
