@@ -18,6 +18,7 @@ use Rattle.table.specs.declared.Sections.{Sections}
 use Rattle.table.specs.declared.Entry.{Entry}
 use Rattle.table.specs.All.{allBelow}
 use Rattle.table.specs.Leaf.{Leaf, none, base, width, allowed}
+use Rattle.table.specs.Entries.{valueAt}
 use Rattle.table.proofs.Leaves.{no-base}
 use Rattle.leaves.specs.Forms.{truth, extended, wordOf, wordAt, formOf}
 use Rattle.leaves.proofs.Leaves.{Other, form-is, no-bytes}
@@ -86,6 +87,10 @@ is-true x h = sym (no-eq 0 1 x 0 h)
 
 -- the values of an enum
 module _ (t : List ℕ) (s : Sections) (e : Entry) (w : ℕ) where
+  pub compared : (k v : ℕ) → v ≡ valueAt t s (e .first + k) → not (eqb v w) ≡ other t s e w k
+  unfolding other
+  compared k v h = ap (λ (n : ℕ). not (eqb n w)) h
+
   pub found : false ≡ allBelow (other t s e w) (e .count) → true ≡ among t s e w
   unfolding among
   found h = ap not h

@@ -15,7 +15,7 @@ pub fn word_at(s: &[u8], at: usize, code: u16) -> u64
     ensures { λ r. ⌜ r ≡ wordAt code (now (s .entry)) at ⌝ }
 {
     match code {
-        0 => truth(wire::u8_at(s, at)),
+        0 => truth(wire::u8_at(s, at) as u64),
         1 => extended(wire::u8_at(s, at) as u64, 128),
         2 => wire::u8_at(s, at) as u64,
         3 => extended(wire::u16_at(s, at) as u64, 32768),
@@ -62,7 +62,7 @@ pub fn takes(table: &[u8], s: Sections, e: Entry, word: u64) -> bool
 }
 
 // 0 is false and any other byte true.
-fn truth(x: u8) -> u64
+fn truth(x: u64) -> u64
     ensures { λ r. ⌜ r ≡ truth x ⌝ }
 {
     if x == 0 { 0 } else { 1 }

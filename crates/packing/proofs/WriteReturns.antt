@@ -34,9 +34,6 @@ next-from n p h l = record { fits = omega arith }
 pub next-to : (n : ℕ) (p : Place) (k : ℕ) → (p .to ≤ 8 * p .from) × (p .from ≤ n) → k ≤ 8 → p .from < n → n * 8 < 2 ^ 63 → Fits w64 (p .to + k)
 next-to n p k r b h l = record { fits = omega (arith, r .0) }
 
-pub width-few : (n code : ℕ) → n ≡ width code → n ≤ 8
-width-few n code h = omega (arith, few-bytes code)
-
 pub no-word : (ws : List ℕ) (p : ℕ) → length ws ≤ p → 0 ≡ getD ws p 0
 no-word ws p h = sym (List·getD-eq-default ws 0 h)
 

@@ -11,6 +11,13 @@ ghost use Rattle.walk.specs.declared.Met.the-variants.{Members, Elements};
 ghost use Rattle.walk.specs.Walk.{start, answer, left, begun, times, leafWalk, metWalk, typeWalk};
 ghost use Rattle.packing.specs.Writing.{writer, Writing};
 
+// An array's count: its base code, uint32, its bytes on the wire, and its words.
+const COUNT_CODE: u16 = 9;
+
+const COUNT_BYTES: usize = 4;
+
+const COUNT_WORDS: usize = 1;
+
 // Packs the words as a payload of type i, and stores the bytes of each where there is room for them.
 pub fn write_type(table: &[u8], s: Sections, i: u16, words: &[u64], out: &mut [u8]) -> Walked
     ensures { λ r. ⌜ r ≡ answer (typeWalk (writer (now (words .entry))) (now (table .entry)) s i start (now (out .entry))) ⌝ }
@@ -126,10 +133,10 @@ fn begin(words: &[u64], out: &mut [u8], e: Entry, p: Place) -> Walked
     if p.from < words.len() {
         let count = word_at(words, p.from);
         if count <= e.count as u64 {
-            leaves::put(out, p.to, 9, count);
+            leaves::put(out, p.to, COUNT_CODE, count);
             Walked::Went(Place {
-                from: p.from + 1,
-                to: p.to + 4,
+                from: p.from + COUNT_WORDS,
+                to: p.to + COUNT_BYTES,
             })
         } else {
             Walked::Stopped(43, p)

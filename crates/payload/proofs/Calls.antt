@@ -48,6 +48,9 @@ module _ (n room : ℕ) (w : Walked) where
       pub gave : q .to ≤ room → Gave (q .to) ≡ answered n room w
       gave g = sym (whole ∙ no-lt (Refused 45) (Gave (q .to)) room (q .to) g)
 
+-- every way in which a walk can end
+pub ruleset ends = (by-rule, by-walk, left-over, too-short, gave)
+
 -- the first walk stores nothing
 pub nothing-left : (u x : List ℕ) → length u ≡ length (take 0 x) → u ++ drop 0 x ≡ x
 nothing-left [] x h = refl

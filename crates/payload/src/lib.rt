@@ -96,10 +96,11 @@ fn unpack_type(table: &[u8], s: Sections, number: u16, payload: &[u8], words: &m
 
 // The walk with no room for a word: it stores nothing.
 fn first_read(table: &[u8], s: Sections, number: u16, payload: &[u8], words: &mut [u64]) -> Walked
-    ensures { λ r. ⌜ r ≡ answer (typeWalk (reader (now (payload .entry))) (now (table .entry)) s number start []) ⌝ }
     ensures { λ _. ⌜ now (words .exit) ≡ now (words .entry) ⌝ }
+    ensures { λ r. ⌜ r ≡ answer (typeWalk (reader (now (payload .entry))) (now (table .entry)) s number start []) ⌝ }
 {
-    unpacking::read_type(table, s, number, payload, &mut words[..0])
+    let no_word = 0;
+    unpacking::read_type(table, s, number, payload, &mut words[..no_word])
 }
 
 // What the walk's end comes to: 41 where input is left over, and last 45 where the output is too short.
@@ -143,8 +144,9 @@ fn pack_type(table: &[u8], s: Sections, number: u16, words: &[u64], out: &mut [u
 
 // The walk with no room for a byte: it stores nothing.
 fn first_write(table: &[u8], s: Sections, number: u16, words: &[u64], out: &mut [u8]) -> Walked
-    ensures { λ r. ⌜ r ≡ answer (typeWalk (writer (now (words .entry))) (now (table .entry)) s number start []) ⌝ }
     ensures { λ _. ⌜ now (out .exit) ≡ now (out .entry) ⌝ }
+    ensures { λ r. ⌜ r ≡ answer (typeWalk (writer (now (words .entry))) (now (table .entry)) s number start []) ⌝ }
 {
-    packing::write_type(table, s, number, words, &mut out[..0])
+    let no_byte = 0;
+    packing::write_type(table, s, number, words, &mut out[..no_byte])
 }

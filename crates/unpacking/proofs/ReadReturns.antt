@@ -27,12 +27,13 @@ use Rattle.unpacking.specs.Reading.{reader, Reading}
 use Rattle.walk.proofs.Walks.{Holds, walk-holds, begun-holds, some-bytes}
 use Rattle.walk.proofs.Returns.{Did, did-on, did-stop, item-short, item-bad, item-on, counts, kept-length, kept-on}
 
--- a further word's index fits
-pub next-to : (n : ℕ) (p : Place) → (p .to ≤ p .from) × (p .from ≤ n) → n * 1 < 2 ^ 63 → Fits w64 (p .to + 1)
-next-to n p r l = record { fits = omega (arith, r .0, r .1) }
+-- a further place fits, of bytes and of words: no item has more than 8
+module _ (n : ℕ) (p : Place) (k : ℕ) (r : (p .to ≤ p .from) × (p .from ≤ n)) (h : k ≤ 8) (l : n * 1 < 2 ^ 63) where
+  pub next-from : Fits w64 (p .from + k)
+  next-from = record { fits = omega (arith, r .1) }
 
-pub room-fits : (n p k : ℕ) (h : Bool) → h ≡ leb (p + k) n → h ≡ true → n * 1 < 2 ^ 63 → Fits w64 (p + k)
-room-fits n p k h e t l = record { fits = omega (arith, held (p + k) n e t) }
+  pub next-to : Fits w64 (p .to + k)
+  next-to = record { fits = omega (arith, r .0, r .1) }
 
 -- reading a leaf
 module _ (t : List ℕ) (s : Sections) (e : Entry) (b : List ℕ) (p : Place) (x : List ℕ) (n : ℕ) (h : Bool) (is : n ≡ width (e .of)) (room : h ≡ leb (p .from + n) (length b)) where

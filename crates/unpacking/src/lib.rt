@@ -12,6 +12,11 @@ ghost use mathlib.Core.List.{[], _∷_};
 ghost use Rattle.walk.specs.Walk.{start, answer, left, begun, times, leafWalk, metWalk, typeWalk};
 ghost use Rattle.unpacking.specs.Reading.{reader, Reading};
 
+// An array's count: its bytes on the wire, and its words.
+const COUNT_BYTES: usize = 4;
+
+const COUNT_WORDS: usize = 1;
+
 // Unpacks a payload as type i, and stores each word where there is room for it.
 pub fn read_type(table: &[u8], s: Sections, i: u16, payload: &[u8], words: &mut [u64]) -> Walked
     ensures { λ r. ⌜ r ≡ answer (typeWalk (reader (now (payload .entry))) (now (table .entry)) s i start (now (words .entry))) ⌝ }
@@ -124,13 +129,13 @@ fn begin(payload: &[u8], words: &mut [u64], e: Entry, p: Place) -> Walked
     if e.kind == 3 {
         return Walked::Went(p);
     }
-    if wire::has_room(payload.len(), p.from, 4) {
+    if wire::has_room(payload.len(), p.from, COUNT_BYTES) {
         let count = wire::u32_at(payload, p.from);
         if count <= e.count as u32 {
             put_word(words, p.to, count as u64);
             Walked::Went(Place {
-                from: p.from + 4,
-                to: p.to + 1,
+                from: p.from + COUNT_BYTES,
+                to: p.to + COUNT_WORDS,
             })
         } else {
             Walked::Stopped(43, p)

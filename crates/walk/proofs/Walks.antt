@@ -123,6 +123,9 @@ pub few-bytes : (code : ℕ) → width code ≤ 8
 unfolding width
 few-bytes code = few-in (base code) (real code)
 
+pub width-few : (n code : ℕ) → n ≡ width code → n ≤ 8
+width-few n code h = omega (arith, few-bytes code)
+
 -- what is written into makes no difference to where a walk comes
 next-same : (a b : Step) (f : Place → List ℕ → Step) → answer a ≡ answer b → ((q : Place) (y z : List ℕ) → answer (f q y) ≡ answer (f q z)) → answer (next a f) ≡ answer (next b f)
 unfolding next answer

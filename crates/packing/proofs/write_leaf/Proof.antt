@@ -1,7 +1,8 @@
 -- `packing::write_leaf` meets its contract: the three ends of an item.
 -- Assumes nothing.
 use borrow.Author.Needs.{needs}
-use Rattle.packing.proofs.WriteReturns.{leaf-short, leaf-bad, leaf-went, next-from, next-to, width-few}
+use Rattle.walk.proofs.Walks.{width-few}
+use Rattle.packing.proofs.WriteReturns.{leaf-short, leaf-bad, leaf-went, next-from, next-to}
 use Rattle.packing.proofs.write_leaf.Statement.{statement}
 use Rattle.packing.proofs.write_leaf.Tie as tie
 

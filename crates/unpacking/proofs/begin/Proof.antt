@@ -1,8 +1,9 @@
 -- `unpacking::begin` meets its contract: nothing before a fixed array, and the three ends of a count.
 -- Assumes nothing.
 use borrow.Author.Needs.{needs}
+use native.Mathlib.Omega.{arith}
 use Rattle.walk.proofs.Returns.{fixed-begun}
-use Rattle.unpacking.proofs.ReadReturns.{count-short, count-over, count-went, next-to, room-fits}
+use Rattle.unpacking.proofs.ReadReturns.{count-short, count-over, count-went, next-from, next-to}
 use Rattle.unpacking.proofs.begin.Statement.{statement}
 use Rattle.unpacking.proofs.begin.Tie as tie
 
@@ -16,9 +17,9 @@ begin-spec =
     (λ c. search needs)
     (λ c. search needs)
     (λ c κs. search needs)
-    (λ c. room-fits _ _ _ _ (c .before .before .before .before .before .before .before .before .before .has-room .ensures) (c .before .before .before .before .before .before .before .before .if2 .taken) (c .before .before .before .before .before .before .before .before .before .before .before .before .before .before .good .0 .1))
-    (λ c. next-to _ _ (c .before .before .before .before .before .before .before .before .before .before .before .before .before .before .before .pre) (c .before .before .before .before .before .before .before .before .before .before .before .before .before .before .before .good .0 .1))
+    (λ c. next-from _ _ _ (c .before .before .before .before .before .before .before .before .before .before .before .before .before .before .pre) (omega arith) (c .before .before .before .before .before .before .before .before .before .before .before .before .before .before .good .0 .1))
+    (λ c. next-to _ _ _ (c .before .before .before .before .before .before .before .before .before .before .before .before .before .before .before .pre) (omega arith) (c .before .before .before .before .before .before .before .before .before .before .before .before .before .before .before .good .0 .1))
     (λ c. search needs)
-    (λ c. count-went _ _ _ _ (c .before .before .before .before .before .before .before .before .before .before .before .if1 .left) _ (c .before .before .before .before .before .before .before .before .before .before .has-room .ensures) (c .before .before .before .before .before .before .before .before .before .if2 .taken) _ (c .before .before .before .before .before .before .before .before .u32-at .ensures) _ (c .before .before .before .before .before .before .if3 .taken) (c .before .before .before .before .before .before .before .before .u32-at .ok) (c .before .before .before .before .put-word .ensures))
-    (λ c. count-over _ _ _ _ (c .before .before .before .before .before .if1 .left) _ (c .before .before .before .before .has-room .ensures) (c .before .before .before .if2 .taken) _ (c .before .before .u32-at .ensures) (c .if3 .left))
-    (λ c. count-short _ _ _ _ (c .before .before .if1 .left) _ (c .before .has-room .ensures) (c .if2 .left)))
+    (λ c. count-went _ _ (c .before .before .before .before .before .before .before .before .before .before .before .before .before .before .before .args .p) _ (c .before .before .before .before .before .before .before .before .before .before .before .if1 .left) _ (c .before .before .before .before .before .before .before .before .before .before .has-room .ensures) (c .before .before .before .before .before .before .before .before .before .if2 .taken) _ (c .before .before .before .before .before .before .before .before .u32-at .ensures) _ (c .before .before .before .before .before .before .if3 .taken) (c .before .before .before .before .before .before .before .before .u32-at .ok) (c .before .before .before .before .put-word .ensures))
+    (λ c. count-over _ _ (c .before .before .before .before .before .before .before .before .before .args .p) _ (c .before .before .before .before .before .if1 .left) _ (c .before .before .before .before .has-room .ensures) (c .before .before .before .if2 .taken) _ (c .before .before .u32-at .ensures) (c .if3 .left))
+    (λ c. count-short _ _ (c .before .before .before .before .before .before .args .p) _ (c .before .before .if1 .left) _ (c .before .has-room .ensures) (c .if2 .left)))

@@ -1,7 +1,9 @@
 -- `unpacking::read_leaf` meets its contract: the three ends of an item.
 -- Assumes nothing.
 use borrow.Author.Needs.{needs}
-use Rattle.unpacking.proofs.ReadReturns.{leaf-short, leaf-bad, leaf-went, next-to, room-fits}
+use native.Mathlib.Omega.{arith}
+use Rattle.walk.proofs.Walks.{width-few}
+use Rattle.unpacking.proofs.ReadReturns.{leaf-short, leaf-bad, leaf-went, next-from, next-to}
 use Rattle.unpacking.proofs.read_leaf.Statement.{statement}
 use Rattle.unpacking.proofs.read_leaf.Tie as tie
 
@@ -14,8 +16,8 @@ read-leaf-spec =
     (λ c κs. search needs)
     (λ c κs. search needs)
     (λ c κs. search needs)
-    (λ c. room-fits _ _ _ _ (c .before .before .before .before .before .before .before .before .before .has-room .ensures) (c .before .before .before .before .before .before .before .before .if1 .taken) (c .before .before .before .before .before .before .before .before .before .before .before .before .before .before .good .1 .1 .1 .0 .1))
-    (λ c. next-to _ _ (c .before .before .before .before .before .before .before .before .before .before .before .before .before .before .before .pre) (c .before .before .before .before .before .before .before .before .before .before .before .before .before .before .before .good .1 .1 .1 .0 .1))
+    (λ c. next-from _ _ _ (c .before .before .before .before .before .before .before .before .before .before .before .before .before .before .pre) (width-few _ _ (c .before .before .before .before .before .before .before .before .before .before .width .ensures)) (c .before .before .before .before .before .before .before .before .before .before .before .before .before .before .good .1 .1 .1 .0 .1))
+    (λ c. next-to _ _ _ (c .before .before .before .before .before .before .before .before .before .before .before .before .before .before .before .pre) (omega arith) (c .before .before .before .before .before .before .before .before .before .before .before .before .before .before .before .good .1 .1 .1 .0 .1))
     (λ c. search needs)
     (λ c. leaf-went _ _ _ _ _ _ _ _ (c .before .before .before .before .before .before .before .before .before .before .before .width .ensures) (c .before .before .before .before .before .before .before .before .before .before .has-room .ensures) (c .before .before .before .before .before .before .before .before .before .if1 .taken) _ (c .before .before .before .before .before .before .before .before .word-at .ensures) _ (c .before .before .before .before .before .before .before .takes .ensures) _ (c .before .before .before .before .before .before .if2 .taken) (c .before .before .before .before .put-word .ensures))
     (λ c. leaf-bad _ _ _ _ _ _ _ _ (c .before .before .before .before .before .width .ensures) (c .before .before .before .before .has-room .ensures) (c .before .before .before .if1 .taken) _ (c .before .before .word-at .ensures) _ (c .before .takes .ensures) (c .if2 .left))
