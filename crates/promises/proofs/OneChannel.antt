@@ -4,7 +4,7 @@
 -- Assumes nothing.
 use Prim.Native.Nat.{ℕ, zero, suc, _+_, _-_, _%_, _≤_, _<_}
 use mathlib.Core.Path.{_≡_, refl, sym, ap, ap₂, _∙_}
-use mathlib.Core.Bool.{Bool, true, false, cond, not, _&&_, _||_, true≢false}
+use mathlib.Core.Bool.{Bool, true, false, cond, not, _&&_, _||_}
 use mathlib.Core.List.{List, [], _∷_, _++_, append-nil, append-assoc}
 use mathlib.Core.Logic.{_⊎_, inl, inr, ⊎-elim}
 use native.Mathlib.Nat.{suc-ne-zero}
@@ -12,7 +12,7 @@ use native.Mathlib.Omega.{arith}
 use borrow.Author.Tests.{eq-eqb, ne-eqb, ltb-true, ltb-false, leb-true, le-leb}
 use lib.Dec.{leb, ltb, eqb}
 use lib.ListN.{length, replicate, length-append}
-use Rattle.wire.proofs.Cond.{yes-if, no-if, yes-eq, no-eq, yes-le}
+use Rattle.wire.proofs.Cond.{yes-if, no-if, yes-eq, no-eq, yes-le, both}
 use Rattle.binding.specs.declared.MessagePart.{MessagePart}
 use Rattle.binding.specs.declared.MessagePart.the-variants.{Begin, Middle, End, Whole}
 use Rattle.binding.specs.Header.{counters}
@@ -94,10 +94,6 @@ eventOf c s = record { mark = s .mark; counter = c; bytes = s .piece .bytes }
 abbrev pub eventsOf : ℕ → List Sent → List Event
 eventsOf c [] = []
 eventsOf c (s ∷ ss) = replicate (s .piece .copies) (eventOf c s) ++ eventsOf (after c) ss
-
-pub both : (a b : Bool) → (a && b) ≡ true → (a ≡ true) × (b ≡ true)
-both true b e = (refl, e)
-both false b e = absurd (true≢false (sym e))
 
 module _ (R : ℕ) (v : Channel) (c g : ℕ) (s : Sent) (ss : List Sent) where
   copied : (n : ℕ) → s .piece .copies ≡ n → deliveries R v (eventsOf c (s ∷ ss)) ≡ deliveries R v (replicate n (eventOf c s) ++ eventsOf (after c) ss)

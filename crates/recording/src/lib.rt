@@ -7,7 +7,7 @@ ghost use Rattle.recording.specs.Datagrams.{nextIn};
 ghost use Rattle.recording.specs.Play.{stateOf, played, steppedOf};
 ghost use Rattle.lines.specs.Line.{lineLimit};
 ghost use Prim.Native.Nat.{_+_, _≤_};
-use joiner::Joiner;
+use channels::Joiner;
 use lines::LINE_LIMIT;
 
 mod start;
