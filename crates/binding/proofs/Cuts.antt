@@ -4,7 +4,7 @@ use Prim.Native.Nat.{ℕ, min, _+_, _-_, _*_, _/_, _%_, _≤_, _<_}
 use mathlib.Core.Path.{_≡_, refl, sym, ap, _∙_}
 use mathlib.Core.Bool.{Bool, true, false, _&&_, and-eq-true-iff}
 use mathlib.Core.List.{List, [], _∷_, _++_}
-use native.Mathlib.Nat.{zero-add, min-le-right, min-eq-left, min-eq-right}
+use native.Mathlib.Nat.{min-le-right, min-eq-left, min-eq-right}
 use native.Mathlib.Omega.{arith}
 use borrow.Author.Tests.{eq-eqb, ne-eqb, le-leb, lt-leb, lt-ltb, le-ltb, leb-true, leb-false}
 use mir.Syntax.{w16, w64}
@@ -13,7 +13,7 @@ use lib.Dec.{leb}
 use lib.ListN.{length, take, drop, length-append, length-take, length-drop}
 use lib.Seq.{take-all}
 use Rattle.wire.specs.Bytes.{bytes, part, over, written}
-use Rattle.wire.proofs.Runs.{written-in, written-out, part-in, length-over, over-over}
+use Rattle.wire.proofs.Runs.{written-in, written-out, written-behind, part-in}
 use Rattle.binding.specs.declared.MessagePart.{MessagePart}
 use Rattle.binding.specs.declared.MessagePart.the-variants.{Begin, Middle, End, Whole}
 use Rattle.binding.specs.declared.BindingHeader.{BindingHeader}
@@ -40,18 +40,11 @@ module _ (n i : ℕ) where
       pub another : (i + 1 ≡ n → ⊥) → Middle ≡ partOfPiece n i
       another e = rw (ne-eqb n 1 many, ne-eqb i 0 later, ne-eqb (i + 1) n e)
 
--- a run written behind another
-pub one-more : {m e : List ℕ} (s a b : List ℕ) (q : ℕ) → m ≡ over s 0 a → q ≡ length a → e ≡ written m q b → length (a ++ b) ≤ length s → e ≡ over s 0 (a ++ b)
-one-more {m} {e} s a b q f k w h =
-    let l : length (a ++ b) ≡ length a + length b = length-append a b in
-    let n : length m ≡ length s = ap length f ∙ length-over s 0 a (omega arith) in
-    w ∙ written-in m q b (omega arith) ∙ ap (λ (u : List ℕ). over u q b) f ∙ ap (λ (j : ℕ). over (over s 0 a) j b) (k ∙ sym (zero-add (length a))) ∙ over-over s 0 a b (omega arith)
-
 -- the header's bytes, one behind another
 pub four-bytes : {m₁ m₂ e : List ℕ} (s : List ℕ) (x y z : ℕ) → m₁ ≡ written s 0 (bytes 0 x) → m₂ ≡ written m₁ 1 (bytes 0 y) → e ≡ written m₂ 2 (bytes 1 z) → 4 ≤ length s → e ≡ over s 0 (bytes 0 x ++ (bytes 0 y ++ bytes 1 z))
 four-bytes {m₁} s x y z a b c h =
     let m : m₁ ≡ over s 0 (bytes 0 x) = a ∙ written-in s 0 (bytes 0 x) (omega arith) in
-    one-more s (x ∷ y ∷ []) (bytes 1 z) 2 (one-more s (bytes 0 x) (bytes 0 y) 1 m refl b (omega arith)) refl c (omega arith)
+    written-behind s (x ∷ y ∷ []) (bytes 1 z) 2 (written-behind s (bytes 0 x) (bytes 0 y) 1 m refl (omega arith) b) refl (omega arith) c
 
 -- the number of pieces
 pub said : {r t : Bool} → r ≡ t → r ≡ true → t ≡ true
@@ -105,8 +98,8 @@ module _ (msg : List ℕ) (start size : ℕ) {r : ℕ} (e : r ≡ min size (leng
 
       pub wrote-one : {m o q : List ℕ} → m ≡ over out 0 (headerBytes header) → q ≡ part msg start r → o ≡ written m 4 q → o ≡ written out 0 (behind header msg start size)
       wrote-one {m} {o} {q} a b c =
-          let l : length (behind header msg start size) ≤ length out = omega (arith, long) in
-          one-more out (headerBytes header) (bytesFrom msg start size) 4 a refl (c ∙ ap (written m 4) (b ∙ left)) l ∙ sym (written-in out 0 (behind header msg start size) (omega arith))
+          let l : length (headerBytes header) + length (bytesFrom msg start size) ≤ length out = omega (arith, long) in
+          written-behind out (headerBytes header) (bytesFrom msg start size) 4 a refl l (c ∙ ap (written m 4) (b ∙ left)) ∙ sym (written-in out 0 (behind header msg start size) (omega arith))
 
 -- the output after a datagram that fits or does not
 out-written : (d out : List ℕ) → outAfter (madeIn d (length out)) out d ≡ written out 0 d

@@ -14,14 +14,14 @@ use Rattle.binding.specs.Header.{theVersion, smallestDatagram, largestDatagram,
 use Rattle.binding.specs.declared.Heard.{Heard}
 use Rattle.binding.specs.declared.Heard.the-variants as heard
 use Rattle.binding.proofs.Headers.{Headed, headed-heard, heard-headed}
-use Rattle.joiner.specs.declared.Joiner.{Joiner}
+use Rattle.channels.specs.declared.Joiner.{Joiner}
 use Rattle.joiner.specs.declared.Judged.the-variants.{Refusal, Move}
 use Rattle.joiner.specs.declared.Outcome.the-variants.{Refused}
 use Rattle.joiner.specs.Channel.{roomOf, steppedOf}
-use Rattle.joiner.specs.Setup.{badSetup, placeOf, distinct, sendersOf, channelAt}
+use Rattle.channels.specs.Setup.{badSetup, placeOf, distinct, sendersOf, channelAt}
 use Rattle.joiner.specs.Take.{notSetUp, sentTo, heardBy, judgedOf, takenOf, Addressed, Foreign}
-use Rattle.joiner.proofs.Places.{at-place, place-first, distinct-says}
-use Rattle.joiner.proofs.Lookups.{senders-length}
+use Rattle.channels.proofs.Places.{at-place, place-first, distinct-says}
+use Rattle.channels.proofs.Lookups.{senders-length}
 use Rattle.joiner.proofs.Judging.{Good}
 use Rattle.joiner.proofs.Standing.{Standing, standing-good, refused-here}
 

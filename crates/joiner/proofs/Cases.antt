@@ -6,18 +6,18 @@ use mathlib.Core.Bool.{Bool, true, false, _&&_, cond}
 use native.Mathlib.Omega.{arith}
 use borrow.Author.Tests.{leb-true, eqb-true, eqb-false, lt-ltb, le-leb, lt-leb}
 use lib.Dec.{leb, ltb, eqb}
+use Rattle.wire.proofs.Cond.{and-true}
 use Rattle.binding.specs.Header.{senders, counters}
 use Rattle.binding.specs.declared.MessagePart.{MessagePart}
 use Rattle.binding.specs.declared.MessagePart.the-variants.{Begin, Middle, End, Whole}
-use Rattle.joiner.specs.declared.Channel.{Channel}
+use Rattle.channels.specs.declared.Channel.{Channel}
 use Rattle.joiner.specs.declared.Room.{Room}
 use Rattle.joiner.specs.declared.Step.{Step}
 use Rattle.joiner.specs.declared.Put.the-variants.{Nowhere, At}
 use Rattle.joiner.specs.declared.Place.the-variants.{Rooms}
 use Rattle.joiner.specs.declared.Outcome.the-variants.{Refused, Repeated, Delivered, Held, Stray, TooLong}
 use Rattle.joiner.specs.Channel.{missedOf, repeated, keeping, notedOf, holding, tooLong, wholeOf, begunOf, joinedOf, followedOf, placedOf, steppedOf}
-use Rattle.joiner.specs.Setup.{goodChannel, newChannel}
-use Rattle.joiner.proofs.Places.{and-true}
+use Rattle.channels.specs.Setup.{goodChannel, newChannel}
 use Rattle.joiner.proofs.Judging.{Sound}
 
 -- the seven: what a step is, where ch is the record before it

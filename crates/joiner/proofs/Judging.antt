@@ -12,22 +12,23 @@ use mir.Syntax.{w32}
 use mir.Val.{Fits}
 use lib.Dec.{leb, ltb}
 use lib.ListN.{length}
+use Rattle.wire.proofs.Cond.{and-left, and-right}
 use Rattle.binding.specs.Header.{headerLength, largestPiece, senders, counters, heardIn, headerIn, partIn, senderIn, counterIn, pieceIn}
 use Rattle.binding.specs.declared.BindingHeader.{BindingHeader}
 use Rattle.binding.specs.declared.Heard.{Heard}
 use Rattle.binding.specs.declared.Heard.the-variants as heard
 use Rattle.binding.proofs.Headers.{Headed, heard-headed, piece-length}
-use Rattle.joiner.specs.declared.Channel.{Channel}
-use Rattle.joiner.specs.declared.Joiner.{Joiner}
+use Rattle.channels.specs.declared.Channel.{Channel}
+use Rattle.channels.specs.declared.Joiner.{Joiner}
 use Rattle.joiner.specs.declared.Step.{Step}
-use Rattle.joiner.specs.declared.Found.{Found}
-use Rattle.joiner.specs.declared.Found.the-variants.{Bad, Nobody, Somebody}
+use Rattle.channels.specs.declared.Found.{Found}
+use Rattle.channels.specs.declared.Found.the-variants.{Bad, Nobody, Somebody}
 use Rattle.joiner.specs.declared.Judged.the-variants.{Refusal, Move}
-use Rattle.joiner.specs.Channel.{largestRoom, Steppable, roomStart, roomOf, steppedOf}
-use Rattle.joiner.specs.Setup.{channelLimit, badSetup, newChannel, placeOf, distinct, every, channelsOf, sendersOf, channelAt, goodSizes, goodChannel, good, foundOf}
+use Rattle.joiner.specs.Channel.{Steppable, roomOf, steppedOf}
+use Rattle.channels.specs.Setup.{channelLimit, badSetup, newChannel, placeOf, distinct, every, channelsOf, sendersOf, channelAt, goodSizes, goodChannel, good, foundOf, roomStart}
 use Rattle.joiner.specs.Take.{notSetUp, sentTo, heardBy, judgedOf}
-use Rattle.joiner.proofs.Places.{and-left, and-right, every-at}
-use Rattle.joiner.proofs.Lookups.{Sizes, sizes-say, channels-length, channels-at, Borne, found-bad, found-nobody, found-somebody}
+use Rattle.channels.proofs.Places.{every-at}
+use Rattle.channels.proofs.Lookups.{Sizes, sizes-say, channels-length, channels-at, Borne, found-bad, found-nobody, found-somebody}
 
 -- what a good record is
 pub record Sound (R : ℕ) (ch : Channel) : Type 0 where
@@ -70,12 +71,10 @@ unfolding good
 good-sizes j b e =
     sizes-say (j .count) (j .room) b (and-left (goodSizes (j .count) (j .room) b) (every (goodChannel (j .room)) (channelsOf j) && distinct (sendersOf j)) e)
 
-module _ (j : Joiner) (b x k : ℕ) (ch : Channel) {f : Found} (e : f ≡ foundOf j b x) (m : f ≡ Somebody k ch) where
-  pub few-rooms : k ≤ channelLimit
-  few-rooms = omega (arith, found-somebody j b x e k ch m .known, good-sizes j b (found-somebody j b x e k ch m .well) .few)
-
-  pub narrow-rooms : j .room ≤ largestRoom
-  narrow-rooms = good-sizes j b (found-somebody j b x e k ch m .well) .narrow
+pub number-fits : {f : Found} (j : Joiner) (b x k : ℕ) (ch : Channel) → f ≡ foundOf j b x → f ≡ Somebody k ch → Fits w32 k
+number-fits j b x k ch e m =
+    let y : Borne j b x k ch = found-somebody j b x e k ch m in
+    record { fits = omega (arith, y .known, good-sizes j b (y .well) .few) }
 
 module _ (d : List ℕ) (h : BindingHeader) {r : Heard} (e : r ≡ heardIn d) (m : r ≡ heard.Piece h) where
   pub long-enough : headerLength ≤ length d

@@ -1,5 +1,3 @@
-pub mod Places
-pub mod Lookups
 pub mod Judging
 pub mod Cases
 pub mod Standing
@@ -7,5 +5,4 @@ pub mod Addressing
 pub mod Views
 pub mod Setups
 mod Stepping
-mod Making
 mod Taking

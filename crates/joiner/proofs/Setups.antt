@@ -11,12 +11,12 @@ use lib.Dec.{leb}
 use lib.ListN.{length, getD, replicate, length-map, length-append, length-replicate, List·getD-append, List·getD-map}
 use lib.Seq.{take-at}
 use Rattle.binding.specs.Header.{senders}
-use Rattle.joiner.specs.declared.NewJoiner.{NewJoiner}
-use Rattle.joiner.specs.declared.Answer.the-variants.{Accepted}
-use Rattle.joiner.specs.Setup.{channelLimit, newChannel, distinct, senderOf, sendersOf, channelAt, goodSizes, goodChannel, good, freshOf, refusedSetup, setupOf, Acceptable}
+use Rattle.channels.specs.declared.NewJoiner.{NewJoiner}
+use Rattle.channels.specs.declared.Answer.the-variants.{Accepted}
+use Rattle.channels.specs.Setup.{channelLimit, newChannel, distinct, senderOf, sendersOf, channelAt, goodSizes, goodChannel, good, freshOf, refusedSetup, setupOf, Acceptable}
 use Rattle.joiner.specs.View.{viewOf}
-use Rattle.joiner.proofs.Places.{distinct-says, is-distinct}
-use Rattle.joiner.proofs.Lookups.{Sizes}
+use Rattle.channels.proofs.Places.{distinct-says, is-distinct}
+use Rattle.channels.proofs.Lookups.{Sizes}
 use Rattle.joiner.proofs.Judging.{channel-says, Good, good-says}
 use Rattle.joiner.proofs.Cases.{sound-good}
 use Rattle.joiner.proofs.Standing.{Standing, good-is}

@@ -10,23 +10,24 @@ use borrow.Author.Tests.{le-leb, eq-eqb, eqb-true, eqb-false}
 use lib.Dec.{eqb}
 use lib.ListN.{length, getD, set, length-set}
 use lib.Seq.{getD-set-same, getD-set-other, getD-take, take-set-lt, map-set-same}
+use Rattle.wire.proofs.Cond.{and-true}
 use Rattle.wire.specs.Bytes.{Octets}
 use Rattle.wire.proofs.Runs.{length-written}
 use Rattle.binding.specs.Header.{partIn, counterIn, pieceIn}
 use Rattle.binding.proofs.Headers.{counter-below}
-use Rattle.joiner.specs.declared.Channel.{Channel}
-use Rattle.joiner.specs.declared.Joiner.{Joiner}
+use Rattle.channels.specs.declared.Channel.{Channel}
+use Rattle.channels.specs.declared.Joiner.{Joiner}
 use Rattle.joiner.specs.declared.Step.{Step}
 use Rattle.joiner.specs.declared.Put.{Put}
 use Rattle.joiner.specs.declared.Put.the-variants.{Nowhere, At}
 use Rattle.joiner.specs.declared.Outcome.the-variants.{Refused}
 use Rattle.joiner.specs.declared.Judged.{Judged}
 use Rattle.joiner.specs.declared.Judged.the-variants.{Refusal, Move}
-use Rattle.joiner.specs.Channel.{smallestRoom, largestRoom, roomStart, roomOf}
-use Rattle.joiner.specs.Setup.{channelLimit, newChannel, distinct, every, senderOf, channelsOf, sendersOf, channelAt, goodSizes, goodChannel, good}
+use Rattle.joiner.specs.Channel.{roomOf}
+use Rattle.channels.specs.Setup.{channelLimit, newChannel, distinct, every, senderOf, channelsOf, sendersOf, channelAt, goodSizes, goodChannel, good, smallestRoom, largestRoom, roomStart}
 use Rattle.joiner.specs.Take.{judgedOf, changed, takenBy, takenOf, putBy, roomsBy, roomsAfter}
-use Rattle.joiner.proofs.Places.{and-true, every-by}
-use Rattle.joiner.proofs.Lookups.{Sizes, channels-length, channels-at}
+use Rattle.channels.proofs.Places.{every-by}
+use Rattle.channels.proofs.Lookups.{Sizes, channels-length, channels-at}
 use Rattle.joiner.proofs.Judging.{channel-says, Good, good-says, Moved, judged-moved}
 use Rattle.joiner.proofs.Cases.{Stepped, step-cases, step-sender, step-taken, step-sound, sound-good}
 

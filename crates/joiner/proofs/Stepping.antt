@@ -6,16 +6,16 @@ use mathlib.Core.Bool.{Bool, true, false, cond}
 use native.Mathlib.Omega.{arith}
 use borrow.Author.Tests.{le-leb, lt-leb, eq-eqb, ne-eqb}
 use lib.Dec.{eqb}
-use Rattle.binding.specs.Header.{counters}
+use Rattle.binding.specs.Header.{headerLength, counters}
 use Rattle.binding.specs.declared.MessagePart.{MessagePart}
 use Rattle.binding.specs.declared.MessagePart.the-variants.{Begin, Middle, End, Whole}
-use Rattle.joiner.specs.declared.Channel.{Channel}
+use Rattle.channels.specs.declared.Channel.{Channel}
 use Rattle.joiner.specs.declared.Room.{Room}
 use Rattle.joiner.specs.declared.Step.{Step}
 use Rattle.joiner.specs.declared.Put.{Put}
 use Rattle.joiner.specs.declared.Put.the-variants.{Nowhere, At}
-use Rattle.joiner.specs.declared.Place.the-variants.{Rooms}
-use Rattle.joiner.specs.declared.Outcome.the-variants.{Repeated, Delivered, Held, Stray}
+use Rattle.joiner.specs.declared.Place.the-variants.{Datagram, Rooms}
+use Rattle.joiner.specs.declared.Outcome.the-variants.{Repeated, Delivered, Held, Stray, TooLong}
 use Rattle.joiner.specs.Channel.{Steppable, missedOf, repeated, keeping, notedOf, holding, tooLong, wholeOf, begunOf, followedOf, joinedOf, behindOf, placedOf, steppedOf}
 
 module _ (ch : Channel) (c : ℕ) where
@@ -36,6 +36,12 @@ is-kept h m e = rw (eq-eqb m 0 e)
 
 pub is-dropped : (h m : ℕ) → (m ≡ 0 → ⊥) → 0 ≡ cond (eqb m 0) h 0
 is-dropped h m n = rw (ne-eqb m 0 n)
+
+pub whole-given : {h : Channel} (ch : Channel) (n m : ℕ) → h ≡ holding ch 0 → record { outcome = Delivered m (Datagram headerLength n); channel = h; put = Nowhere } ≡ wholeOf ch n m
+whole-given ch n m e = rw e
+
+pub all-dropped : {h : Channel} (ch : Channel) (m : ℕ) → h ≡ holding ch 0 → record { outcome = TooLong m; channel = h; put = Nowhere } ≡ tooLong ch m
+all-dropped ch m e = rw e
 
 module _ (room : Room) (ch : Channel) (n m : ℕ) where
   pub begun-held : {h : Channel} → n ≤ room .size → h ≡ holding ch n → record { outcome = Held m n; channel = h; put = At (room .start) } ≡ begunOf room ch n m

@@ -14,7 +14,7 @@ use types.Run.{OneOf}
 use Rattle.joiner.proofs.Outcome.{the-type}
 use Rattle.wire.specs.Bytes.{written, part}
 use Rattle.binding.specs.Header.{headerLength}
-use Rattle.joiner.specs.declared.Joiner.{Joiner}
+use Rattle.channels.specs.declared.Joiner.{Joiner}
 use Rattle.joiner.specs.declared.Step.{Step}
 use Rattle.joiner.specs.declared.Judged.{Judged}
 use Rattle.joiner.specs.declared.Judged.the-variants.{Refusal, Move}
@@ -24,7 +24,7 @@ use Rattle.joiner.specs.declared.Put.{Put}
 use Rattle.joiner.specs.declared.Put.the-variants.{Nowhere, At}
 use Rattle.joiner.specs.declared.Outcome.{Outcome}
 use Rattle.joiner.specs.declared.Outcome.the-variants.{Refused, Repeated, Delivered, Held, Stray, TooLong}
-use Rattle.joiner.specs.Setup.{channelLimit}
+use Rattle.channels.specs.Setup.{channelLimit}
 use Rattle.joiner.specs.Take.{judgedOf, changed, takenBy, takenOf, putBy, roomsBy, roomsAfter, messageOf}
 use Rattle.joiner.proofs.Judging.{Moved, judged-moved, good-sizes}
 

@@ -16,14 +16,14 @@ use Rattle.wire.proofs.Runs.{written-in, part-in, drop-over, length-written}
 use Rattle.binding.specs.Header.{headerLength, partIn, counterIn, pieceIn}
 use Rattle.binding.specs.declared.MessagePart.{MessagePart}
 use Rattle.binding.proofs.Headers.{piece-length}
-use Rattle.joiner.specs.declared.Channel.{Channel}
-use Rattle.joiner.specs.declared.Joiner.{Joiner}
+use Rattle.channels.specs.declared.Channel.{Channel}
+use Rattle.channels.specs.declared.Joiner.{Joiner}
 use Rattle.joiner.specs.declared.Room.{Room}
 use Rattle.joiner.specs.declared.Step.{Step}
 use Rattle.joiner.specs.declared.Judged.{Judged}
 use Rattle.joiner.specs.declared.Judged.the-variants.{Refusal, Move}
-use Rattle.joiner.specs.Channel.{roomStart, roomOf, missedOf, keeping, notedOf}
-use Rattle.joiner.specs.Setup.{sendersOf, channelAt}
+use Rattle.joiner.specs.Channel.{roomOf, missedOf, keeping, notedOf}
+use Rattle.channels.specs.Setup.{sendersOf, channelAt, roomStart}
 use Rattle.joiner.specs.Take.{judgedOf, changed, takenBy, takenOf, putBy, roomsBy, roomsAfter, messageOf, Addressed, Foreign}
 use Rattle.joiner.specs.View.{View, bytesAt, viewOf, leading, heldBy, givenBy, viewStep, viewAfter, viewGiven, deliveredOf}
 use Rattle.joiner.proofs.Judging.{channel-says, Moved, judged-moved, room-within}

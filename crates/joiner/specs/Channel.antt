@@ -1,30 +1,19 @@
 -- One channel: what a datagram of message part p, counter c and n bytes of piece does to its record. 01, Joining, steps 1
 -- to 5.
-use Prim.Native.Nat.{ℕ, _+_, _-_, _*_, _%_, _^_, _≤_, _<_}
+use Prim.Native.Nat.{ℕ, _+_, _-_, _%_, _^_, _≤_, _<_}
 use mathlib.Core.Bool.{Bool, true, false, _&&_, cond}
 use lib.Dec.{leb, eqb}
 use Rattle.binding.specs.Header.{headerLength, largestPiece, counters}
 use Rattle.binding.specs.declared.MessagePart.{MessagePart}
 use Rattle.binding.specs.declared.MessagePart.the-variants.{Begin, Middle, End, Whole}
-use Rattle.joiner.specs.declared.Channel.{Channel}
+use Rattle.channels.specs.Setup.{largestRoom, roomStart}
+use Rattle.channels.specs.declared.Channel.{Channel}
 use Rattle.joiner.specs.declared.Room.{Room}
 use Rattle.joiner.specs.declared.Step.{Step}
 use Rattle.joiner.specs.declared.Put.{Put}
 use Rattle.joiner.specs.declared.Put.the-variants.{Nowhere, At}
 use Rattle.joiner.specs.declared.Place.the-variants.{Datagram, Rooms}
 use Rattle.joiner.specs.declared.Outcome.the-variants.{Repeated, Delivered, Held, Stray, TooLong}
-
--- 01, number 20: R is 24 to 65,560
-abbrev pub smallestRoom : ℕ
-smallestRoom = 24
-
-abbrev pub largestRoom : ℕ
-largestRoom = 65560
-
--- where room k starts: each channel has its own R bytes, in set-up order. Where the room behind the last would start is
--- the rooms' total
-abbrev pub roomStart : ℕ → ℕ → ℕ
-roomStart R k = k * R
 
 abbrev pub roomOf : ℕ → ℕ → Room
 roomOf R k = record { start = roomStart R k; size = R }

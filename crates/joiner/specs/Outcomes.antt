@@ -2,8 +2,8 @@
 -- bytes held or delivered, else 0).
 use Prim.Native.Nat.{ℕ}
 use mathlib.Core.List.{List, [], _∷_}
-use Rattle.joiner.specs.declared.Answer.{Answer}
-use Rattle.joiner.specs.declared.Answer.the-variants as answer
+use Rattle.channels.specs.declared.Answer.{Answer}
+use Rattle.channels.specs.declared.Answer.the-variants as answer
 use Rattle.joiner.specs.declared.Place.{Place}
 use Rattle.joiner.specs.declared.Place.the-variants.{Datagram, Rooms}
 use Rattle.joiner.specs.declared.Outcome.{Outcome}

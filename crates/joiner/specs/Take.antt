@@ -11,9 +11,9 @@ use Rattle.binding.specs.declared.BindingHeader.{BindingHeader}
 use Rattle.binding.specs.declared.Heard.{Heard}
 use Rattle.binding.specs.declared.Heard.the-variants as heard
 use Rattle.joiner.specs.Channel.{roomOf, steppedOf}
-use Rattle.joiner.specs.Setup.{badSetup, channelAt, sendersOf, placeOf, good}
-use Rattle.joiner.specs.declared.Channel.{Channel}
-use Rattle.joiner.specs.declared.Joiner.{Joiner}
+use Rattle.channels.specs.Setup.{badSetup, channelAt, sendersOf, placeOf, good}
+use Rattle.channels.specs.declared.Channel.{Channel}
+use Rattle.channels.specs.declared.Joiner.{Joiner}
 use Rattle.joiner.specs.declared.Put.{Put}
 use Rattle.joiner.specs.declared.Put.the-variants.{Nowhere, At}
 use Rattle.joiner.specs.declared.Place.{Place}

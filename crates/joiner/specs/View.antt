@@ -8,15 +8,15 @@ use lib.ListN.{length, take, drop}
 use Rattle.binding.specs.Header.{partIn, counterIn, pieceIn}
 use Rattle.binding.specs.declared.MessagePart.{MessagePart}
 use Rattle.binding.specs.declared.MessagePart.the-variants.{Begin, Middle, End, Whole}
-use Rattle.joiner.specs.declared.Channel.{Channel}
-use Rattle.joiner.specs.declared.Joiner.{Joiner}
+use Rattle.channels.specs.declared.Channel.{Channel}
+use Rattle.channels.specs.declared.Joiner.{Joiner}
 use Rattle.joiner.specs.declared.Room.{Room}
 use Rattle.joiner.specs.declared.Step.{Step}
 use Rattle.joiner.specs.declared.Place.the-variants.{Datagram, Rooms}
 use Rattle.joiner.specs.declared.Outcome.{Outcome}
 use Rattle.joiner.specs.declared.Outcome.the-variants.{Refused, Repeated, Delivered, Held, Stray, TooLong}
-use Rattle.joiner.specs.Channel.{roomStart, missedOf, steppedOf}
-use Rattle.joiner.specs.Setup.{channelAt}
+use Rattle.joiner.specs.Channel.{missedOf, steppedOf}
+use Rattle.channels.specs.Setup.{channelAt, roomStart}
 use Rattle.joiner.specs.Take.{takenOf, roomsAfter, messageOf}
 
 pub record View : Type 0 where

@@ -3,54 +3,19 @@
 ghost use mathlib.Core.Path.{_≡_};
 ghost use Prim.Native.Nat.{_≤_};
 ghost use lib.ListN.{length};
-ghost use Rattle.joiner.specs.Setup.{channelLimit, newChannel, freshOf, refusedSetup, setupOf};
 ghost use Rattle.joiner.specs.Take.{judgedOf, takenOf, roomsAfter, putBy, messageOf};
 ghost use Rattle.binding.specs.Header.{headerLength};
 use binding::BindingHeader;
 use binding::Heard;
+use channels::BAD_SETUP;
+use channels::Channel;
+use channels::Found;
+use channels::Joiner;
 
-mod records;
 mod steps;
 
-// 01, Numbers given back. 21 and 22 are the binding header's.
-pub const BAD_SETUP: u32 = 20;
-
+// 01, Numbers given back. 20 is the set-up's; 21 and 22 are the binding header's.
 pub const NOT_SET_UP: u32 = 23;
-
-// How many channels a joiner can have, and how small and how large their rooms are.
-pub const CHANNELS: usize = 32;
-
-pub const SMALLEST_ROOM: u32 = 24;
-
-pub const LARGEST_ROOM: u32 = 65560;
-
-// One channel: whether a counter was seen, the last counter, and how many bytes are held (0: nothing). Each number is
-// wider than its range, so that one handed in can be judged.
-pub struct Channel {
-    pub sender: u16,
-    pub seen: bool,
-    pub last: u32,
-    pub held: u32,
-}
-
-// The first `count` records are the channels, in set-up order; the others are never looked at. Each channel's room is
-// `room` bytes long.
-pub struct Joiner {
-    pub channels: [Channel; CHANNELS],
-    pub count: usize,
-    pub room: u32,
-}
-
-pub enum Answer {
-    Accepted,
-    Refused(u32),
-}
-
-// An enum cannot hold an array, so the joiner stands beside the answer. Where the set-up was refused it has no channels.
-pub struct NewJoiner {
-    pub answer: Answer,
-    pub joiner: Joiner,
-}
 
 // Where a delivered message lies: in the datagram it came in, or in the rooms.
 pub enum Place {
@@ -91,34 +56,10 @@ pub struct Step {
     pub put: Put,
 }
 
-// What the look at a joiner for a sender ID finds: it is not good, nobody bears the ID, or this channel.
-pub enum Found {
-    Bad,
-    Nobody,
-    Somebody { at: usize, channel: Channel },
-}
-
 // What a datagram comes to before anything is written: a refusal, or a step of the channel `at`.
 pub enum Judged {
     Refusal(u32),
     Move { at: usize, step: Step },
-}
-
-// A fresh joiner for these sender IDs, over a buffer of `buffer` bytes with `room` bytes for each channel; or 20.
-pub fn setup(ids: &[u16], room: u32, buffer: usize) -> NewJoiner
-    ensures { λ r. ⌜ r ≡ setupOf (now (ids .entry)) room buffer ⌝ }
-{
-    if ids.len() <= CHANNELS {
-        let joiner = fresh(ids, room);
-        if records::is_good(joiner, buffer) {
-            return NewJoiner {
-                answer: Answer::Accepted,
-                joiner,
-            };
-        }
-        return refused_setup();
-    }
-    refused_setup()
 }
 
 // Takes one datagram: 20 to 23 for what is refused, else what it is to its channel, whose record alone changes.
@@ -160,65 +101,25 @@ pub fn message<'a>(outcome: Outcome, datagram: &'a [u8], rooms: &'a [u8]) -> &'a
     }
 }
 
-fn refused_setup() -> NewJoiner
-    ensures { λ r. ⌜ r ≡ refusedSetup ⌝ }
-{
-    NewJoiner {
-        answer: Answer::Refused(BAD_SETUP),
-        joiner: Joiner {
-            channels: [new_channel(0); CHANNELS],
-            count: 0,
-            room: 0,
-        },
-    }
-}
-
-fn fresh(ids: &[u16], room: u32) -> Joiner
-    requires { ⌜ length (now ids) ≤ channelLimit ⌝ }
-    ensures { λ r. ⌜ r ≡ freshOf (now (ids .entry)) room ⌝ }
-{
-    let mut channels = [new_channel(0); CHANNELS];
-    let mut i = 0;
-    while i < ids.len() {
-        channels[i] = new_channel(ids[i]);
-        i += 1;
-    }
-    Joiner {
-        channels,
-        count: ids.len(),
-        room,
-    }
-}
-
-fn new_channel(sender: u16) -> Channel
-    ensures { λ r. ⌜ r ≡ newChannel sender ⌝ }
-{
-    Channel {
-        sender,
-        seen: false,
-        last: 0,
-        held: 0,
-    }
-}
-
 // What a datagram comes to, before anything is written: the numbers in their order, then its channel's step.
 fn judge(joiner: Joiner, rooms: usize, datagram: &[u8]) -> Judged
     ensures { λ r. ⌜ r ≡ judgedOf joiner rooms (now (datagram .entry)) ⌝ }
 {
     match BindingHeader::read(datagram) {
         Heard::Refused(number) => {
-            if records::is_good(joiner, rooms) {
+            if channels::is_good(joiner, rooms) {
                 Judged::Refusal(number)
             } else {
                 Judged::Refusal(BAD_SETUP)
             }
         }
-        Heard::Piece(header) => match records::look(joiner, rooms, header.sender) {
+        Heard::Piece(header) => match channels::look(joiner, rooms, header.sender) {
             Found::Bad => Judged::Refusal(BAD_SETUP),
             Found::Nobody => Judged::Refusal(NOT_SET_UP),
             Found::Somebody { at, channel } => {
+                let number = at as u32;
                 let room = Room {
-                    start: records::room_start(joiner.room, at),
+                    start: channels::room_start(joiner.room, number),
                     size: joiner.room,
                 };
                 let length = (datagram.len() - BindingHeader::LENGTH) as u32;

@@ -5,7 +5,6 @@ ghost use Prim.Native.Nat.{_+_, _^_, _<_, _≤_};
 ghost use lib.Dec.{eqb};
 ghost use Rattle.binding.specs.Header.{counters};
 ghost use Rattle.joiner.specs.Channel.{Steppable, missedOf, repeated, notedOf, holding, behindOf, tooLong, wholeOf, begunOf, joinedOf, followedOf, placedOf, steppedOf};
-use crate::Channel;
 use crate::Outcome;
 use crate::Place;
 use crate::Put;
@@ -13,6 +12,7 @@ use crate::Room;
 use crate::Step;
 use binding::BindingHeader;
 use binding::MessagePart;
+use channels::Channel;
 
 // M, at the width of a record's last counter.
 const COUNTERS: u32 = BindingHeader::COUNTERS as u32;

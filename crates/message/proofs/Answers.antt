@@ -3,20 +3,19 @@
 use Prim.Native.Nat.{ℕ, zero, suc, _+_, _≤_, _<_}
 use mathlib.Core.Path.{_≡_, refl, sym, ap, ap₂, _∙_}
 use mathlib.Core.List.{List, [], _∷_, _++_, append-nil}
-use native.Mathlib.Nat.{zero-add}
 use native.Mathlib.Omega.{arith}
 use mir.Syntax.{w32}
 use mir.Val.{Fits}
-use lib.ListN.{length, length-append}
+use lib.ListN.{length}
 use Rattle.wire.specs.Bytes.{number, bytes, over, written, part}
-use Rattle.wire.proofs.Runs.{written-in, written-out, over-over, length-over}
+use Rattle.wire.proofs.Runs.{written-in, written-out, written-behind}
 use Rattle.message.specs.declared.Header.{Header}
 use Rattle.message.specs.declared.Message.{Message}
 use Rattle.message.specs.declared.Reading.{Reading}
 use Rattle.message.specs.declared.Reading.the-variants as reading
 use Rattle.message.specs.declared.Writing.{Writing}
 use Rattle.message.specs.declared.Writing.the-variants as writing
-use Rattle.message.specs.Header.{headerLength, theMark, theVersion, domainIn, idIn, headerIn, payloadIn, headerBytes}
+use Rattle.message.specs.Header.{headerLength, theMark, theVersion, domainIn, senderIn, idIn, payloadSizeIn, sequenceIn, headerIn, payloadIn, headerBytes}
 use Rattle.message.specs.Platform.{messageOf}
 use Rattle.message.specs.Refusal.{readRefusal, writeRefusal}
 use Rattle.message.specs.Reading.{readOut, readOf, payloadOf}
@@ -24,6 +23,10 @@ use Rattle.message.specs.Reading as Reading
 use Rattle.message.specs.Writing.{headerFor, messageBytes, writeOf, unlessRefused, outputAfter}
 use Rattle.message.specs.Writing as Writing
 use Rattle.message.proofs.Accepted.{Writable, writable}
+
+-- `of_bytes`: each field is the number at its place
+pub fields-read : {h : Header} {a b c d e : ℕ} (s : List ℕ) → a ≡ domainIn s → b ≡ senderIn s → c ≡ idIn s → d ≡ payloadSizeIn s → e ≡ sequenceIn s → h ≡ record { domain = a; platform = b; id = c; «payload_size» = d; sequence = e } → h ≡ headerIn s
+fields-read s p q r t u v = v ∙ rw (p, q, r, t, u)
 
 reading-refused : (n : ℕ) (r : Reading) → (n ≡ 0 → ⊥) → reading.Refused n ≡ Reading.answered n r
 reading-refused zero r h = absurd (h refl)
@@ -44,14 +47,6 @@ read-out {b} {f} {m} s h e p q d =
 pub payload-read : {u : List ℕ} {r : Reading} (s : List ℕ) (h : Header) (m : Message) (start len : ℕ) → r ≡ reading.Read h m start len → u ≡ part s start len → u ≡ payloadOf s r
 payload-read s h m start len e d = d ∙ ap (payloadOf s) (sym e)
 
--- one field more behind those that are written
-next : {m e : List ℕ} (s a b : List ℕ) (p : ℕ) → m ≡ over s 0 a → p ≡ length a → length a + length b ≤ length s → e ≡ written m p b → e ≡ over s 0 (a ++ b)
-next {m} s a b p i q h w =
-    let l : length (a ++ b) ≡ length a + length b = length-append a b in
-    let lm : length m ≡ length s = ap length i ∙ length-over s 0 a (omega arith) in
-    w ∙ written-in m p b (omega arith) ∙ ap (λ (u : List ℕ). over u p b) i ∙ ap (λ (k : ℕ). over (over s 0 a) k b) (q ∙ sym (zero-add (length a)))
-    ∙ over-over s 0 a b (omega arith)
-
 pub header-laid : {a b c d e f g : List ℕ} (s : List ℕ) (h : Header) → headerLength ≤ length s → a ≡ written s 0 (bytes 1 theMark) → b ≡ written a 2 (bytes 0 theVersion) → c ≡ written b 3 (bytes 0 (h .domain)) → d ≡ written c 4 (bytes 2 (h .platform)) → e ≡ written d 8 (bytes 2 (h .id)) → f ≡ written e 12 (bytes 2 (h .«payload_size»)) → g ≡ written f 16 (bytes 2 (h .sequence)) → g ≡ written s 0 (headerBytes h)
 header-laid s h long a b c d e f g =
     let A : List ℕ = bytes 1 theMark in
@@ -61,12 +56,12 @@ header-laid s h long a b c d e f g =
     let E : List ℕ = D ++ bytes 2 (h .id) in
     let F : List ℕ = E ++ bytes 2 (h .«payload_size») in
     let a′ = a ∙ written-in s 0 A (omega arith) in
-    let b′ = next s A (bytes 0 theVersion) 2 a′ refl (omega arith) b in
-    let c′ = next s B (bytes 0 (h .domain)) 3 b′ refl (omega arith) c in
-    let d′ = next s C (bytes 2 (h .platform)) 4 c′ refl (omega arith) d in
-    let e′ = next s D (bytes 2 (h .id)) 8 d′ refl (omega arith) e in
-    let f′ = next s E (bytes 2 (h .«payload_size»)) 12 e′ refl (omega arith) f in
-    next s F (bytes 2 (h .sequence)) 16 f′ refl (omega arith) g ∙ sym (written-in s 0 (headerBytes h) (omega arith))
+    let b′ = written-behind s A (bytes 0 theVersion) 2 a′ refl (omega arith) b in
+    let c′ = written-behind s B (bytes 0 (h .domain)) 3 b′ refl (omega arith) c in
+    let d′ = written-behind s C (bytes 2 (h .platform)) 4 c′ refl (omega arith) d in
+    let e′ = written-behind s D (bytes 2 (h .id)) 8 d′ refl (omega arith) e in
+    let f′ = written-behind s E (bytes 2 (h .«payload_size»)) 12 e′ refl (omega arith) f in
+    written-behind s F (bytes 2 (h .sequence)) 16 f′ refl (omega arith) g ∙ sym (written-in s 0 (headerBytes h) (omega arith))
 
 pub header-too-long : (s : List ℕ) (h : Header) → length s < headerLength → s ≡ written s 0 (headerBytes h)
 header-too-long s h l = sym (written-out s 0 (headerBytes h) (omega arith))
@@ -100,7 +95,7 @@ module _ (own domain id seq : ℕ) (payload out : List ℕ) (n : ℕ) (e : n ≡
       let ok : Writable domain id payload (length out) = writable domain id payload (length out) (sym e ∙ z) in
       let header : List ℕ = headerBytes (headerFor own domain id seq payload) in
       let k : a ≡ over out 0 header = l ∙ written-in out 0 (headerBytes h) (omega arith) ∙ ap (λ (x : Header). over out 0 (headerBytes x)) hd in
-      next out header payload headerLength k refl (omega arith) w ∙ ap (λ (r : ℕ). unlessRefused r laid out) (sym z ∙ e)
+      written-behind out header payload headerLength k refl (omega arith) w ∙ ap (λ (r : ℕ). unlessRefused r laid out) (sym z ∙ e)
 
   pub output-not : (n ≡ 0 → ⊥) → out ≡ outputAfter own domain id seq payload out
   unfolding laid

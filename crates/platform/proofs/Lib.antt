@@ -1,6 +1,3 @@
-pub mod WordLaws
-pub mod Bits
-pub mod Ups
 pub mod ReactionLaws
 pub mod ReplyLaws
 pub mod ReadBack

@@ -21,7 +21,7 @@ use Rattle.message.specs.declared.Message.the-variants as message
 use Rattle.message.specs.declared.Reading.{Reading}
 use Rattle.message.specs.declared.Reading.the-variants as reading
 use Rattle.wire.proofs.Cond.{yes-if, no-if, yes-eq, no-eq}
-use Rattle.platform.specs.declared.States.{States}
+use Rattle.states.specs.declared.States.{States}
 use Rattle.platform.specs.declared.Standing.{Standing}
 use Rattle.platform.specs.declared.Heard.{Heard}
 use Rattle.platform.specs.declared.Heard.the-variants as heard
@@ -30,7 +30,7 @@ use Rattle.platform.specs.declared.Reply.the-variants.{StatusUp, PullAll
 use Rattle.platform.specs.declared.Owed.{Owed}
 use Rattle.platform.specs.declared.Owed.the-variants as owed
 use Rattle.platform.specs.declared.Reaction.{Reaction}
-use Rattle.platform.specs.States.{isUp, turned, freshStates}
+use Rattle.states.specs.States.{isUp, turned, freshStates}
 use Rattle.platform.specs.Replies.{allData, drawn}
 use Rattle.platform.specs.Reaction.{LookedFor, Looked, isData, notData, noData, silent, replied, noted, cameUp, onStatus, notVersioned, onPullAll, onPullOne, onPull, onOperation, reactionTo}
 use Rattle.platform.specs.Receiving.{freshStanding}

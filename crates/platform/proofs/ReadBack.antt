@@ -38,7 +38,7 @@ use Rattle.platform.specs.declared.Reply.the-variants.{StatusUp, PullAll
 use Rattle.platform.specs.declared.Owed.{Owed}
 use Rattle.platform.specs.declared.Owed.the-variants as owed
 use Rattle.platform.specs.declared.Reaction.{Reaction}
-use Rattle.platform.specs.States.{isUp}
+use Rattle.states.specs.States.{isUp}
 use Rattle.platform.specs.Replies.{allData, drawn, replyID, replyNumber, replyField, replyBytes, replyHeader, meant, Wide, replyLength, replies, Each, owedBytes, owedLength}
 use Rattle.platform.specs.Reaction.{noData, isData, silent, replied, cameUp, onStatus, notVersioned, onPullAll, onPullOne, onPull, onOperation, reactionTo}
 use Rattle.platform.specs.Receiving.{laidOut}

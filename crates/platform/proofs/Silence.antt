@@ -26,14 +26,14 @@ use Rattle.platform.specs.declared.Outcome.{Outcome}
 use Rattle.platform.specs.declared.Reply.{Reply}
 use Rattle.platform.specs.declared.Reply.the-variants.{StatusUp, PullAll, Unknown}
 use Rattle.platform.specs.declared.Reaction.{Reaction}
-use Rattle.platform.specs.States.{isUp}
+use Rattle.states.specs.States.{isUp}
 use Rattle.platform.specs.Replies.{allData, drawn, replyBytes, replyHeader, meant, Wide, replies, Each, owedLength}
 use Rattle.platform.specs.Reaction.{noData, silent, cameUp, onStatus, notVersioned, onPullAll, onPull, reactionTo}
 use Rattle.platform.specs.Receiving.{refused, taken, answered, outcomeOf}
 use Rattle.platform.specs.Exchange.{written, sentOf, Setting, keeps, sends, Pair, Step, Exchange, started, longestExchange}
 use Rattle.platform.specs.Exchange.Step.{arrives-at-a, arrives-at-b, lost-to-a, lost-to-b}
 use Rattle.platform.specs.Exchange.Exchange.{none, more}
-use Rattle.platform.proofs.Ups.{noted-there}
+use Rattle.states.proofs.Ups.{noted-there}
 use Rattle.platform.proofs.ReadBack.{reply-reads-back}
 
 -- what a message under way can still cause, and what a platform that holds the other for DOWN can

@@ -26,7 +26,7 @@ use Rattle.platform.specs.declared.Reply.the-variants.{StatusUp, PullAll
 use Rattle.platform.specs.declared.Owed.{Owed}
 use Rattle.platform.specs.declared.Owed.the-variants as owed
 use Rattle.platform.specs.declared.Reaction.{Reaction}
-use Rattle.platform.specs.States.{isUp, turned}
+use Rattle.states.specs.States.{isUp, turned}
 use Rattle.platform.specs.Replies.{allData, drawn}
 
 -- the operation that a message asks for, looked up: a pull's ID, or the ID of a message of domain 1. docs/DECISIONS.md, 20: an entry

@@ -25,7 +25,7 @@ use Rattle.platform.specs.declared.Answer.{Answer}
 use Rattle.platform.specs.declared.Answer.the-variants.{Refused, Noted}
 use Rattle.platform.specs.declared.Outcome.{Outcome}
 use Rattle.platform.specs.declared.Reaction.{Reaction}
-use Rattle.platform.specs.States.{freshStates}
+use Rattle.states.specs.States.{freshStates}
 use Rattle.platform.specs.Replies.{firstNumber, owedLength, owedBytes}
 use Rattle.platform.specs.Reaction.{Looked, operationIn, reactionTo}
 

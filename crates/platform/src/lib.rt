@@ -3,29 +3,21 @@
 // 33 for the type table) changes no state, own number or output byte.
 mod reacting;
 mod replies;
-mod words;
 
 ghost use mathlib.Core.Path.{_≡_};
 ghost use lib.ListN.{length};
 ghost use mathlib.Core.Bool.{true};
 ghost use Rattle.table.specs.Layout.{within};
-ghost use Rattle.platform.specs.States.{isUp, howManyUp};
+ghost use Rattle.states.specs.States.{isUp, howManyUp};
 ghost use Rattle.platform.specs.Receiving.{freshStanding, refused, taken, answered, laidOut, outcomeOf, outputOf, receivedOf, leftOf, Received, payloadHeard};
 use message::Header;
 use message::Own;
 use message::Reading;
 use message::Status;
+use states::States;
 use table::Checked;
 use table::Found;
 use table::Sections;
-
-// The states of the 256 platforms: platform k is bit k % 64 of word k / 64.
-pub struct States {
-    pub w0: u64,
-    pub w1: u64,
-    pub w2: u64,
-    pub w3: u64,
-}
 
 // What a platform keeps from one message to the next: the states, and its next own sequence number.
 pub struct Standing {
@@ -98,7 +90,7 @@ pub fn fresh(own: Own) -> Standing
     ensures { λ r. ⌜ r ≡ freshStanding (own .platform) ⌝ }
 {
     Standing {
-        states: words::fresh(own),
+        states: states::fresh(own),
         next: 0,
     }
 }
@@ -106,14 +98,14 @@ pub fn fresh(own: Own) -> Standing
 pub fn is_up(own: Own, states: States, platform: u8) -> bool
     ensures { λ r. ⌜ r ≡ isUp (own .platform) states platform ⌝ }
 {
-    words::is_up(own, states, platform as u32)
+    states::is_up(own, states, platform as u32)
 }
 
 // How many of the 256 are UP, this one counted.
 pub fn how_many_up(own: Own, states: States) -> u32
     ensures { λ r. ⌜ r ≡ howManyUp (own .platform) states ⌝ }
 {
-    words::how_many_up(own, states)
+    states::how_many_up(own, states)
 }
 
 // Reads a message, notes the state that it tells, and writes the owed replies at the output's start.

@@ -5,7 +5,6 @@ use crate::Reaction;
 use crate::Reply;
 use crate::Standing;
 use crate::replies;
-use crate::words;
 use message::Header;
 use message::Message;
 use message::Own;
@@ -79,7 +78,7 @@ fn on_status(own: Own, standing: Standing, sender: u32, status: Status) -> React
     ensures { λ r. ⌜ r ≡ onStatus (own .platform) standing sender status ⌝ }
 {
     let states = standing.states;
-    let up = words::is_up(own, states, sender);
+    let up = states::is_up(own, states, sender);
     match status {
         Status::Up => {
             if up {
@@ -118,7 +117,7 @@ fn noted(standing: Standing, sender: u32, next: u32) -> Standing
 {
     let states = standing.states;
     Standing {
-        states: words::turned(states, sender),
+        states: states::turned(states, sender),
         next,
     }
 }

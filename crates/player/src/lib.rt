@@ -1,11 +1,11 @@
-// Replays a recording: reads it in blocks of a fixed buffer, and writes its lines in blocks. What stands in a recording
-// and what its lines say is `recording`'s; here blocks only come and go.
+// Replays a recording: reads it in blocks of a fixed buffer, and writes its lines in blocks. What stands in a recording is
+// `recording`'s and what its lines say is `lines`'s; here blocks only come and go.
 ghost use Prim.Native.Nat.{_≤_, _<_};
 ghost use mathlib.Core.Path.{_≡_};
 ghost use lib.ListN.{length};
 ghost use Rattle.player.specs.Bounds.{inputLength, roomsLength, RoomsFit};
 use libc::STDOUT_FILENO;
-use recording::Ending;
+use lines::Ending;
 use recording::Found;
 use recording::Opened;
 use recording::Opening;
@@ -219,7 +219,7 @@ fn end(name: &[u8], output: &mut [u8], made: usize, kept: usize, failed: bool) {
 // Writes the lines that are made, and the one that the run ends with.
 fn finish(output: &mut [u8], made: usize, ending: Ending) {
     if flush(output, made) {
-        let last = recording::put_ending(output, 0, ending);
+        let last = lines::put_ending(output, 0, ending);
         flush(output, last);
     }
 }

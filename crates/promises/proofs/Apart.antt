@@ -10,22 +10,22 @@ use native.Mathlib.Omega.{arith}
 use borrow.Author.Tests.{leb-true, ltb-true, eqb-true, le-leb, lt-ltb, eq-eqb}
 use lib.Dec.{leb, ltb, eqb}
 use lib.ListN.{length, getD}
+use Rattle.wire.proofs.Cond.{both}
 use Rattle.wire.specs.Bytes.{Octets}
 use Rattle.binding.specs.Header.{theVersion, smallestDatagram, largestDatagram, versionIn, senderIn}
-use Rattle.joiner.specs.declared.Joiner.{Joiner}
+use Rattle.channels.specs.declared.Joiner.{Joiner}
 use Rattle.joiner.specs.declared.Room.{Room}
 use Rattle.joiner.specs.declared.Outcome.{Outcome}
 use Rattle.joiner.specs.declared.Outcome.the-variants.{Refused, Repeated, Delivered, Held, Stray, TooLong}
 use Rattle.joiner.specs.Channel.{roomOf}
-use Rattle.joiner.specs.Setup.{sendersOf}
+use Rattle.channels.specs.Setup.{sendersOf}
 use Rattle.joiner.specs.Take.{takenOf, roomsAfter, messageOf, Addressed, Foreign}
 use Rattle.joiner.specs.View.{View, viewOf, viewStep, viewAfter, viewGiven, deliveredOf}
 use Rattle.joiner.proofs.Standing.{Standing, standing-good, take-standing, take-room, take-senders}
-use Rattle.joiner.proofs.Lookups.{senders-length}
+use Rattle.channels.proofs.Lookups.{senders-length}
 use Rattle.joiner.proofs.Addressing.{whose}
 use Rattle.joiner.proofs.Views.{own-outcome, own-view, own-given, other-view, foreign-joiner, foreign-rooms}
 use Rattle.promises.specs.Traffic.{Datagram, isOf, ofChannel, handedBack, deliveredOn, outcomesOn, leftOn, AreBytes, none, more}
-use Rattle.promises.proofs.OneChannel.{both}
 
 -- the test is the fact
 pub is-addressed : (ids : List ℕ) (k : ℕ) (d : Datagram) → isOf ids k d ≡ true → Addressed ids k d

@@ -7,13 +7,14 @@ use mathlib.Core.List.{List, [], _∷_, _++_, map}
 use borrow.Author.Tests.{leb-true}
 use lib.Dec.{leb, eqb}
 use lib.ListN.{length, replicate}
+use Rattle.wire.proofs.Cond.{both}
 use Rattle.binding.specs.declared.BindingHeader.{BindingHeader}
 use Rattle.binding.specs.Header.{senders, counters, largestPiece, headerOf, headerBytes}
 use Rattle.binding.proofs.Headers.{Headed, header-back, heard-headed, piece-back}
 use Rattle.promises.specs.Senders.{Piece, Message, Sent, sentFrom, sentBy, after, arriving, together, goodPieces, goodMessage, goodMessages}
 use Rattle.promises.specs.Traffic.{Datagram}
 use Rattle.promises.proofs.Machine.{Event}
-use Rattle.promises.proofs.OneChannel.{eventOf, eventsOf, both, after-below}
+use Rattle.promises.proofs.OneChannel.{eventOf, eventsOf, after-below}
 use Rattle.promises.proofs.Agrees.{eventIn}
 
 -- pieces of 1 to 65,503 bytes

@@ -9,13 +9,13 @@ use native.Mathlib.Omega.{arith}
 use borrow.Author.Tests.{ne-eqb, leb-true, eqb-false}
 use lib.Dec.{leb, eqb}
 use lib.ListN.{length, length-append}
-use Rattle.wire.proofs.Cond.{yes-if, no-if, yes-le}
+use Rattle.wire.proofs.Cond.{yes-if, no-if, yes-le, both}
 use Rattle.binding.specs.declared.MessagePart.{MessagePart}
 use Rattle.binding.specs.declared.MessagePart.the-variants.{Begin, Middle, End, Whole}
 use Rattle.binding.specs.Header.{counters, largestPiece}
 use Rattle.promises.specs.Senders.{Piece, Message, Sent, sentFrom, sentBy, after, arrived, lossesWithin, together, allArrived, completeOf, goodPieces, goodMessage, goodMessages}
 use Rattle.promises.proofs.Machine.{Channel, Moved, at, followed, placed, deliveries}
-use Rattle.promises.proofs.OneChannel.{Stands, standsAt, eventsOf, both, slot-lost, slot-arrived, losses-lost, losses-arrived, after-below, arrives-here, lost-here, stands-next}
+use Rattle.promises.proofs.OneChannel.{Stands, standsAt, eventsOf, slot-lost, slot-arrived, losses-lost, losses-arrived, after-below, arrives-here, lost-here, stands-next}
 
 -- step 5 with nothing to follow, and with h to follow where there is room
 followed-none : (R c : ℕ) (h q : List ℕ) (joined : Moved) → eqb (length h) 0 ≡ true → followed R c h q joined ≡ at c [] []

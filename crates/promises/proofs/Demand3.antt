@@ -5,10 +5,10 @@ use mathlib.Core.Path.{_≡_, refl, sym, ap, ap₂, _∙_}
 use mathlib.Core.Logic.{inr}
 use mathlib.Core.List.{List, []}
 use lib.ListN.{length, getD}
-use Rattle.joiner.specs.declared.Joiner.{Joiner}
-use Rattle.joiner.specs.declared.Answer.the-variants.{Accepted}
+use Rattle.channels.specs.declared.Joiner.{Joiner}
+use Rattle.channels.specs.declared.Answer.the-variants.{Accepted}
 use Rattle.joiner.specs.Channel.{roomOf}
-use Rattle.joiner.specs.Setup.{newChannel, sendersOf, freshOf, setupOf}
+use Rattle.channels.specs.Setup.{newChannel, sendersOf, freshOf, setupOf}
 use Rattle.joiner.specs.View.{View, viewOf}
 use Rattle.joiner.proofs.Setups.{accepted, accepted-joiner, accepted-standing, fresh-senders, fresh-view}
 use Rattle.promises.specs.Senders.{Sender, Genuine, sentBy, arrives, completeOf}

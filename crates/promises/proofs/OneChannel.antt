@@ -94,10 +94,6 @@ abbrev pub eventsOf : ℕ → List Sent → List Event
 eventsOf c [] = []
 eventsOf c (s ∷ ss) = replicate (s .piece .copies) (eventOf c s) ++ eventsOf (after c) ss
 
-pub both : (a b : Bool) → (a && b) ≡ true → (a ≡ true) × (b ≡ true)
-both true b e = (refl, e)
-both false b e = absurd (true≢false (sym e))
-
 module _ (R : ℕ) (v : Channel) (c g : ℕ) (s : Sent) (ss : List Sent) where
   copied : (n : ℕ) → s .piece .copies ≡ n → deliveries R v (eventsOf c (s ∷ ss)) ≡ deliveries R v (replicate n (eventOf c s) ++ eventsOf (after c) ss)
   copied n e = ap (λ (k : ℕ). deliveries R v (replicate k (eventOf c s) ++ eventsOf (after c) ss)) e

@@ -4,9 +4,9 @@ use Prim.Native.Nat.{ℕ, _<_}
 use mathlib.Core.Path.{_≡_}
 use mathlib.Core.List.{List}
 use lib.ListN.{length, getD}
-use Rattle.joiner.specs.declared.Joiner.{Joiner}
-use Rattle.joiner.specs.declared.Answer.the-variants.{Accepted}
-use Rattle.joiner.specs.Setup.{setupOf}
+use Rattle.channels.specs.declared.Joiner.{Joiner}
+use Rattle.channels.specs.declared.Answer.the-variants.{Accepted}
+use Rattle.channels.specs.Setup.{setupOf}
 use Rattle.promises.specs.Senders.{Sender, Genuine, arrives, completeOf}
 use Rattle.promises.specs.Traffic.{Datagram, ofChannel, deliveredOn, outcomesOn, leftOn, AreBytes}
 

@@ -6,7 +6,7 @@ use lib.Dec.{leb, ltb, eqb}
 use lib.ListN.{length, getD}
 use Rattle.wire.specs.Bytes.{Octets}
 use Rattle.binding.specs.Header.{theVersion, smallestDatagram, largestDatagram, versionIn, senderIn}
-use Rattle.joiner.specs.declared.Joiner.{Joiner}
+use Rattle.channels.specs.declared.Joiner.{Joiner}
 use Rattle.joiner.specs.declared.Outcome.{Outcome}
 use Rattle.joiner.specs.declared.Outcome.the-variants.{Refused, Repeated, Delivered, Held, Stray, TooLong}
 use Rattle.joiner.specs.Take.{takenOf, roomsAfter, messageOf}

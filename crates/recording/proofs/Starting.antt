@@ -1,7 +1,7 @@
 -- How a recording starts: the cases of `openedIn`.
 -- Assumes nothing.
 use Prim.Native.Nat.{ℕ, suc, _+_, _*_, _≤_, _<_}
-use mathlib.Core.Path.{_≡_, refl, sym, ap, _∙_}
+use mathlib.Core.Path.{_≡_, refl, sym, ap, ap₂, _∙_}
 use mathlib.Core.Bool.{Bool, true, false, cond, _&&_}
 use mathlib.Core.List.{List, [], _∷_, _++_}
 use native.Mathlib.Numerals.{add-one}
@@ -13,16 +13,13 @@ use lib.Dec.{leb, ltb}
 use lib.ListN.{length, set, take, replicate}
 use lib.Seq.{length-take-le, take-suc-set}
 use Rattle.wire.specs.Bytes.{number}
-use Rattle.wire.proofs.Cond.{yes-lt, no-lt, yes-if, no-if}
-use Rattle.joiner.specs.Channel.{smallestRoom, largestRoom, roomStart}
-use Rattle.joiner.specs.Setup.{channelLimit, badSetup, newChannel, freshOf, setupOf}
-use Rattle.joiner.specs.declared.Channel.{Channel}
-use Rattle.joiner.specs.declared.Joiner.{Joiner}
-use Rattle.joiner.specs.declared.NewJoiner.{NewJoiner}
-use Rattle.joiner.specs.declared.Answer.{Answer}
-use Rattle.joiner.specs.declared.Answer.the-variants as answer
-use Rattle.joiner.proofs.Places.{and-left, and-right}
-use Rattle.joiner.proofs.Lookups.{room-fits, sizes-fit}
+use Rattle.wire.proofs.Cond.{yes-lt, no-lt, yes-if, no-if, and-left, and-right}
+use Rattle.channels.specs.Setup.{channelLimit, badSetup, newChannel, freshOf, setupOf, smallestRoom, largestRoom, roomStart}
+use Rattle.channels.specs.declared.Channel.{Channel}
+use Rattle.channels.specs.declared.Joiner.{Joiner}
+use Rattle.channels.specs.declared.NewJoiner.{NewJoiner}
+use Rattle.channels.specs.declared.Answer.{Answer}
+use Rattle.channels.specs.declared.Answer.the-variants as answer
 use Rattle.recording.specs.Opening.{sizesLength, roomsLimit, countIn, roomIn, idPlace, idsIn, goodStart, closed, openedBy, setupIn, readyIn, openedIn}
 use Rattle.recording.specs.declared.Opening.{Opening}
 use Rattle.recording.specs.declared.Opening.the-variants.{Unfinished, Refused, Open}
@@ -37,12 +34,9 @@ closed-made o e = rw e
 
 -- count and R
 module _ (n R : ℕ) where
-  pub start-fits : (leb 1 n && leb n channelLimit) ≡ true → (leb smallestRoom R && leb R largestRoom) ≡ true → Fits w64 (n * R)
-  start-fits e f = let b : (n ≤ channelLimit) × (R ≤ largestRoom) = sizes-fit n R e f in room-fits n R (b .0) (b .1)
-
-  pub start-judged : (leb 1 n && leb n channelLimit) ≡ true → (leb smallestRoom R && leb R largestRoom) ≡ true → leb (n * R) roomsLimit ≡ goodStart n R
+  pub start-judged : {t : ℕ} → (leb 1 n && leb n channelLimit) ≡ true → (leb smallestRoom R && leb R largestRoom) ≡ true → t ≡ roomStart R n → leb t roomsLimit ≡ goodStart n R
   unfolding goodStart
-  start-judged e f = rw (e, f)
+  start-judged e f g = rw (e, f, g)
 
   pub wrong-room : (leb 1 n && leb n channelLimit) ≡ true → (leb smallestRoom R && leb R largestRoom) ≡ false → false ≡ goodStart n R
   unfolding goodStart
@@ -64,33 +58,32 @@ pub ids-count : (ids : List ℕ) (n : ℕ) → length ids ≡ channelLimit → n
 ids-count ids n l h = sym (length-take-le n ids (omega arith))
 
 -- what the set-up answered
-module _ {new : NewJoiner} (s ids : List ℕ) (n R : ℕ) (f : take n ids ≡ idsIn s n) (e : new ≡ setupOf (take n ids) R (n * R)) where
+module _ {new : NewJoiner} (s ids : List ℕ) (n R : ℕ) {b : ℕ} (g : b ≡ roomStart R n) (f : take n ids ≡ idsIn s n) (e : new ≡ setupOf (take n ids) R b) where
   same-setup : new ≡ setupIn s n R
-  same-setup = e ∙ ap (λ (u : List ℕ). setupOf u R (n * R)) f
+  same-setup = e ∙ ap₂ (λ (u : List ℕ) (c : ℕ). setupOf u R c) f g
 
   by-answer : (a : Answer) → new .answer ≡ a → openedBy (idPlace n) (roomStart R n) new a ≡ readyIn s n R
-  by-answer a g =
-      ap (openedBy (idPlace n) (roomStart R n) new) (sym g)
+  by-answer a h =
+      ap (openedBy (idPlace n) (roomStart R n) new) (sym h)
       ∙ ap (λ (m : NewJoiner). openedBy (idPlace n) (roomStart R n) m (m .answer)) same-setup
 
-  pub accepted : new .answer ≡ answer.Accepted → record { opening = Open (6 + 2 * n) (n * R); joiner = new .joiner } ≡ readyIn s n R
+  pub accepted : new .answer ≡ answer.Accepted → record { opening = Open (6 + 2 * n) b; joiner = new .joiner } ≡ readyIn s n R
   unfolding openedBy
-  accepted g = by-answer answer.Accepted g
+  accepted h = rw g (by-answer answer.Accepted h)
 
   pub refused : {o : Opened} (k : ℕ) → new .answer ≡ answer.Refused k → o ≡ closed (Refused k) → o ≡ readyIn s n R
   unfolding openedBy
-  refused k g h = h ∙ by-answer (answer.Refused k) g
+  refused k h o = o ∙ by-answer (answer.Refused k) h
 
 -- what count and R that pass are
 module _ {t : Bool} (n R : ℕ) (e : t ≡ goodStart n R) (f : t ≡ true) where
-  start-sizes : (n ≤ channelLimit) × (R ≤ largestRoom)
+  pub start-few : n ≤ channelLimit
   unfolding goodStart
-  start-sizes =
+  start-few =
       let a : Bool = leb 1 n && leb n channelLimit in
       let b : Bool = leb smallestRoom R && leb R largestRoom in
       let d : Bool = leb (roomStart R n) roomsLimit in
-      let g : (a && (b && d)) ≡ true = sym e ∙ f in
-      sizes-fit n R (and-left a (b && d) g) (and-left b d (and-right a (b && d) g))
+      leb-true n channelLimit (and-right (leb 1 n) (leb n channelLimit) (and-left a (b && d) (sym e ∙ f)))
 
   start-total : roomStart R n ≤ roomsLimit
   unfolding goodStart
@@ -99,12 +92,6 @@ module _ {t : Bool} (n R : ℕ) (e : t ≡ goodStart n R) (f : t ≡ true) where
       let b : Bool = leb smallestRoom R && leb R largestRoom in
       let d : Bool = leb (roomStart R n) roomsLimit in
       leb-true (roomStart R n) roomsLimit (and-right b d (and-right a (b && d) (sym e ∙ f)))
-
-  pub start-few : n ≤ channelLimit
-  start-few = start-sizes .0
-
-  pub start-narrow : R ≤ largestRoom
-  start-narrow = start-sizes .1
 
 -- the tests of `open`, in their order
 pub no-sizes : {o : Opened} (s : List ℕ) → length s < sizesLength → o ≡ closed Unfinished → o ≡ openedIn s

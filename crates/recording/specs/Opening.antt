@@ -6,12 +6,11 @@ use mathlib.Core.List.{List, [], _∷_, _++_}
 use lib.Dec.{leb, ltb}
 use lib.ListN.{length}
 use Rattle.wire.specs.Bytes.{number}
-use Rattle.joiner.specs.Channel.{smallestRoom, largestRoom, roomStart}
-use Rattle.joiner.specs.Setup.{channelLimit, badSetup, freshOf, setupOf}
-use Rattle.joiner.specs.declared.Joiner.{Joiner}
-use Rattle.joiner.specs.declared.Answer.{Answer}
-use Rattle.joiner.specs.declared.Answer.the-variants as answer
-use Rattle.joiner.specs.declared.NewJoiner.{NewJoiner}
+use Rattle.channels.specs.Setup.{channelLimit, badSetup, freshOf, setupOf, smallestRoom, largestRoom, roomStart}
+use Rattle.channels.specs.declared.Joiner.{Joiner}
+use Rattle.channels.specs.declared.Answer.{Answer}
+use Rattle.channels.specs.declared.Answer.the-variants as answer
+use Rattle.channels.specs.declared.NewJoiner.{NewJoiner}
 use Rattle.recording.specs.declared.Opening.{Opening}
 use Rattle.recording.specs.declared.Opening.the-variants.{Unfinished, Refused, Open}
 use Rattle.recording.specs.declared.Opened.{Opened}

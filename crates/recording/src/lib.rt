@@ -1,19 +1,17 @@
-// A recording: how it starts, where its datagrams stand, and the lines that they come to. It is read a block at a time:
-// each call is handed what has come so far and says what it needs more of.
+// A recording: how it starts, where its datagrams stand, and how they are played, one after the other. It is read a block
+// at a time: each call is handed what has come so far and says what it needs more of.
 ghost use mathlib.Core.Path.{_≡_};
 ghost use lib.ListN.{length};
 ghost use Rattle.wire.specs.Bytes.{over, part};
 ghost use Rattle.recording.specs.Datagrams.{nextIn};
 ghost use Rattle.recording.specs.Play.{stateOf, played, steppedOf};
-ghost use Rattle.recording.specs.Line.{lineLimit};
+ghost use Rattle.lines.specs.Line.{lineLimit};
 ghost use Prim.Native.Nat.{_+_, _≤_};
-use joiner::Joiner;
+use channels::Joiner;
+use lines::LINE_LIMIT;
 
-mod line;
 mod start;
 
-pub use line::put_ending;
-pub use line::put_line;
 pub use start::open;
 
 // How a recording starts: more bytes are needed, it is refused, or its datagrams start at `start` and its rooms are
@@ -37,13 +35,6 @@ pub enum Found {
     Nothing,
 }
 
-// How a run ends: after the last datagram, in the middle of something, or at its start.
-pub enum Ending {
-    Whole,
-    CutShort,
-    RefusedSetup(u32),
-}
-
 // A run between two calls: the next datagram's number, where it stands in the input, and how many bytes of the output
 // are lines already.
 pub struct Run {
@@ -52,9 +43,6 @@ pub struct Run {
     pub at: usize,
     pub made: usize,
 }
-
-// No line is longer.
-pub const LINE_LIMIT: usize = 73;
 
 // The next datagram in what has come so far.
 pub fn next(input: &[u8], at: usize) -> Found
@@ -108,7 +96,7 @@ fn play_one(run: Run, rooms: &mut [u8], datagram: &[u8], end: usize, output: &mu
     let taken = joiner::take(run.joiner, rooms, datagram);
     let outcome = taken.outcome;
     let joiner = taken.joiner;
-    let made = put_line(output, run.made, run.number, outcome);
+    let made = lines::put_line(output, run.made, run.number, outcome);
     Run {
         joiner,
         number: std::num::wrapping_add_u64(run.number, 1),

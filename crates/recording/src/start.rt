@@ -3,22 +3,20 @@ ghost use mathlib.Core.Path.{_≡_};
 ghost use mathlib.Core.List.{[]};
 ghost use Prim.Native.Nat.{_≤_};
 ghost use lib.ListN.{length, take};
-ghost use Rattle.joiner.specs.Channel.{largestRoom};
-ghost use Rattle.joiner.specs.Setup.{channelLimit, freshOf};
+ghost use Rattle.channels.specs.Setup.{channelLimit, freshOf};
 ghost use Rattle.recording.specs.Opening.{openedIn, goodStart, idsIn, readyIn, closed};
 use crate::Opened;
 use crate::Opening;
-use joiner::Answer;
-use joiner::Channel;
-use joiner::Joiner;
+use channels::Answer;
+use channels::BAD_SETUP;
+use channels::Channel;
+use channels::Joiner;
 
 // The bytes of count and R.
 const SIZES: usize = 6;
 
 // All rooms together.
 const ROOMS: usize = 65536;
-
-const BAD_SETUP: u32 = 20;
 
 // The start of a recording of which `input` is what has come so far.
 pub fn open(input: &[u8]) -> Opened
@@ -66,9 +64,9 @@ fn no_joiner() -> Joiner
 fn is_good_start(count: usize, room: u32) -> bool
     ensures { λ r. ⌜ r ≡ goodStart count room ⌝ }
 {
-    if (1 <= count) & (count <= joiner::CHANNELS) {
-        if (joiner::SMALLEST_ROOM <= room) & (room <= joiner::LARGEST_ROOM) {
-            return count * room as usize <= ROOMS;
+    if (1 <= count) & (count <= channels::CHANNELS) {
+        if (channels::SMALLEST_ROOM <= room) & (room <= channels::LARGEST_ROOM) {
+            return channels::room_start(room, count as u32) <= ROOMS;
         }
         return false;
     }
@@ -76,12 +74,12 @@ fn is_good_start(count: usize, room: u32) -> bool
 }
 
 fn set_up(input: &[u8], count: usize, room: u32) -> Opened
-    requires { ⌜ (count ≤ channelLimit) × (room ≤ largestRoom) ⌝ }
+    requires { ⌜ count ≤ channelLimit ⌝ }
     ensures { λ r. ⌜ r ≡ readyIn (now (input .entry)) count room ⌝ }
 {
     let ids = read_ids(input, count);
-    let rooms = count * room as usize;
-    let new = joiner::setup(&ids[..count], room, rooms);
+    let rooms = channels::room_start(room, count as u32);
+    let new = channels::setup(&ids[..count], room, rooms);
     let answer = new.answer;
     match answer {
         Answer::Accepted => {

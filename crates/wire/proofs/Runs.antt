@@ -4,7 +4,7 @@ use Prim.Native.Nat.{ℕ, _+_, _-_, _^_, _≤_, _<_}
 use mathlib.Core.Path.{_≡_, refl, sym, ap, _∙_}
 use mathlib.Core.Bool.{Bool, true, false}
 use mathlib.Core.List.{List, [], _∷_, _++_, append-assoc}
-use native.Mathlib.Nat.{add-assoc, add-zero, add-sub-cancel-left}
+use native.Mathlib.Nat.{add-assoc, add-zero, zero-add, add-sub-cancel-left}
 use native.Mathlib.Numerals.{add-one}
 use native.Mathlib.Omega.{arith}
 use borrow.Author.Tests.{le-leb, lt-leb, leb-true, leb-false}
@@ -58,6 +58,17 @@ over-over s p a b h =
     let g : drop (p + length a + length b) (x ++ d) ≡ drop (p + length a + length b) s =
     sym (drop-drop (length b) (p + length a) (x ++ d)) ∙ ap (drop (length b)) (drop-at x d (p + length a) n) ∙ drop-drop (length b) (p + length a) s in
     rw (e, take-at x d (p + length a) n, g, l) (simp (append-assoc, add-assoc))
+
+-- a run written behind what was written at the start
+pub written-behind : {m e : List ℕ} (s a b : List ℕ) (p : ℕ) → m ≡ over s 0 a → p ≡ length a → length a + length b ≤ length s → e ≡ written m p b → e ≡ over s 0 (a ++ b)
+written-behind {m} s a b p i q h w =
+    let l : length (a ++ b) ≡ length a + length b = length-append a b in
+    let n : length m ≡ length s = ap length i ∙ length-over s 0 a (omega arith) in
+    w
+    ∙ written-in m p b (omega arith)
+    ∙ ap (λ (u : List ℕ). over u p b) i
+    ∙ ap (λ (k : ℕ). over (over s 0 a) k b) (q ∙ sym (zero-add (length a)))
+    ∙ over-over s 0 a b (omega arith)
 
 -- what stands before the run, the run, and what stands behind it
 pub take-over : (s : List ℕ) (p : ℕ) (b : List ℕ) → p ≤ length s → take p (over s p b) ≡ take p s

@@ -3,8 +3,8 @@
 use mathlib.Core.Path.{_≡_}
 use borrow.Author.Needs.{needs}
 use lib.ListN.{length, length-map}
-use Rattle.joiner.specs.Setup.{channelLimit}
-use Rattle.joiner.proofs.Judging.{few-rooms, narrow-rooms, long-enough, length-fits, steppable, not-heard, not-heard-bad, in-a-bad-one, to-nobody, to-somebody}
+use Rattle.channels.specs.Setup.{channelLimit}
+use Rattle.joiner.proofs.Judging.{number-fits, long-enough, length-fits, steppable, not-heard, not-heard-bad, in-a-bad-one, to-nobody, to-somebody}
 use Rattle.joiner.proofs.judge.Statement.{statement}
 use Rattle.joiner.proofs.judge.Tie as tie
 
@@ -20,7 +20,8 @@ judge-spec =
     (λ c. search needs)
     (λ c. search needs)
     (λ c. search needs)
-    (λ c κs. (search (needs, few-rooms), search narrow-rooms))
+    (λ c. search number-fits)
+    (λ c κs. search needs)
     (λ c. search long-enough)
     (λ c. search length-fits)
     (λ c κs.

@@ -1,6 +1,7 @@
 -- `joiner::steps::too_long` meets its contract: nothing stays held.
 -- Assumes nothing.
 use borrow.Author.Needs.{needs}
+use Rattle.joiner.proofs.Stepping.{all-dropped}
 use Rattle.joiner.proofs.steps.too_long.Statement.{statement}
 use Rattle.joiner.proofs.steps.too_long.Tie as tie
 
@@ -9,4 +10,4 @@ too-long-spec =
     tie.close
     (tie.spec
     (λ c κs. search needs)
-    (λ c. cc))
+    (λ c. search all-dropped))

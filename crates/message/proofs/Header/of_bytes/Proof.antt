@@ -1,6 +1,7 @@
 -- `message::Header::of_bytes` meets its contract: each field is the number at its place.
 -- Assumes nothing.
 use borrow.Author.Needs.{needs}
+use Rattle.message.proofs.Answers.{fields-read}
 use Rattle.message.proofs.Header.of_bytes.Statement.{statement}
 use Rattle.message.proofs.Header.of_bytes.Tie as tie
 
@@ -14,4 +15,4 @@ of-bytes-spec =
     (λ c κs. search needs)
     (λ c κs. search needs)
     (λ c κs. search needs)
-    (λ c. cc))
+    (λ c. search fields-read))

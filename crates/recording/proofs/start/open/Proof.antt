@@ -1,7 +1,7 @@
 -- `recording::start::open` meets its contract: what each test says.
 -- Assumes nothing.
 use borrow.Author.Needs.{needs}
-use Rattle.recording.proofs.Starting.{start-few, start-narrow, no-sizes, bad-start, no-ids, all-ids}
+use Rattle.recording.proofs.Starting.{start-few, no-sizes, bad-start, no-ids, all-ids}
 use Rattle.recording.proofs.start.open.Statement.{statement}
 use Rattle.recording.proofs.start.open.Tie as tie
 
@@ -19,7 +19,7 @@ open-spec =
     (λ c. search needs)
     (λ c κs. search needs)
     (λ c. search no-ids)
-    (λ c κs. (search start-few, search start-narrow))
+    (λ c κs. search start-few)
     (λ c. search all-ids)
     (λ c κs. search needs)
     (λ c. search bad-start))

@@ -1,7 +1,6 @@
 -- `recording::start::set_up` meets its contract: what the joiner answers to the IDs.
 -- Assumes nothing.
 use borrow.Author.Needs.{needs}
-use Rattle.joiner.proofs.Lookups.{room-fits}
 use Rattle.recording.proofs.Starting.{ids-count, accepted, refused}
 use Rattle.recording.proofs.start.set_up.Statement.{statement}
 use Rattle.recording.proofs.start.set_up.Tie as tie
@@ -11,7 +10,8 @@ set-up-spec =
     tie.close
     (tie.spec
     (λ c κs. search needs)
-    (λ c. search room-fits)
+    (λ c. search needs)
+    (λ c κs. search needs)
     (λ c. search needs)
     (λ c. search ids-count)
     (λ c κs. search needs)

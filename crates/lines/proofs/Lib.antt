@@ -1,0 +1,2 @@
+pub mod Decimals
+mod Lines

@@ -1,0 +1,21 @@
+-- `lines::put_line` meets its contract: the number, the name and the values, written in one.
+-- Assumes nothing.
+use borrow.Author.Needs.{needs}
+use Rattle.lines.proofs.Lines.{line-end, line-put}
+use Rattle.lines.proofs.put_line.Statement.{statement}
+use Rattle.lines.proofs.put_line.Tie as tie
+
+pub put-line-spec : {M : Type 1} → statement M
+put-line-spec =
+    tie.close
+    (tie.spec
+    (λ c. search needs)
+    (λ c κs. search needs)
+    (λ c κs. search needs)
+    (λ c κs. search needs)
+    (λ c. search needs)
+    (λ c. search needs)
+    (λ c. search needs)
+    (λ c κs. search needs)
+    (λ c. search needs)
+    (λ c. (search line-end, search line-put)))

@@ -1,0 +1,62 @@
+-- The lines of a recording, byte by byte. 01, What is built: the datagram's number from 0, then `refused` and the number,
+-- or the outcome's name, missed, and the bytes held or delivered (else 0).
+use Prim.Native.Nat.{ℕ, _+_}
+use mathlib.Core.Bool.{cond}
+use mathlib.Core.List.{List, [], _∷_, _++_}
+use lib.Dec.{leb}
+use lib.ListN.{length}
+use Rattle.joiner.specs.Outcomes.{nameOf, missedIn, bytesIn}
+use Rattle.joiner.specs.declared.Outcome.{Outcome}
+use Rattle.joiner.specs.declared.Outcome.the-variants.{Refused, Repeated, Delivered, Held, Stray, TooLong}
+use Rattle.lines.specs.Decimal.{decimal}
+use Rattle.lines.specs.declared.Ending.{Ending}
+use Rattle.lines.specs.declared.Ending.the-variants.{Whole, CutShort, RefusedSetup}
+
+-- every line ends in one LF
+abbrev pub lineFeed : List ℕ
+lineFeed = 10 ∷ []
+
+abbrev pub spaced : List ℕ → List ℕ
+spaced word = 32 ∷ word
+
+-- no line is longer: three numbers of up to 20 digits, a name of up to 9 letters, three spaces and the LF
+abbrev pub lineLimit : ℕ
+lineLimit = 73
+
+-- missed and bytes
+abbrev pub countsOf : ℕ → ℕ → List ℕ
+countsOf m b = spaced (decimal m) ++ (spaced (decimal b) ++ lineFeed)
+
+-- what stands behind the name
+abbrev pub valuesOf : Outcome → List ℕ
+valuesOf (Refused k) = spaced (decimal k) ++ lineFeed
+valuesOf Repeated = countsOf (missedIn Repeated) (bytesIn Repeated)
+valuesOf (Delivered m p) = countsOf (missedIn (Delivered m p)) (bytesIn (Delivered m p))
+valuesOf (Held m n) = countsOf (missedIn (Held m n)) (bytesIn (Held m n))
+valuesOf (Stray m) = countsOf (missedIn (Stray m)) (bytesIn (Stray m))
+valuesOf (TooLong m) = countsOf (missedIn (TooLong m)) (bytesIn (TooLong m))
+
+-- the line of the datagram with this number, from 0
+unfoldable pub lineOf : ℕ → Outcome → List ℕ
+lineOf n o = decimal n ++ (spaced (nameOf o) ++ valuesOf o)
+
+-- `cut short`
+abbrev pub cutShort : List ℕ
+cutShort = 99 ∷ 117 ∷ 116 ∷ 32 ∷ 115 ∷ 104 ∷ 111 ∷ 114 ∷ 116 ∷ lineFeed
+
+-- `setup refused`
+abbrev pub setupRefused : List ℕ
+setupRefused = 115 ∷ 101 ∷ 116 ∷ 117 ∷ 112 ∷ 32 ∷ 114 ∷ 101 ∷ 102 ∷ 117 ∷ 115 ∷ 101 ∷ 100 ∷ []
+
+abbrev pub refusedLine : ℕ → List ℕ
+refusedLine k = setupRefused ++ (spaced (decimal k) ++ lineFeed)
+
+-- the line that a run ends with, if any
+abbrev pub endingOf : Ending → List ℕ
+endingOf Whole = []
+endingOf CutShort = cutShort
+endingOf (RefusedSetup k) = refusedLine k
+
+-- where the next line goes once this one was written at p of an output of n bytes: a line that does not fit is not written
+abbrev pub behind : ℕ → ℕ → List ℕ → ℕ
+behind n p line = cond (leb (p + length line) n) (p + length line) p

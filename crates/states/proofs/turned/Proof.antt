@@ -1,0 +1,15 @@
+-- `states::turned` meets its contract: one bit of one word.
+-- Assumes nothing.
+use borrow.Author.Needs.{needs}
+use Rattle.states.proofs.WordLaws.{turned-is}
+use Rattle.states.proofs.turned.Statement.{statement}
+use Rattle.states.proofs.turned.Tie as tie
+
+pub turned-spec : {M : Type 1} → statement M
+turned-spec =
+    tie.close
+    (tie.spec
+    (λ c κs. search needs)
+    (λ c κs. search needs)
+    (λ c κs. search needs)
+    (λ c. search turned-is))
