@@ -5,7 +5,7 @@ use crate::prng::Prng;
 
 /// Each code's arguments: a digit pair is a number's bits, `o` and `v` are outputs' lengths in
 /// bytes and in words, `b` is bytes, `w` words, `r` records.
-const ARGUMENTS: [&str; 16] = [
+pub const ARGUMENTS: [&str; 16] = [
     "",
     "08 b",
     "08 08 32 32 b o",
@@ -24,7 +24,7 @@ const ARGUMENTS: [&str; 16] = [
     "b 32",
 ];
 
-/// A good call made bad, and whether its last length field may stand without its bytes.
+/// A good call made bad; calls behind it must not be answered.
 pub fn bad(rng: &mut Prng, good: &Call) -> Vec<u8> {
     let kinds: Vec<&str> = ARGUMENTS[usize::from(good.code)]
         .split_whitespace()
@@ -120,7 +120,7 @@ fn wrong_argument(rng: &mut Prng, good: &[u8], kind: &str) -> Vec<u8> {
 }
 
 /// Values that a number of this kind must not have; a 64-bit one may have any.
-fn over(kind: &str) -> Vec<u64> {
+pub fn over(kind: &str) -> Vec<u64> {
     match kind {
         "08" => vec![1 << 8, 257, 1 << 32, u64::MAX],
         "16" => vec![1 << 16, 1 << 32, 1 << 63],

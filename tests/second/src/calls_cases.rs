@@ -1,5 +1,4 @@
-//! Files of calls that do not come from a seed: those worked out by hand, with their lines, and a
-//! short file cut at every place.
+//! Files of calls worked out by hand, with their lines.
 
 use crate::compare::Case;
 use crate::program::By;
@@ -36,46 +35,9 @@ fn spelt(lines: &str) -> String {
     out + rest
 }
 
-/// One call of each code, as short as it can be answered.
-const SHORTEST: &str = "\
-    0007 0001 | 00000001 02 \
-    0001 0002 | 00000001 02 | 00000014 EC0A0200 00000001 00000002 00000000 00000007 \
-    0002 0006 | 00000001 02 | 00000001 00 | 00000001 02 | 00000001 07 | 00000000 | 00000001 14 \
-    0003 0006 | 00000001 41 | 00000001 01 | 00000001 01 | 00000001 05 | 00000001 00 | 00000001 05 \
-    0004 0001 | 00000010 0001 0000 0006 0000 0000 0000 0000 0000 \
-    0005 0004 | 00000010 0001 0000 0006 0000 0000 0000 0000 0000 | 00000001 00 | 00000001 AB | 00000001 01 \
-    0006 0004 | 00000010 0001 0000 0006 0000 0000 0000 0000 0000 | 00000001 00 | \
-                00000008 00000000000000AB | 00000001 01 \
-    0008 0003 | 00000010 0001 0000 0006 0000 0000 0000 0000 0000 | \
-                00000018 EC0A0200 00000001 00000001 00000004 00000000 00000001 | 00000001 30 \
-    0009 0001 | 00000001 01 \
-    000A 0000 \
-    000B 0004 | 00000001 18 | 0000000B 0001 00 00000000 00000000 | 00000018 00*24 | 00000005 3001 0000 41 \
-    000C 0002 | 00000001 02 | 00000001 01 \
-    000D 0004 | 00000010 0001 0000 0006 0000 0000 0000 0000 0000 | 00000001 00 | 00000001 AB | 00000001 01 \
-    000E 0004 | 00000010 0001 0000 0006 0000 0000 0000 0000 0000 | 00000001 00 | \
-                00000008 00000000000000AB | 00000001 01 \
-    000F 0002 | 00000010 0001 0000 0006 0000 0000 0000 0000 0000 | 00000001 09";
-
-/// That file and each of its beginnings, by name and on standard input in turn.
-fn cut_everywhere() -> impl Iterator<Item = Case> + Send {
-    let whole = hex::bytes(SHORTEST);
-    (0..=whole.len()).map(move |length| Case {
-        name: format!("cut-{length}"),
-        told: answers::tell(&whole[..length]),
-        file: whole[..length].to_vec(),
-        ways: if length % 2 == 0 {
-            &[By::Name]
-        } else {
-            &[By::Input]
-        },
-        counts: length == whole.len(),
-    })
-}
-
-/// All that a run begins with.
+/// The files that a run begins with.
 pub fn all() -> impl Iterator<Item = Case> + Send {
-    let by_hand = worked().map(|case| {
+    worked().map(|case| {
         let file = hex::bytes(case.calls);
         let mut told = answers::tell(&file);
         // The lines are those worked out by hand, not the model's.
@@ -87,8 +49,7 @@ pub fn all() -> impl Iterator<Item = Case> + Send {
             ways: &[By::Name, By::Input],
             counts: true,
         }
-    });
-    by_hand.chain(cut_everywhere())
+    })
 }
 
 #[cfg(test)]
@@ -116,7 +77,7 @@ mod tests {
     }
 
     #[test]
-    fn every_code_is_worked_out_by_hand_and_cut() {
+    fn every_code_is_worked_out_by_hand() {
         let answered = |told: &answers::Told| -> BTreeSet<u64> {
             let calls = told.calls.iter();
             calls.filter(|c| c.1.is_none()).map(|c| c.0).collect()
@@ -125,22 +86,6 @@ mod tests {
             .flat_map(|case| answered(&answers::tell(&hex::bytes(case.calls))))
             .collect();
         assert_eq!(worked, (1..=15).collect());
-        let whole = answers::tell(&hex::bytes(SHORTEST));
-        assert_eq!(answered(&whole), (1..=15).collect(), "{}", whole.lines);
-        assert_eq!(whole.calls.len(), 15);
-    }
-
-    /// A file cut behind a call has that many lines; cut anywhere else, one more.
-    #[test]
-    fn each_cut_is_told() {
-        for case in cut_everywhere() {
-            let lines: Vec<&str> = case.told.lines.lines().collect();
-            let behind = case.told.ending == answers::Ending::BehindACall;
-            assert_eq!(lines.len(), case.told.calls.len() + usize::from(!behind));
-            assert_eq!(lines.last() == Some(&"cut short"), !behind, "{}", case.name);
-        }
-        let ends = cut_everywhere().filter(|c| c.told.ending == answers::Ending::BehindACall);
-        assert_eq!(ends.count(), 16);
     }
 
     #[test]

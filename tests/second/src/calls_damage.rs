@@ -138,7 +138,13 @@ fn break_a_rule(rng: &mut Prng, plan: &mut Plan) {
         (0, 1) => entry[1] = rng.pick(&[13, 14, 256, 0x0100 + of]),
         (0, 2 | 3) => entry[2] = 1,
         (0, _) => entry[3] = 1,
-        (1, 2) => entry[1] = rng.pick(&[0, 2, 11, 12, 13, 0xFFFF]),
+        (1, 2) => {
+            // Nothing is wrong with its values: each base could have them.
+            entry[1] = rng.pick(&[0, 2, 11, 12, 13, 0xFFFF]);
+            for value in 0..usize::from(count) {
+                plan.values[usize::from(first) + value] = value as u64;
+            }
+        }
         (1, 3) => plan.values[usize::from(first)] = beyond(rng, of),
         (1, 4) if count > 1 => {
             let (one, other) = (first, first + count - 1);

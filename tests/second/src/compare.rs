@@ -3,8 +3,9 @@
 
 use crate::answers::{self, Ending, Told};
 use crate::program::{difference, output, By};
-use crate::{calls, calls_cases};
+use crate::{calls, calls_cases, calls_every};
 use std::collections::BTreeMap;
+use std::io::{Error, Result};
 use std::ops::Range;
 use std::path::Path;
 use std::sync::Mutex;
@@ -47,7 +48,7 @@ impl Case {
 
 /// What was met in the files that were compared.
 #[derive(Default)]
-pub struct Tally {
+struct Tally {
     runs: usize,
     bytes: usize,
     calls: usize,
@@ -76,7 +77,7 @@ impl Tally {
     }
 
     /// What a whole run must have met and did not.
-    pub fn lacks(&self) -> Vec<String> {
+    fn lacks(&self) -> Vec<String> {
         let mut out = Vec::new();
         if self.calls < LEAST_CALLS {
             out.push(format!("only {} calls", self.calls));
@@ -92,7 +93,7 @@ impl Tally {
         out
     }
 
-    pub fn report(&self) -> String {
+    fn report(&self) -> String {
         let each = |counts: Vec<(u64, usize)>| -> String {
             let pairs = counts
                 .iter()
@@ -115,80 +116,86 @@ impl Tally {
     }
 }
 
-/// One file one way, or in which line the program's output departs.
-fn departure(case: &Case, by: By, command: &[&str], file: &Path) -> Result<(), String> {
+/// What the programs run side by side have found so far.
+#[derive(Default)]
+struct Found {
+    tally: Tally,
+    differ: usize,
+}
+
+/// One file one way: nothing, or where the program's output departs.
+fn departure(case: &Case, by: By, command: &[&str], file: &Path) -> Option<String> {
     let mut command = command.to_vec();
     if matches!(by, By::Input) {
         command.push("-");
     }
-    let got = output(&command, by, file)?;
-    match difference(case.told.lines.as_bytes(), &got) {
-        None => Ok(()),
-        Some(text) => Err(text),
+    match output(&command, by, file) {
+        Ok(got) => difference(case.told.lines.as_bytes(), &got),
+        Err(complaint) => Some(complaint),
     }
 }
 
-/// Every case each of its ways; the files of those that differ are kept. True if none does.
-pub fn compare(
-    cases: impl Iterator<Item = Case> + Send,
-    command: &[&str],
-    tally: &mut Tally,
-) -> std::io::Result<bool> {
-    let directory = std::env::temp_dir().join(format!("second-calls-{}", std::process::id()));
-    std::fs::create_dir_all(&directory)?;
-    let cases = Mutex::new(cases);
-    let shared = Mutex::new((tally, 0));
-    let work = || -> std::io::Result<()> {
-        loop {
-            let next = cases.lock().expect("no worker stops here").next();
-            let Some(case) = next else { return Ok(()) };
-            let file = directory.join(format!("{}.calls", case.name));
-            std::fs::write(&file, &case.file)?;
-            let mut good = true;
-            for by in case.ways {
-                let found = departure(&case, *by, command, &file);
-                let mut kept = shared.lock().expect("no worker stops here");
-                match found {
-                    Ok(()) => kept.0.add(&case, *by),
-                    Err(text) => {
-                        good = false;
-                        kept.1 += 1;
-                        // The first is told in full.
-                        if kept.1 == 1 {
-                            println!("first difference: {} {by:?}, {text}", case.name);
-                            println!("kept: {}", file.display());
-                        }
-                    }
-                }
-            }
-            if good {
-                std::fs::remove_file(&file)?;
-            }
+/// One file each of its ways; it is kept if any of them differs.
+fn judge(case: &Case, command: &[&str], folder: &Path, found: &Mutex<Found>) -> Result<()> {
+    let file = folder.join(format!("{}.calls", case.name));
+    std::fs::write(&file, &case.file)?;
+    let mut keep = false;
+    for by in case.ways {
+        let departure = departure(case, *by, command, &file);
+        let mut found = found.lock().expect("no worker stops here");
+        let Some(text) = departure else {
+            found.tally.add(case, *by);
+            continue;
+        };
+        keep = true;
+        found.differ += 1;
+        // The first is told in full.
+        if found.differ == 1 {
+            println!("first difference: {} {by:?}, {text}", case.name);
+            println!("kept: {}", file.display());
         }
+    }
+    if keep {
+        Ok(())
+    } else {
+        std::fs::remove_file(&file)
+    }
+}
+
+/// All of these files; what was met in those that gave their lines, and whether all did.
+fn compare(cases: impl Iterator<Item = Case> + Send, command: &[&str]) -> Result<(Tally, bool)> {
+    let folder = std::env::temp_dir().join(format!("second-calls-{}", std::process::id()));
+    std::fs::create_dir_all(&folder)?;
+    let cases = Mutex::new(cases);
+    let found = Mutex::new(Found::default());
+    let next = || cases.lock().expect("no worker stops here").next();
+    let work = || -> Result<()> {
+        while let Some(case) = next() {
+            judge(&case, command, &folder, &found)?;
+        }
+        Ok(())
     };
     std::thread::scope(|scope| {
         let workers: Vec<_> = (0..SIDE_BY_SIDE).map(|_| scope.spawn(work)).collect();
-        workers.into_iter().try_for_each(|worker| {
-            let ended = worker.join();
-            ended.unwrap_or_else(|_| Err(std::io::Error::other("a worker stopped")))
-        })
+        let mut ends = workers.into_iter().map(|worker| worker.join());
+        ends.try_for_each(|end| end.unwrap_or_else(|_| Err(Error::other("a worker stopped"))))
     })?;
-    let differ = shared.into_inner().expect("no worker stopped").1;
-    if differ == 0 {
-        std::fs::remove_dir(&directory)?;
+    let found = found.into_inner().expect("no worker stopped");
+    if found.differ == 0 {
+        std::fs::remove_dir(&folder)?;
     } else {
-        println!("{differ} differ");
+        println!("{} differ", found.differ);
     }
-    Ok(differ == 0)
+    println!("{}", found.tally.report());
+    Ok((found.tally, found.differ == 0))
 }
 
-/// The gate's run: the cases worked out by hand, a file cut at every place, and the seeds below
-/// `count`. It must meet every code and every number.
-pub fn run(count: u64, command: &[&str]) -> std::io::Result<bool> {
-    let mut tally = Tally::default();
-    let cases = calls_cases::all().chain((0..count).map(Case::from_seed));
-    let same = compare(cases, command, &mut tally)?;
-    println!("{}", tally.report());
+/// The gate's run: the files worked out by hand, one call of each code cut and bad at every place,
+/// and the seeds below `count`. It must meet every code and every number.
+pub fn run(count: u64, command: &[&str]) -> Result<bool> {
+    let fixed = calls_cases::all().chain(calls_every::all());
+    let cases = fixed.chain((0..count).map(Case::from_seed));
+    let (tally, same) = compare(cases, command)?;
     let lacks = tally.lacks();
     if !lacks.is_empty() {
         println!("too little was compared: {}", lacks.join(", "));
@@ -197,9 +204,6 @@ pub fn run(count: u64, command: &[&str]) -> std::io::Result<bool> {
 }
 
 /// Only these seeds, to look at them again.
-pub fn run_again(seeds: Range<u64>, command: &[&str]) -> std::io::Result<bool> {
-    let mut tally = Tally::default();
-    let same = compare(seeds.map(Case::from_seed), command, &mut tally)?;
-    println!("{}", tally.report());
-    Ok(same)
+pub fn run_again(seeds: Range<u64>, command: &[&str]) -> Result<bool> {
+    Ok(compare(seeds.map(Case::from_seed), command)?.1)
 }

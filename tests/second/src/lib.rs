@@ -59,12 +59,13 @@ pub mod calls_platforms;
 pub mod calls_tables;
 pub mod calls_values;
 
-// Files of calls worked out by hand.
+// Files of calls worked out by hand, and one call of each code at every edge.
 pub mod calls_cases;
 pub mod calls_cases_bad;
 pub mod calls_cases_joining;
 pub mod calls_cases_payload;
 pub mod calls_cases_platform;
+pub mod calls_every;
 
 // The comparison with `answers`.
 pub mod compare;

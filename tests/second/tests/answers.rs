@@ -58,16 +58,16 @@ fn a_damaged_line_is_found() {
         ("a-space-behind", "sed '7s/$/ /'"),
         ("a-line-lost", "sed '$d'"),
         ("a-line-more", "sed '$p'"),
-        ("the-last-lf-lost", "head -c -1"),
+        ("the-last-lf-lost", "{ all=$(cat); printf '%s' \"$all\"; }"),
         ("a-byte-in-front", "sed '1s/^/ /'"),
-        ("cr-lf", "sed 's/$/\\r/'"),
+        ("cr-lf", "awk '{ printf \"%s\\r\\n\", $0 }'"),
         ("nothing-said", "cat >/dev/null"),
         ("killed", "cat; kill -9 $$"),
     ];
     for (name, damage) in damages {
         let scratch = Scratch::new(name);
         let script = format!("\"$0\" answers \"$1\" | {damage}");
-        let (content, said) = scratch.run_answers(&["0..32", "sh", "-c", &script, SECOND]);
+        let (content, said) = scratch.run_answers(&["0..16", "sh", "-c", &script, SECOND]);
         assert!(!content, "{name}: {said}");
         assert!(said.contains("first difference: calls-"), "{name}: {said}");
         assert!(scratch.kept() > 0, "{name}");

@@ -1,0 +1,218 @@
+//! One short call of each code, taken through everything that can be done to a call: cut at every
+//! place, bad in its head and in every argument, every argument at its longest.
+
+use crate::calls_bad::{over, ARGUMENTS};
+use crate::calls_compose::Call;
+use crate::compare::Case;
+use crate::program::By;
+use crate::{answers, hex};
+
+const UINT8: &str = "0001 0000 0006 0000 0000 0000 0000 0000";
+
+/// Each code's arguments, as short as the call can be answered with.
+const SHORTEST: [(u16, &[&str]); 15] = [
+    (7, &["02"]),
+    (1, &["02", "EC0A0200 00000001 00000002 00000000 00000007"]),
+    (2, &["02", "00", "02", "07", "", "14"]),
+    (3, &["41", "01", "01", "05", "00", "05"]),
+    (4, &[UINT8]),
+    (5, &[UINT8, "00", "AB", "01"]),
+    (6, &[UINT8, "00", "00000000000000AB", "01"]),
+    (
+        8,
+        &[
+            UINT8,
+            "EC0A0200 00000001 00000001 00000004 00000000 00000001",
+            "30",
+        ],
+    ),
+    (9, &["01"]),
+    (10, &[]),
+    (
+        11,
+        &["18", "0001 00 00000000 00000000", "00*24", "3001 0000 41"],
+    ),
+    (12, &["02", "01"]),
+    (13, &[UINT8, "00", "AB", "01"]),
+    (14, &[UINT8, "00", "00000000000000AB", "01"]),
+    (15, &[UINT8, "09"]),
+];
+
+fn shortest() -> Vec<Call> {
+    let each = SHORTEST.iter().map(|(code, arguments)| Call {
+        code: *code,
+        arguments: arguments.iter().map(|text| hex::bytes(text)).collect(),
+    });
+    each.collect()
+}
+
+fn in_one_file(calls: &[Call]) -> Vec<u8> {
+    let mut out = Vec::new();
+    calls.iter().for_each(|call| call.put(&mut out));
+    out
+}
+
+/// By name and on standard input in turn.
+fn in_turn(number: usize) -> &'static [By] {
+    if number % 2 == 0 {
+        &[By::Name]
+    } else {
+        &[By::Input]
+    }
+}
+
+/// That file and each of its beginnings.
+fn cuts() -> impl Iterator<Item = Case> + Send {
+    let whole = in_one_file(&shortest());
+    (0..=whole.len()).map(move |length| Case {
+        name: format!("cut-{length}"),
+        told: answers::tell(&whole[..length]),
+        file: whole[..length].to_vec(),
+        ways: in_turn(length),
+        counts: length == whole.len(),
+    })
+}
+
+/// The bytes of a call that has an argument changed, its length perhaps a lie.
+fn changed(call: &Call, at: usize, length: usize, bytes: &[u8]) -> Vec<u8> {
+    let mut with = call.clone();
+    with.arguments[at] = bytes.to_vec();
+    let mut out = with.file();
+    let before: usize = call.arguments[..at].iter().map(|a| 4 + a.len()).sum();
+    out[4 + before..8 + before].copy_from_slice(&(length as u32).to_be_bytes());
+    if length > bytes.len() {
+        // What a length announces is not there: nor is anything behind it.
+        out.truncate(8 + before + bytes.len());
+    }
+    out
+}
+
+/// Every way in which one argument is bad.
+fn bad_argument(call: &Call, at: usize, kind: &str) -> Vec<Vec<u8>> {
+    let good = &call.arguments[at];
+    let as_it_is = |bytes: &[u8]| changed(call, at, bytes.len(), bytes);
+    let announced = |length: usize| changed(call, at, length, &[]);
+    let odd = [&good[..], &[0]].concat();
+    match kind {
+        "b" => vec![announced(70_001)],
+        "w" => vec![announced(524_289), as_it_is(&odd), as_it_is(&good[1..])],
+        "r" => {
+            let neither = hex::bytes("0001 02 00000000 00000000");
+            vec![announced(70_001), as_it_is(&odd), as_it_is(&neither)]
+        }
+        _ => {
+            let mut out = vec![as_it_is(&[]), as_it_is(&[0, 0, 0, 0, 0, 0, 0, 0, 1])];
+            if kind != "64" {
+                out.push(as_it_is(&over(kind)[0].to_be_bytes()));
+            }
+            out
+        }
+    }
+}
+
+fn bad_calls() -> Vec<Vec<u8>> {
+    let mut out = Vec::new();
+    for call in shortest() {
+        let kinds = ARGUMENTS[usize::from(call.code)].split_whitespace();
+        for (at, kind) in kinds.enumerate() {
+            out.extend(bad_argument(&call, at, kind));
+        }
+        let mut more = call.clone();
+        more.arguments.push(vec![0]);
+        out.push(more.file());
+        let mut fewer = call.clone();
+        if fewer.arguments.pop().is_some() {
+            out.push(fewer.file());
+        }
+    }
+    out
+}
+
+fn bad() -> impl Iterator<Item = Case> + Send {
+    let files = bad_calls().into_iter().enumerate();
+    files.map(|(number, file)| Case {
+        name: format!("bad-{number}"),
+        told: answers::tell(&file),
+        file,
+        ways: in_turn(number),
+        counts: true,
+    })
+}
+
+/// Every argument that is no number as long as it is taken, and every number in eight bytes.
+fn longest() -> Case {
+    let mut calls = Vec::new();
+    for call in shortest() {
+        let kinds = ARGUMENTS[usize::from(call.code)].split_whitespace();
+        for (at, kind) in kinds.enumerate() {
+            let most = match kind {
+                "b" => 70_000,
+                "r" => 70_000 / 11 * 11,
+                "w" => 524_288,
+                _ => 8,
+            };
+            let mut long = call.clone();
+            let bytes = &mut long.arguments[at];
+            if most == 8 {
+                bytes.splice(0..0, vec![0; 8 - bytes.len()]);
+            } else {
+                bytes.resize(most, 0);
+            }
+            calls.push(long);
+        }
+    }
+    let file = in_one_file(&calls);
+    Case {
+        name: "longest".to_string(),
+        told: answers::tell(&file),
+        file,
+        ways: &[By::Name, By::Input],
+        counts: true,
+    }
+}
+
+pub fn all() -> impl Iterator<Item = Case> + Send {
+    cuts().chain(bad()).chain(std::iter::once(longest()))
+}
+
+#[cfg(test)]
+mod tests {
+    use super::*;
+    use crate::answers::Ending;
+    use std::collections::BTreeSet;
+
+    #[test]
+    fn the_shortest_are_answered() {
+        let whole = answers::tell(&in_one_file(&shortest()));
+        let answered = whole.calls.iter().filter(|call| call.1.is_none());
+        let codes: BTreeSet<u64> = answered.map(|call| call.0).collect();
+        assert_eq!(codes, (1..=15).collect(), "{}", whole.lines);
+        assert_eq!(whole.calls.len(), 15);
+    }
+
+    /// A file cut behind a call has that many lines; cut anywhere else, one more.
+    #[test]
+    fn each_cut_is_told() {
+        let mut behind = 0;
+        for case in cuts() {
+            let lines: Vec<&str> = case.told.lines.lines().collect();
+            let ends = case.told.ending == Ending::BehindACall;
+            assert_eq!(lines.len(), case.told.calls.len() + usize::from(!ends));
+            assert_eq!(lines.last() == Some(&"cut short"), !ends, "{}", case.name);
+            behind += usize::from(ends);
+        }
+        assert_eq!(behind, 16);
+    }
+
+    #[test]
+    fn each_bad_one_is_bad_and_each_long_one_is_taken() {
+        assert!(bad().count() > 100);
+        for case in bad() {
+            assert_eq!(case.told.lines, "0 bad call\n", "{}", case.name);
+        }
+        let long = longest().told;
+        assert_eq!(long.ending, Ending::BehindACall, "{}", long.lines);
+        let arguments: usize = shortest().iter().map(|call| call.arguments.len()).sum();
+        assert_eq!(long.calls.len(), arguments);
+    }
+}
