@@ -16,3 +16,5 @@ pub mod Checks
 pub mod Order
 mod TakeOrder
 pub mod TableOrder
+pub mod PayloadOrder
+pub mod Demand1

@@ -1,14 +1,14 @@
 -- The order of checks for messages, datagrams and cutting.
 -- Assumes nothing.
-use Prim.Native.Nat.{ℕ, zero, suc, _+_, _-_, _*_, _^_, _≤_, _<_}
-use mathlib.Core.Path.{_≡_, refl, sym, ap, subst, _∙_}
+use Prim.Native.Nat.{ℕ, suc, _+_, _-_, _≤_, _<_}
+use mathlib.Core.Path.{_≡_, refl}
 use mathlib.Core.Bool.{Bool, true, false, not, cond, _&&_, _||_}
 use mathlib.Core.Logic.{_⊎_, inl, inr, ⊎-elim}
 use mathlib.Core.List.{List, [], _∷_, _++_}
 use native.Mathlib.Omega.{arith}
 use borrow.Author.Tests.{ltb-true, ltb-false}
 use lib.Dec.{eqb, leb, ltb}
-use lib.ListN.{length, getD}
+use lib.ListN.{length}
 use Rattle.wire.specs.Bytes.{number}
 use Rattle.message.specs.declared.Reading.{Reading}
 use Rattle.message.specs.declared.Reading.the-variants as reading
@@ -16,7 +16,7 @@ use Rattle.message.specs.declared.Writing.{Writing}
 use Rattle.message.specs.declared.Writing.the-variants as writing
 use Rattle.message.specs.Header.{headerLength, theMark, markIn, theVersion, versionIn, platformDomain, reservedDomains, domainIn, senderIn, idIn, payloadSizeIn, payloadIn}
 use Rattle.message.specs.Platform.{platformStatus, versionedDataPull, reservedID, payloadLength, reservedStates}
-use Rattle.message.specs.Refusal.{first, platforms, sizeLimit, frameRefusal, addressRefusal, contentsRefusal, readRefusal, writeRefusal}
+use Rattle.message.specs.Refusal.{first, platforms, sizeLimit, addressRefusal, contentsRefusal}
 use Rattle.message.specs.Reading.{readOut, readOf}
 use Rattle.message.specs.Reading as reads
 use Rattle.message.specs.Writing.{writeOf}
@@ -28,9 +28,9 @@ use Rattle.binding.specs.declared.Made.the-variants as made
 use Rattle.binding.specs.Header.{senders, counters, versionIn as versionOf, headerIn, heardIn}
 use Rattle.binding.specs.Cutting.{canCut, canHead, pieceCount, datagramOf, countedOf, madeOf}
 use Rattle.binding.proofs.Cutting.{Cuttable, cuttable, can-cut}
-use Rattle.promises.specs.Checks.{Check, _when_, Answers, Outside, none, this, next, below, above}
-use Rattle.promises.specs.Order.{contentsChecks, readChecks, writeChecks, headerChecks, cutChecks, Sound, takeChecks, InOrder}
-use Rattle.promises.proofs.Checks.{Decides, lt-decides, le-decides, eq-decides, not-decides, or-decides, and-decides, decides-same, flip-decides, where-is, not-outside, by, unless, unless-then, by-number, passing}
+use Rattle.promises.specs.Checks.{Check, _when_, Answers, Outside, none, below, above}
+use Rattle.promises.specs.Order.{contentsChecks, readChecks, writeChecks, headerChecks, cutChecks}
+use Rattle.promises.proofs.Checks.{Decides, lt-decides, le-decides, eq-decides, not-decides, or-decides, and-decides, decides-same, flip-decides, where-is, not-outside, unless, by-number, passing}
 
 -- reserved IDs
 reserved-decides : (id : ℕ) → Decides (reservedID id) (Outside 1 4 id)
@@ -63,7 +63,8 @@ module _ {A : Type 0} (refused : ℕ → A) (good : A) (g : ℕ → A) (e : (k :
           passing refused good 7 z (passing refused good 8 z (passing refused good 9 z a))
 
 -- a message read
-read-in-order : (own : ℕ) (s : List ℕ) → Answers reading.Refused (readOut s) (readChecks own s) (readOf own s)
+pub read-in-order : (own : ℕ) (s : List ℕ) → Answers reading.Refused (readOut s) (readChecks own s) (readOf own s)
+unfolding readChecks
 read-in-order own s =
     let contents : ℕ = contentsRefusal (domainIn s) (idIn s) (payloadIn s) in
     let framed : ℕ → Reading = λ r. reads.answered (first r (first (addressRefusal own s) contents)) (readOut s) in
@@ -78,7 +79,7 @@ read-in-order own s =
     (contents-in-order reading.Refused (readOut s) checked (λ k. refl) (domainIn s) (idIn s) (payloadIn s) [] none))))))
 
 -- a message written
-write-in-order : (domain id : ℕ) (payload : List ℕ) (room : ℕ) → Answers writing.Refused (writing.Written (headerLength + length payload)) (writeChecks domain id payload room) (writeOf domain id payload room)
+pub write-in-order : (domain id : ℕ) (payload : List ℕ) (room : ℕ) → Answers writing.Refused (writing.Written (headerLength + length payload)) (writeChecks domain id payload room) (writeOf domain id payload room)
 write-in-order domain id payload room =
     let n : ℕ = headerLength + length payload in
     let good : Writing = writing.Written n in
@@ -102,7 +103,7 @@ inside lo hi x = flip-decides (leb lo x && leb x hi) (and-decides (leb lo x) (le
 pub version-decides : (d : List ℕ) → Decides (not (eqb (versionOf d) 0)) (¬ (versionOf d ≡ 0))
 version-decides d = not-decides (eqb (versionOf d) 0) (eq-decides (versionOf d) 0)
 
-header-in-order : (d : List ℕ) → Answers heard.Refused (heard.Piece (headerIn d)) (headerChecks d) (heardIn d)
+pub header-in-order : (d : List ℕ) → Answers heard.Refused (heard.Piece (headerIn d)) (headerChecks d) (heardIn d)
 header-in-order d =
     unless heard.Refused (heard.Piece (headerIn d)) (leb 5 (length d) && leb (length d) 65507) 21 (inside 5 65507 (length d))
     (unless heard.Refused (heard.Piece (headerIn d)) (eqb (versionOf d) 0) 22 (version-decides d) none)
@@ -150,10 +151,10 @@ both-decide : {A B : Type 0} (a b : Bool) → Decides (not a) A → Decides (not
 both-decide true b d f = record { yes-is = λ e. inr (f .yes-is e); no-is = λ e. ⊎-elim (d .no-is refl) (f .no-is e) }
 both-decide false b d f = record { yes-is = λ e. inl (d .yes-is refl); no-is = λ e. let z : _≡_ {A = ℕ} 0 1 = cc in absurd (omega arith) }
 
-pieces-in-order : (m s : ℕ) → Answers counted.Refused (counted.Pieces (pieceCount m s)) (50 when (Outside 1 65560 m ⊎ Outside 1 65503 s) ∷ []) (countedOf m s)
+pub pieces-in-order : (m s : ℕ) → Answers counted.Refused (counted.Pieces (pieceCount m s)) (50 when (Outside 1 65560 m ⊎ Outside 1 65503 s) ∷ []) (countedOf m s)
 pieces-in-order m s = unless counted.Refused (counted.Pieces (pieceCount m s)) (canCut m s) 50 (cut-decides m s) none
 
-cut-in-order : (msg : List ℕ) (s sender counter i room : ℕ) → Answers made.Refused (made.Datagram (length (datagramOf msg s sender counter i))) (cutChecks msg s sender counter i room) (madeOf msg s sender counter i room)
+pub cut-in-order : (msg : List ℕ) (s sender counter i room : ℕ) → Answers made.Refused (made.Datagram (length (datagramOf msg s sender counter i))) (cutChecks msg s sender counter i room) (madeOf msg s sender counter i room)
 cut-in-order msg s sender counter i room =
     let n : ℕ = length (datagramOf msg s sender counter i) in
     let good : Made = made.Datagram n in

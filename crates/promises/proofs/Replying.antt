@@ -195,10 +195,10 @@ module _ (own reader : ℕ) (ho : own < platforms) (other : own ≡ reader → �
 
 -- a call that reads a message, and the reaction to it
 module _ (own : ℕ) (t : List ℕ) (s : Sections) (p : Standing) (m out : List ℕ) (h : Header) (kind : Message) (c : Receives own t s p m h kind) where
-  abbrev the : Reaction
+  abbrev pub the : Reaction
   the = X own t s p h (c .start) (c .len) kind
 
-  received-is : (room : ℕ) → receivedOf own t p m room ≡ answered p h the room
+  pub received-is : (room : ℕ) → receivedOf own t p m room ≡ answered p h the room
   unfolding receivedOf receivedBy outcomeOf operationIn
   received-is room =
       ap (λ (x : Checked). receivedBy x own t p m room) (c .table) ∙ ap (λ (x : Reading). outcomeOf own t s (operationIn t s x) p x room) (c .read)
@@ -240,7 +240,7 @@ module _ (own : ℕ) (t : List ℕ) (s : Sections) (p : Standing) (m out : List 
       (subst (λ (x : Header). x .id < 2 ^ 32) its-header (number-lt 2 m 8 (c .bytes)))
       kind its-field
 
-  its-length : owedLength (the .owed) ≡ replyLength * length (owedFor own t s p h kind)
+  pub its-length : owedLength (the .owed) ≡ replyLength * length (owedFor own t s p h kind)
   its-length =
       how .long ∙ ap (λ (k : ℕ). replyLength * k) (sym (length-map (replies (the .owed)) said) ∙ ap length (how .owed-is))
 

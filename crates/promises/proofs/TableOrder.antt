@@ -1,26 +1,26 @@
 -- The order of checks for a type table.
 -- Assumes nothing.
-use Prim.Native.Nat.{ℕ, zero, suc, _+_, _≤_, _<_}
-use mathlib.Core.Path.{_≡_, refl, sym, ap, subst, _∙_}
+use Prim.Native.Nat.{ℕ, zero, suc, _+_, _<_}
+use mathlib.Core.Path.{_≡_, refl, sym, subst}
 use mathlib.Core.Bool.{Bool, true, false, not, cond, _&&_, _||_}
 use mathlib.Core.Logic.{_⊎_, inl, inr}
 use mathlib.Core.List.{List, [], _∷_, _++_}
 use native.Mathlib.Omega.{arith}
 use borrow.Author.Tests.{leb-false, leb-true}
-use lib.Dec.{eqb, leb, ltb}
+use lib.Dec.{eqb, ltb}
 use lib.ListN.{length}
-use Rattle.table.specs.declared.Section.{Section}
-use Rattle.table.specs.declared.Sections.{Sections}
-use Rattle.table.specs.declared.Checked.{Checked}
-use Rattle.table.specs.declared.Checked.the-variants.{Refused, Table}
-use Rattle.table.specs.All.{allBelow}
-use Rattle.table.specs.Layout.{typeWidth, memberWidth, valueWidth, operationWidth, mostTypes, mostMembers, mostValues, mostOperations, sectionEnd, counted, sectionAt, after, ended, afterValues, afterMembers, afterTypes, sectionsOf}
+use Rattle.types.specs.declared.Section.{Section}
+use Rattle.types.specs.declared.Sections.{Sections}
+use Rattle.types.specs.declared.Checked.{Checked}
+use Rattle.types.specs.declared.Checked.the-variants.{Refused, Table}
+use Rattle.types.specs.All.{allBelow}
+use Rattle.types.specs.Layout.{typeWidth, memberWidth, valueWidth, operationWidth, mostTypes, mostMembers, mostValues, mostOperations, sectionEnd, counted, sectionAt, after, ended, afterValues, afterMembers, afterTypes, sectionsOf}
 use Rattle.types.specs.Rules.{typeOk}
 use Rattle.types.specs.Operations.{operationOk}
 use Rattle.types.specs.Sizes.{mostBytes, largest, sizeFits}
 use Rattle.types.specs.Table.{entriesOk, sizesOk, judged, judging, checked}
-use Rattle.table.proofs.AllBelow.{at-below}
-use Rattle.promises.specs.Checks.{Check, _when_, Answers, Outside, none, this, next, below, above}
+use Rattle.types.proofs.AllBelow.{at-below}
+use Rattle.promises.specs.Checks.{Check, _when_, Answers, Outside, none, below, above}
 use Rattle.promises.specs.TableOrder.{sectionsIn, sectionChecks, BreaksARule, IsTooLarge, an-operation, tableChecks, TableInOrder}
 use Rattle.promises.proofs.Checks.{Decides, lt-decides, eq-decides, not-decides, or-decides, decides-same, by, unless, then}
 
@@ -131,6 +131,6 @@ sections-in-order t =
     (unless Refused good (eqb (sectionEnd operationWidth (s .operations)) (length t)) 30 (not-decides (eqb (sectionEnd operationWidth (s .operations)) (length t)) (eq-decides (sectionEnd operationWidth (s .operations)) (length t))) none))))
 
 pub table-in-order : TableInOrder
-unfolding checked judging
+unfolding checked judging tableChecks
 table-in-order t =
     then Refused (Table (sectionsIn t)) Refused (Table (sectionsIn t)) (judging t) (λ n. refl) (sections-in-order t) (λ e. judged-in-order t (sectionsIn t))

@@ -1,31 +1,27 @@
 -- The order of checks for a set-up and for a datagram that is taken: 20 to 23.
 -- Assumes nothing.
-use Prim.Native.Nat.{ℕ, _+_, _*_, _≤_, _<_}
-use mathlib.Core.Path.{_≡_, refl, sym, ap, subst, _∙_}
+use Prim.Native.Nat.{ℕ, _≤_, _<_}
+use mathlib.Core.Path.{_≡_, refl, sym, subst, _∙_}
 use mathlib.Core.Bool.{Bool, true, false, not, cond, _&&_}
 use mathlib.Core.List.{List, [], _∷_}
 use native.Mathlib.Omega.{arith}
 use borrow.Author.Tests.{leb-true, ltb-true, ltb-false, le-leb}
 use lib.Dec.{eqb, leb, ltb}
 use lib.ListN.{length, getD}
-use Rattle.binding.specs.declared.Heard.{Heard}
-use Rattle.binding.specs.declared.Heard.the-variants as heard
-use Rattle.binding.specs.Header.{senderIn, versionIn, heardIn}
+use Rattle.binding.specs.Header.{senderIn, versionIn}
 use Rattle.joiner.specs.declared.Joiner.{Joiner}
-use Rattle.joiner.specs.declared.Taken.{Taken}
-use Rattle.joiner.specs.declared.NewJoiner.{NewJoiner}
-use Rattle.joiner.specs.Setup.{channelLimit, placeOf, distinct, sendersOf, channelAt, goodChannel, good, freshOf, setupOf, Acceptable}
+use Rattle.joiner.specs.Setup.{channelLimit, sendersOf, channelAt, good, freshOf, setupOf, Acceptable}
 use Rattle.joiner.specs.Take.{sentTo, heardBy, judgedOf, takenBy, takenOf}
 use Rattle.joiner.proofs.Places.{at-place, place-first, distinct-says, is-distinct}
-use Rattle.joiner.proofs.Lookups.{Sizes, senders-length, senders-at}
+use Rattle.joiner.proofs.Lookups.{senders-length, senders-at}
 use Rattle.joiner.proofs.Judging.{channel-says, Good, good-says}
 use Rattle.joiner.proofs.Judging as judging
 use Rattle.joiner.proofs.Cases.{sound-good}
 use Rattle.joiner.proofs.Standing.{good-is}
 use Rattle.joiner.proofs.Setups.{fresh-good, good-fresh}
-use Rattle.promises.specs.Checks.{Check, _when_, Answers, Outside, none, this, next}
-use Rattle.promises.specs.Order.{Sound, headerChecks, takeChecks, itsChannel, moved, keptWith, fresh, notSetUp}
-use Rattle.promises.proofs.Checks.{Decides, flip-decides, not-decides, unless, unless-then}
+use Rattle.promises.specs.Checks.{_when_, Answers, none}
+use Rattle.promises.specs.Order.{Sound, takeChecks, itsChannel, moved, keptWith, fresh, notSetUp}
+use Rattle.promises.proofs.Checks.{Decides, not-decides, unless, unless-then}
 use Rattle.promises.proofs.Order.{inside, version-decides}
 
 clash : {b : Bool} → b ≡ false → b ≡ true → ⊥

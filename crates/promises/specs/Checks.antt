@@ -10,7 +10,6 @@ pub record Check : Type 1 where
   pub applies : Type 0
 
 infix 68 _when_
-
 abbrev pub _when_ : ℕ → Type 0 → Check
 _when_ n A = record { number = n; applies = A }
 

@@ -11,3 +11,5 @@ pub mod Platforms
 pub mod Checks
 pub mod Order
 pub mod TableOrder
+pub mod PayloadOrder
+pub mod Demand1

@@ -4,7 +4,7 @@ use Prim.Native.Nat.{ℕ, _+_, _-_, _*_, _^_, _≤_, _<_}
 use mathlib.Core.Path.{_≡_}
 use mathlib.Core.Logic.{_⊎_}
 use mathlib.Core.List.{List, [], _∷_, _++_}
-use lib.ListN.{length, getD}
+use lib.ListN.{length}
 use Rattle.wire.specs.Bytes.{number}
 use Rattle.message.specs.declared.Reading.the-variants as reading
 use Rattle.message.specs.declared.Writing.the-variants as writing
@@ -37,7 +37,7 @@ contentsChecks domain id payload =
     ∷ []
 
 -- a message read at the platform `own`; 6 also where the sender is none of the 256 (docs/DECISIONS.md, 4)
-abbrev pub readChecks : ℕ → List ℕ → List Check
+unfoldable pub readChecks : ℕ → List ℕ → List Check
 readChecks own s =
     1 when (length s < headerLength)
     ∷ 2 when (¬ (markIn s ≡ theMark))

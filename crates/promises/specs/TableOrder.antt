@@ -41,7 +41,7 @@ pub data IsTooLarge (t : List ℕ) (s : Sections) : Type 0 where
   a-type : (i : ℕ) → i < s .types .count → mostBytes < largest t s i → IsTooLarge t s
 
 -- in reading order; the last 30 is for bytes after the end
-abbrev pub tableChecks : List ℕ → List Check
+unfoldable pub tableChecks : List ℕ → List Check
 tableChecks t =
     sectionChecks typeWidth 1 mostTypes t 0
     ++ (sectionChecks memberWidth 0 mostMembers t (sectionEnd typeWidth (sectionsIn t .types))

@@ -1,0 +1,178 @@
+-- Demand 1.
+-- Assumes nothing.
+use Prim.Native.Nat.{ℕ, zero, suc, _+_, _*_, _^_, _<_}
+use mathlib.Core.Path.{_≡_, refl, sym, ap, subst, _∙_}
+use mathlib.Core.Bool.{Bool, true, false, cond}
+use mathlib.Core.List.{List, [], _∷_, _++_}
+use lib.Dec.{ltb}
+use lib.ListN.{length}
+use Rattle.wire.specs.Bytes.{Octets, over}
+use Rattle.types.specs.declared.Sections.{Sections}
+use Rattle.types.specs.declared.Checked.{Checked}
+use Rattle.types.specs.declared.Checked.the-variants as check
+use Rattle.types.specs.Table.{checked}
+use Rattle.message.specs.declared.Reading.{Reading}
+use Rattle.message.specs.declared.Reading.the-variants as reading
+use Rattle.message.specs.Header.{headerLength, headerIn, payloadSizeIn}
+use Rattle.message.specs.Refusal.{platforms, noRoom, writeRefusal}
+use Rattle.message.specs.Reading.{readOut, readOf}
+use Rattle.message.specs.Writing.{messageBytes, unlessRefused, numberGiven as writeNumber}
+use Rattle.message.specs.Writing as writes
+use Rattle.binding.specs.declared.Made.{Made}
+use Rattle.binding.specs.declared.Made.the-variants as made
+use Rattle.binding.specs.Cutting.{outAfter, cutRefusal, madeOf, datagramOf}
+use Rattle.joiner.specs.declared.Outcome.{Outcome}
+use Rattle.joiner.specs.declared.Outcome.the-variants as outcome
+use Rattle.joiner.specs.Take.{takenOf}
+use Rattle.joiner.specs.Outcomes.{refusalIn}
+use Rattle.joiner.proofs.Standing.{refusal-keeps-joiner, refusal-keeps-rooms}
+use Rattle.payload.specs.declared.Answer.{Answer}
+use Rattle.payload.specs.declared.Answer.the-variants as answer
+use Rattle.payload.specs.Walk.{Codec, left, typeWalk}
+use Rattle.payload.specs.Reading.{reader}
+use Rattle.payload.specs.Writing.{writer}
+use Rattle.payload.specs.Calls.{start, answeredIn, leftBy, leftIn, answeredIf, leftIf}
+use Rattle.platform.specs.declared.Standing.{Standing}
+use Rattle.platform.specs.declared.Outcome.{Outcome as Received′}
+use Rattle.platform.specs.declared.Answer.{Answer as Noting}
+use Rattle.platform.specs.declared.Answer.the-variants as noting
+use Rattle.platform.specs.Replies.{owedLength}
+use Rattle.platform.specs.Reaction.{operationIn}
+use Rattle.platform.specs.Receiving.{refused, taken, answered, outcomeOf, receivedBy, receivedOf, leftOf, sectionsOutcome, Received, numberGiven as receiveNumber}
+use Rattle.platform.proofs.Unchanged.{Unchanged, refusal-changes-nothing, sections-refusal-changes-nothing}
+use Rattle.promises.specs.Checks.{Check, _when_, Answers, Keeps, none, this, next}
+use Rattle.promises.specs.Order.{InOrder, readChecks}
+use Rattle.promises.specs.TableOrder.{sectionsIn}
+use Rattle.promises.specs.PayloadOrder.{numberOf}
+use Rattle.promises.specs.Platforms.{owedFor, replyLength, Receives}
+use Rattle.promises.specs.Demand1.{ChangesNothing, kindIn, receiveChecks, ReceiveInOrder, Demand1}
+use Rattle.promises.proofs.Checks.{by, then, lt-decides}
+use Rattle.promises.proofs.Order.{read-in-order, write-in-order, header-in-order, pieces-in-order, cut-in-order}
+use Rattle.promises.proofs.TakeOrder.{setup-in-order, take-in-order}
+use Rattle.promises.proofs.TableOrder.{table-in-order}
+use Rattle.promises.proofs.PayloadOrder.{payload-in-order}
+use Rattle.promises.proofs.Replying.{the, its-length}
+
+-- one answer
+one : {A : Type 0} (refuse : ℕ → A) (good : A) (cs : List Check) (x y : A) → Answers refuse good cs x → Answers refuse good cs y → x ≡ y
+one refuse good [] x y none none = refl
+one refuse good (c ∷ cs) x y (this a) (this b) = refl
+one refuse good (c ∷ cs) x y (this a) (next n b) = absurd (n a)
+one refuse good (c ∷ cs) x y (next n a) (this b) = absurd (n b)
+one refuse good (c ∷ cs) x y (next n a) (next m b) = one refuse good cs x y a b
+
+-- a refusal by its number
+write-keeps : (r n : ℕ) (w out : List ℕ) → Keeps (writeNumber (writes.answered r n)) out (unlessRefused r w out)
+write-keeps zero n w out k = absurd (k refl)
+write-keeps (suc r) n w out k = refl
+
+cut-keeps : (x : Made) (out d : List ℕ) → Keeps (cutRefusal x) out (outAfter x out d)
+cut-keeps (made.Refused n) out d k = refl
+cut-keeps (made.Datagram n) out d k = absurd (k refl)
+
+taken-refused : (x : Outcome) → ¬ (refusalIn x ≡ 0) → x ≡ outcome.Refused (refusalIn x)
+taken-refused (outcome.Refused n) k = refl
+taken-refused outcome.Repeated k = absurd (k refl)
+taken-refused (outcome.Delivered m p) k = absurd (k refl)
+taken-refused (outcome.Held m n) k = absurd (k refl)
+taken-refused (outcome.Stray m) k = absurd (k refl)
+taken-refused (outcome.TooLong m) k = absurd (k refl)
+
+left-keeps : (a : Answer) (x y : List ℕ) → Keeps (numberOf a) x (leftBy a x y)
+unfolding leftBy
+left-keeps (answer.Refused n) x y k = refl
+left-keeps (answer.Stopped n) x y k = refl
+left-keeps (answer.Gave n) x y k = absurd (k refl)
+
+in-keeps : (c : Codec) (n : ℕ) (t : List ℕ) (s : Sections) (i : ℕ) (x : List ℕ) → Keeps (numberOf (answeredIn c n t s i (length x))) x (leftIn c n t s i x)
+unfolding leftIn
+in-keeps c n t s i x = left-keeps (answeredIn c n t s i (length x)) x (left (typeWalk c t s i start x))
+
+if-keeps : (r : Checked) (c : Codec) (n : ℕ) (t : List ℕ) (i : ℕ) (x : List ℕ) → Keeps (numberOf (answeredIf r c n t i (length x))) x (leftIf r c n t i x)
+unfolding answeredIf leftIf
+if-keeps (check.Refused m) c n t i x k = refl
+if-keeps (check.Table s) c n t i x k = in-keeps c n t s i x k
+
+noting-refused : (x : Noting) → ¬ (receiveNumber x ≡ 0) → x ≡ noting.Refused (receiveNumber x)
+noting-refused (noting.Refused n) k = refl
+noting-refused (noting.Noted h x n) k = absurd (k refl)
+
+module _ (own : ℕ) (t : List ℕ) (p : Standing) (m out : List ℕ) where
+  receive-kept : ¬ (receiveNumber (receivedOf own t p m (length out) .answer) ≡ 0) → Unchanged p out (receivedOf own t p m (length out)) (leftOf own t p m out)
+  receive-kept k = refusal-changes-nothing own p (receiveNumber (receivedOf own t p m (length out) .answer)) out t m (noting-refused (receivedOf own t p m (length out) .answer) k)
+
+  module _ (s : Sections) (r : Received′) (o : List ℕ) (a : Received own t s p m out r o) where
+    checked-kept : ¬ (receiveNumber (r .answer) ≡ 0) → Unchanged p out r o
+    checked-kept k =
+        let e : sectionsOutcome own t s (a .found) p m (length out) .answer ≡ noting.Refused (receiveNumber (r .answer)) = ap (λ (x : Received′). x .answer) (sym (a .outcome)) ∙ noting-refused (r .answer) k in
+        let u = sections-refusal-changes-nothing own p (receiveNumber (r .answer)) out t s (a .found) m e in
+        record { standing = ap (λ (x : Received′). x .standing) (a .outcome) ∙ u .standing; output = a .output ∙ u .output }
+
+changes-nothing : ChangesNothing
+changes-nothing =
+    record {
+      write-output = λ own domain id seq payload out. write-keeps (writeRefusal domain id payload (length out)) (headerLength + length payload) (over out 0 (messageBytes own domain id seq payload)) out;
+      cut-output = λ msg s sender counter i out. cut-keeps (madeOf msg s sender counter i (length out)) out (datagramOf msg s sender counter i);
+      take-joiner = λ j rooms d k. refusal-keeps-joiner j rooms d _ (taken-refused (takenOf j rooms d .outcome) k);
+      take-rooms = λ j rooms d k. refusal-keeps-rooms j rooms d _ (taken-refused (takenOf j rooms d .outcome) k);
+      unpack-words = λ t i b words. if-keeps (checked t) (reader b) (length b) t i words;
+      unpack-in-words = λ t s i b words. in-keeps (reader b) (length b) t s i words;
+      pack-output = λ t i ws out. if-keeps (checked t) (writer ws) (length ws) t i out;
+      pack-in-output = λ t s i ws out. in-keeps (writer ws) (length ws) t s i out;
+      receive-states = λ own t p m out k. ap (λ (x : Standing). x .states) (receive-kept own t p m out k .standing);
+      receive-next = λ own t p m out k. ap (λ (x : Standing). x .next) (receive-kept own t p m out k .standing);
+      receive-output = λ own t p m out k. receive-kept own t p m out k .output;
+      receive-checked-states = λ own t s p m out r o a k. ap (λ (x : Standing). x .states) (checked-kept own t p m out s r o a k .standing);
+      receive-checked-next = λ own t s p m out r o a k. ap (λ (x : Standing). x .next) (checked-kept own t p m out s r o a k .standing);
+      receive-checked-output = λ own t s p m out r o a k. checked-kept own t p m out s r o a k .output;
+    }
+
+in-order : InOrder
+in-order = record { read = read-in-order; write = write-in-order; header = header-in-order; setup = setup-in-order; take = take-in-order; pieces = pieces-in-order; cut = cut-in-order }
+
+-- one call for one message
+module _ (own : ℕ) (t : List ℕ) (p : Standing) (m : List ℕ) (room : ℕ) (ho : own < platforms) (hn : p .next < 2 ^ 32) (o : Octets m) where
+  abbrev replies : ℕ
+  replies = replyLength * length (owedFor own t (sectionsIn t) p (headerIn m) (kindIn m))
+
+  -- 10, where the table and the message are good
+  module _ (e : checked t ≡ check.Table (sectionsIn t)) (f : readOf own m ≡ readOut m) where
+    receives : Receives own t (sectionsIn t) p m (headerIn m) (kindIn m)
+    receives = record { platform = ho; next = hn; bytes = o; table = e; start = headerLength; len = payloadSizeIn m; read = f }
+
+    number-is : receiveNumber (outcomeOf own t (sectionsIn t) (operationIn t (sectionsIn t) (readOut m)) p (readOut m) room .answer) ≡ cond (ltb room replies) 10 0
+    unfolding outcomeOf answered operationIn receives
+    number-is =
+        let w : ℕ = owedLength (the own t (sectionsIn t) p m [] (headerIn m) (kindIn m) receives .owed) in
+        go (ltb room w) ∙ ap (λ (n : ℕ). cond (ltb room n) 10 0) (its-length own t (sectionsIn t) p m [] (headerIn m) (kindIn m) receives)
+      where
+        go : (b : Bool) → receiveNumber (cond b (refused p noRoom) (taken (headerIn m) (the own t (sectionsIn t) p m [] (headerIn m) (kindIn m) receives) (owedLength (the own t (sectionsIn t) p m [] (headerIn m) (kindIn m) receives .owed))) .answer) ≡ cond b 10 0
+        go true = refl
+        go false = refl
+
+    fits-in-order : Answers (λ (n : ℕ). n) 0 (10 when (room < replies) ∷ []) (receiveNumber (outcomeOf own t (sectionsIn t) (operationIn t (sectionsIn t) (readOut m)) p (readOut m) room .answer))
+    fits-in-order = subst (Answers (λ (n : ℕ). n) 0 (10 when (room < replies) ∷ [])) (sym number-is) (by (λ n. n) 0 (ltb room replies) 10 (lt-decides room replies) none)
+
+  message-in-order : checked t ≡ check.Table (sectionsIn t) → Answers (λ (n : ℕ). n) 0 (readChecks own m ++ (10 when (room < replies) ∷ [])) (receiveNumber (receivedBy (check.Table (sectionsIn t)) own t p m room .answer))
+  unfolding receivedBy outcomeOf
+  message-in-order e =
+      then reading.Refused (readOut m) (λ n. n) 0 (λ (x : Reading). receiveNumber (outcomeOf own t (sectionsIn t) (operationIn t (sectionsIn t) x) p x room .answer)) (λ n. refl) (read-in-order own m) (fits-in-order e)
+
+  received-in-order : Answers (λ (n : ℕ). n) 0 (receiveChecks own t p m room) (receiveNumber (receivedOf own t p m room .answer))
+  unfolding receivedOf receivedBy
+  received-in-order =
+      then check.Refused (check.Table (sectionsIn t)) (λ n. n) 0 (λ (x : Checked). receiveNumber (receivedBy x own t p m room .answer)) (λ n. refl) (table-in-order t) message-in-order
+
+receive-in-order : ReceiveInOrder
+receive-in-order own t p m room ho hn o = received-in-order own t p m room ho hn o
+
+pub demand-1 : Demand1
+demand-1 =
+    record {
+      in-order = in-order;
+      table-in-order = table-in-order;
+      payload-in-order = payload-in-order;
+      receive-in-order = receive-in-order;
+      one-answer = one;
+      changes-nothing = changes-nothing;
+    }
