@@ -52,6 +52,7 @@ typedef struct {
 } Table;
 
 void make_table(Table *table);
+int lie_in(const uint64_t *sections, size_t bytes);      /* whether they could be the sections of a table of so many bytes */
 size_t make_words(const Table *table, size_t type, uint64_t *words, size_t room);   /* 0 where they would not fit */
 
 /* One or more calls of each family, with their checks. */

@@ -169,7 +169,7 @@ void fuzz_receive(void)
     size_t words = about(NYR_PLATFORM_WORDS), answers = about(NYR_RECEIVE_ANSWER), sections = about(NYR_SECTIONS_WORDS);
     size_t room = one_in(8) ? below(60) : NYR_REPLIES_BYTES + below(3), length, bytes;
     uint64_t before[32], numbers = READING | N(10) | N(30) | N(31) | N(32) | N(33);
-    uint32_t number, again;
+    uint32_t number = 0, again;
     int good = !one_in(12);
     if (one_in(20) || table.length == 0)
         make_table(&table);
@@ -202,6 +202,7 @@ void fuzz_receive(void)
         called(again, numbers);
         if (too_few(again, words < NYR_PLATFORM_WORDS || answers < NYR_RECEIVE_ANSWER || (in && sections < NYR_SECTIONS_WORDS)))
             return;
+        expect(!in || again == NYR_NO_ROOM || (again == NYR_TABLE_LENGTH) == !lie_in(table.sections, bytes), "30 at the wrong place");
         if (!in) {
             number = again;
             if (number == 0) {

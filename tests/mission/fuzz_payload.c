@@ -18,8 +18,9 @@ static void make_sections(uint64_t *sections, size_t room)
     fill(sections, room * sizeof *sections);
     memcpy(sections, table.sections, sizeof table.sections);
     if (one_in(16)) {
+        static const uint64_t edges[] = {257, 1025, 65536, UINT64_C(1) << 32};
         size_t at = below(8);
-        sections[at] = one_in(2) ? below(21000) : narrow();
+        sections[at] = one_in(2) ? edges[below(4)] : one_in(2) ? below(21000) : narrow();
     }
     if (one_in(64))
         fill(sections, room * sizeof *sections);
@@ -69,6 +70,7 @@ void fuzz_table(void)
     may_change(ANSWER, 0, answers < NYR_FIND_ANSWER ? 0 : NYR_FIND_ANSWER, sizeof *answer);
     number = called(nyr_find(lent, bytes, out, room, id, answer, answers), N(10) | N(30));
     expect((number == NYR_NO_ROOM) == (room < NYR_SECTIONS_WORDS || answers < NYR_FIND_ANSWER), "10 at the wrong place");
+    expect(number == NYR_NO_ROOM || (number == NYR_TABLE_LENGTH) == !lie_in(sections, bytes), "30 at the wrong place");
     if (number != 0 || !good || memcmp(sections, table.sections, sizeof table.sections) != 0)
         return;
     size_t there = 0;
@@ -79,6 +81,15 @@ void fuzz_table(void)
     expect(there || (answer[1] == 0 && answer[2] == 0), "kind or type of nothing");
 }
 
+/* Words that were given are a value: they pack, to as many bytes as they came from. */
+static void check_value(size_t type, size_t count, size_t length)
+{
+    uint64_t answer[1];
+    calling("nyr_pack_in, of what was unpacked");
+    expect(nyr_pack_in(table.bytes, table.length, table.sections, 8, (uint16_t)type, first_words, count, first_bytes, MOST_BYTES, answer,
+                       1) == 0 && answer[0] == length, "unpacked words are no value");
+}
+
 /* The words of a value, and through nyr_pack_in its payload: both right, before anything is spoilt. */
 static size_t make_payload(size_t type, size_t *count)
 {
@@ -87,7 +98,6 @@ static size_t make_payload(size_t type, size_t *count)
     if (*count == 0)
         return 0;
     calling("nyr_pack_in, of a value");
-    calls++;
     expect(nyr_pack_in(table.bytes, table.length, table.sections, 8, (uint16_t)type, words, *count, payload, MOST_BYTES, answer, 1) == 0,
            "a value is refused");
     return (size_t)answer[0];
@@ -130,6 +140,7 @@ void fuzz_unpack(void)
             expect(again == NYR_NO_ROOM, "too few words, and not 10");
             return;
         }
+        expect(!in || (again == NYR_TABLE_LENGTH) == !lie_in(sections, table.length), "30 at the wrong place");
         if (again == 0)
             expect(answer[0] <= room && answer[0] <= length, "more words than bytes");
         if (whole && count > 0 && (in ? same : !spoilt))
@@ -143,6 +154,8 @@ void fuzz_unpack(void)
                    "by sections another answer");
         }
     }
+    if (number == 0 && !spoilt)
+        check_value(type, (size_t)given, length);
 }
 
 void fuzz_pack(void)
@@ -183,6 +196,7 @@ void fuzz_pack(void)
             expect(again == NYR_NO_ROOM, "too few words, and not 10");
             return;
         }
+        expect(!in || (again == NYR_TABLE_LENGTH) == !lie_in(sections, table.length), "30 at the wrong place");
         if (again == 0)
             expect(answer[0] <= room && answer[0] <= 8 * count, "more bytes than words can be");
         if (whole && count > 0 && (in ? same : !spoilt))
