@@ -7,8 +7,9 @@
  * words and bytes of a buffer that a call is not said to write stay as they were.
  *
  * A buffer is a pointer and a length, in elements. A length of 0 is an empty buffer, whatever the pointer, null too; else the
- * elements must be there, and aligned. A buffer that is written must not overlap another of the same call. `answer`, and every
- * buffer of state, may be longer than the words named below; a shorter one is NYR_NO_ROOM, and that is judged before all else.
+ * elements must be there, and aligned. A buffer that is written must not overlap another of the same call. Where a number of
+ * words is named below, a buffer may be longer. A shorter one is NYR_NO_ROOM, which is judged before all else, if it is an answer,
+ * a platform's state, or what the call makes; a joiner or sections that are handed in too short are none: 20 and 30.
  *
  * The library has no memory, no globals and no locks: all state lies in the caller's words, nothing is kept between calls, and
  * no pointer outlives one. Threads may call at once on buffers that none of them writes and another uses.
@@ -36,7 +37,7 @@ enum {
     NYR_PLATFORM_ID = 7,        /* domain 0, and the ID is not 1 to 4 */
     NYR_PLATFORM_LENGTH = 8,    /* domain 0, and the payload is not as long as the ID says (request 0, others 4) */
     NYR_PLATFORM_VALUE = 9,     /* a status that is neither DOWN nor UP */
-    NYR_NO_ROOM = 10,           /* output, answer or state shorter than what must be written */
+    NYR_NO_ROOM = 10,           /* output or answer shorter than what must be written */
     /* Joining. */
     NYR_JOINER = 20,            /* no set-up, or words that are none (see nyr_setup) */
     NYR_DATAGRAM_LENGTH = 21,   /* not 5 to 65,507 bytes */
@@ -111,8 +112,8 @@ uint32_t nyr_setup(const uint16_t *ids, size_t channels, uint32_t room, size_t r
 
 /*
  * Takes one datagram.
- *   20  words that are no joiner for these rooms: what nyr_setup refuses, seen not 0 or 1, a last counter above 65,535, or more
- *       bytes held than a room has. 21, 22, 23 for the datagram.
+ *   20  words that are no joiner for these rooms: what nyr_setup refuses, too few words, seen not 0 or 1, a last counter above
+ *       65,535, or more bytes held than a room has. 21, 22, 23 for the datagram.
  * answer: [0] what it was, NYR_REPEATED to NYR_TOO_LONG; [1] how many datagrams of its channel were missed before it; [2] the
  * bytes held or delivered, else 0; [3] where the delivered message lies; [4] from which byte there.
  * Writes the record of its own channel alone, and in the rooms the piece alone. A message in the rooms is good until the next
@@ -218,8 +219,11 @@ enum {
     NYR_HEARD_NOT_IN_TABLE = 8  /* value: the ID: answered */
 };
 
-/* A fresh state: this platform UP, all others DOWN. Leaves in platform: four words, in which platform k is bit k % 64 of word
- * k / 64, and the next own sequence number. */
+/*
+ * A fresh state: this platform UP, all others DOWN.
+ * Leaves in platform: four words, in which platform k is bit k % 64 of word k / 64, and the next own sequence number, whose low
+ * 32 bits count. Any words are a state.
+ */
 uint32_t nyr_platform(uint8_t own, uint64_t *platform, size_t platform_words);
 
 /*
@@ -237,7 +241,7 @@ uint32_t nyr_receive_in(uint8_t own, uint64_t *platform, size_t platform_words, 
                         const uint64_t *sections, size_t sections_words, const uint8_t *message, size_t message_length,
                         uint8_t *out, size_t out_length, uint64_t *answer, size_t answer_words);
 
-/* 1 where that platform is UP, else 0. This platform always is. No refusal: of a state that is too short, 0. */
+/* 1 where that platform is UP, else 0. This platform always is. Nothing is refused: a word that is not there counts as 0. */
 uint32_t nyr_is_up(uint8_t own, const uint64_t *platform, size_t platform_words, uint8_t platform_number);
 
 /* How many of the 256 are UP, this one counted. */

@@ -52,7 +52,8 @@ typedef struct {
 } Table;
 
 void make_table(Table *table);
-int lie_in(const uint64_t *sections, size_t bytes);      /* whether they could be the sections of a table of so many bytes */
+/* Whether so many words could be the sections of a table of so many bytes. */
+int lie_in(const uint64_t *sections, size_t words, size_t bytes);
 size_t make_words(const Table *table, size_t type, uint64_t *words, size_t room);   /* 0 where they would not fit */
 
 /* One or more calls of each family, with their checks. */

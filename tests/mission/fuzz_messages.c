@@ -200,9 +200,9 @@ void fuzz_receive(void)
         if (again == 0 && answers >= NYR_RECEIVE_ANSWER && answer[6] <= room)
             may_change(OUT, 0, (size_t)answer[6], 1);
         called(again, numbers);
-        if (too_few(again, words < NYR_PLATFORM_WORDS || answers < NYR_RECEIVE_ANSWER || (in && sections < NYR_SECTIONS_WORDS)))
+        if (too_few(again, words < NYR_PLATFORM_WORDS || answers < NYR_RECEIVE_ANSWER))
             return;
-        expect(!in || again == NYR_NO_ROOM || (again == NYR_TABLE_LENGTH) == !lie_in(table.sections, bytes), "30 at the wrong place");
+        expect(!in || (again == NYR_TABLE_LENGTH) == !lie_in(table.sections, sections, bytes), "30 at the wrong place");
         if (!in) {
             number = again;
             if (number == 0) {
@@ -211,7 +211,7 @@ void fuzz_receive(void)
                 memcpy(after, state, sizeof after);
                 memcpy(stored, out, (size_t)answer[6]);
             }
-        } else if (good) {
+        } else if (good && sections >= NYR_SECTIONS_WORDS) {
             expect(number == again, "by sections another number");
             expect(number != 0 || (memcmp(first, answer, sizeof first) == 0 && memcmp(after, state, sizeof after) == 0 &&
                                    memcmp(stored, out, (size_t)first[6]) == 0),
@@ -227,18 +227,19 @@ void fuzz_states(void)
     uint8_t own = (uint8_t)any();
     size_t words = about(NYR_PLATFORM_WORDS);
     uint64_t states[32];
-    uint32_t up = 0;
+    uint32_t number, up = 0;
     calling("nyr_platform");
     uint64_t *state = lend(PLATFORM, NULL, words, sizeof *state);
     may_change(PLATFORM, 0, words < NYR_PLATFORM_WORDS ? 0 : NYR_PLATFORM_WORDS, sizeof *state);
-    if (called(nyr_platform(own, state, words), N(10)) == 0) {
+    number = called(nyr_platform(own, state, words), N(10));
+    too_few(number, words < NYR_PLATFORM_WORDS);
+    if (number == 0) {
         for (uint64_t k = 0; k < 4; k++)
             expect(state[k] == (k == own / 64 ? UINT64_C(1) << own % 64 : 0), "a fresh state");
         expect(state[4] == 0, "own numbers do not start at 0");
         if (one_in(4))
             memcpy(platform, state, sizeof platform);
     }
-    too_few(words < NYR_PLATFORM_WORDS ? NYR_NO_ROOM : 0, words < NYR_PLATFORM_WORDS);
     fill(states, sizeof states);
     words = NYR_PLATFORM_WORDS + below(3);
     for (unsigned k = 0; k < 256; k++) {
@@ -253,14 +254,19 @@ void fuzz_states(void)
     state = lend(PLATFORM, states, words, sizeof *state);
     expect(nyr_how_many_up(own, state, words) == up, "how many are up");
     called(0, 0);
-    /* A state that is too short: an answer, whatever it is, and nothing touched. */
+    /* Words that are not there count as 0. */
     words = below(NYR_PLATFORM_WORDS);
+    uint8_t asked = (uint8_t)any();
+    memset(states + words, 0, sizeof states - words * sizeof *states);
     calling("nyr_is_up, of too few words");
     state = lend(PLATFORM, states, words, sizeof *state);
-    expect(nyr_is_up(own, state, words, (uint8_t)any()) <= 1, "neither 0 nor 1");
+    expect(nyr_is_up(own, state, words, asked) == (uint32_t)is_up(states, own, asked), "is_up");
     called(0, 0);
+    up = 0;
+    for (unsigned k = 0; k < 256; k++)
+        up += (uint32_t)is_up(states, own, k);
     calling("nyr_how_many_up, of too few words");
     state = lend(PLATFORM, states, words, sizeof *state);
-    expect(nyr_how_many_up(own, state, words) <= 256, "more than there are");
+    expect(nyr_how_many_up(own, state, words) == up, "how many are up");
     called(0, 0);
 }

@@ -123,11 +123,11 @@ void make_table(Table *t)
     }
 }
 
-int lie_in(const uint64_t *sections, size_t bytes)
+int lie_in(const uint64_t *sections, size_t words, size_t bytes)
 {
     static const size_t entry[4] = {8, 2, 8, 8}, most[4] = {256, 1024, 1024, 1024};
     for (int s = 0; s < 4; s++)
-        if (sections[2 * s + 1] > most[s] || sections[2 * s] > bytes ||
+        if (words < NYR_SECTIONS_WORDS || sections[2 * s + 1] > most[s] || sections[2 * s] > bytes ||
             sections[2 * s + 1] * entry[s] > bytes - sections[2 * s])
             return 0;
     return 1;
