@@ -31,7 +31,9 @@ static int too_few(uint32_t number, int few)
 
 static uint32_t make_id(void)
 {
-    return one_in(2) ? (uint32_t)below(7) : table.operations > 0 && !one_in(4) ? table.ids[below(table.operations)] : (uint32_t)any();
+    return one_in(2)                            ? (uint32_t)below(7)
+           : table.operations > 0 && !one_in(4) ? table.ids[below(table.operations)]
+                                                : (uint32_t)any();
 }
 
 /* A message that is mostly good, from mostly another platform. */
@@ -124,8 +126,8 @@ static int is_up(const uint64_t *states, uint8_t own, uint64_t k)
     return k == own || (states[k / 64] >> k % 64 & 1);
 }
 
-static void check_received(uint8_t own, const uint64_t *before, const uint64_t *after, size_t length, const uint8_t *out,
-                           const uint64_t *answer)
+static void check_received(uint8_t own, const uint64_t *before, const uint64_t *after, size_t length,
+                           const uint8_t *out, const uint64_t *answer)
 {
     int was = is_up(before, own, answer[2]), is = is_up(after, own, answer[2]);
     uint64_t owed = 0;
@@ -133,7 +135,8 @@ static void check_received(uint8_t own, const uint64_t *before, const uint64_t *
     heard_met |= N(answer[0]);
     expect(answer[2] < 256 && answer[2] != own, "the sender");
     for (uint64_t k = 0; k < 4; k++)
-        expect((before[k] ^ after[k]) == (was != is && k == answer[2] / 64 ? UINT64_C(1) << answer[2] % 64 : 0), "another state");
+        expect((before[k] ^ after[k]) == (was != is && k == answer[2] / 64 ? UINT64_C(1) << answer[2] % 64 : 0),
+               "another state");
     if (answer[0] == NYR_HEARD_STATUS) {
         expect(answer[1] < 2 && is == (int)answer[1], "the state is not noted");
         owed = !was && is ? NYR_REPLIES_BYTES : 0;
@@ -149,13 +152,15 @@ static void check_received(uint8_t own, const uint64_t *before, const uint64_t *
                    answer[5] == length - NYR_MESSAGE_HEADER,
                "an operation outside table or message");
     else
-        expect(!answer[4] && !answer[5] && (answer[0] == NYR_HEARD_PULL_ONE || !answer[3]), "a payload of no operation");
+        expect(!answer[4] && !answer[5] && (answer[0] == NYR_HEARD_PULL_ONE || !answer[3]),
+               "a payload of no operation");
     for (size_t at = 0; at < owed; at += NYR_REPLY_BYTES) {
         uint64_t read[NYR_READ_ANSWER];
         calls++;
         expect(nyr_read((uint8_t)answer[2], out + at, NYR_REPLY_BYTES, read, NYR_READ_ANSWER) == 0 && read[2] == own,
                "a reply that its receiver refuses");
-        expect(owed == NYR_REPLIES_BYTES ? read[3] == (uint32_t)(before[4] + at / NYR_REPLY_BYTES) : read[3] == be32(message + 16),
+        expect(owed == NYR_REPLIES_BYTES ? read[3] == (uint32_t)(before[4] + at / NYR_REPLY_BYTES)
+                                         : read[3] == be32(message + 16),
                "a reply with another number");
     }
 }
@@ -185,7 +190,8 @@ void fuzz_receive(void)
     before[4] &= UINT32_MAX;
     for (int in = 0; in < 2; in++) {
         calling(in ? "nyr_receive_in" : "nyr_receive");
-        uint64_t *state = lend(PLATFORM, before, words, sizeof *state), *answer = lend(ANSWER, NULL, answers, sizeof *answer);
+        uint64_t *state = lend(PLATFORM, before, words, sizeof *state),
+                 *answer = lend(ANSWER, NULL, answers, sizeof *answer);
         uint8_t *lent_table = lend(TABLE, spoilt, bytes, 1), *lent_message = lend(MESSAGE, message, length, 1);
         uint8_t *out = lend(OUT, NULL, room, 1);
         uint64_t lent_sections[32], *lent_to;
@@ -194,9 +200,10 @@ void fuzz_receive(void)
         lent_to = lend(SECTIONS, lent_sections, sections, sizeof *lent_to);
         may_change(PLATFORM, 0, words < NYR_PLATFORM_WORDS ? 0 : NYR_PLATFORM_WORDS, sizeof *state);
         may_change(ANSWER, 0, answers < NYR_RECEIVE_ANSWER ? 0 : NYR_RECEIVE_ANSWER, sizeof *answer);
-        again = in ? nyr_receive_in(own, state, words, lent_table, bytes, lent_to, sections, lent_message, length, out, room,
-                                    answer, answers)
-                   : nyr_receive(own, state, words, lent_table, bytes, lent_message, length, out, room, answer, answers);
+        again =
+            in ? nyr_receive_in(own, state, words, lent_table, bytes, lent_to, sections, lent_message, length, out,
+                                room, answer, answers)
+               : nyr_receive(own, state, words, lent_table, bytes, lent_message, length, out, room, answer, answers);
         if (again == 0 && answers >= NYR_RECEIVE_ANSWER && answer[6] <= room)
             may_change(OUT, 0, (size_t)answer[6], 1);
         called(again, numbers);
@@ -213,8 +220,9 @@ void fuzz_receive(void)
             }
         } else if (good && sections >= NYR_SECTIONS_WORDS) {
             expect(number == again, "by sections another number");
-            expect(number != 0 || (memcmp(first, answer, sizeof first) == 0 && memcmp(after, state, sizeof after) == 0 &&
-                                   memcmp(stored, out, (size_t)first[6]) == 0),
+            expect(number != 0 ||
+                       (memcmp(first, answer, sizeof first) == 0 && memcmp(after, state, sizeof after) == 0 &&
+                        memcmp(stored, out, (size_t)first[6]) == 0),
                    "by sections another answer");
         }
     }

@@ -16,7 +16,8 @@ static uint64_t make_word(unsigned code)
     case 1: return (uint64_t)(int64_t)(int8_t)edge;
     case 3: return (uint64_t)(int64_t)(int16_t)edge;
     case 4: return (uint64_t)(int64_t)(int32_t)edge;
-    case 5: case 10: return edge;
+    case 5:
+    case 10: return edge;
     case 8: return edge & 0xFFFF;
     case 9: return edge & 0xFFFFFFFF;
     case 11: return edge & 0x807FFFFF;

@@ -189,9 +189,9 @@ impl Judge<'_> {
             (ENUM, code) => run
                 .chunks_exact(width)
                 .all(|leaf| self.table.has_value(e, word(code, leaf))),
-            (_, 11) => run
-                .chunks_exact(4)
-                .fold(true, |good, leaf| good & allowed(11, u64::from(be32(leaf, 0)))),
+            (_, 11) => run.chunks_exact(4).fold(true, |good, leaf| {
+                good & allowed(11, u64::from(be32(leaf, 0)))
+            }),
             (_, 12) => run
                 .chunks_exact(8)
                 .fold(true, |good, leaf| good & allowed(12, be64(leaf, 0))),
@@ -363,7 +363,8 @@ impl Weigh<'_> {
         let (run, rest) = self.rest.split_at(count.min(self.rest.len()));
         macro_rules! each {
             ($code:literal) => {
-                run.iter().fold(true, |good, word| good & allowed($code, *word))
+                run.iter()
+                    .fold(true, |good, word| good & allowed($code, *word))
             };
         }
         let good = match (e.kind, e.of) {

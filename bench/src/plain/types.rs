@@ -174,9 +174,7 @@ impl<'a> Table<'a> {
             return false;
         }
         match e.kind {
-            ENUM => {
-                self.values(&e).all(|value| allowed(e.of, value)) && distinct(self.values(&e))
-            }
+            ENUM => self.values(&e).all(|value| allowed(e.of, value)) && distinct(self.values(&e)),
             RECORD => self
                 .members(&e)
                 .chunks_exact(2)
