@@ -1,7 +1,8 @@
 /*
- * mission RECORDING TABLE: plays recorded datagrams as a mission computer would meet them. Each is joined; each message that
- * this completes is read, and answered where its sender is owed replies; and the payload of an operation that the type table
- * has is unpacked to its words. To use it on a network, hand `take` what a socket receives and send what `send_reply` prints.
+ * mission RECORDING TABLE: plays recorded datagrams as a mission computer would meet them. Each is joined; each message
+ * that this completes is read, and answered where its sender is owed replies; and the payload of an operation that the
+ * type table has is unpacked to its words. For a network, hand `take` what a socket receives, and send what
+ * `send_reply` prints.
  */
 #include "nyrkovash.h"
 
@@ -9,12 +10,12 @@
 #include <stdio.h>
 
 enum {
-    OWN = 1,                    /* this platform's number */
-    OWN_SENDER = OWN * 256,     /* our sender ID: platform times 256 plus channel */
-    PIECE = 1400,               /* bytes of a message in one of our datagrams */
-    MOST_ROOMS = 65536,         /* a recording's limit for all rooms together */
-    MOST_WORDS = 65560,         /* no leaf is shorter than a byte, and no joined message longer than a room */
-    TABLE_BYTES = 20488         /* the largest table */
+    OWN = 1,                /* this platform's number */
+    OWN_SENDER = OWN * 256, /* our sender ID: platform times 256 plus channel */
+    PIECE = 1400,           /* bytes of a message in one of our datagrams */
+    MOST_ROOMS = 65536,     /* a recording's limit for all rooms together */
+    MOST_WORDS = 65560,     /* no leaf is shorter than a byte, and no joined message longer than a room */
+    TABLE_BYTES = 20488     /* the largest table */
 };
 
 static uint8_t recording[1 << 20], table[TABLE_BYTES + 1], rooms[MOST_ROOMS];
@@ -61,8 +62,8 @@ static void unpack(uint32_t id, const uint8_t *payload, size_t length)
         puts("  no payload");
         return;
     }
-    number = nyr_unpack_in(table, table_length, sections, NYR_SECTIONS_WORDS, (uint16_t)found[2], payload, length, words,
-                           MOST_WORDS, count, NYR_COUNT_ANSWER);
+    number = nyr_unpack_in(table, table_length, sections, NYR_SECTIONS_WORDS, (uint16_t)found[2], payload, length,
+                           words, MOST_WORDS, count, NYR_COUNT_ANSWER);
     if (number != NYR_OK) {
         printf("  payload refused %" PRIu32 "\n", number);
         return;
@@ -76,13 +77,14 @@ static void unpack(uint32_t id, const uint8_t *payload, size_t length)
 /* Reads one delivered message, notes what it tells of its sender, and answers it. */
 static void receive(const uint8_t *message, size_t length)
 {
-    static const char *const heard[] = {"",
-        "status", "status request", "unknown operation", "pull of all", "pull", "pull of what is not versioned data",
-        "operation", "operation not in the table"};
+    static const char *const heard[] = {
+        "", "status", "status request", "unknown operation", "pull of all", "pull",
+        "pull of what is not versioned data", "operation", "operation not in the table"};
     uint8_t replies[NYR_REPLIES_BYTES];
     uint64_t answer[NYR_RECEIVE_ANSWER];
-    uint32_t number = nyr_receive_in(OWN, platform, NYR_PLATFORM_WORDS, table, table_length, sections, NYR_SECTIONS_WORDS,
-                                     message, length, replies, sizeof replies, answer, NYR_RECEIVE_ANSWER);
+    uint32_t number =
+        nyr_receive_in(OWN, platform, NYR_PLATFORM_WORDS, table, table_length, sections, NYR_SECTIONS_WORDS, message,
+                       length, replies, sizeof replies, answer, NYR_RECEIVE_ANSWER);
     if (number != NYR_OK) {
         printf("  message refused %" PRIu32 "\n", number);
         return;
@@ -104,7 +106,8 @@ static void take(size_t number, const uint8_t *datagram, size_t length)
 {
     static const char *const outcomes[] = {"", "repeated", "delivered", "held", "stray", "too long"};
     uint64_t answer[NYR_TAKE_ANSWER];
-    uint32_t refused = nyr_take(joiner, NYR_JOINER_WORDS, rooms, rooms_length, datagram, length, answer, NYR_TAKE_ANSWER);
+    uint32_t refused =
+        nyr_take(joiner, NYR_JOINER_WORDS, rooms, rooms_length, datagram, length, answer, NYR_TAKE_ANSWER);
     if (refused != NYR_OK) {
         printf("%zu refused %" PRIu32 "\n", number, refused);
         return;

@@ -1,17 +1,20 @@
 /*
- * nyrkovash: UDP datagrams joined into ECOA ELI messages (Part 6, Issue 6), messages read and written, payloads unpacked
- * and packed by a type table, and the replies of platform start-up. Link libnyrkovash.a (x86-64), which needs no other library.
+ * nyrkovash: UDP datagrams joined into ECOA ELI messages (Part 6, Issue 6), messages read and written, payloads
+ * unpacked and packed by a type table, and the replies of platform start-up. Link libnyrkovash.a (x86-64), which
+ * needs no library but C's.
  *
- * Every call is total: no buffer, length, number or state, right or wrong, makes it read or write outside what it was lent.
- * A call answers 0, or the number that refuses it, and then it has changed nothing. What a call gives stands in `answer`;
- * words and bytes of a buffer that a call is not said to write stay as they were.
+ * Every call is total: no length, number, byte or state, right or wrong, makes it read or write outside what it was
+ * lent. A call answers 0, or the number that refuses it, and then it has changed nothing. What it gives stands in
+ * `answer`; words and bytes that a call is not said to write stay as they were.
  *
- * A buffer is a pointer and a length, in elements. A length of 0 is an empty buffer, whatever the pointer, null too; else the
- * elements must be there, and aligned. A buffer that is written must not overlap another of the same call. `answer`, and every
- * buffer of state, may be longer than the words named below; a shorter one is NYR_NO_ROOM, and that is judged before all else.
+ * A buffer is a pointer and a length, in elements. A length of 0 is an empty buffer, whatever the pointer, null too;
+ * else the elements must be there, and aligned. A buffer that is written must not overlap another of the same call.
+ * Where a number of words is named below, a buffer may be longer. A shorter one is NYR_NO_ROOM, judged before all
+ * else, if it is an answer, a platform's state, or what the call makes; a joiner or sections that are handed in too
+ * short are none: 20 and 30.
  *
- * The library has no memory, no globals and no locks: all state lies in the caller's words, nothing is kept between calls, and
- * no pointer outlives one. Threads may call at once on buffers that none of them writes and another uses.
+ * The library has no memory, no globals and no locks: all state lies in the caller's words, nothing is kept between
+ * calls, and no pointer outlives one. Threads may call at once, each on buffers that no other of them writes.
  */
 #ifndef NYRKOVASH_H
 #define NYRKOVASH_H
@@ -23,55 +26,55 @@
 extern "C" {
 #endif
 
-/* The numbers that refuse. Of several that apply the lowest is given, but see each call. */
+/* The numbers that refuse. Of several that apply the lowest is given, unless a call says otherwise. */
 enum {
     NYR_OK = 0,
     /* Messages. */
-    NYR_MESSAGE_SHORT = 1,      /* shorter than its header of 20 bytes */
-    NYR_MARK = 2,               /* does not start with EC 0A */
-    NYR_VERSION = 3,            /* not version 2 */
-    NYR_DOMAIN = 4,             /* neither 0, platform, nor 1, operation */
-    NYR_PAYLOAD_SIZE = 5,       /* the payload size is not what follows; written: 2^32 bytes or more */
-    NYR_SENDER = 6,             /* the sender is this platform, or above 255 */
-    NYR_PLATFORM_ID = 7,        /* domain 0, and the ID is not 1 to 4 */
-    NYR_PLATFORM_LENGTH = 8,    /* domain 0, and the payload is not as long as the ID says (request 0, others 4) */
-    NYR_PLATFORM_VALUE = 9,     /* a status that is neither DOWN nor UP */
-    NYR_NO_ROOM = 10,           /* output, answer or state shorter than what must be written */
+    NYR_MESSAGE_SHORT = 1,     /* shorter than its header of 20 bytes */
+    NYR_MARK = 2,              /* does not start with EC 0A */
+    NYR_VERSION = 3,           /* not version 2 */
+    NYR_DOMAIN = 4,            /* neither 0, platform, nor 1, operation */
+    NYR_PAYLOAD_SIZE = 5,      /* the payload size is not what follows; writing: 2^32 bytes or more */
+    NYR_SENDER = 6,            /* the sender is this platform, or above 255 */
+    NYR_PLATFORM_ID = 7,       /* domain 0, and the ID is not 1 to 4 */
+    NYR_PLATFORM_LENGTH = 8,   /* domain 0, and the payload is not 4 bytes long (a request's: 0) */
+    NYR_PLATFORM_VALUE = 9,    /* a status that is neither DOWN nor UP */
+    NYR_NO_ROOM = 10,          /* output or answer shorter than what must be written */
     /* Joining. */
-    NYR_JOINER = 20,            /* no set-up, or words that are none (see nyr_setup) */
-    NYR_DATAGRAM_LENGTH = 21,   /* not 5 to 65,507 bytes */
-    NYR_DATAGRAM_VERSION = 22,  /* the binding header's version is not 0 */
-    NYR_NOT_SET_UP = 23,        /* no channel has the sender ID */
+    NYR_JOINER = 20,           /* a set-up that cannot be, or words that are no joiner */
+    NYR_DATAGRAM_LENGTH = 21,  /* not 5 to 65,507 bytes */
+    NYR_DATAGRAM_VERSION = 22, /* the binding header's version is not 0 */
+    NYR_NOT_SET_UP = 23,       /* no channel has the sender ID */
     /* Type tables. */
-    NYR_TABLE_LENGTH = 30,      /* cut short, or bytes after its end; or sections that do not lie in it */
-    NYR_TABLE_COUNT = 31,       /* a section's count is outside its limit */
-    NYR_TABLE_ENTRY = 32,       /* an entry breaks a rule */
-    NYR_TABLE_SIZE = 33,        /* a type can exceed 65,536 bytes */
+    NYR_TABLE_LENGTH = 30,     /* cut short, or bytes after its end; or sections that do not lie in it */
+    NYR_TABLE_COUNT = 31,      /* a section's count is outside its limit */
+    NYR_TABLE_ENTRY = 32,      /* an entry breaks a rule */
+    NYR_TABLE_SIZE = 33,       /* a type can exceed 65,536 bytes */
     /* Payloads. */
-    NYR_INPUT_SHORT = 40,       /* payload or words end too early */
-    NYR_INPUT_LEFT = 41,        /* payload or words are left over */
-    NYR_VALUE = 42,             /* a value that its type does not have */
-    NYR_ARRAY_COUNT = 43,       /* an array's count over its maximum */
-    NYR_NO_TYPE = 44,           /* the table has no type of that number */
-    NYR_OUTPUT_SHORT = 45,      /* words or output too short */
+    NYR_INPUT_SHORT = 40,      /* payload or words end too early */
+    NYR_INPUT_LEFT = 41,       /* payload or words are left over */
+    NYR_VALUE = 42,            /* a value that its type does not have */
+    NYR_ARRAY_COUNT = 43,      /* an array's count over its maximum */
+    NYR_NO_TYPE = 44,          /* the table has no type of that number */
+    NYR_OUTPUT_SHORT = 45,     /* words or output too short */
     /* Cutting. */
-    NYR_CANNOT_CUT = 50,        /* message not 1 to 65,560 bytes, piece not 1 to 65,503, sender ID or counter out of range */
-    NYR_NO_PIECE = 51,          /* the message has no piece of that number */
-    NYR_DATAGRAM_ROOM = 52      /* output shorter than the datagram */
+    NYR_CANNOT_CUT = 50,       /* message not 1 to 65,560 bytes, piece not 1 to 65,503, or ID or counter out of range */
+    NYR_NO_PIECE = 51,         /* the message has no piece of that number */
+    NYR_DATAGRAM_ROOM = 52     /* output shorter than the datagram */
 };
 
-/* How many words, or bytes, a buffer must have at least. */
+/* How many words, or bytes, a buffer needs. */
 enum {
     NYR_JOINER_WORDS = 130,
     NYR_TAKE_ANSWER = 5,
-    NYR_COUNT_ANSWER = 1,       /* pieces, cut, write, unpack, pack */
+    NYR_COUNT_ANSWER = 1,      /* of pieces, cut, write, unpack and pack */
     NYR_READ_ANSWER = 6,
     NYR_SECTIONS_WORDS = 8,
     NYR_FIND_ANSWER = 3,
     NYR_PLATFORM_WORDS = 5,
     NYR_RECEIVE_ANSWER = 7,
-    NYR_REPLY_BYTES = 24,       /* one reply */
-    NYR_REPLIES_BYTES = 48      /* the most that one message is owed: with so much room nyr_receive is never NYR_NO_ROOM */
+    NYR_REPLY_BYTES = 24,      /* one reply */
+    NYR_REPLIES_BYTES = 48     /* the most that one message is owed */
 };
 
 /* Limits. */
@@ -86,158 +89,166 @@ enum {
     NYR_LARGEST_MESSAGE = 65560 /* that is cut */
 };
 
-/* ---- Joining: one channel for each sender ID (platform times 256 plus channel, 0 to 4,095), each with its own room ---- */
+/* ---- Joining: a channel for each sender ID (platform times 256 plus channel: 0 to 4,095), each with its own room. */
 
 /* What a datagram was to its channel. */
 enum {
-    NYR_REPEATED = 1,           /* the last one once more: nothing changed */
-    NYR_DELIVERED = 2,          /* it completed a message */
-    NYR_HELD = 3,               /* a piece of a message that is not yet whole */
-    NYR_STRAY = 4,              /* a piece whose message's start did not come */
-    NYR_TOO_LONG = 5            /* the message does not fit the room: dropped */
+    NYR_REPEATED = 1,          /* the last one once more: nothing changed */
+    NYR_DELIVERED = 2,         /* it completed a message */
+    NYR_HELD = 3,              /* a piece of a message that is not yet whole */
+    NYR_STRAY = 4,             /* a piece of a message whose start did not come */
+    NYR_TOO_LONG = 5           /* the message does not fit the room, and is dropped */
 };
 
 /* Where a delivered message lies. */
 enum { NYR_NOWHERE = 0, NYR_IN_DATAGRAM = 1, NYR_IN_ROOMS = 2 };
 
 /*
- * Makes a joiner for `channels` sender IDs, over a buffer of `rooms_length` bytes with `room` bytes for each channel, in order.
- *   20  not 1 to 32 channels; room not 24 to 65,560; rooms_length not channels times room; an ID twice, or above 4,095.
- * Leaves in joiner, all 130 words: [0] the channel count, [1] the room size, and for channel k from 2 + 4k on its sender ID,
- * whether a datagram was seen (0 or 1), the last counter, and the bytes held; 0 in records of no channel. The rooms' bytes may be any.
+ * Makes a joiner for so many sender IDs, over rooms_length bytes with `room` bytes for each channel, in order.
+ *   20  not 1 to 32 channels; room not 24 to 65,560; rooms_length not channels times room; an ID twice or above 4,095.
+ * Leaves in joiner, 130 words: [0] the channel count, [1] the room size, and from 2 + 4k on channel k's sender ID,
+ * whether a datagram was seen (0 or 1), the last counter, and the bytes held; 0 for channels that are not there.
+ * The rooms' bytes may be any.
  */
 uint32_t nyr_setup(const uint16_t *ids, size_t channels, uint32_t room, size_t rooms_length,
                    uint32_t *joiner, size_t joiner_words);
 
 /*
  * Takes one datagram.
- *   20  words that are no joiner for these rooms: what nyr_setup refuses, seen not 0 or 1, a last counter above 65,535, or more
- *       bytes held than a room has. 21, 22, 23 for the datagram.
- * answer: [0] what it was, NYR_REPEATED to NYR_TOO_LONG; [1] how many datagrams of its channel were missed before it; [2] the
- * bytes held or delivered, else 0; [3] where the delivered message lies; [4] from which byte there.
- * Writes the record of its own channel alone, and in the rooms the piece alone. A message in the rooms is good until the next
- * nyr_take on them, one in the datagram as long as the datagram is.
+ *   20  words that are no joiner for these rooms: sizes or IDs that nyr_setup refuses, seen not 0 or 1, a last counter
+ *       above 65,535, more bytes held than a room has, too few words.
+ *   21, 22, 23 for the datagram.
+ * answer: [0] what it was, NYR_REPEATED to NYR_TOO_LONG; [1] how many datagrams of its channel were missed before it;
+ * [2] the bytes held or delivered, else 0; [3] where the delivered message lies; [4] from which byte there.
+ * Writes no record but its channel's, and in the rooms nothing but the piece. A message in the rooms is good until
+ * the next nyr_take on them.
  */
 uint32_t nyr_take(uint32_t *joiner, size_t joiner_words, uint8_t *rooms, size_t rooms_length,
                   const uint8_t *datagram, size_t datagram_length, uint64_t *answer, size_t answer_words);
 
-/* ---- Cutting ---- */
+/* ---- Cutting. */
 
 /* How many pieces a message of that length is cut into.  50.  answer: [0] the count. */
 uint32_t nyr_pieces(size_t message_length, size_t piece_size, uint64_t *answer, size_t answer_words);
 
 /*
- * Writes the datagram of one piece, numbered from 0, at the start of out: its header and up to piece_size bytes. The first
- * piece's counter is first_counter (0 to 65,535), and each next one is one more, round 65,536.
+ * Writes the datagram of one piece, numbered from 0, at the start of out: its header, and up to piece_size bytes. The
+ * first piece has first_counter (0 to 65,535), each next one more; 65,535 is followed by 0.
  *   50, 51, 52.  answer: [0] the bytes written.
  */
 uint32_t nyr_cut(const uint8_t *message, size_t message_length, size_t piece_size, size_t sender, size_t first_counter,
                  size_t piece, uint8_t *out, size_t out_length, uint64_t *answer, size_t answer_words);
 
-/* ---- Messages; own is this platform's number ---- */
+/* ---- Messages. `own` is this platform's number. */
 
-/* What a message is: answer [0] of nyr_read. */
+/* What a message is. */
 enum {
-    NYR_STATUS = 1,             /* value: 0 DOWN, 1 UP */
-    NYR_REQUEST = 2,            /* of our status; value 0 */
-    NYR_UNKNOWN_OPERATION = 3,  /* value: the ID that the sender does not know */
-    NYR_PULL = 4,               /* value: the ID of the versioned data that is asked for, or NYR_ALL_DATA */
-    NYR_OPERATION = 5           /* value: its ID */
+    NYR_STATUS = 1,            /* value: 0 DOWN, 1 UP */
+    NYR_REQUEST = 2,           /* of our status; value: 0 */
+    NYR_UNKNOWN_OPERATION = 3, /* value: the ID that the sender does not know */
+    NYR_PULL = 4,              /* value: the ID of the versioned data that is asked for, or NYR_ALL_DATA */
+    NYR_OPERATION = 5          /* value: its ID */
 };
-
-/* For the argument domain of nyr_write. */
-enum { NYR_PLATFORM_DOMAIN = 0, NYR_OPERATION_DOMAIN = 1 };
 
 #define NYR_ALL_DATA UINT32_C(0xFFFFFFFF)
 
+/* For nyr_write. */
+enum { NYR_PLATFORM_DOMAIN = 0, NYR_OPERATION_DOMAIN = 1 };
+
 /*
  * Reads a message.  1 to 9.
- * answer: [0] what it is; [1] its value; [2] the sending platform; [3] the sequence number; [4] the byte at which the payload
- * starts; [5] its length.
+ * answer: [0] what it is; [1] its value; [2] the sending platform; [3] the sequence number; [4] the byte at which the
+ * payload starts; [5] the payload's length.
  */
 uint32_t nyr_read(uint8_t own, const uint8_t *message, size_t message_length, uint64_t *answer, size_t answer_words);
 
 /*
- * Writes a message of this platform at the start of out; id is that of an operation, or in domain 0 the kind above (1 to 4).
+ * Writes a message of this platform at the start of out. The ID is an operation's, or in domain 0 what the message is.
  *   4, 5, 7 to 10.  answer: [0] the bytes written.
  */
-uint32_t nyr_write(uint8_t own, uint8_t domain, uint32_t id, uint32_t sequence, const uint8_t *payload, size_t payload_length,
-                   uint8_t *out, size_t out_length, uint64_t *answer, size_t answer_words);
+uint32_t nyr_write(uint8_t own, uint8_t domain, uint32_t id, uint32_t sequence, const uint8_t *payload,
+                   size_t payload_length, uint8_t *out, size_t out_length, uint64_t *answer, size_t answer_words);
 
-/* ---- Type tables ---- */
+/* ---- Type tables. */
 
-/* An operation's kind, and the type of one that carries none. */
+/* An operation's kind, and the type of one without a payload. */
 enum { NYR_EVENT = 0, NYR_VERSIONED_DATA = 1, NYR_NO_PAYLOAD = 0xFFFF };
 
 /*
  * Checks a table.  30 to 33.
- * sections: first byte and count of the types, then of the members, the values and the operations. With them the calls that end
- * in _in spare the check: for a table that it accepted they answer as their namesakes do. On other bytes or sections they are as
- * safe, and give 30 where the sections do not lie in the table and 32 where an entry that they meet breaks a rule.
+ * Leaves in sections: first byte and count of the types, then of the members, the values, the operations. The calls
+ * that end in _in take them and spare the check: for a table that it accepted they answer as their namesakes do. For
+ * others they are as safe; they give 30 where the sections do not lie in the table, and 32 for an entry that they
+ * meet and that breaks a rule.
  */
 uint32_t nyr_check_table(const uint8_t *table, size_t table_length, uint64_t *sections, size_t sections_words);
 
-/* Looks an operation up.  30.  answer: [0] 1 if the table has it, else 0; [1] its kind; [2] its type; 0 and 0 where it has not. */
-uint32_t nyr_find(const uint8_t *table, size_t table_length, const uint64_t *sections, size_t sections_words, uint32_t id,
-                  uint64_t *answer, size_t answer_words);
+/* Looks an operation up.  30.  answer: [0] 1 if the table has it, else 0; [1] its kind and [2] its type, else 0. */
+uint32_t nyr_find(const uint8_t *table, size_t table_length, const uint64_t *sections, size_t sections_words,
+                  uint32_t id, uint64_t *answer, size_t answer_words);
 
-/* ---- Payloads: one 64-bit word for each leaf, left to right, and one for each array's count, before its elements ---- */
+/* ---- Payloads: a 64-bit word for each leaf, left to right, and one for each array's count, before its elements. */
 
 /*
- * Unpacks a payload of the table's type of that number into words: integers sign- or zero-extended, floats as their bits,
+ * Unpacks a payload of the table's type of that number: integers sign- or zero-extended, floats as their bits,
  * booleans 0 or 1.
- *   30 to 33 for the table first; then 44; then 40, 42 or 43, the first met from the left; then 41; then 45.
- * answer: [0] how many words were given, from words' start on.
+ *   30 to 33 for the table; then 44; then 40, 42 or 43, the first met from the left; then 41; then 45.
+ * answer: [0] how many words were given, from the start of words on.
  */
-uint32_t nyr_unpack(const uint8_t *table, size_t table_length, uint16_t type, const uint8_t *payload, size_t payload_length,
-                    uint64_t *words, size_t words_length, uint64_t *answer, size_t answer_words);
+uint32_t nyr_unpack(const uint8_t *table, size_t table_length, uint16_t type, const uint8_t *payload,
+                    size_t payload_length, uint64_t *words, size_t words_length, uint64_t *answer,
+                    size_t answer_words);
 
 uint32_t nyr_unpack_in(const uint8_t *table, size_t table_length, const uint64_t *sections, size_t sections_words,
-                       uint16_t type, const uint8_t *payload, size_t payload_length, uint64_t *words, size_t words_length,
-                       uint64_t *answer, size_t answer_words);
+                       uint16_t type, const uint8_t *payload, size_t payload_length, uint64_t *words,
+                       size_t words_length, uint64_t *answer, size_t answer_words);
 
 /* Packs words into a payload: the other way round, with the same numbers.  answer: [0] how many bytes were given. */
 uint32_t nyr_pack(const uint8_t *table, size_t table_length, uint16_t type, const uint64_t *words, size_t words_length,
                   uint8_t *out, size_t out_length, uint64_t *answer, size_t answer_words);
 
-uint32_t nyr_pack_in(const uint8_t *table, size_t table_length, const uint64_t *sections, size_t sections_words, uint16_t type,
-                     const uint64_t *words, size_t words_length, uint8_t *out, size_t out_length, uint64_t *answer,
-                     size_t answer_words);
+uint32_t nyr_pack_in(const uint8_t *table, size_t table_length, const uint64_t *sections, size_t sections_words,
+                     uint16_t type, const uint64_t *words, size_t words_length, uint8_t *out, size_t out_length,
+                     uint64_t *answer, size_t answer_words);
 
-/* ---- Platforms: which of the 256 are UP, and what they are owed ---- */
+/* ---- Platforms: which of the 256 are UP, and what they are owed. */
 
-/* What a message was: answer [0] of nyr_receive. */
+/* What a message was. */
 enum {
-    NYR_HEARD_STATUS = 1,       /* value: 0 DOWN, 1 UP */
-    NYR_HEARD_REQUEST = 2,      /* answered with our status */
-    NYR_HEARD_UNKNOWN = 3,      /* value: an ID that the sender does not know; nothing is owed */
-    NYR_HEARD_PULL_ALL = 4,     /* all versioned data: the caller sends it */
-    NYR_HEARD_PULL_ONE = 5,     /* value: the ID, entry: its number in the table; the caller sends it */
-    NYR_HEARD_PULL_NONE = 6,    /* value: an ID that is no versioned data here: answered */
-    NYR_HEARD_OPERATION = 7,    /* value: the ID; entry and payload are given */
-    NYR_HEARD_NOT_IN_TABLE = 8  /* value: the ID: answered */
+    NYR_HEARD_STATUS = 1,      /* value: 0 DOWN, 1 UP; answered where its sender was DOWN and is UP */
+    NYR_HEARD_REQUEST = 2,     /* answered with our status */
+    NYR_HEARD_UNKNOWN = 3,     /* value: an ID that the sender does not know; nothing is owed */
+    NYR_HEARD_PULL_ALL = 4,    /* all versioned data is asked for: the caller sends it */
+    NYR_HEARD_PULL_ONE = 5,    /* value: the ID that is asked for; entry is given, and the caller sends it */
+    NYR_HEARD_PULL_NONE = 6,   /* value: an ID that is no versioned data here; answered */
+    NYR_HEARD_OPERATION = 7,   /* value: the ID; entry and payload are given */
+    NYR_HEARD_NOT_IN_TABLE = 8 /* value: the ID; answered */
 };
 
-/* A fresh state: this platform UP, all others DOWN. Leaves in platform: four words, in which platform k is bit k % 64 of word
- * k / 64, and the next own sequence number. */
+/*
+ * A fresh state: this platform UP, all others DOWN.
+ * Leaves in platform: four words, in which platform k is bit k % 64 of word k / 64, and the next own sequence number,
+ * whose low 32 bits count. Any words are a state.
+ */
 uint32_t nyr_platform(uint8_t own, uint64_t *platform, size_t platform_words);
 
 /*
- * Reads a message, notes the state that it tells, and writes the replies that its sender is owed at the start of out, one behind
- * another, each of NYR_REPLY_BYTES.
- *   30 to 33 for the table first; then 1 to 9 for the message; then 10 where the replies do not fit.
- * answer: [0] what it was; [1] its value, else 0; [2] the sender, to whom the replies go; [3] the number of the operation's
- * entry in the table, else 0; [4], [5] start and length of an operation's payload in the message, else 0; [6] reply bytes written.
+ * Reads a message, notes the state that it tells, and writes the replies that its sender is owed at the start of out,
+ * one behind another, each of NYR_REPLY_BYTES.
+ *   30 to 33 for the table; then 1 to 9 for the message; then 10 where the replies do not fit.
+ * answer: [0] what it was; [1] its value, else 0; [2] the sender, to whom the replies go; [3] the number of the
+ * operation's entry, else 0; [4] and [5] where an operation's payload starts in the message and its length, else 0;
+ * [6] the bytes of replies written.
  */
 uint32_t nyr_receive(uint8_t own, uint64_t *platform, size_t platform_words, const uint8_t *table, size_t table_length,
                      const uint8_t *message, size_t message_length, uint8_t *out, size_t out_length, uint64_t *answer,
                      size_t answer_words);
 
-uint32_t nyr_receive_in(uint8_t own, uint64_t *platform, size_t platform_words, const uint8_t *table, size_t table_length,
-                        const uint64_t *sections, size_t sections_words, const uint8_t *message, size_t message_length,
-                        uint8_t *out, size_t out_length, uint64_t *answer, size_t answer_words);
+uint32_t nyr_receive_in(uint8_t own, uint64_t *platform, size_t platform_words, const uint8_t *table,
+                        size_t table_length, const uint64_t *sections, size_t sections_words, const uint8_t *message,
+                        size_t message_length, uint8_t *out, size_t out_length, uint64_t *answer, size_t answer_words);
 
-/* 1 where that platform is UP, else 0. This platform always is. No refusal: of a state that is too short, 0. */
+/* 1 where that platform is UP, else 0. This platform always is. A word that is not there counts as 0. */
 uint32_t nyr_is_up(uint8_t own, const uint64_t *platform, size_t platform_words, uint8_t platform_number);
 
 /* How many of the 256 are UP, this one counted. */

@@ -2,7 +2,9 @@
 
 use crate::measure::{opaque, Calls, Case};
 use crate::ours;
-use crate::pair::{joiner_words, platform_words, read_words, receive_words, sections_words, take_words, OWN};
+use crate::pair::{
+    joiner_words, platform_words, read_words, receive_words, sections_words, take_words, OWN,
+};
 use crate::tables::{self, message, put_binding_header, Random};
 use bench::plain::joiner::{Joiner, Outcome};
 use bench::plain::message::Message;
@@ -15,7 +17,8 @@ use bench::plain::{binding, message as plain_message, payload, types};
 type Take = fn(&mut Joiner, &mut [u8], &[u8]) -> Result<Outcome, u32>;
 type Cut = fn(&[u8], usize, usize, usize, usize, &mut [u8]) -> Result<usize, u32>;
 type Read = for<'m> fn(u8, &'m [u8]) -> Result<Message<'m>, u32>;
-type Receive = for<'m> fn(&mut Platform, &[u8], &Sections, &'m [u8], &mut [u8]) -> Result<Answer<'m>, u32>;
+type Receive =
+    for<'m> fn(&mut Platform, &[u8], &Sections, &'m [u8], &mut [u8]) -> Result<Answer<'m>, u32>;
 type Unpack = fn(&[u8], &Sections, u16, &[u8], &mut [u64]) -> Result<usize, u32>;
 type Pack = fn(&[u8], &Sections, u16, &[u64], &mut [u8]) -> Result<usize, u32>;
 type Check = fn(&[u8]) -> Result<Sections, u32>;
@@ -41,37 +44,83 @@ pub fn all() -> Vec<Named> {
         }
     }
     for piece in [64, 1_400, 60_000] {
-        add(&format!("cut pieces of {}", digits(piece)), Box::new(move || cutting(piece)));
+        add(
+            &format!("cut pieces of {}", digits(piece)),
+            Box::new(move || cutting(piece)),
+        );
     }
-    add("read the header of an operation", Box::new(|| reading(&operation(3))));
-    add("read a status", Box::new(|| reading(&message(0, 2, 1, 7, &[0, 0, 0, 1]))));
+    add(
+        "read the header of an operation",
+        Box::new(|| reading(&operation(3))),
+    );
+    add(
+        "read a status",
+        Box::new(|| reading(&message(0, 2, 1, 7, &[0, 0, 0, 1]))),
+    );
     let few = tables::record_of_all;
     let many = || tables::large_table(64, 1_000);
-    add("platform call, status with no change", Box::new(move || receiving(&few(), &message(0, 2, 1, 7, &[0; 4]))));
-    add("platform call, status request", Box::new(move || receiving(&few(), &message(0, 2, 2, 7, &[]))));
-    add("platform call, operation, 16 in the table", Box::new(move || receiving(&few(), &operation(3))));
-    add("platform call, operation, last of 1,000", Box::new(move || receiving(&many(), &operation(999))));
+    add(
+        "platform call, status with no change",
+        Box::new(move || receiving(&few(), &message(0, 2, 1, 7, &[0; 4]))),
+    );
+    add(
+        "platform call, status request",
+        Box::new(move || receiving(&few(), &message(0, 2, 2, 7, &[]))),
+    );
+    add(
+        "platform call, operation, 16 in the table",
+        Box::new(move || receiving(&few(), &operation(3))),
+    );
+    add(
+        "platform call, operation, last of 1,000",
+        Box::new(move || receiving(&many(), &operation(999))),
+    );
     let types: [(&str, fn() -> (Vec<u8>, u16, Vec<u64>)); 3] = [
         ("record of 64 uint16", || {
-            (tables::record_of_uint16(), 1, (0..64).map(|i| i * 1_000).collect())
+            (
+                tables::record_of_uint16(),
+                1,
+                (0..64).map(|i| i * 1_000).collect(),
+            )
         }),
-        ("record of 64, mixed codes", || (tables::record_of_all(), 14, tables::words_of_all())),
+        ("record of 64, mixed codes", || {
+            (tables::record_of_all(), 14, tables::words_of_all())
+        }),
         ("array of 1,000 float32", || {
             let floats = (0..1_000).map(|i| u64::from((i as f32 * 1.25).to_bits()));
-            (tables::array_of_floats(), 1, std::iter::once(1_000).chain(floats).collect())
+            (
+                tables::array_of_floats(),
+                1,
+                std::iter::once(1_000).chain(floats).collect(),
+            )
         }),
     ];
     for (name, value) in types {
-        add(&format!("unpack {name}"), Box::new(move || unpacking(value())));
+        add(
+            &format!("unpack {name}"),
+            Box::new(move || unpacking(value())),
+        );
         add(&format!("pack {name}"), Box::new(move || packing(value())));
     }
-    add("check a table of 64 types, 64 operations", Box::new(|| checking(tables::large_table(64, 64))));
-    add("check a table of 256 types, 1,024 operations", Box::new(|| checking(tables::large_table(256, 1_024))));
+    add(
+        "check a table of 64 types, 64 operations",
+        Box::new(|| checking(tables::large_table(64, 64))),
+    );
+    add(
+        "check a table of 256 types, 1,024 operations",
+        Box::new(|| checking(tables::large_table(256, 1_024))),
+    );
     cases
 }
 
 fn operation(entry: u32) -> Vec<u8> {
-    message(1, 2, tables::operations(entry + 1)[entry as usize].0, 7, &[3; 32])
+    message(
+        1,
+        2,
+        tables::operations(entry + 1)[entry as usize].0,
+        7,
+        &[3; 32],
+    )
 }
 
 /// One stream of datagrams, the channels by turns: messages of four pieces, or where two do not fit a room their first alone.
@@ -116,24 +165,32 @@ fn joining(channels: u16, piece: usize) -> Case {
     assert_eq!(state, joiner_words(&joiner));
     for _ in 0..40 * channels {
         stream.next();
-        assert_eq!(ours::take(&mut state, &mut rooms, &stream.datagram, &mut answer), 0);
+        assert_eq!(
+            ours::take(&mut state, &mut rooms, &stream.datagram, &mut answer),
+            0
+        );
         let outcome = joiner.take(&mut plain_rooms, &stream.datagram).unwrap();
         assert_eq!(answer, take_words(outcome));
         assert_eq!(state, joiner_words(&joiner));
     }
     assert!(rooms == plain_rooms);
-    let (mut plain_stream, mut bare_stream, mut bare_rooms) = (stream.clone(), stream.clone(), rooms.clone());
+    let (mut plain_stream, mut bare_stream, mut bare_rooms) =
+        (stream.clone(), stream.clone(), rooms.clone());
     let bare: Calls = Box::new(move |count| {
         for _ in 0..count {
             let channel = bare_stream.next();
-            opaque(&mut bare_rooms[channel * room..][..piece]).copy_from_slice(&bare_stream.datagram[4..]);
+            opaque(&mut bare_rooms[channel * room..][..piece])
+                .copy_from_slice(&bare_stream.datagram[4..]);
         }
     });
     Case {
         ours: Box::new(move |count| {
             for _ in 0..count {
                 stream.next();
-                assert_eq!(ours::take(&mut state, &mut rooms, &stream.datagram, &mut answer), 0);
+                assert_eq!(
+                    ours::take(&mut state, &mut rooms, &stream.datagram, &mut answer),
+                    0
+                );
             }
         }),
         plain: Box::new(move |count| {
@@ -154,7 +211,10 @@ fn cutting(piece: usize) -> Case {
     let mut plain_out = out.clone();
     let mut answer = [0];
     for i in 0..count {
-        assert_eq!(ours::cut(&bytes, piece, 0x102, 65_530, i, &mut out, &mut answer), 0);
+        assert_eq!(
+            ours::cut(&bytes, piece, 0x102, 65_530, i, &mut out, &mut answer),
+            0
+        );
         let length = binding::cut(&bytes, piece, 0x102, 65_530, i, &mut plain_out).unwrap();
         assert_eq!(answer[0], length as u64);
         assert!(out == plain_out);
@@ -163,7 +223,10 @@ fn cutting(piece: usize) -> Case {
     Case {
         ours: Box::new(move |calls| {
             for _ in 0..calls {
-                assert_eq!(ours::cut(&bytes, piece, 0x102, 65_530, at, &mut out, &mut answer), 0);
+                assert_eq!(
+                    ours::cut(&bytes, piece, 0x102, 65_530, at, &mut out, &mut answer),
+                    0
+                );
                 at = if at + 1 == count { 0 } else { at + 1 };
             }
         }),
@@ -171,7 +234,11 @@ fn cutting(piece: usize) -> Case {
             let cut = opaque(binding::cut as Cut);
             for _ in 0..calls {
                 assert!(cut(&plain_bytes, piece, 0x102, 65_530, plain_at, &mut plain_out).is_ok());
-                plain_at = if plain_at + 1 == count { 0 } else { plain_at + 1 };
+                plain_at = if plain_at + 1 == count {
+                    0
+                } else {
+                    plain_at + 1
+                };
             }
         }),
         bare: None,
@@ -181,7 +248,10 @@ fn cutting(piece: usize) -> Case {
 fn reading(bytes: &[u8]) -> Case {
     let mut answer = [0; 6];
     assert_eq!(ours::read(OWN, bytes, &mut answer), 0);
-    assert_eq!(answer, read_words(&plain_message::read(OWN, bytes).unwrap()));
+    assert_eq!(
+        answer,
+        read_words(&plain_message::read(OWN, bytes).unwrap())
+    );
     let (bytes, plain_bytes) = (bytes.to_vec(), bytes.to_vec());
     Case {
         ours: Box::new(move |count| {
@@ -212,8 +282,13 @@ fn receiving(table: &[u8], bytes: &[u8]) -> Case {
     let (mut state, mut answer, mut out, mut plain_out) = ([0; 5], [0; 7], [0; 48], [0; 48]);
     assert_eq!(ours::platform(OWN, &mut state), 0);
     let mut platform = Platform::new(OWN);
-    assert_eq!(ours::receive_in(OWN, &mut state, table, &words, bytes, &mut out, &mut answer), 0);
-    let heard = platform.receive_in(table, &sections, bytes, &mut plain_out).unwrap();
+    assert_eq!(
+        ours::receive_in(OWN, &mut state, table, &words, bytes, &mut out, &mut answer),
+        0
+    );
+    let heard = platform
+        .receive_in(table, &sections, bytes, &mut plain_out)
+        .unwrap();
     assert_eq!(answer, receive_words(&heard));
     assert_eq!(out, plain_out);
     assert_eq!(state.to_vec(), platform_words(&platform));
@@ -222,13 +297,31 @@ fn receiving(table: &[u8], bytes: &[u8]) -> Case {
     Case {
         ours: Box::new(move |count| {
             for _ in 0..count {
-                assert_eq!(ours::receive_in(OWN, &mut state, &table, &words, &bytes, &mut out, &mut answer), 0);
+                assert_eq!(
+                    ours::receive_in(
+                        OWN,
+                        &mut state,
+                        &table,
+                        &words,
+                        &bytes,
+                        &mut out,
+                        &mut answer
+                    ),
+                    0
+                );
             }
         }),
         plain: Box::new(move |count| {
             let receive = opaque(Platform::receive_in as Receive);
             for _ in 0..count {
-                assert!(receive(&mut platform, &plain_table, &sections, &plain_bytes, &mut plain_out).is_ok());
+                assert!(receive(
+                    &mut platform,
+                    &plain_table,
+                    &sections,
+                    &plain_bytes,
+                    &mut plain_out
+                )
+                .is_ok());
             }
         }),
         bare: None,
@@ -237,10 +330,24 @@ fn receiving(table: &[u8], bytes: &[u8]) -> Case {
 
 fn packed(table: &[u8], number: u16, words: &[u64]) -> ([u64; 8], Sections, Vec<u8>) {
     let (section_words, sections) = checked(table);
-    let (mut bytes, mut plain_bytes, mut answer) = (vec![0; 8 * words.len()], vec![0; 8 * words.len()], [0]);
-    assert_eq!(ours::pack_in(table, &section_words, number, words, &mut bytes, &mut answer), 0);
+    let (mut bytes, mut plain_bytes, mut answer) =
+        (vec![0; 8 * words.len()], vec![0; 8 * words.len()], [0]);
+    assert_eq!(
+        ours::pack_in(
+            table,
+            &section_words,
+            number,
+            words,
+            &mut bytes,
+            &mut answer
+        ),
+        0
+    );
     let length = answer[0] as usize;
-    assert_eq!(payload::pack_in(table, &sections, number, words, &mut plain_bytes), Ok(length));
+    assert_eq!(
+        payload::pack_in(table, &sections, number, words, &mut plain_bytes),
+        Ok(length)
+    );
     assert_eq!(bytes, plain_bytes);
     bytes.truncate(length);
     (section_words, sections, bytes)
@@ -249,20 +356,53 @@ fn packed(table: &[u8], number: u16, words: &[u64]) -> ([u64; 8], Sections, Vec<
 fn unpacking((table, number, words): (Vec<u8>, u16, Vec<u64>)) -> Case {
     let (section_words, sections, bytes) = packed(&table, number, &words);
     let (mut out, mut plain_out, mut answer) = (vec![0; words.len()], vec![0; words.len()], [0]);
-    assert_eq!(ours::unpack_in(&table, &section_words, number, &bytes, &mut out, &mut answer), 0);
-    assert_eq!(payload::unpack_in(&table, &sections, number, &bytes, &mut plain_out), Ok(words.len()));
-    assert_eq!((answer[0], &out, &plain_out), (words.len() as u64, &words, &words));
+    assert_eq!(
+        ours::unpack_in(
+            &table,
+            &section_words,
+            number,
+            &bytes,
+            &mut out,
+            &mut answer
+        ),
+        0
+    );
+    assert_eq!(
+        payload::unpack_in(&table, &sections, number, &bytes, &mut plain_out),
+        Ok(words.len())
+    );
+    assert_eq!(
+        (answer[0], &out, &plain_out),
+        (words.len() as u64, &words, &words)
+    );
     let (plain_table, plain_bytes) = (table.clone(), bytes.clone());
     Case {
         ours: Box::new(move |count| {
             for _ in 0..count {
-                assert_eq!(ours::unpack_in(&table, &section_words, number, &bytes, &mut out, &mut answer), 0);
+                assert_eq!(
+                    ours::unpack_in(
+                        &table,
+                        &section_words,
+                        number,
+                        &bytes,
+                        &mut out,
+                        &mut answer
+                    ),
+                    0
+                );
             }
         }),
         plain: Box::new(move |count| {
             let unpack = opaque(payload::unpack_in as Unpack);
             for _ in 0..count {
-                assert!(unpack(&plain_table, &sections, number, &plain_bytes, &mut plain_out).is_ok());
+                assert!(unpack(
+                    &plain_table,
+                    &sections,
+                    number,
+                    &plain_bytes,
+                    &mut plain_out
+                )
+                .is_ok());
             }
         }),
         bare: None,
@@ -276,13 +416,30 @@ fn packing((table, number, words): (Vec<u8>, u16, Vec<u64>)) -> Case {
     Case {
         ours: Box::new(move |count| {
             for _ in 0..count {
-                assert_eq!(ours::pack_in(&table, &section_words, number, &words, &mut out, &mut answer), 0);
+                assert_eq!(
+                    ours::pack_in(
+                        &table,
+                        &section_words,
+                        number,
+                        &words,
+                        &mut out,
+                        &mut answer
+                    ),
+                    0
+                );
             }
         }),
         plain: Box::new(move |count| {
             let pack = opaque(payload::pack_in as Pack);
             for _ in 0..count {
-                assert!(pack(&plain_table, &sections, number, &plain_words, &mut plain_out).is_ok());
+                assert!(pack(
+                    &plain_table,
+                    &sections,
+                    number,
+                    &plain_words,
+                    &mut plain_out
+                )
+                .is_ok());
             }
         }),
         bare: None,

@@ -2,7 +2,10 @@
 //! So the plain program makes each check that the proved one makes.
 
 use crate::ours;
-use crate::pair::{joiner_of, joiner_words, platform_words, read_words, receive_words, sections_of, sections_words, take_words, OWN};
+use crate::pair::{
+    joiner_of, joiner_words, platform_words, read_words, receive_words, sections_of,
+    sections_words, take_words, OWN,
+};
 use crate::tables::{self, message, put_binding_header, Random};
 use bench::plain::joiner::Joiner;
 use bench::plain::platform::Platform;
@@ -26,7 +29,11 @@ fn spoil(bytes: &mut Vec<u8>, random: &mut Random) {
         _ => {
             for _ in 0..1 + random.below(2) {
                 let at = random.below(bytes.len());
-                bytes[at] = if random.below(2) == 0 { random.next() as u8 } else { random.below(4) as u8 };
+                bytes[at] = if random.below(2) == 0 {
+                    random.next() as u8
+                } else {
+                    random.below(4) as u8
+                };
             }
         }
     }
@@ -62,7 +69,12 @@ fn joining(count: usize, random: &mut Random) {
         let length = 5 + random.below(60);
         let mut datagram = random.bytes(length);
         let (part, ahead) = (random.below(4) as u8, [1, 1, 1, 0, 2][random.below(5)]);
-        put_binding_header(&mut datagram, part, state[k] as u16, (state[k + 2] + ahead) as u16);
+        put_binding_header(
+            &mut datagram,
+            part,
+            state[k] as u16,
+            (state[k + 2] + ahead) as u16,
+        );
         if random.below(8) == 0 {
             spoil(&mut datagram, random);
         }
@@ -101,7 +113,15 @@ fn cutting(count: usize, random: &mut Random) {
         let piece = random.below(6);
         let mut out = vec![0; random.below(120)];
         let (mut plain_out, mut answer) = (out.clone(), [0]);
-        let number = ours::cut(&bytes[..length], size, sender, first, piece, &mut out, &mut answer);
+        let number = ours::cut(
+            &bytes[..length],
+            size,
+            sender,
+            first,
+            piece,
+            &mut out,
+            &mut answer,
+        );
         match binding::cut(&bytes[..length], size, sender, first, piece, &mut plain_out) {
             Ok(written) => assert_eq!((number, answer[0]), (0, written as u64)),
             Err(refused) => assert_eq!(number, refused),
@@ -112,10 +132,24 @@ fn cutting(count: usize, random: &mut Random) {
 
 fn any_message(random: &mut Random) -> Vec<u8> {
     let domain = random.below(2) as u8;
-    let id = if random.below(2) == 0 { random.below(6) as u32 } else { 0x100 + random.below(60) as u32 };
+    let id = if random.below(2) == 0 {
+        random.below(6) as u32
+    } else {
+        0x100 + random.below(60) as u32
+    };
     let field = [0, 1, 2, 0x103, u32::MAX][random.below(5)];
-    let payload = if domain == 0 && id == 2 { Vec::new() } else { field.to_be_bytes().to_vec() };
-    let mut bytes = message(domain, random.below(4) as u32, id, random.next() as u32, &payload);
+    let payload = if domain == 0 && id == 2 {
+        Vec::new()
+    } else {
+        field.to_be_bytes().to_vec()
+    };
+    let mut bytes = message(
+        domain,
+        random.below(4) as u32,
+        id,
+        random.next() as u32,
+        &payload,
+    );
     if random.below(4) == 0 {
         spoil(&mut bytes, random);
     }
@@ -138,7 +172,11 @@ fn tables_and_payloads(count: usize, random: &mut Random) {
     let good = [
         (tables::record_of_uint16(), 1, vec![500; 64]),
         (tables::record_of_all(), 14, tables::words_of_all()),
-        (tables::array_of_floats(), 1, vec![4, 0, 1, 0x8000_0000, 0x7F7F_FFFF]),
+        (
+            tables::array_of_floats(),
+            1,
+            vec![4, 0, 1, 0x8000_0000, 0x7F7F_FFFF],
+        ),
         (tables::large_table(16, 3), 3, vec![1, 1, 1, 1, 1]),
         (tables::large_table(16, 3), 6, vec![0, 5, 0, 5]),
     ];
@@ -169,7 +207,14 @@ fn tables_and_payloads(count: usize, random: &mut Random) {
         }
         let mut bytes = vec![0; random.below(20) * random.below(30)];
         let (mut plain_bytes, mut answer) = (bytes.clone(), [0]);
-        let refused = ours::pack_in(&table, &section_words, *number, &input, &mut bytes, &mut answer);
+        let refused = ours::pack_in(
+            &table,
+            &section_words,
+            *number,
+            &input,
+            &mut bytes,
+            &mut answer,
+        );
         match payload::pack_in(&table, &sections, *number, &input, &mut plain_bytes) {
             Ok(gave) => assert_eq!((refused, answer[0]), (0, gave as u64)),
             Err(number) => assert_eq!(refused, number),
@@ -183,7 +228,14 @@ fn tables_and_payloads(count: usize, random: &mut Random) {
             }
             let mut out = vec![0; random.below(80)];
             let mut plain_out = out.clone();
-            let refused = ours::unpack_in(&table, &section_words, *number, &payload_bytes, &mut out, &mut answer);
+            let refused = ours::unpack_in(
+                &table,
+                &section_words,
+                *number,
+                &payload_bytes,
+                &mut out,
+                &mut answer,
+            );
             match payload::unpack_in(&table, &sections, *number, &payload_bytes, &mut plain_out) {
                 Ok(gave) => assert_eq!((refused, answer[0]), (0, gave as u64)),
                 Err(number) => assert_eq!(refused, number),
@@ -194,7 +246,10 @@ fn tables_and_payloads(count: usize, random: &mut Random) {
 }
 
 fn receiving(count: usize, random: &mut Random) {
-    let tables = [tables::record_of_all(), tables::table(&[[0, 8, 0, 0]], &[], &[], &[(0x103, 0, 0xFFFF)])];
+    let tables = [
+        tables::record_of_all(),
+        tables::table(&[[0, 8, 0, 0]], &[], &[], &[(0x103, 0, 0xFFFF)]),
+    ];
     let mut state = [0; 5];
     assert_eq!(ours::platform(OWN, &mut state), 0);
     let mut platform = Platform::new(OWN);
@@ -206,9 +261,24 @@ fn receiving(count: usize, random: &mut Random) {
             words[random.below(8)] = random.below(1_000) as u64;
         }
         let bytes = any_message(random);
-        let mut out = vec![0; if random.below(4) == 0 { random.below(50) } else { 48 }];
+        let mut out = vec![
+            0;
+            if random.below(4) == 0 {
+                random.below(50)
+            } else {
+                48
+            }
+        ];
         let (mut plain_out, mut answer) = (out.clone(), [0; 7]);
-        let number = ours::receive_in(OWN, &mut state, table, &words, &bytes, &mut out, &mut answer);
+        let number = ours::receive_in(
+            OWN,
+            &mut state,
+            table,
+            &words,
+            &bytes,
+            &mut out,
+            &mut answer,
+        );
         match platform.receive_in(table, &sections_of(&words), &bytes, &mut plain_out) {
             Ok(heard) if words == sections_words(&sections) => {
                 assert_eq!((number, answer), (0, receive_words(&heard)))

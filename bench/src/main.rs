@@ -23,9 +23,13 @@ fn main() {
         [] => table(),
         ["compare", count, seed] => {
             equal::compare(number(count), number(seed) as u64);
-            println!("both programs gave the same on {count} inputs of each family from seed {seed}");
+            println!(
+                "both programs gave the same on {count} inputs of each family from seed {seed}"
+            );
         }
-        ["list"] => cases::all().iter().for_each(|case| println!("{}", case.name)),
+        ["list"] => cases::all()
+            .iter()
+            .for_each(|case| println!("{}", case.name)),
         ["calls", case, side, count] => {
             let all = cases::all();
             let case = (all.get(number(case)).unwrap_or_else(|| usage()).make)();
@@ -52,8 +56,13 @@ fn table() {
     println!("|---|---:|---:|---:|---:|---:|");
     for case in cases::all() {
         let times = measure::measure(&mut (case.make)());
-        let bare = times.bare.map_or("| ".to_string(), |copy| format!("{copy:.1} | {:.2}", times.ours / copy));
+        let bare = times.bare.map_or("| ".to_string(), |copy| {
+            format!("{copy:.1} | {:.2}", times.ours / copy)
+        });
         let ratio = times.ours / times.plain;
-        println!("| {} | {:.1} | {:.1} | {ratio:.2} | {bare} |", case.name, times.ours, times.plain);
+        println!(
+            "| {} | {:.1} | {:.1} | {ratio:.2} | {bare} |",
+            case.name, times.ours, times.plain
+        );
     }
 }

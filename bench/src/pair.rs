@@ -98,7 +98,11 @@ pub fn platform_words(platform: &Platform) -> Vec<u64> {
 
 pub fn sections_words(s: &Sections) -> [u64; 8] {
     let mut words = [0; 8];
-    for (two, section) in words.chunks_exact_mut(2).zip([s.types, s.members, s.values, s.operations]) {
+    for (two, section) in
+        words
+            .chunks_exact_mut(2)
+            .zip([s.types, s.members, s.values, s.operations])
+    {
         two[0] = section.at as u64;
         two[1] = section.count as u64;
     }

@@ -1,7 +1,10 @@
 //! What the cases are made of: tables, messages, datagrams, and a random number.
 
 pub fn be(numbers: &[u16]) -> Vec<u8> {
-    numbers.iter().flat_map(|number| number.to_be_bytes()).collect()
+    numbers
+        .iter()
+        .flat_map(|number| number.to_be_bytes())
+        .collect()
 }
 
 pub struct Random(pub u64);
@@ -25,13 +28,20 @@ impl Random {
 }
 
 /// A table of these types (kind, of, first, count), members, values and operations (ID, kind, type).
-pub fn table(types: &[[u16; 4]], members: &[u16], values: &[u64], operations: &[(u32, u16, u16)]) -> Vec<u8> {
+pub fn table(
+    types: &[[u16; 4]],
+    members: &[u16],
+    values: &[u64],
+    operations: &[(u32, u16, u16)],
+) -> Vec<u8> {
     let mut bytes = be(&[types.len() as u16]);
     types.iter().for_each(|entry| bytes.extend(be(entry)));
     bytes.extend(be(&[members.len() as u16]));
     bytes.extend(be(members));
     bytes.extend(be(&[values.len() as u16]));
-    values.iter().for_each(|value| bytes.extend(value.to_be_bytes()));
+    values
+        .iter()
+        .for_each(|value| bytes.extend(value.to_be_bytes()));
     bytes.extend(be(&[operations.len() as u16]));
     for (id, kind, of) in operations {
         bytes.extend(id.to_be_bytes());
@@ -41,12 +51,19 @@ pub fn table(types: &[[u16; 4]], members: &[u16], values: &[u64], operations: &[
 }
 
 pub fn operations(count: u32) -> Vec<(u32, u16, u16)> {
-    (0..count).map(|i| (0x100 + 3 * i, (i % 2) as u16, 0)).collect()
+    (0..count)
+        .map(|i| (0x100 + 3 * i, (i % 2) as u16, 0))
+        .collect()
 }
 
 /// Type 1: a record of 64 uint16.
 pub fn record_of_uint16() -> Vec<u8> {
-    table(&[[0, 8, 0, 0], [2, 0, 0, 64]], &[0; 64], &[], &operations(16))
+    table(
+        &[[0, 8, 0, 0], [2, 0, 0, 64]],
+        &[0; 64],
+        &[],
+        &operations(16),
+    )
 }
 
 /// Types 0 to 12 are the base codes, type 13 an enum of uint8, and type 14 a record of 64, each type in turn.

@@ -29,9 +29,10 @@ static int missing(void)
 
 int main(int argc, char **argv)
 {
-    static void (*const families[])(void) = {fuzz_setup, fuzz_take, fuzz_take, fuzz_take, fuzz_take, fuzz_take, fuzz_take,
-        fuzz_take, fuzz_cut, fuzz_read, fuzz_read, fuzz_write, fuzz_receive, fuzz_receive, fuzz_receive, fuzz_table, fuzz_unpack,
-        fuzz_unpack, fuzz_pack, fuzz_pack};
+    static void (*const families[])(void) = {fuzz_setup, fuzz_take,   fuzz_take,    fuzz_take,    fuzz_take,
+                                             fuzz_take,  fuzz_take,   fuzz_take,    fuzz_cut,     fuzz_read,
+                                             fuzz_read,  fuzz_write,  fuzz_receive, fuzz_receive, fuzz_receive,
+                                             fuzz_table, fuzz_unpack, fuzz_unpack,  fuzz_pack,    fuzz_pack};
     uint64_t most = argc > 1 ? strtoull(argv[1], NULL, 10) : 0, from = argc > 2 ? strtoull(argv[2], NULL, 10) : 1;
     if (most == 0) {
         fprintf(stderr, "usage: %s CALLS [SEED]\n", argv[0]);

@@ -8,12 +8,12 @@
 /* Randomness, the same for one seed with every compiler: no expression draws twice in an order that C leaves open. */
 void seed(uint64_t from);
 uint64_t any(void);
-uint64_t narrow(void);                  /* any number, of any width */
-size_t below(size_t limit);             /* 0 to limit - 1 */
+uint64_t narrow(void);      /* any number, of any width */
+size_t below(size_t limit); /* 0 to limit - 1 */
 int one_in(size_t times);
-size_t near(size_t right);              /* mostly right; sometimes one off, 0, small, or anything */
-size_t about(size_t needed);            /* a length: mostly just as needed, sometimes shorter, sometimes longer */
-void scramble(uint8_t *bytes, size_t length);   /* a few bytes changed */
+size_t near(size_t right);                    /* mostly right; sometimes one off, 0, small, or anything */
+size_t about(size_t needed);                  /* a length: mostly just as needed, sometimes shorter, sometimes longer */
+void scramble(uint8_t *bytes, size_t length); /* a few bytes changed */
 void fill(void *bytes, size_t length);
 
 /* A buffer that is lent: its end, or its start, stands against a page that may not be touched. */
@@ -52,7 +52,9 @@ typedef struct {
 } Table;
 
 void make_table(Table *table);
-size_t make_words(const Table *table, size_t type, uint64_t *words, size_t room);   /* 0 where they would not fit */
+/* Whether so many words could be the sections of a table of so many bytes. */
+int lie_in(const uint64_t *sections, size_t words, size_t bytes);
+size_t make_words(const Table *table, size_t type, uint64_t *words, size_t room); /* 0 where they would not fit */
 
 /* One or more calls of each family, with their checks. */
 void fuzz_setup(void);

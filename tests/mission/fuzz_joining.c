@@ -75,13 +75,15 @@ void fuzz_setup(void)
         expect(number == NYR_NO_ROOM, "too few words, and not 10");
         return;
     }
-    expect((number == 0) == (good_sizes(channels, room, length) && good_ids(wide, channels, 1)), "20 at the wrong place");
+    expect((number == 0) == (good_sizes(channels, room, length) && good_ids(wide, channels, 1)),
+           "20 at the wrong place");
     if (number != 0)
         return;
     expect(out[0] == channels && out[1] == room, "the joiner's sizes");
     for (size_t k = 0; k < NYR_CHANNELS; k++) {
         const uint32_t *record = out + FIRST + RECORD * k;
-        expect(record[0] == (k < channels ? wide[k] : 0) && !record[1] && !record[2] && !record[3], "a record is not fresh");
+        expect(record[0] == (k < channels ? wide[k] : 0) && !record[1] && !record[2] && !record[3],
+               "a record is not fresh");
     }
     memcpy(joiner, out, sizeof joiner);
     rooms_length = length;
@@ -113,7 +115,8 @@ static size_t make_datagram(void)
 
 static int is_joiner(const uint32_t *words, size_t count, size_t length)
 {
-    if (count < NYR_JOINER_WORDS || !good_sizes(words[0], words[1], length) || !good_ids(words + FIRST, words[0], RECORD))
+    if (count < NYR_JOINER_WORDS || !good_sizes(words[0], words[1], length) ||
+        !good_ids(words + FIRST, words[0], RECORD))
         return 0;
     for (size_t k = 0; k < words[0]; k++) {
         const uint32_t *record = words + FIRST + RECORD * k;
@@ -124,15 +127,15 @@ static int is_joiner(const uint32_t *words, size_t count, size_t length)
 }
 
 /* What an accepted datagram left: its outcome, its record, its bytes of the rooms, and a joiner that the next take accepts. */
-static void check_taken(const uint32_t *before, const uint32_t *after, const uint8_t *after_rooms, const uint8_t *rooms_before,
-                        size_t length, const uint64_t *answer)
+static void check_taken(const uint32_t *before, const uint32_t *after, const uint8_t *after_rooms,
+                        const uint8_t *rooms_before, size_t length, const uint64_t *answer)
 {
     size_t sender = (size_t)(datagram[0] & 15) << 8 | datagram[1], counter = (size_t)datagram[2] << 8 | datagram[3];
     size_t piece = length - NYR_DATAGRAM_HEADER, k = 0, room = before[1], start;
     uint64_t missed;
     while (before[FIRST + RECORD * k] != sender)
         k++;
-    const uint32_t *old = before + FIRST + RECORD * k, *new = after + FIRST + RECORD * k;
+    const uint32_t *old = before + FIRST + RECORD * k, *new = after + FIRST + RECORD *k;
     missed = old[1] ? (counter + 65536 - old[2] - 1) % 65536 : 0;
     start = k * room;
     for (size_t i = 0; i < NYR_JOINER_WORDS; i++)
@@ -140,10 +143,11 @@ static void check_taken(const uint32_t *before, const uint32_t *after, const uin
     expect(answer[0] >= NYR_REPEATED && answer[0] <= NYR_TOO_LONG, "no such outcome");
     outcomes_met |= N(answer[0]) | (answer[3] == NYR_IN_ROOMS ? N(0) : 0);
     if (answer[0] == NYR_REPEATED) {
-        expect(old[1] && old[2] == counter && memcmp(before, after, sizeof joiner) == 0, "repeated, and something changed");
+        expect(old[1] && old[2] == counter && memcmp(before, after, sizeof joiner) == 0,
+               "repeated, and something changed");
         missed = 0;
     } else {
-        expect(new[0] == sender && new[1] == 1 && new[2] == counter, "the counter is not noted");
+        expect(new[0] == sender &&new[1] == 1 && new[2] == counter, "the counter is not noted");
     }
     expect(answer[1] == missed, "missed");
     expect((answer[0] == NYR_DELIVERED) == (answer[3] != NYR_NOWHERE), "only a delivered message lies somewhere");
@@ -176,7 +180,8 @@ void fuzz_take(void)
 {
     static uint32_t before[NYR_JOINER_WORDS + 16];
     uint64_t numbers = N(10) | N(20) | N(21) | N(22) | N(23);
-    size_t words = about(NYR_JOINER_WORDS), length = rooms_length, datagram_length = make_datagram(), answers = about(NYR_TAKE_ANSWER);
+    size_t words = about(NYR_JOINER_WORDS), length = rooms_length, datagram_length = make_datagram(),
+           answers = about(NYR_TAKE_ANSWER);
     uint32_t number;
     int good;
     fill(before, sizeof before);
@@ -198,8 +203,9 @@ void fuzz_take(void)
     may_change(JOINER, 0, words, sizeof *state);
     may_change(ROOMS, 0, length, 1);
     may_change(ANSWER, 0, answers < NYR_TAKE_ANSWER ? 0 : NYR_TAKE_ANSWER, sizeof *answer);
-    number = called(nyr_take(state, words, lent_rooms, length, lent_datagram, datagram_length, answer, answers), numbers);
-    if (words < NYR_JOINER_WORDS || answers < NYR_TAKE_ANSWER) {
+    number =
+        called(nyr_take(state, words, lent_rooms, length, lent_datagram, datagram_length, answer, answers), numbers);
+    if (answers < NYR_TAKE_ANSWER) {
         expect(number == NYR_NO_ROOM, "too few words, and not 10");
         return;
     }
@@ -222,7 +228,8 @@ void fuzz_take(void)
            "a joiner that take left is no joiner");
 }
 
-static void check_cut(const uint8_t *out, size_t written, size_t length, size_t size, size_t sender, size_t first, size_t piece)
+static void check_cut(const uint8_t *out, size_t written, size_t length, size_t size, size_t sender, size_t first,
+                      size_t piece)
 {
     size_t count = (length + size - 1) / size, rest = length - piece * size, bytes = rest < size ? rest : size;
     size_t part = count == 1 ? 3 : piece == 0 ? 0 : piece + 1 == count ? 2 : 1;
@@ -235,7 +242,8 @@ static void check_cut(const uint8_t *out, size_t written, size_t length, size_t 
 void fuzz_cut(void)
 {
     size_t length = near(1 + below(one_in(50) ? NYR_LARGEST_MESSAGE : 900)) % sizeof message;
-    size_t size = near(1 + below(one_in(8) ? NYR_LARGEST_PIECE : 400)), sender = near(below(4096)), first = near(below(65536));
+    size_t size = near(1 + below(one_in(8) ? NYR_LARGEST_PIECE : 400)), sender = near(below(4096)),
+           first = near(below(65536));
     size_t answers = about(NYR_COUNT_ANSWER), count = size == 0 ? 1 : length / size + (length % size != 0);
     size_t piece = near(below(count + 1)), room = near(NYR_DATAGRAM_HEADER + (size < length ? size : length)) % 140000;
     int can = 1 <= length && length <= NYR_LARGEST_MESSAGE && 1 <= size && size <= NYR_LARGEST_PIECE;

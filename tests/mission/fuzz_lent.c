@@ -113,7 +113,8 @@ void lent_start(void)
     for (int b = 0; b < BUFFERS; b++) {
         uint8_t *pages = mmap(NULL, ROOM + 2 * page, PROT_NONE, MAP_PRIVATE | MAP_ANONYMOUS, -1, 0);
         lents[b].before = malloc(ROOM);
-        if (pages == MAP_FAILED || mprotect(pages + page, ROOM, PROT_READ | PROT_WRITE) != 0 || lents[b].before == NULL) {
+        if (pages == MAP_FAILED || mprotect(pages + page, ROOM, PROT_READ | PROT_WRITE) != 0 ||
+            lents[b].before == NULL) {
             puts("fuzz: no memory");
             exit(2);
         }

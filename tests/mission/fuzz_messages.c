@@ -31,7 +31,9 @@ static int too_few(uint32_t number, int few)
 
 static uint32_t make_id(void)
 {
-    return one_in(2) ? (uint32_t)below(7) : table.operations > 0 && !one_in(4) ? table.ids[below(table.operations)] : (uint32_t)any();
+    return one_in(2)                            ? (uint32_t)below(7)
+           : table.operations > 0 && !one_in(4) ? table.ids[below(table.operations)]
+                                                : (uint32_t)any();
 }
 
 /* A message that is mostly good, from mostly another platform. */
@@ -124,8 +126,8 @@ static int is_up(const uint64_t *states, uint8_t own, uint64_t k)
     return k == own || (states[k / 64] >> k % 64 & 1);
 }
 
-static void check_received(uint8_t own, const uint64_t *before, const uint64_t *after, size_t length, const uint8_t *out,
-                           const uint64_t *answer)
+static void check_received(uint8_t own, const uint64_t *before, const uint64_t *after, size_t length,
+                           const uint8_t *out, const uint64_t *answer)
 {
     int was = is_up(before, own, answer[2]), is = is_up(after, own, answer[2]);
     uint64_t owed = 0;
@@ -133,7 +135,8 @@ static void check_received(uint8_t own, const uint64_t *before, const uint64_t *
     heard_met |= N(answer[0]);
     expect(answer[2] < 256 && answer[2] != own, "the sender");
     for (uint64_t k = 0; k < 4; k++)
-        expect((before[k] ^ after[k]) == (was != is && k == answer[2] / 64 ? UINT64_C(1) << answer[2] % 64 : 0), "another state");
+        expect((before[k] ^ after[k]) == (was != is && k == answer[2] / 64 ? UINT64_C(1) << answer[2] % 64 : 0),
+               "another state");
     if (answer[0] == NYR_HEARD_STATUS) {
         expect(answer[1] < 2 && is == (int)answer[1], "the state is not noted");
         owed = !was && is ? NYR_REPLIES_BYTES : 0;
@@ -149,13 +152,15 @@ static void check_received(uint8_t own, const uint64_t *before, const uint64_t *
                    answer[5] == length - NYR_MESSAGE_HEADER,
                "an operation outside table or message");
     else
-        expect(!answer[4] && !answer[5] && (answer[0] == NYR_HEARD_PULL_ONE || !answer[3]), "a payload of no operation");
+        expect(!answer[4] && !answer[5] && (answer[0] == NYR_HEARD_PULL_ONE || !answer[3]),
+               "a payload of no operation");
     for (size_t at = 0; at < owed; at += NYR_REPLY_BYTES) {
         uint64_t read[NYR_READ_ANSWER];
         calls++;
         expect(nyr_read((uint8_t)answer[2], out + at, NYR_REPLY_BYTES, read, NYR_READ_ANSWER) == 0 && read[2] == own,
                "a reply that its receiver refuses");
-        expect(owed == NYR_REPLIES_BYTES ? read[3] == (uint32_t)(before[4] + at / NYR_REPLY_BYTES) : read[3] == be32(message + 16),
+        expect(owed == NYR_REPLIES_BYTES ? read[3] == (uint32_t)(before[4] + at / NYR_REPLY_BYTES)
+                                         : read[3] == be32(message + 16),
                "a reply with another number");
     }
 }
@@ -169,7 +174,7 @@ void fuzz_receive(void)
     size_t words = about(NYR_PLATFORM_WORDS), answers = about(NYR_RECEIVE_ANSWER), sections = about(NYR_SECTIONS_WORDS);
     size_t room = one_in(8) ? below(60) : NYR_REPLIES_BYTES + below(3), length, bytes;
     uint64_t before[32], numbers = READING | N(10) | N(30) | N(31) | N(32) | N(33);
-    uint32_t number, again;
+    uint32_t number = 0, again;
     int good = !one_in(12);
     if (one_in(20) || table.length == 0)
         make_table(&table);
@@ -185,7 +190,8 @@ void fuzz_receive(void)
     before[4] &= UINT32_MAX;
     for (int in = 0; in < 2; in++) {
         calling(in ? "nyr_receive_in" : "nyr_receive");
-        uint64_t *state = lend(PLATFORM, before, words, sizeof *state), *answer = lend(ANSWER, NULL, answers, sizeof *answer);
+        uint64_t *state = lend(PLATFORM, before, words, sizeof *state),
+                 *answer = lend(ANSWER, NULL, answers, sizeof *answer);
         uint8_t *lent_table = lend(TABLE, spoilt, bytes, 1), *lent_message = lend(MESSAGE, message, length, 1);
         uint8_t *out = lend(OUT, NULL, room, 1);
         uint64_t lent_sections[32], *lent_to;
@@ -194,14 +200,16 @@ void fuzz_receive(void)
         lent_to = lend(SECTIONS, lent_sections, sections, sizeof *lent_to);
         may_change(PLATFORM, 0, words < NYR_PLATFORM_WORDS ? 0 : NYR_PLATFORM_WORDS, sizeof *state);
         may_change(ANSWER, 0, answers < NYR_RECEIVE_ANSWER ? 0 : NYR_RECEIVE_ANSWER, sizeof *answer);
-        again = in ? nyr_receive_in(own, state, words, lent_table, bytes, lent_to, sections, lent_message, length, out, room,
-                                    answer, answers)
-                   : nyr_receive(own, state, words, lent_table, bytes, lent_message, length, out, room, answer, answers);
+        again =
+            in ? nyr_receive_in(own, state, words, lent_table, bytes, lent_to, sections, lent_message, length, out,
+                                room, answer, answers)
+               : nyr_receive(own, state, words, lent_table, bytes, lent_message, length, out, room, answer, answers);
         if (again == 0 && answers >= NYR_RECEIVE_ANSWER && answer[6] <= room)
             may_change(OUT, 0, (size_t)answer[6], 1);
         called(again, numbers);
-        if (too_few(again, words < NYR_PLATFORM_WORDS || answers < NYR_RECEIVE_ANSWER || (in && sections < NYR_SECTIONS_WORDS)))
+        if (too_few(again, words < NYR_PLATFORM_WORDS || answers < NYR_RECEIVE_ANSWER))
             return;
+        expect(!in || (again == NYR_TABLE_LENGTH) == !lie_in(table.sections, sections, bytes), "30 at the wrong place");
         if (!in) {
             number = again;
             if (number == 0) {
@@ -210,10 +218,11 @@ void fuzz_receive(void)
                 memcpy(after, state, sizeof after);
                 memcpy(stored, out, (size_t)answer[6]);
             }
-        } else if (good) {
+        } else if (good && sections >= NYR_SECTIONS_WORDS) {
             expect(number == again, "by sections another number");
-            expect(number != 0 || (memcmp(first, answer, sizeof first) == 0 && memcmp(after, state, sizeof after) == 0 &&
-                                   memcmp(stored, out, (size_t)first[6]) == 0),
+            expect(number != 0 ||
+                       (memcmp(first, answer, sizeof first) == 0 && memcmp(after, state, sizeof after) == 0 &&
+                        memcmp(stored, out, (size_t)first[6]) == 0),
                    "by sections another answer");
         }
     }
@@ -226,18 +235,19 @@ void fuzz_states(void)
     uint8_t own = (uint8_t)any();
     size_t words = about(NYR_PLATFORM_WORDS);
     uint64_t states[32];
-    uint32_t up = 0;
+    uint32_t number, up = 0;
     calling("nyr_platform");
     uint64_t *state = lend(PLATFORM, NULL, words, sizeof *state);
     may_change(PLATFORM, 0, words < NYR_PLATFORM_WORDS ? 0 : NYR_PLATFORM_WORDS, sizeof *state);
-    if (called(nyr_platform(own, state, words), N(10)) == 0) {
+    number = called(nyr_platform(own, state, words), N(10));
+    too_few(number, words < NYR_PLATFORM_WORDS);
+    if (number == 0) {
         for (uint64_t k = 0; k < 4; k++)
             expect(state[k] == (k == own / 64 ? UINT64_C(1) << own % 64 : 0), "a fresh state");
         expect(state[4] == 0, "own numbers do not start at 0");
         if (one_in(4))
             memcpy(platform, state, sizeof platform);
     }
-    too_few(words < NYR_PLATFORM_WORDS ? NYR_NO_ROOM : 0, words < NYR_PLATFORM_WORDS);
     fill(states, sizeof states);
     words = NYR_PLATFORM_WORDS + below(3);
     for (unsigned k = 0; k < 256; k++) {
@@ -252,14 +262,19 @@ void fuzz_states(void)
     state = lend(PLATFORM, states, words, sizeof *state);
     expect(nyr_how_many_up(own, state, words) == up, "how many are up");
     called(0, 0);
-    /* A state that is too short: an answer, whatever it is, and nothing touched. */
+    /* Words that are not there count as 0. */
     words = below(NYR_PLATFORM_WORDS);
+    uint8_t asked = (uint8_t)any();
+    memset(states + words, 0, sizeof states - words * sizeof *states);
     calling("nyr_is_up, of too few words");
     state = lend(PLATFORM, states, words, sizeof *state);
-    expect(nyr_is_up(own, state, words, (uint8_t)any()) <= 1, "neither 0 nor 1");
+    expect(nyr_is_up(own, state, words, asked) == (uint32_t)is_up(states, own, asked), "is_up");
     called(0, 0);
+    up = 0;
+    for (unsigned k = 0; k < 256; k++)
+        up += (uint32_t)is_up(states, own, k);
     calling("nyr_how_many_up, of too few words");
     state = lend(PLATFORM, states, words, sizeof *state);
-    expect(nyr_how_many_up(own, state, words) <= 256, "more than there are");
+    expect(nyr_how_many_up(own, state, words) == up, "how many are up");
     called(0, 0);
 }

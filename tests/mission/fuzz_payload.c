@@ -18,8 +18,9 @@ static void make_sections(uint64_t *sections, size_t room)
     fill(sections, room * sizeof *sections);
     memcpy(sections, table.sections, sizeof table.sections);
     if (one_in(16)) {
+        static const uint64_t edges[] = {257, 1025, 65536, UINT64_C(1) << 32};
         size_t at = below(8);
-        sections[at] = one_in(2) ? below(21000) : narrow();
+        sections[at] = one_in(2) ? edges[below(4)] : one_in(2) ? below(21000) : narrow();
     }
     if (one_in(64))
         fill(sections, room * sizeof *sections);
@@ -68,15 +69,29 @@ void fuzz_table(void)
     uint64_t *answer = lend(ANSWER, NULL, answers, sizeof *answer);
     may_change(ANSWER, 0, answers < NYR_FIND_ANSWER ? 0 : NYR_FIND_ANSWER, sizeof *answer);
     number = called(nyr_find(lent, bytes, out, room, id, answer, answers), N(10) | N(30));
-    expect((number == NYR_NO_ROOM) == (room < NYR_SECTIONS_WORDS || answers < NYR_FIND_ANSWER), "10 at the wrong place");
+    expect((number == NYR_NO_ROOM) == (answers < NYR_FIND_ANSWER), "10 at the wrong place");
+    expect(number == NYR_NO_ROOM || (number == NYR_TABLE_LENGTH) == !lie_in(sections, room, bytes),
+           "30 at the wrong place");
     if (number != 0 || !good || memcmp(sections, table.sections, sizeof table.sections) != 0)
         return;
     size_t there = 0;
     for (size_t i = 0; i < table.operations; i++)
         there += table.ids[i] == id;
     expect(answer[0] == there, "not found, or found where it is not");
-    expect(!there || (answer[1] <= 1 && (answer[2] < table.types || (answer[2] == NYR_NO_PAYLOAD && answer[1] == 0))), "its kind or type");
+    expect(!there || (answer[1] <= 1 && (answer[2] < table.types || (answer[2] == NYR_NO_PAYLOAD && answer[1] == 0))),
+           "its kind or type");
     expect(there || (answer[1] == 0 && answer[2] == 0), "kind or type of nothing");
+}
+
+/* Words that were given are a value: they pack, to as many bytes as they came from. */
+static void check_value(size_t type, size_t count, size_t length)
+{
+    uint64_t answer[1];
+    calling("nyr_pack_in, of what was unpacked");
+    expect(nyr_pack_in(table.bytes, table.length, table.sections, 8, (uint16_t)type, first_words, count, first_bytes,
+                       MOST_BYTES, answer, 1) == 0 &&
+               answer[0] == length,
+           "unpacked words are no value");
 }
 
 /* The words of a value, and through nyr_pack_in its payload: both right, before anything is spoilt. */
@@ -87,8 +102,8 @@ static size_t make_payload(size_t type, size_t *count)
     if (*count == 0)
         return 0;
     calling("nyr_pack_in, of a value");
-    calls++;
-    expect(nyr_pack_in(table.bytes, table.length, table.sections, 8, (uint16_t)type, words, *count, payload, MOST_BYTES, answer, 1) == 0,
+    expect(nyr_pack_in(table.bytes, table.length, table.sections, 8, (uint16_t)type, words, *count, payload, MOST_BYTES,
+                       answer, 1) == 0,
            "a value is refused");
     return (size_t)answer[0];
 }
@@ -113,36 +128,43 @@ void fuzz_unpack(void)
         scramble(table.bytes, table.length);
     }
     make_sections(sections, 32);
-    same = !spoilt && memcmp(sections, table.sections, sizeof table.sections) == 0;
+    same =
+        !spoilt && sections_room >= NYR_SECTIONS_WORDS && memcmp(sections, table.sections, sizeof table.sections) == 0;
     for (int in = 0; in < 2; in++) {
         calling(in ? "nyr_unpack_in" : "nyr_unpack");
         uint8_t *lent_table = lend(TABLE, table.bytes, table.length, 1), *lent = lend(PAYLOAD, payload, length, 1);
         uint64_t *lent_sections = lend(SECTIONS, sections, sections_room, sizeof *lent_sections);
         uint64_t *out = lend(WORDS, NULL, room, sizeof *out), *answer = lend(ANSWER, NULL, answers, sizeof *answer);
         may_change(ANSWER, 0, answers < 1 ? 0 : 1, sizeof *answer);
-        again = in ? nyr_unpack_in(lent_table, table.length, lent_sections, sections_room, (uint16_t)type, lent, length, out, room,
-                                   answer, answers)
+        again = in ? nyr_unpack_in(lent_table, table.length, lent_sections, sections_room, (uint16_t)type, lent, length,
+                                   out, room, answer, answers)
                    : nyr_unpack(lent_table, table.length, (uint16_t)type, lent, length, out, room, answer, answers);
         if (again == 0 && answers > 0 && answer[0] <= room)
             may_change(WORDS, 0, (size_t)answer[0], sizeof *out);
         called(again, CHECKING | WALKING | N(10));
-        if (answers < 1 || (in && sections_room < NYR_SECTIONS_WORDS)) {
+        if (answers < 1) {
             expect(again == NYR_NO_ROOM, "too few words, and not 10");
             return;
         }
+        expect(!in || (again == NYR_TABLE_LENGTH) == !lie_in(sections, sections_room, table.length),
+               "30 at the wrong place");
         if (again == 0)
             expect(answer[0] <= room && answer[0] <= length, "more words than bytes");
         if (whole && count > 0 && (in ? same : !spoilt))
-            expect(again == 0 && answer[0] == count && memcmp(out, words, count * sizeof *out) == 0, "not the words that were packed");
+            expect(again == 0 && answer[0] == count && memcmp(out, words, count * sizeof *out) == 0,
+                   "not the words that were packed");
         if (!in) {
             number = again;
             given = again == 0 ? answer[0] : 0;
             memcpy(first_words, out == NULL ? words : out, (size_t)given * sizeof *out);
         } else if (same) {
-            expect(again == number && (again != 0 || (answer[0] == given && memcmp(out, first_words, (size_t)given * sizeof *out) == 0)),
+            expect(again == number && (again != 0 || (answer[0] == given &&
+                                                      memcmp(out, first_words, (size_t)given * sizeof *out) == 0)),
                    "by sections another answer");
         }
     }
+    if (number == 0 && !spoilt)
+        check_value(type, (size_t)given, length);
 }
 
 void fuzz_pack(void)
@@ -166,33 +188,38 @@ void fuzz_pack(void)
         scramble(table.bytes, table.length);
     }
     make_sections(sections, 32);
-    same = !spoilt && memcmp(sections, table.sections, sizeof table.sections) == 0;
+    same =
+        !spoilt && sections_room >= NYR_SECTIONS_WORDS && memcmp(sections, table.sections, sizeof table.sections) == 0;
     for (int in = 0; in < 2; in++) {
         calling(in ? "nyr_pack_in" : "nyr_pack");
         uint8_t *lent_table = lend(TABLE, table.bytes, table.length, 1), *out = lend(OUT, NULL, room, 1);
         uint64_t *lent_sections = lend(SECTIONS, sections, sections_room, sizeof *lent_sections);
         uint64_t *lent = lend(WORDS, words, count, sizeof *lent), *answer = lend(ANSWER, NULL, answers, sizeof *answer);
         may_change(ANSWER, 0, answers < 1 ? 0 : 1, sizeof *answer);
-        again = in ? nyr_pack_in(lent_table, table.length, lent_sections, sections_room, (uint16_t)type, lent, count, out, room,
-                                 answer, answers)
+        again = in ? nyr_pack_in(lent_table, table.length, lent_sections, sections_room, (uint16_t)type, lent, count,
+                                 out, room, answer, answers)
                    : nyr_pack(lent_table, table.length, (uint16_t)type, lent, count, out, room, answer, answers);
         if (again == 0 && answers > 0 && answer[0] <= room)
             may_change(OUT, 0, (size_t)answer[0], 1);
         called(again, CHECKING | WALKING | N(10));
-        if (answers < 1 || (in && sections_room < NYR_SECTIONS_WORDS)) {
+        if (answers < 1) {
             expect(again == NYR_NO_ROOM, "too few words, and not 10");
             return;
         }
+        expect(!in || (again == NYR_TABLE_LENGTH) == !lie_in(sections, sections_room, table.length),
+               "30 at the wrong place");
         if (again == 0)
             expect(answer[0] <= room && answer[0] <= 8 * count, "more bytes than words can be");
         if (whole && count > 0 && (in ? same : !spoilt))
-            expect(again == 0 && answer[0] == length && memcmp(out, payload, length) == 0, "not the payload that was packed");
+            expect(again == 0 && answer[0] == length && memcmp(out, payload, length) == 0,
+                   "not the payload that was packed");
         if (!in) {
             number = again;
             given = again == 0 ? answer[0] : 0;
             memcpy(first_bytes, out == NULL ? payload : out, (size_t)given);
         } else if (same) {
-            expect(again == number && (again != 0 || (answer[0] == given && memcmp(out, first_bytes, (size_t)given) == 0)),
+            expect(again == number &&
+                       (again != 0 || (answer[0] == given && memcmp(out, first_bytes, (size_t)given) == 0)),
                    "by sections another answer");
         }
     }

@@ -16,7 +16,8 @@ static uint64_t make_word(unsigned code)
     case 1: return (uint64_t)(int64_t)(int8_t)edge;
     case 3: return (uint64_t)(int64_t)(int16_t)edge;
     case 4: return (uint64_t)(int64_t)(int32_t)edge;
-    case 5: case 10: return edge;
+    case 5:
+    case 10: return edge;
     case 8: return edge & 0xFFFF;
     case 9: return edge & 0xFFFFFFFF;
     case 11: return edge & 0x807FFFFF;
@@ -88,7 +89,7 @@ void make_table(Table *t)
     size_t sizes[256];
     uint32_t id = 0;
     t->members_count = t->values_count = t->length = 0;
-    t->types = one_in(40) ? 256 : 1 + below(12);
+    t->types = one_in(16) ? 256 : 1 + below(12);
     for (size_t i = 0; i < t->types; i++)
         sizes[i] = make_type(t, i, sizes);
     t->operations = below(one_in(8) ? 64 : 6);
@@ -121,6 +122,16 @@ void make_table(Table *t)
         t->sections[2 * s + 1] = counts[s];
         at += counts[s] * (s == 1 ? 2 : 8) + 2;
     }
+}
+
+int lie_in(const uint64_t *sections, size_t words, size_t bytes)
+{
+    static const size_t entry[4] = {8, 2, 8, 8}, most[4] = {256, 1024, 1024, 1024};
+    for (int s = 0; s < 4; s++)
+        if (words < NYR_SECTIONS_WORDS || sections[2 * s + 1] > most[s] || sections[2 * s] > bytes ||
+            sections[2 * s + 1] * entry[s] > bytes - sections[2 * s])
+            return 0;
+    return 1;
 }
 
 static int walk(const Table *t, size_t i, uint64_t *words, size_t room, size_t *at)

@@ -43,7 +43,8 @@ impl Header {
     }
 
     fn write(&self, out: &mut [u8]) {
-        let word = (self.part as u32) << 28 | u32::from(self.sender) << 16 | u32::from(self.counter);
+        let word =
+            (self.part as u32) << 28 | u32::from(self.sender) << 16 | u32::from(self.counter);
         out[..HEADER].copy_from_slice(&word.to_be_bytes());
     }
 }

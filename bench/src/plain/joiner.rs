@@ -61,7 +61,9 @@ impl Joiner {
         let channels = &self.channels[..self.count];
         let (mut good, mut rising, mut above) = (true, true, 0);
         for channel in channels {
-            good &= usize::from(channel.sender) < SENDERS && channel.held <= self.room && channel.last < COUNTERS;
+            good &= usize::from(channel.sender) < SENDERS
+                && channel.held <= self.room
+                && channel.last < COUNTERS;
             rising &= channel.sender >= above;
             above = channel.sender.wrapping_add(1);
         }

@@ -69,6 +69,7 @@ pub fn pack_in(
 }
 
 /// The word of a leaf's bytes.
+#[inline(always)]
 fn word(code: u16, bytes: &[u8]) -> u64 {
     match code {
         0 => u64::from(bytes[0] != 0),
@@ -82,6 +83,7 @@ fn word(code: u16, bytes: &[u8]) -> u64 {
     }
 }
 
+#[inline(always)]
 fn entry_of(table: &Table, i: usize) -> Result<Entry, u32> {
     let e = table.entry(i);
     if table.fields_ok(i, &e) {
@@ -131,7 +133,7 @@ impl Judge<'_> {
         Ok(())
     }
 
-    #[inline]
+    #[inline(always)]
     fn leaf(&mut self, e: &Entry) -> Result<(), u32> {
         let width = width(e.of);
         if self.rest.len() < width {
@@ -187,9 +189,9 @@ impl Judge<'_> {
             (ENUM, code) => run
                 .chunks_exact(width)
                 .all(|leaf| self.table.has_value(e, word(code, leaf))),
-            (_, 11) => run
-                .chunks_exact(4)
-                .fold(true, |good, leaf| good & allowed(11, u64::from(be32(leaf, 0)))),
+            (_, 11) => run.chunks_exact(4).fold(true, |good, leaf| {
+                good & allowed(11, u64::from(be32(leaf, 0)))
+            }),
             (_, 12) => run
                 .chunks_exact(8)
                 .fold(true, |good, leaf| good & allowed(12, be64(leaf, 0))),
@@ -235,7 +237,7 @@ impl Store<'_, '_> {
         }
     }
 
-    #[inline]
+    #[inline(always)]
     fn leaf(&mut self, code: u16) {
         let (leaf, rest) = self.rest.split_at(width(code));
         self.rest = rest;
@@ -321,7 +323,7 @@ impl Weigh<'_> {
         Ok(())
     }
 
-    #[inline]
+    #[inline(always)]
     fn leaf(&mut self, e: &Entry) -> Result<(), u32> {
         let (word, rest) = self.rest.split_first().ok_or(40u32)?;
         if !allowed(e.of, *word) || e.kind == ENUM && !self.table.has_value(e, *word) {
@@ -361,7 +363,8 @@ impl Weigh<'_> {
         let (run, rest) = self.rest.split_at(count.min(self.rest.len()));
         macro_rules! each {
             ($code:literal) => {
-                run.iter().fold(true, |good, word| good & allowed($code, *word))
+                run.iter()
+                    .fold(true, |good, word| good & allowed($code, *word))
             };
         }
         let good = match (e.kind, e.of) {
@@ -419,7 +422,7 @@ impl Lay<'_, '_> {
         }
     }
 
-    #[inline]
+    #[inline(always)]
     fn leaf(&mut self, code: u16) {
         let width = width(code);
         let (word, rest) = self.rest.split_first().unwrap();
@@ -428,9 +431,9 @@ impl Lay<'_, '_> {
         self.out = left;
         match width {
             1 => out[0] = *word as u8,
-            2 => out.copy_from_slice(&(*word as u16).to_be_bytes()),
-            4 => out.copy_from_slice(&(*word as u32).to_be_bytes()),
-            _ => out.copy_from_slice(&word.to_be_bytes()),
+            2 => out[..2].copy_from_slice(&(*word as u16).to_be_bytes()),
+            4 => out[..4].copy_from_slice(&(*word as u32).to_be_bytes()),
+            _ => out[..8].copy_from_slice(&word.to_be_bytes()),
         }
     }
 

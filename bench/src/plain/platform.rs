@@ -12,13 +12,19 @@ pub struct Platform {
 
 #[derive(Clone, Copy, Debug, PartialEq, Eq)]
 pub enum Heard<'a> {
-    Status { up: bool },
+    Status {
+        up: bool,
+    },
     Request,
     Unknown(u32),
     PullOfAll,
     PullOfOne(u32, usize),
     NotVersionedData(u32),
-    Operation { id: u32, entry: usize, payload: &'a [u8] },
+    Operation {
+        id: u32,
+        entry: usize,
+        payload: &'a [u8],
+    },
     NotInTable(u32),
 }
 
@@ -81,7 +87,9 @@ impl Platform {
             Kind::Unknown(id) => none(Heard::Unknown(id)),
             Kind::Pull(ALL) if table.has_data() => none(Heard::PullOfAll),
             Kind::Pull(id) => match table.find(id) {
-                Some(entry) if table.operation(entry).kind == 1 => none(Heard::PullOfOne(id, entry)),
+                Some(entry) if table.operation(entry).kind == 1 => {
+                    none(Heard::PullOfOne(id, entry))
+                }
                 _ => one(Heard::NotVersionedData(id), UNKNOWN, id),
             },
             Kind::Operation(id) => match table.find(id) {
@@ -100,7 +108,14 @@ impl Platform {
         for (place, (id, sequence, field)) in
             out.chunks_exact_mut(REPLY).zip(replies.iter().flatten())
         {
-            message::write(self.own, PLATFORM, *id, *sequence, &field.to_be_bytes(), place)?;
+            message::write(
+                self.own,
+                PLATFORM,
+                *id,
+                *sequence,
+                &field.to_be_bytes(),
+                place,
+            )?;
         }
         if let Kind::Status { up } = got.kind {
             self.note(got.sender, up);

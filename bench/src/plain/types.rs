@@ -98,6 +98,7 @@ impl<'a> Table<'a> {
         self.types.len() / 8
     }
 
+    #[inline(always)]
     pub fn entry(&self, i: usize) -> Entry {
         let word = be64(self.types, 8 * i);
         Entry {
@@ -153,6 +154,7 @@ impl<'a> Table<'a> {
     }
 
     /// The rules of an entry that need nothing but the entry.
+    #[inline(always)]
     pub fn fields_ok(&self, i: usize, e: &Entry) -> bool {
         let fits = |whole: &[u8], width: usize| {
             e.count >= 1 && usize::from(e.first) + usize::from(e.count) <= whole.len() / width
@@ -172,9 +174,7 @@ impl<'a> Table<'a> {
             return false;
         }
         match e.kind {
-            ENUM => {
-                self.values(&e).all(|value| allowed(e.of, value)) && distinct(self.values(&e))
-            }
+            ENUM => self.values(&e).all(|value| allowed(e.of, value)) && distinct(self.values(&e)),
             RECORD => self
                 .members(&e)
                 .chunks_exact(2)
