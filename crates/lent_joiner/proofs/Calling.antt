@@ -9,20 +9,20 @@ use mir.Syntax.{w64}
 use mir.Val.{Fits}
 use denote.Enum.Declared.{tagOf}
 use types.Run.{OneOf}
-use Rattle.joiner.proofs.Outcome.{the-type}
+use Rattle.payload.proofs.Calls.{the-type}
 use native.Mathlib.Omega.{arith}
 use borrow.Author.Tests.{leb-true}
 use lib.Dec.{leb}
 use lib.ListN.{length, getD}
 use Rattle.wire.specs.Bytes.{written}
 use Rattle.binding.specs.Header.{senderIn}
-use Rattle.joiner.specs.Setup.{channelLimit, newChannel, freshOf, refusedSetup, good, setupOf, sendersOf, placeOf, channelAt}
+use Rattle.channels.specs.Setup.{channelLimit, newChannel, freshOf, refusedSetup, good, setupOf, sendersOf, placeOf, channelAt}
 use Rattle.joiner.specs.Take.{judgedOf, takenBy, takenOf, roomsAfter}
 use Rattle.joiner.specs.Outcomes.{answerIn, refusalIn}
-use Rattle.joiner.specs.declared.Answer.{Answer}
-use Rattle.joiner.specs.declared.Answer.the-variants.{Accepted, Refused}
-use Rattle.joiner.specs.declared.Joiner.{Joiner}
-use Rattle.joiner.specs.declared.NewJoiner.{NewJoiner}
+use Rattle.channels.specs.declared.Answer.{Answer}
+use Rattle.channels.specs.declared.Answer.the-variants.{Accepted, Refused}
+use Rattle.channels.specs.declared.Joiner.{Joiner}
+use Rattle.channels.specs.declared.NewJoiner.{NewJoiner}
 use Rattle.joiner.specs.declared.Step.{Step}
 use Rattle.joiner.specs.declared.Judged.{Judged}
 use Rattle.joiner.specs.declared.Judged.the-variants.{Refusal, Move}
@@ -31,7 +31,7 @@ use Rattle.joiner.specs.declared.Place.the-variants.{Datagram, Rooms}
 use Rattle.joiner.specs.declared.Outcome.{Outcome}
 use Rattle.joiner.specs.declared.Outcome.the-variants as outcome
 use Rattle.joiner.specs.declared.Taken.{Taken}
-use Rattle.joiner.proofs.Places.{and-left}
+use Rattle.table.proofs.AllBelow.{and-left}
 use Rattle.joiner.proofs.Judging.{Moved, judged-moved, good-sizes}
 use Rattle.lent.specs.Words.{outputTooShort}
 use Rattle.lent.proofs.Answers.{short, long, none-written}

@@ -14,10 +14,10 @@ use lib.ListN.{length, getD, set, take, replicate, length-append}
 use lib.Seq.{take-suc, take-all, set-at, length-take-le}
 use Rattle.wire.specs.Bytes.{over, written}
 use Rattle.wire.proofs.Runs.{written-in, written-out, over-none, over-over, length-over}
-use Rattle.joiner.specs.Setup.{channelLimit, newChannel, freshOf}
-use Rattle.joiner.specs.declared.Channel.{Channel}
-use Rattle.joiner.specs.declared.Joiner.{Joiner}
-use Rattle.joiner.proofs.Places.{and-left, and-right}
+use Rattle.channels.specs.Setup.{channelLimit, newChannel, freshOf}
+use Rattle.channels.specs.declared.Channel.{Channel}
+use Rattle.channels.specs.declared.Joiner.{Joiner}
+use Rattle.table.proofs.AllBelow.{and-left, and-right}
 use Rattle.lent_joiner.specs.Words.{recordAt, joinerWords, senderLimit, seenLimit, recordIn, isRecord, areRecords, recordsIn, channelsIn, isJoiner, joinerIn, recordWords, recordsWords, wordsOf}
 
 -- one record

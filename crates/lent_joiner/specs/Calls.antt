@@ -4,13 +4,13 @@ use mathlib.Core.Bool.{cond}
 use mathlib.Core.List.{List, [], _∷_}
 use Rattle.wire.specs.Bytes.{written}
 use Rattle.binding.specs.Header.{senderIn}
-use Rattle.joiner.specs.Setup.{setupOf, sendersOf, placeOf, channelAt}
+use Rattle.channels.specs.Setup.{setupOf, sendersOf, placeOf, channelAt}
 use Rattle.joiner.specs.Take.{takenOf, roomsAfter}
 use Rattle.joiner.specs.Outcomes.{answerIn, refusalIn}
-use Rattle.joiner.specs.declared.Answer.{Answer}
-use Rattle.joiner.specs.declared.Answer.the-variants.{Accepted, Refused}
-use Rattle.joiner.specs.declared.Joiner.{Joiner}
-use Rattle.joiner.specs.declared.NewJoiner.{NewJoiner}
+use Rattle.channels.specs.declared.Answer.{Answer}
+use Rattle.channels.specs.declared.Answer.the-variants.{Accepted, Refused}
+use Rattle.channels.specs.declared.Joiner.{Joiner}
+use Rattle.channels.specs.declared.NewJoiner.{NewJoiner}
 use Rattle.joiner.specs.declared.Place.{Place}
 use Rattle.joiner.specs.declared.Place.the-variants.{Datagram, Rooms}
 use Rattle.joiner.specs.declared.Outcome.{Outcome}

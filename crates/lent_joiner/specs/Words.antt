@@ -5,9 +5,9 @@ use mathlib.Core.Bool.{Bool, true, false, _&&_, cond}
 use mathlib.Core.List.{List, [], _∷_, _++_}
 use lib.Dec.{leb, ltb, eqb}
 use lib.ListN.{length, getD, replicate}
-use Rattle.joiner.specs.Setup.{channelLimit, newChannel, freshOf}
-use Rattle.joiner.specs.declared.Channel.{Channel}
-use Rattle.joiner.specs.declared.Joiner.{Joiner}
+use Rattle.channels.specs.Setup.{channelLimit, newChannel, freshOf}
+use Rattle.channels.specs.declared.Channel.{Channel}
+use Rattle.channels.specs.declared.Joiner.{Joiner}
 
 -- where channel k's record starts; where the record behind the last would start is the count of words
 abbrev pub recordAt : ℕ → ℕ

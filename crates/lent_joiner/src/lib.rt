@@ -6,10 +6,10 @@ ghost use mathlib.Core.List.{[], _∷_};
 ghost use Prim.Native.Nat.{_≤_};
 ghost use Rattle.wire.specs.Bytes.{written};
 ghost use Rattle.binding.specs.Header.{senderIn};
-ghost use Rattle.joiner.specs.Setup.{channelLimit, sendersOf, placeOf};
+ghost use Rattle.channels.specs.Setup.{channelLimit, sendersOf, placeOf};
 ghost use Rattle.lent_joiner.specs.Calls.{setupNumber, setupWords, outcomeWords, takeNumber, takeWords, takeRooms, takeAnswer};
-use joiner::Answer;
-use joiner::Joiner;
+use channels::Answer;
+use channels::Joiner;
 use joiner::Outcome;
 use joiner::Place;
 
@@ -43,7 +43,7 @@ pub fn setup(ids: &[u16], room: u32, rooms: usize, state: &mut [u32]) -> u32
     if state.len() < JOINER_WORDS {
         return lent::OUTPUT_TOO_SHORT;
     }
-    let made = joiner::setup(ids, room, rooms);
+    let made = channels::setup(ids, room, rooms);
     let answer = made.answer;
     let joiner = made.joiner;
     match answer {

@@ -1,15 +1,15 @@
 // A joiner in its words, read and written.
 use crate::JOINER_WORDS;
-use joiner::CHANNELS;
-use joiner::Channel;
-use joiner::Joiner;
+use channels::CHANNELS;
+use channels::Channel;
+use channels::Joiner;
 ghost use mathlib.Core.Path.{_≡_};
 ghost use mathlib.Core.Bool.{true, cond};
 ghost use mathlib.Core.List.{[]};
 ghost use Prim.Native.Nat.{_<_, _≤_};
 ghost use lib.ListN.{length};
 ghost use Rattle.wire.specs.Bytes.{written};
-ghost use Rattle.joiner.specs.Setup.{channelLimit, freshOf, newChannel};
+ghost use Rattle.channels.specs.Setup.{channelLimit, freshOf, newChannel};
 ghost use Rattle.lent_joiner.specs.Words.{joinerWords, recordAt, recordIn, isRecord, joinerIn, recordWords, wordsOf};
 
 // The words of a record behind one another, and where the first record starts.

@@ -5,10 +5,10 @@ use Prim.Native.Nat.{ℕ}
 use mathlib.Core.Path.{_≡_, sym, ap, _∙_}
 use mathlib.Core.List.{List, [], _∷_}
 use Rattle.wire.specs.Bytes.{written}
-use Rattle.types.specs.declared.Sections.{Sections}
+use Rattle.table.specs.declared.Sections.{Sections}
 use Rattle.payload.specs.declared.Answer.{Answer}
 use Rattle.payload.specs.declared.Answer.the-variants.{Refused, Stopped, Gave}
-use Rattle.payload.specs.Walk.{Codec}
+use Rattle.walk.specs.Walk.{Codec}
 use Rattle.payload.specs.Calls.{answeredIn, leftIn}
 use Rattle.lent.proofs.Answers.{none-written}
 use Rattle.lent_payloads.specs.Calls.{refusalIn, givenWords}

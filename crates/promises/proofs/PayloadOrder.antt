@@ -8,20 +8,21 @@ use native.Mathlib.Omega.{arith}
 use lib.Dec.{eqb, leb, ltb}
 use lib.ListN.{length}
 use Rattle.wire.specs.Bytes.{written}
-use Rattle.types.specs.declared.Sections.{Sections}
-use Rattle.types.specs.declared.Checked.{Checked}
-use Rattle.types.specs.declared.Checked.the-variants as check
-use Rattle.types.specs.Layout.{within}
-use Rattle.types.specs.Entries.{isType}
-use Rattle.types.specs.Leaf.{allowed}
+use Rattle.table.specs.declared.Sections.{Sections}
+use Rattle.table.specs.declared.Checked.{Checked}
+use Rattle.table.specs.declared.Checked.the-variants as check
+use Rattle.table.specs.Layout.{within}
+use Rattle.table.specs.Entries.{isType}
+use Rattle.table.specs.Leaf.{allowed}
 use Rattle.types.specs.Table.{checked}
 use Rattle.types.proofs.Accepted.{accepted, is-within}
 use Rattle.payload.specs.declared.Answer.the-variants.{Refused, Stopped, Gave}
-use Rattle.payload.specs.Tree.{Tree, leaf, row, array, broken, tree}
-use Rattle.payload.specs.Walk.{Step, on, stop, answer, next as goOn, through, Codec, item, counted, countCode, walk, typeWalk}
-use Rattle.payload.specs.Reading.{reader}
-use Rattle.payload.specs.Writing.{writer}
-use Rattle.payload.specs.Calls.{start, answered, answeredType, answeredIn, answeredIf}
+use Rattle.walk.specs.Tree.{Tree, leaf, row, array, broken, tree}
+use Rattle.walk.specs.Walk.{Step, on, stop, answer, next as goOn, through, Codec, item, counted, countCode, walk, typeWalk}
+use Rattle.unpacking.specs.Reading.{reader}
+use Rattle.packing.specs.Writing.{writer}
+use Rattle.walk.specs.Walk.{start}
+use Rattle.payload.specs.Calls.{answered, answeredType, answeredIn, answeredIf}
 use Rattle.promises.specs.Checks.{Check, _when_, Answers, none, this, next}
 use Rattle.promises.specs.TableOrder.{sectionsIn, tableChecks}
 use Rattle.promises.specs.PayloadOrder.{numberOf, Place, Stretch, itemMet, behind, inTurn, met, walkChecks, PayloadInOrder}

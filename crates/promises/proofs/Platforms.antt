@@ -5,14 +5,14 @@ use mathlib.Core.List.{[]}
 use Rattle.table.specs.declared.Section.{Section}
 use Rattle.table.specs.declared.Found.the-variants as found
 use Rattle.table.specs.All.{allBelow}
-use Rattle.platform.specs.States.{wordOf, withWord, bitOf, isUp, turned, withOwn}
+use Rattle.states.specs.States.{wordOf, withWord, bitOf, isUp, turned, withOwn}
 use Rattle.platform.specs.Replies.{replyBytes}
 use Rattle.platform.specs.Reaction.{noData, cameUp, onStatus, onPullAll, onPull, reactionTo}
 use Rattle.platform.specs.Receiving.{freshStanding, answered, outcomeOf}
 use Rattle.platform.specs.Exchange.{sentOf, Setting, keeps, sends, Pair, Exchange, started, longestExchange}
 use Rattle.platform.specs.Exchange.Step.{arrives-at-a, arrives-at-b}
 use Rattle.platform.specs.Exchange.Exchange.{none, more}
-use Rattle.platform.proofs.Ups.{own-is-up, others-start-down, count-is}
+use Rattle.states.proofs.Ups.{own-is-up, others-start-down, count-is}
 use Rattle.platform.proofs.Silence.{falls-silent, silence-after-seven}
 use Rattle.promises.specs.Platforms.{StatesAre, Replies, FallSilent}
 use Rattle.promises.proofs.Replying.{notes, too-short}

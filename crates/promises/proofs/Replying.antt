@@ -31,16 +31,16 @@ use Rattle.message.specs.Platform.{messageOf}
 use Rattle.message.specs.Refusal.{platforms, noRoom, readRefusal}
 use Rattle.message.specs.Reading.{readOut, readOf}
 use Rattle.message.proofs.Accepted.{Readable, readable}
-use Rattle.platform.specs.declared.States.{States}
+use Rattle.states.specs.declared.States.{States}
 use Rattle.platform.specs.declared.Standing.{Standing}
 use Rattle.platform.specs.declared.Answer.the-variants.{Refused, Noted}
 use Rattle.platform.specs.declared.Outcome.{Outcome}
-use Rattle.platform.specs.States.{isUp, turned}
+use Rattle.states.specs.States.{isUp, turned}
 use Rattle.platform.specs.Replies.{allData, replyNumber, replyBytes, replyHeader, meant, Wide, replies, Each, owedBytes, owedLength}
 use Rattle.platform.specs.Reaction.{operationFor, operationIn, isData, foundData, noData, cameUp, onStatus, onPullAll, onPullOne, onPull, onOperation, reactionTo}
 use Rattle.platform.specs.Receiving.{refused, taken, answered, laidOut, outcomeOf, outputOf, receivedBy, receivedOf, leftBy, leftOf, bytesWritten}
 use Rattle.platform.specs.Exchange.{sentOf}
-use Rattle.platform.proofs.Ups.{noted-there, noted-elsewhere}
+use Rattle.states.proofs.Ups.{noted-there, noted-elsewhere}
 use Rattle.platform.proofs.ReplyLaws.{length-reply, length-owed}
 use Rattle.platform.proofs.Unchanged.{allBytes, written-is-sent}
 use Rattle.platform.proofs.ReadBack.{reply-reads-back}

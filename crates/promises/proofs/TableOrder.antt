@@ -9,17 +9,17 @@ use native.Mathlib.Omega.{arith}
 use borrow.Author.Tests.{leb-false, leb-true}
 use lib.Dec.{eqb, ltb}
 use lib.ListN.{length}
-use Rattle.types.specs.declared.Section.{Section}
-use Rattle.types.specs.declared.Sections.{Sections}
-use Rattle.types.specs.declared.Checked.{Checked}
-use Rattle.types.specs.declared.Checked.the-variants.{Refused, Table}
-use Rattle.types.specs.All.{allBelow}
-use Rattle.types.specs.Layout.{typeWidth, memberWidth, valueWidth, operationWidth, mostTypes, mostMembers, mostValues, mostOperations, sectionEnd, counted, sectionAt, after, ended, afterValues, afterMembers, afterTypes, sectionsOf}
+use Rattle.table.specs.declared.Section.{Section}
+use Rattle.table.specs.declared.Sections.{Sections}
+use Rattle.table.specs.declared.Checked.{Checked}
+use Rattle.table.specs.declared.Checked.the-variants.{Refused, Table}
+use Rattle.table.specs.All.{allBelow}
+use Rattle.table.specs.Layout.{typeWidth, memberWidth, valueWidth, operationWidth, mostTypes, mostMembers, mostValues, mostOperations, sectionEnd, counted, sectionAt, after, ended, afterValues, afterMembers, afterTypes, sectionsOf}
 use Rattle.types.specs.Rules.{typeOk}
 use Rattle.types.specs.Operations.{operationOk}
 use Rattle.types.specs.Sizes.{mostBytes, largest, sizeFits}
 use Rattle.types.specs.Table.{entriesOk, sizesOk, judged, judging, checked}
-use Rattle.types.proofs.AllBelow.{at-below}
+use Rattle.table.proofs.AllBelow.{at-below}
 use Rattle.promises.specs.Checks.{Check, _when_, Answers, Outside, none, below, above}
 use Rattle.promises.specs.TableOrder.{sectionsIn, sectionChecks, BreaksARule, IsTooLarge, an-operation, tableChecks, TableInOrder}
 use Rattle.promises.proofs.Checks.{Decides, lt-decides, eq-decides, not-decides, or-decides, decides-same, by, unless, then}

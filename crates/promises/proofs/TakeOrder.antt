@@ -9,11 +9,11 @@ use borrow.Author.Tests.{leb-true, ltb-true, ltb-false, le-leb}
 use lib.Dec.{eqb, leb, ltb}
 use lib.ListN.{length, getD}
 use Rattle.binding.specs.Header.{senderIn, versionIn}
-use Rattle.joiner.specs.declared.Joiner.{Joiner}
-use Rattle.joiner.specs.Setup.{channelLimit, sendersOf, channelAt, good, freshOf, setupOf, Acceptable}
+use Rattle.channels.specs.declared.Joiner.{Joiner}
+use Rattle.channels.specs.Setup.{channelLimit, sendersOf, channelAt, good, freshOf, setupOf, Acceptable}
 use Rattle.joiner.specs.Take.{sentTo, heardBy, judgedOf, takenBy, takenOf}
-use Rattle.joiner.proofs.Places.{at-place, place-first, distinct-says, is-distinct}
-use Rattle.joiner.proofs.Lookups.{senders-length, senders-at}
+use Rattle.channels.proofs.Places.{at-place, place-first, distinct-says, is-distinct}
+use Rattle.channels.proofs.Lookups.{senders-length, senders-at}
 use Rattle.joiner.proofs.Judging.{channel-says, Good, good-says}
 use Rattle.joiner.proofs.Judging as judging
 use Rattle.joiner.proofs.Cases.{sound-good}

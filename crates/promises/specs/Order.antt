@@ -17,14 +17,14 @@ use Rattle.binding.specs.declared.Counted.the-variants as counted
 use Rattle.binding.specs.declared.Made.the-variants as made
 use Rattle.binding.specs.Header.{senders, counters, partIn, counterIn, pieceIn, headerIn, heardIn, senderIn as datagramSender, versionIn as datagramVersion}
 use Rattle.binding.specs.Cutting.{pieceCount, datagramOf, countedOf, madeOf}
-use Rattle.joiner.specs.declared.Joiner.{Joiner}
+use Rattle.channels.specs.declared.Joiner.{Joiner}
 use Rattle.joiner.specs.declared.Step.{Step}
 use Rattle.joiner.specs.declared.Taken.{Taken}
 use Rattle.joiner.specs.declared.Outcome.the-variants as outcome
-use Rattle.joiner.specs.declared.Answer.the-variants as answer
-use Rattle.joiner.specs.declared.NewJoiner.{NewJoiner}
+use Rattle.channels.specs.declared.Answer.the-variants as answer
+use Rattle.channels.specs.declared.NewJoiner.{NewJoiner}
 use Rattle.joiner.specs.Channel.{roomOf, steppedOf}
-use Rattle.joiner.specs.Setup.{placeOf, sendersOf, channelAt, freshOf, setupOf, Acceptable}
+use Rattle.channels.specs.Setup.{placeOf, sendersOf, channelAt, freshOf, setupOf, Acceptable}
 use Rattle.joiner.specs.Take.{changed, takenOf}
 use Rattle.promises.specs.Checks.{Check, _when_, Answers, Outside}
 

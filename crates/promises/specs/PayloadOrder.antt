@@ -8,16 +8,17 @@ use mathlib.Core.Bool.{Bool, false, _&&_}
 use mathlib.Core.List.{List, [], _∷_, _++_}
 use lib.Dec.{leb}
 use lib.ListN.{length}
-use Rattle.types.specs.declared.Sections.{Sections}
-use Rattle.types.specs.Layout.{within}
-use Rattle.types.specs.Leaf.{allowed}
+use Rattle.table.specs.declared.Sections.{Sections}
+use Rattle.table.specs.Layout.{within}
+use Rattle.table.specs.Leaf.{allowed}
 use Rattle.payload.specs.declared.Answer.{Answer}
 use Rattle.payload.specs.declared.Answer.the-variants.{Refused, Stopped, Gave}
-use Rattle.payload.specs.Tree.{Tree, leaf, row, array, broken, tree}
-use Rattle.payload.specs.Walk.{Codec, countCode}
-use Rattle.payload.specs.Reading.{reader}
-use Rattle.payload.specs.Writing.{writer}
-use Rattle.payload.specs.Calls.{start, unpackedIn, packedIn, unpacked, packed}
+use Rattle.walk.specs.Tree.{Tree, leaf, row, array, broken, tree}
+use Rattle.walk.specs.Walk.{Codec, countCode}
+use Rattle.unpacking.specs.Reading.{reader}
+use Rattle.packing.specs.Writing.{writer}
+use Rattle.walk.specs.Walk.{start}
+use Rattle.payload.specs.Calls.{unpackedIn, packedIn, unpacked, packed}
 use Rattle.promises.specs.Checks.{Check, _when_, Answers}
 use Rattle.promises.specs.TableOrder.{sectionsIn, tableChecks}
 

@@ -22,11 +22,11 @@ use Rattle.message.specs.declared.Reading.the-variants.{Read}
 use Rattle.message.specs.Header.{headerLength}
 use Rattle.message.specs.Refusal.{platforms, noRoom}
 use Rattle.message.specs.Reading.{readOf}
-use Rattle.platform.specs.declared.States.{States}
+use Rattle.states.specs.declared.States.{States}
 use Rattle.platform.specs.declared.Standing.{Standing}
 use Rattle.platform.specs.declared.Heard.{Heard}
 use Rattle.platform.specs.declared.Answer.the-variants.{Refused, Noted}
-use Rattle.platform.specs.States.{isUp, howManyUp, countBelow, Words}
+use Rattle.states.specs.States.{isUp, howManyUp, countBelow, Words}
 use Rattle.platform.specs.Replies.{allData, drawn}
 use Rattle.platform.specs.Reaction.{noData, foundData}
 use Rattle.platform.specs.Receiving.{freshStanding, receivedOf, leftOf}

@@ -5,8 +5,8 @@ use mathlib.Core.Path.{_≡_}
 use borrow.Author.Count.{below-none, below-more}
 use borrow.Author.Needs.{needs}
 use lib.ListN.{length, length-map}
-use Rattle.joiner.specs.Setup.{channelLimit, channelAt}
-use Rattle.joiner.proofs.Lookups.{found-here, found-nowhere}
+use Rattle.channels.specs.Setup.{channelLimit, channelAt}
+use Rattle.channels.proofs.Lookups.{found-here, found-nowhere}
 use Rattle.lent_joiner.proofs.place.Statement.{statement}
 use Rattle.lent_joiner.proofs.place.Tie as tie
 

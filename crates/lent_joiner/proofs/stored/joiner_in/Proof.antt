@@ -7,7 +7,7 @@ use mathlib.Core.Bool.{true, _&&_}
 use borrow.Author.Needs.{needs}
 use lib.Dec.{leb}
 use lib.ListN.{length, getD}
-use Rattle.joiner.specs.Setup.{channelLimit}
+use Rattle.channels.specs.Setup.{channelLimit}
 use Rattle.lent_joiner.specs.Words.{joinerWords, areRecords, channelsIn}
 use Rattle.lent_joiner.proofs.Storing.{so-record, read-none, read-more, good-more, bad-record, bad-size, read-all, few-records}
 use Rattle.lent_joiner.proofs.stored.joiner_in.Statement.{statement}

@@ -5,7 +5,7 @@ use mathlib.Core.Path.{_≡_}
 use borrow.Author.Needs.{needs}
 use lib.ListN.{length, take, length-map}
 use Rattle.wire.specs.Bytes.{over}
-use Rattle.joiner.specs.Setup.{channelLimit}
+use Rattle.channels.specs.Setup.{channelLimit}
 use Rattle.lent_joiner.specs.Words.{joinerWords, recordsWords}
 use Rattle.lent_joiner.proofs.Storing.{write-none, write-more, write-all, write-short}
 use Rattle.lent_joiner.proofs.stored.put_joiner.Statement.{statement}
