@@ -104,13 +104,13 @@ holds w least most t p s f =
     }
 
 -- how far a section reaches that starts no further than b
-pub reach : (w least most b : ℕ) (t : List ℕ) (p : ℕ) (s : Section) (r : Part) (q : ℕ) → r ≡ sectionAt w least most t p → r ≡ Found s → p ≡ q → q ≤ b → sectionEnd w s ≤ b + 2 + w * most
-reach w least most b t p s r q is f e h =
+pub reach : (w most b least : ℕ) (t : List ℕ) (p : ℕ) (s : Section) (r : Part) (q : ℕ) → r ≡ sectionAt w least most t p → r ≡ Found s → p ≡ q → q ≤ b → sectionEnd w s ≤ b + 2 + w * most
+reach w most b least t p s r q is f e h =
     let k : Holds w most t p s = holds w least most t p s (sym is ∙ f) in
     omega (arith, k .starts, mul-le-mul-left w (k .few))
 
-pub reach-first : (w least most : ℕ) (t : List ℕ) (s : Section) (r : Part) → r ≡ sectionAt w least most t 0 → r ≡ Found s → sectionEnd w s ≤ 2 + w * most
-reach-first w least most t s r is f = omega (arith, reach w least most 0 t 0 s r 0 is f refl (omega arith))
+pub reach-first : (w most least : ℕ) (t : List ℕ) (s : Section) (r : Part) → r ≡ sectionAt w least most t 0 → r ≡ Found s → sectionEnd w s ≤ 2 + w * most
+reach-first w most least t s r is f = omega (arith, reach w most 0 least t 0 s r 0 is f refl (omega arith))
 
 pub lies : (w most len : ℕ) (s : Section) (e : ℕ) → e ≡ sectionEnd w s → (leb (s .count) most && leb e len) ≡ liesIn w most len s
 unfolding liesIn

@@ -37,6 +37,9 @@ module _ (t : List ℕ) (s : Sections) where
       unfolding judged
       good-table g = rw (← p, h, ← q, g) refl
 
+-- every way in which the entries and the sizes can be judged
+pub ruleset judgements = (bad-entry, bad-size, good-table)
+
 module _ (t : List ℕ) (r : Checked) (p : r ≡ sectionsOf t) where
   pub no-sections : (n : ℕ) → r ≡ Refused n → Refused n ≡ checked t
   unfolding checked judging

@@ -1,7 +1,7 @@
 -- `types::judged` meets its contract: every entry is judged before any size.
 -- Assumes nothing.
 use borrow.Author.Needs.{needs}
-use Rattle.types.proofs.Tables.{bad-entry, bad-size, good-table}
+use Rattle.types.proofs.Tables.{judgements}
 use Rattle.types.proofs.judged.Statement.{statement}
 use Rattle.types.proofs.judged.Tie as tie
 
@@ -11,6 +11,6 @@ judged-spec =
     (tie.spec
     (λ c κs. search needs)
     (λ c κs. search needs)
-    (λ c. search good-table)
-    (λ c. search bad-size)
-    (λ c. search bad-entry))
+    (λ c. search judgements)
+    (λ c. search judgements)
+    (λ c. search judgements))

@@ -15,6 +15,6 @@ after-members-spec =
     (λ c κs. search needs)
     (λ c. search needs)
     (λ c. search needs)
-    (λ c κs. search (reach 8 0 1024 4100))
+    (λ c κs. search (reach 8 1024 4100))
     (λ c. search no-link)
     (λ c. search link))

@@ -15,6 +15,6 @@ after-types-spec =
     (λ c κs. search needs)
     (λ c. search needs)
     (λ c. search needs)
-    (λ c κs. search (reach 2 0 1024 2050))
+    (λ c κs. search (reach 2 1024 2050))
     (λ c. search no-link)
     (λ c. search link))

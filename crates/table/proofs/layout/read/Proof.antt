@@ -14,6 +14,6 @@ read-spec =
     (λ c κs. search needs)
     (λ c. search needs)
     (λ c. search needs)
-    (λ c κs. search (reach-first 8 1 256))
+    (λ c κs. search (reach-first 8 256))
     (λ c. search no-link)
     (λ c. search link))
