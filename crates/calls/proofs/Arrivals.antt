@@ -46,24 +46,24 @@ module _ {t : Bool} (s : List ℕ) (kind p : ℕ) (e : t ≡ leb (p + widthOfLen
 
 -- one that is all there lies within what has come
 module _ {a : Arrived} (s : List ℕ) (kind p m : ℕ) (e : a ≡ argumentAt s kind p) (g : a ≡ Whole m) where
-  whole-within : p + widthOfLength + m ≤ length s
+  pub whole-says : (number 2 s p ≡ m) × (p + widthOfLength + m ≤ length s)
   unfolding argumentAt
-  whole-within = go (leb (p + widthOfLength) (length s)) refl (takesLength kind n) refl (leb (p + widthOfLength + n) (length s)) refl
+  whole-says = go (leb (p + widthOfLength) (length s)) refl (takesLength kind n) refl (leb (p + widthOfLength + n) (length s)) refl
     where
       n : ℕ
       n = number 2 s p
 
-      go : (t : Bool) → leb (p + widthOfLength) (length s) ≡ t → (u : Bool) → takesLength kind n ≡ u → (v : Bool) → leb (p + widthOfLength + n) (length s) ≡ v → p + widthOfLength + m ≤ length s
+      go : (t : Bool) → leb (p + widthOfLength) (length s) ≡ t → (u : Bool) → takesLength kind n ≡ u → (v : Bool) → leb (p + widthOfLength + n) (length s) ≡ v → (number 2 s p ≡ m) × (p + widthOfLength + m ≤ length s)
       go false h u i v j = let z : Cut ≡ Whole m = no-length s kind p (sym h) refl ∙ sym e ∙ g in let y : _≡_ {A = ℕ} 0 1 = cc in absurd (omega arith)
       go true h false i v j = let z : Wrong ≡ Whole m = wrong-length s kind p (sym h) refl refl (sym i) refl ∙ sym e ∙ g in let y : _≡_ {A = ℕ} 0 1 = cc in absurd (omega arith)
       go true h true i false j = let z : Cut ≡ Whole m = cut-argument s kind p (sym h) refl refl (sym i) refl (sym j) refl ∙ sym e ∙ g in let y : _≡_ {A = ℕ} 0 1 = cc in absurd (omega arith)
       go true h true i true j =
           let z : Whole n ≡ Whole m = whole-argument s kind p (sym h) refl refl (sym i) refl (sym j) refl ∙ sym e ∙ g in
           let w : n ≡ m = cc in
-          omega (arith, leb-true (p + widthOfLength + n) (length s) j)
+          (w, omega (arith, leb-true (p + widthOfLength + n) (length s) j))
 
   pub length-fits : length s < 2 ^ 64 → Fits w64 (p + widthOfLength)
-  length-fits h = record { fits = omega (arith, whole-within) }
+  length-fits h = record { fits = omega (arith, whole-says .1) }
 
   pub whole-fits : length s < 2 ^ 64 → Fits w64 (p + widthOfLength + m)
-  whole-fits h = record { fits = omega (arith, whole-within) }
+  whole-fits h = record { fits = omega (arith, whole-says .1) }

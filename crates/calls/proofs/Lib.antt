@@ -1,4 +1,5 @@
 mod Arrivals
 mod Judging
+pub mod More
 mod Placing
 mod Walking

@@ -1,0 +1,33 @@
+-- `answers::payloads::read_words` meets its contract: it writes within the words, and ends.
+-- Assumes nothing.
+use borrow.Author.Needs.{needs}
+use Prim.Native.Nat.{_-_, _≤_}
+use mathlib.Core.Path.{_≡_}
+use lib.ListN.{length}
+use Rattle.answers.proofs.payloads.read_words.Statement.{statement}
+use Rattle.answers.proofs.payloads.read_words.Tie as tie
+
+abbrev Inv-loop : tie.InvT-loop
+Inv-loop words₀ bytes count i₀ words i = (i ≤ length words₀) × (length words ≡ length words₀)
+
+abbrev μ-loop : tie.MeasureT-loop
+μ-loop words₀ bytes count i₀ words i = length words₀ - i
+
+pub read-words-spec : {M : Type 1} → statement M
+read-words-spec =
+    tie.close
+    (tie.spec
+    Inv-loop
+    μ-loop
+    (λ c. search needs)
+    (λ c. search needs)
+    (λ c κs. search needs)
+    (λ c. search needs)
+    (λ c. search needs)
+    (λ c. search needs)
+    (λ c. search needs)
+    (λ c. search needs)
+    (λ c. search needs)
+    (λ c. search needs)
+    (λ c. search needs)
+    (λ c. search needs))

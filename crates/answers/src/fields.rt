@@ -1,0 +1,65 @@
+// A call's arguments as the numbers that they are, and the fields of a line. A number was judged when its call was found,
+// so that nothing of it is lost here.
+ghost use Prim.Native.Nat.{_≤_};
+
+// Where a call says how many arguments it has.
+const COUNT_AT: usize = 2;
+
+pub(crate) fn n8(call: &[u8], k: usize) -> u8 {
+    (n64(call, k) % 256) as u8
+}
+
+pub(crate) fn n16(call: &[u8], k: usize) -> u16 {
+    (n64(call, k) % 65536) as u16
+}
+
+pub(crate) fn n32(call: &[u8], k: usize) -> u32 {
+    (n64(call, k) % 4294967296) as u32
+}
+
+pub(crate) fn n64(call: &[u8], k: usize) -> u64 {
+    calls::number(calls::argument(call, k))
+}
+
+pub(crate) fn size(call: &[u8], k: usize) -> usize {
+    n64(call, k) as usize
+}
+
+// The length of a call's output, which is its last argument, within what there is.
+pub(crate) fn room(call: &[u8], most: usize) -> usize
+    ensures { λ r. ⌜ r ≤ most ⌝ }
+{
+    let count = wire::u16_at(call, COUNT_AT) as usize;
+    let wanted = size(call, std::num::wrapping_sub_usize(count, 1));
+    least(wanted, most)
+}
+
+pub(crate) fn least(a: usize, b: usize) -> usize
+    ensures { λ r. ⌜ r ≤ b ⌝ }
+{
+    if a <= b { a } else { b }
+}
+
+// `refused K`.
+pub(crate) fn put_refused(output: &mut [u8], at: usize, number: u32) -> usize {
+    let named = text::put_text(output, at, b"refused");
+    put_number(output, named, number as u64)
+}
+
+// A number behind a space.
+pub(crate) fn put_number(output: &mut [u8], at: usize, n: u64) -> usize {
+    let start = text::put_text(output, at, b" ");
+    text::put_decimal(output, start, n)
+}
+
+// Bytes behind a space.
+pub(crate) fn put_bytes(output: &mut [u8], at: usize, bytes: &[u8]) -> usize {
+    let start = text::put_text(output, at, b" ");
+    text::put_hex(output, start, bytes)
+}
+
+// A name, and bytes behind it.
+pub(crate) fn put_named(output: &mut [u8], at: usize, name: &[u8], bytes: &[u8]) -> usize {
+    let behind = text::put_text(output, at, name);
+    put_bytes(output, behind, bytes)
+}
