@@ -19,6 +19,7 @@ pub const CASES: &[Worked] = &[
     ends("code 16", "0010 0000", BAD),
     ends("a code in the high byte", "0A00 0000", BAD),
     ends("an argument too many", "000A 0001", BAD),
+    ends("too many by 256", "000A 0100", BAD),
     ends("an argument too few", "0007 0000 | 00000001 01", BAD),
     ends(
         "bad behind a good one",
@@ -76,6 +77,11 @@ pub const CASES: &[Worked] = &[
         BAD,
     ),
     ends(
+        "a word and a half",
+        "0006 0004 | 00000000 | 00000001 00 | 0000000C 00*12 | 00000001 00",
+        BAD,
+    ),
+    ends(
         "half a word and cut",
         "000E 0004 | 00000000 | 00000001 00 | 00000007 00*7 | 00000001",
         CUT,
@@ -83,6 +89,11 @@ pub const CASES: &[Worked] = &[
     ends(
         "half a record",
         "000B 0004 | 00000001 18 | 0000000A 00*10 | 00000000 | 00000000",
+        BAD,
+    ),
+    ends(
+        "seen is 129",
+        "000B 0004 | 00000001 18 | 0000000B 0001 81 00000000 00000000 | 00000018 00*24 | 00000005 3001 0000 41",
         BAD,
     ),
     ends(
