@@ -18,3 +18,4 @@ mod TakeOrder
 pub mod TableOrder
 pub mod PayloadOrder
 pub mod Demand1
+pub mod Unique

@@ -13,3 +13,4 @@ pub mod Order
 pub mod TableOrder
 pub mod PayloadOrder
 pub mod Demand1
+pub mod Unique
