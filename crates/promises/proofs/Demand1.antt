@@ -45,7 +45,7 @@ use Rattle.promises.specs.Order.{InOrder, readChecks}
 use Rattle.promises.specs.TableOrder.{sectionsIn}
 use Rattle.promises.specs.PayloadOrder.{numberOf}
 use Rattle.promises.specs.Platforms.{owedFor, replyLength, Receives}
-use Rattle.promises.specs.Demand1.{ChangesNothing, kindIn, receiveChecks, ReceiveInOrder, Demand1}
+use Rattle.promises.specs.Demand1.{Kept, ChangesNothing, kindIn, receiveChecks, ReceiveInOrder, Demand1}
 use Rattle.promises.proofs.Checks.{by, then, lt-decides}
 use Rattle.promises.proofs.Order.{read-in-order, write-in-order, header-in-order, pieces-in-order, cut-in-order}
 use Rattle.promises.proofs.TakeOrder.{setup-in-order, take-in-order}
@@ -108,6 +108,14 @@ module _ (own : ℕ) (t : List ℕ) (p : Standing) (m out : List ℕ) where
         let u = sections-refusal-changes-nothing own p (receiveNumber (r .answer)) out t s (a .found) m e in
         record { standing = ap (λ (x : Received′). x .standing) (a .outcome) ∙ u .standing; output = a .output ∙ u .output }
 
+kept : (p : Standing) (out : List ℕ) (r : Received′) (o : List ℕ) → (¬ (receiveNumber (r .answer) ≡ 0) → Unchanged p out r o) → Kept p out r o
+kept p out r o u =
+    record {
+      states = λ k. ap (λ (x : Standing). x .states) (u k .standing);
+      next = λ k. ap (λ (x : Standing). x .next) (u k .standing);
+      output = λ k. u k .output;
+    }
+
 changes-nothing : ChangesNothing
 changes-nothing =
     record {
@@ -119,12 +127,8 @@ changes-nothing =
       unpack-in-words = λ t s i b words. in-keeps (reader b) (length b) t s i words;
       pack-output = λ t i ws out. if-keeps (checked t) (writer ws) (length ws) t i out;
       pack-in-output = λ t s i ws out. in-keeps (writer ws) (length ws) t s i out;
-      receive-states = λ own t p m out k. ap (λ (x : Standing). x .states) (receive-kept own t p m out k .standing);
-      receive-next = λ own t p m out k. ap (λ (x : Standing). x .next) (receive-kept own t p m out k .standing);
-      receive-output = λ own t p m out k. receive-kept own t p m out k .output;
-      receive-checked-states = λ own t s p m out r o a k. ap (λ (x : Standing). x .states) (checked-kept own t p m out s r o a k .standing);
-      receive-checked-next = λ own t s p m out r o a k. ap (λ (x : Standing). x .next) (checked-kept own t p m out s r o a k .standing);
-      receive-checked-output = λ own t s p m out r o a k. checked-kept own t p m out s r o a k .output;
+      receive = λ own t p m out. kept p out (receivedOf own t p m (length out)) (leftOf own t p m out) (receive-kept own t p m out);
+      receive-checked = λ own t s p m out r o a. kept p out r o (checked-kept own t p m out s r o a);
     }
 
 in-order : InOrder

@@ -26,22 +26,30 @@ use Rattle.promises.specs.TableOrder.{sectionsIn, tableChecks, TableInOr
 use Rattle.promises.specs.PayloadOrder.{numberOf, PayloadInOrder}
 use Rattle.promises.specs.Platforms.{owedFor, replyLength}
 
--- "changes no channel, room, platform state, sequence number or output byte", call by call
+-- "changes no channel, room, platform state, sequence number or output byte", call by call: first what a call for one message keeps
+pub record Kept (p : Standing) (out : List ℕ) (r : Outcome) (left : List ℕ) : Type 0 where
+  pub states : Keeps (receiveNumber (r .answer)) (p .states) (r .standing .states)
+  pub next : Keeps (receiveNumber (r .answer)) (p .next) (r .standing .next)
+  pub output : Keeps (receiveNumber (r .answer)) out left
+
 pub record ChangesNothing : Type 0 where
-  pub write-output : (own domain id seq : ℕ) (payload out : List ℕ) → Keeps (writeNumber (writeOf domain id payload (length out))) out (outputAfter own domain id seq payload out)
-  pub cut-output : (msg : List ℕ) (s sender first i : ℕ) (out : List ℕ) → Keeps (cutRefusal (madeOf msg s sender first i (length out))) out (cutInto msg s sender first i out)
+  pub write-output : (own domain id seq : ℕ) (payload out : List ℕ) →
+      Keeps (writeNumber (writeOf domain id payload (length out))) out (outputAfter own domain id seq payload out)
+  pub cut-output : (msg : List ℕ) (s sender first i : ℕ) (out : List ℕ) →
+      Keeps (cutRefusal (madeOf msg s sender first i (length out))) out (cutInto msg s sender first i out)
   pub take-joiner : (j : Joiner) (rooms d : List ℕ) → Keeps (refusalIn (takenOf j rooms d .outcome)) j (takenOf j rooms d .joiner)
   pub take-rooms : (j : Joiner) (rooms d : List ℕ) → Keeps (refusalIn (takenOf j rooms d .outcome)) rooms (roomsAfter j rooms d)
-  pub unpack-words : (t : List ℕ) (i : ℕ) (b words : List ℕ) → Keeps (numberOf (unpacked t i b (length words))) words (wordsAfter t i b words)
-  pub unpack-in-words : (t : List ℕ) (s : Sections) (i : ℕ) (b words : List ℕ) → Keeps (numberOf (unpackedIn t s i b (length words))) words (wordsIn t s i b words)
+  pub unpack-words : (t : List ℕ) (i : ℕ) (b words : List ℕ) →
+      Keeps (numberOf (unpacked t i b (length words))) words (wordsAfter t i b words)
+  pub unpack-in-words : (t : List ℕ) (s : Sections) (i : ℕ) (b words : List ℕ) →
+      Keeps (numberOf (unpackedIn t s i b (length words))) words (wordsIn t s i b words)
   pub pack-output : (t : List ℕ) (i : ℕ) (ws out : List ℕ) → Keeps (numberOf (packed t i ws (length out))) out (bytesAfter t i ws out)
-  pub pack-in-output : (t : List ℕ) (s : Sections) (i : ℕ) (ws out : List ℕ) → Keeps (numberOf (packedIn t s i ws (length out))) out (bytesIn t s i ws out)
-  pub receive-states : (own : ℕ) (t : List ℕ) (p : Standing) (m out : List ℕ) → Keeps (receiveNumber (receivedOf own t p m (length out) .answer)) (p .states) (receivedOf own t p m (length out) .standing .states)
-  pub receive-next : (own : ℕ) (t : List ℕ) (p : Standing) (m out : List ℕ) → Keeps (receiveNumber (receivedOf own t p m (length out) .answer)) (p .next) (receivedOf own t p m (length out) .standing .next)
-  pub receive-output : (own : ℕ) (t : List ℕ) (p : Standing) (m out : List ℕ) → Keeps (receiveNumber (receivedOf own t p m (length out) .answer)) out (leftOf own t p m out)
-  pub receive-checked-states : (own : ℕ) (t : List ℕ) (s : Sections) (p : Standing) (m out : List ℕ) (r : Outcome) (left : List ℕ) → Received own t s p m out r left → Keeps (receiveNumber (r .answer)) (p .states) (r .standing .states)
-  pub receive-checked-next : (own : ℕ) (t : List ℕ) (s : Sections) (p : Standing) (m out : List ℕ) (r : Outcome) (left : List ℕ) → Received own t s p m out r left → Keeps (receiveNumber (r .answer)) (p .next) (r .standing .next)
-  pub receive-checked-output : (own : ℕ) (t : List ℕ) (s : Sections) (p : Standing) (m out : List ℕ) (r : Outcome) (left : List ℕ) → Received own t s p m out r left → Keeps (receiveNumber (r .answer)) out left
+  pub pack-in-output : (t : List ℕ) (s : Sections) (i : ℕ) (ws out : List ℕ) →
+      Keeps (numberOf (packedIn t s i ws (length out))) out (bytesIn t s i ws out)
+  pub receive : (own : ℕ) (t : List ℕ) (p : Standing) (m out : List ℕ) →
+      Kept p out (receivedOf own t p m (length out)) (leftOf own t p m out)
+  pub receive-checked : (own : ℕ) (t : List ℕ) (s : Sections) (p : Standing) (m out : List ℕ) (r : Outcome) (left : List ℕ) →
+      Received own t s p m out r left → Kept p out r left
 
 -- one call for one message: 30 to 33 for the table, 1 to 9 for the message, and "where they don't all fit it is 10"
 abbrev pub kindIn : List ℕ → Message
