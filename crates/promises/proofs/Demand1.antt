@@ -4,10 +4,13 @@ use Prim.Native.Nat.{ℕ, zero, suc, _+_, _*_, _^_, _<_}
 use mathlib.Core.Path.{_≡_, refl, sym, ap, subst, _∙_}
 use mathlib.Core.Bool.{Bool, true, false, cond}
 use mathlib.Core.List.{List, [], _∷_, _++_}
+use native.Mathlib.Omega.{arith}
 use lib.Dec.{ltb}
 use lib.ListN.{length}
 use Rattle.wire.specs.Bytes.{Octets, over}
 use Rattle.types.specs.declared.Sections.{Sections}
+use Rattle.types.specs.declared.Found.{Found}
+use Rattle.types.specs.Layout.{within}
 use Rattle.types.specs.declared.Checked.{Checked}
 use Rattle.types.specs.declared.Checked.the-variants as check
 use Rattle.types.specs.Table.{checked}
@@ -37,7 +40,7 @@ use Rattle.platform.specs.declared.Outcome.{Outcome as Received′}
 use Rattle.platform.specs.declared.Answer.{Answer as Noting}
 use Rattle.platform.specs.declared.Answer.the-variants as noting
 use Rattle.platform.specs.Replies.{owedLength}
-use Rattle.platform.specs.Reaction.{operationIn}
+use Rattle.platform.specs.Reaction.{operationIn, reactionTo}
 use Rattle.platform.specs.Receiving.{refused, taken, answered, outcomeOf, receivedBy, receivedOf, leftOf, sectionsOutcome, Received, numberGiven as receiveNumber}
 use Rattle.platform.proofs.Unchanged.{Unchanged, refusal-changes-nothing, sections-refusal-changes-nothing}
 use Rattle.promises.specs.Checks.{Check, _when_, Answers, Keeps, none, this, next}
@@ -45,7 +48,7 @@ use Rattle.promises.specs.Order.{InOrder, readChecks}
 use Rattle.promises.specs.TableOrder.{sectionsIn}
 use Rattle.promises.specs.PayloadOrder.{numberOf}
 use Rattle.promises.specs.Platforms.{owedFor, replyLength, Receives}
-use Rattle.promises.specs.Demand1.{Kept, ChangesNothing, kindIn, receiveChecks, ReceiveInOrder, Demand1}
+use Rattle.promises.specs.Demand1.{Kept, ChangesNothing, kindIn, receiveChecks, ReceiveInOrder, owedIn, ReceiveCheckedInOrder, Demand1}
 use Rattle.promises.proofs.Checks.{by, then, lt-decides}
 use Rattle.promises.proofs.Order.{read-in-order, write-in-order, header-in-order, pieces-in-order, cut-in-order}
 use Rattle.promises.proofs.TakeOrder.{setup-in-order, take-in-order}
@@ -170,6 +173,35 @@ module _ (own : ℕ) (t : List ℕ) (p : Standing) (m : List ℕ) (room : ℕ) (
 receive-in-order : ReceiveInOrder
 receive-in-order own t p m room ho hn o = received-in-order own t p m room ho hn o
 
+-- the same on sections
+module _ (own : ℕ) (t : List ℕ) (s : Sections) (f : Found) (p : Standing) (m : List ℕ) (room : ℕ) where
+  answered-number : receiveNumber (outcomeOf own t s f p (readOut m) room .answer) ≡ cond (ltb room (owedIn own t s f p m)) 10 0
+  unfolding outcomeOf answered
+  answered-number = go (ltb room (owedIn own t s f p m))
+    where
+      go : (b : Bool) → receiveNumber (cond b (refused p noRoom) (taken (headerIn m) (reactionTo own t s f p (headerIn m) (kindIn m) headerLength (payloadSizeIn m)) (owedIn own t s f p m)) .answer) ≡ cond b 10 0
+      go true = refl
+      go false = refl
+
+  found-in-order : Answers (λ (n : ℕ). n) 0 (readChecks own m ++ (10 when (room < owedIn own t s f p m) ∷ [])) (receiveNumber (outcomeOf own t s f p (readOf own m) room .answer))
+  unfolding outcomeOf
+  found-in-order =
+      then reading.Refused (readOut m) (λ n. n) 0 (λ (x : Reading). receiveNumber (outcomeOf own t s f p x room .answer)) (λ n. refl) (read-in-order own m)
+      (λ _. subst (Answers (λ (n : ℕ). n) 0 (10 when (room < owedIn own t s f p m) ∷ [])) (sym answered-number) (by (λ n. n) 0 (ltb room (owedIn own t s f p m)) 10 (lt-decides room (owedIn own t s f p m)) none))
+
+  sections-in-order : Answers (λ (n : ℕ). n) 0 (30 when (within t s ≡ false) ∷ (readChecks own m ++ (10 when (room < owedIn own t s f p m) ∷ []))) (receiveNumber (sectionsOutcome own t s f p m room .answer))
+  unfolding sectionsOutcome
+  sections-in-order = go (within t s) refl
+    where
+      go : (b : Bool) → within t s ≡ b → Answers (λ (n : ℕ). n) 0 (30 when (within t s ≡ false) ∷ (readChecks own m ++ (10 when (room < owedIn own t s f p m) ∷ []))) (receiveNumber (cond b (outcomeOf own t s f p (readOf own m) room) (refused p 30) .answer))
+      go true e = next (λ (z : within t s ≡ false). let q : _≡_ {A = ℕ} 0 1 = cc in omega arith) found-in-order
+      go false e = this e
+
+receive-checked-in-order : ReceiveCheckedInOrder
+receive-checked-in-order own t s p m out r left x =
+    subst (λ (y : Received′). Answers (λ (n : ℕ). n) 0 (30 when (within t s ≡ false) ∷ (readChecks own m ++ (10 when (length out < owedIn own t s (x .found) p m) ∷ []))) (receiveNumber (y .answer))) (sym (x .outcome))
+    (sections-in-order own t s (x .found) p m (length out))
+
 pub demand-1 : Demand1
 demand-1 =
     record {
@@ -177,6 +209,7 @@ demand-1 =
       table-in-order = table-in-order;
       payload-in-order = payload-in-order;
       receive-in-order = receive-in-order;
+      receive-checked-in-order = receive-checked-in-order;
       one-answer = one;
       changes-nothing = changes-nothing;
     }

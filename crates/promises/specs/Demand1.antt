@@ -3,12 +3,15 @@
 -- language's: each function is total. The theorem is in proofs/Demand1.antt.
 use Prim.Native.Nat.{ℕ, _*_, _^_, _<_}
 use mathlib.Core.Path.{_≡_}
+use mathlib.Core.Bool.{false}
 use mathlib.Core.List.{List, [], _∷_, _++_}
 use lib.ListN.{length}
 use Rattle.wire.specs.Bytes.{Octets, number}
 use Rattle.types.specs.declared.Sections.{Sections}
+use Rattle.types.specs.declared.Found.{Found}
+use Rattle.types.specs.Layout.{within}
 use Rattle.message.specs.declared.Message.{Message}
-use Rattle.message.specs.Header.{domainIn, idIn, payloadIn, headerIn}
+use Rattle.message.specs.Header.{headerLength, domainIn, idIn, payloadSizeIn, payloadIn, headerIn}
 use Rattle.message.specs.Platform.{messageOf}
 use Rattle.message.specs.Refusal.{platforms}
 use Rattle.message.specs.Writing.{writeOf, outputAfter, numberGiven as writeNumber}
@@ -19,6 +22,8 @@ use Rattle.joiner.specs.Outcomes.{refusalIn}
 use Rattle.payload.specs.Calls.{unpackedIn, wordsIn, packedIn, bytesIn, unpacked, wordsAfter, packed, bytesAfter}
 use Rattle.platform.specs.declared.Standing.{Standing}
 use Rattle.platform.specs.declared.Outcome.{Outcome}
+use Rattle.platform.specs.Replies.{owedLength}
+use Rattle.platform.specs.Reaction.{reactionTo}
 use Rattle.platform.specs.Receiving.{receivedOf, leftOf, Received, numberGiven as receiveNumber}
 use Rattle.promises.specs.Checks.{Check, _when_, Answers, Keeps}
 use Rattle.promises.specs.Order.{readChecks, InOrder}
@@ -64,12 +69,23 @@ ReceiveInOrder =
     (own : ℕ) (t : List ℕ) (p : Standing) (m : List ℕ) (room : ℕ) → own < platforms → p .next < 2 ^ 32 → Octets m
     → Answers (λ n. n) 0 (receiveChecks own t p m room) (receiveNumber (receivedOf own t p m room .answer))
 
+-- how many bytes of replies are owed, with the operation that was found for the message
+abbrev pub owedIn : ℕ → List ℕ → Sections → Found → Standing → List ℕ → ℕ
+owedIn own t s f p m = owedLength (reactionTo own t s f p (headerIn m) (kindIn m) headerLength (payloadSizeIn m) .owed)
+
+-- the same on sections, whatever was found in them: 30 where these do not lie in the bytes
+abbrev pub ReceiveCheckedInOrder : Type 1
+ReceiveCheckedInOrder =
+    (own : ℕ) (t : List ℕ) (s : Sections) (p : Standing) (m out : List ℕ) (r : Outcome) (left : List ℕ) (x : Received own t s p m out r left)
+    → Answers (λ n. n) 0 (30 when (within t s ≡ false) ∷ (readChecks own m ++ (10 when (length out < owedIn own t s (x .found) p m) ∷ []))) (receiveNumber (r .answer))
+
 pub record Demand1 : Type 1 where
   -- "a fixed order of checks": what each call answers is the first of its checks that applies
   pub in-order : InOrder
   pub table-in-order : TableInOrder
   pub payload-in-order : PayloadInOrder
   pub receive-in-order : ReceiveInOrder
+  pub receive-checked-in-order : ReceiveCheckedInOrder
   -- which leaves no choice
   pub one-answer : {A : Type 0} (refused : ℕ → A) (good : A) (cs : List Check) (x y : A) → Answers refused good cs x → Answers refused good cs y → x ≡ y
   pub changes-nothing : ChangesNothing

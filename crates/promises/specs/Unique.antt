@@ -179,7 +179,8 @@ pub record WhereIDsRise : Type 0 where
   pub receive-checked : SameWhere platform-receive-checked (λ k a. idsRise (now (a .1 .0)) (a .1 .1 .0) ≡ true) (λ k z e. z)
   pub receive-checked-out : SameWhere platform-receive-checked (λ k a. idsRise (now (a .1 .0)) (a .1 .1 .0) ≡ true) (λ k z e. now (e .1 .1 .1 .1 .1 .0))
   pub accepted-rise : (t : List ℕ) (s : Sections) → checked t ≡ Table s → idsRise t s ≡ true
-  pub as-receive : (own : ℕ) (t : List ℕ) (s : Sections) (p : Standing) (m out : List ℕ) (r : Outcome) (left : List ℕ) → checked t ≡ Table s → Received own t s p m out r left → (r ≡ receivedOf own t p m (length out)) × (left ≡ leftOf own t p m out)
+  pub as-receive : (own : ℕ) (t : List ℕ) (s : Sections) (p : Standing) (m out : List ℕ) (r : Outcome) (left : List ℕ) →
+      checked t ≡ Table s → Received own t s p m out r left → (r ≡ receivedOf own t p m (length out)) × (left ≡ leftOf own t p m out)
 
 pub record Unique : Type 0 where
   pub wire : WireUnique
