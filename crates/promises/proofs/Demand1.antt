@@ -4,12 +4,15 @@ use Prim.Native.Nat.{ℕ, zero, suc, _+_, _*_, _^_, _<_}
 use mathlib.Core.Path.{_≡_, refl, sym, ap, subst, _∙_}
 use mathlib.Core.Bool.{Bool, true, false, cond}
 use mathlib.Core.List.{List, [], _∷_, _++_}
+use native.Mathlib.Omega.{arith}
 use lib.Dec.{ltb}
 use lib.ListN.{length}
 use Rattle.wire.specs.Bytes.{Octets, over}
-use Rattle.table.specs.declared.Sections.{Sections}
-use Rattle.table.specs.declared.Checked.{Checked}
-use Rattle.table.specs.declared.Checked.the-variants as check
+use Rattle.types.specs.declared.Sections.{Sections}
+use Rattle.types.specs.declared.Found.{Found}
+use Rattle.types.specs.Layout.{within}
+use Rattle.types.specs.declared.Checked.{Checked}
+use Rattle.types.specs.declared.Checked.the-variants as check
 use Rattle.types.specs.Table.{checked}
 use Rattle.message.specs.declared.Reading.{Reading}
 use Rattle.message.specs.declared.Reading.the-variants as reading
@@ -28,17 +31,16 @@ use Rattle.joiner.specs.Outcomes.{refusalIn}
 use Rattle.joiner.proofs.Standing.{refusal-keeps-joiner, refusal-keeps-rooms}
 use Rattle.payload.specs.declared.Answer.{Answer}
 use Rattle.payload.specs.declared.Answer.the-variants as answer
-use Rattle.walk.specs.Walk.{Codec, left, typeWalk}
-use Rattle.unpacking.specs.Reading.{reader}
-use Rattle.packing.specs.Writing.{writer}
-use Rattle.walk.specs.Walk.{start}
-use Rattle.payload.specs.Calls.{answeredIn, leftBy, leftIn, answeredIf, leftIf}
+use Rattle.payload.specs.Walk.{Codec, left, typeWalk}
+use Rattle.payload.specs.Reading.{reader}
+use Rattle.payload.specs.Writing.{writer}
+use Rattle.payload.specs.Calls.{start, answeredIn, leftBy, leftIn, answeredIf, leftIf}
 use Rattle.platform.specs.declared.Standing.{Standing}
 use Rattle.platform.specs.declared.Outcome.{Outcome as Received′}
 use Rattle.platform.specs.declared.Answer.{Answer as Noting}
 use Rattle.platform.specs.declared.Answer.the-variants as noting
 use Rattle.platform.specs.Replies.{owedLength}
-use Rattle.platform.specs.Reaction.{operationIn}
+use Rattle.platform.specs.Reaction.{operationIn, reactionTo}
 use Rattle.platform.specs.Receiving.{refused, taken, answered, outcomeOf, receivedBy, receivedOf, leftOf, sectionsOutcome, Received, numberGiven as receiveNumber}
 use Rattle.platform.proofs.Unchanged.{Unchanged, refusal-changes-nothing, sections-refusal-changes-nothing}
 use Rattle.promises.specs.Checks.{Check, _when_, Answers, Keeps, none, this, next}
@@ -46,7 +48,7 @@ use Rattle.promises.specs.Order.{InOrder, readChecks}
 use Rattle.promises.specs.TableOrder.{sectionsIn}
 use Rattle.promises.specs.PayloadOrder.{numberOf}
 use Rattle.promises.specs.Platforms.{owedFor, replyLength, Receives}
-use Rattle.promises.specs.Demand1.{ChangesNothing, kindIn, receiveChecks, ReceiveInOrder, Demand1}
+use Rattle.promises.specs.Demand1.{Kept, ChangesNothing, kindIn, receiveChecks, ReceiveInOrder, owedIn, ReceiveCheckedInOrder, Demand1}
 use Rattle.promises.proofs.Checks.{by, then, lt-decides}
 use Rattle.promises.proofs.Order.{read-in-order, write-in-order, header-in-order, pieces-in-order, cut-in-order}
 use Rattle.promises.proofs.TakeOrder.{setup-in-order, take-in-order}
@@ -109,6 +111,14 @@ module _ (own : ℕ) (t : List ℕ) (p : Standing) (m out : List ℕ) where
         let u = sections-refusal-changes-nothing own p (receiveNumber (r .answer)) out t s (a .found) m e in
         record { standing = ap (λ (x : Received′). x .standing) (a .outcome) ∙ u .standing; output = a .output ∙ u .output }
 
+kept : (p : Standing) (out : List ℕ) (r : Received′) (o : List ℕ) → (¬ (receiveNumber (r .answer) ≡ 0) → Unchanged p out r o) → Kept p out r o
+kept p out r o u =
+    record {
+      states = λ k. ap (λ (x : Standing). x .states) (u k .standing);
+      next = λ k. ap (λ (x : Standing). x .next) (u k .standing);
+      output = λ k. u k .output;
+    }
+
 changes-nothing : ChangesNothing
 changes-nothing =
     record {
@@ -120,12 +130,8 @@ changes-nothing =
       unpack-in-words = λ t s i b words. in-keeps (reader b) (length b) t s i words;
       pack-output = λ t i ws out. if-keeps (checked t) (writer ws) (length ws) t i out;
       pack-in-output = λ t s i ws out. in-keeps (writer ws) (length ws) t s i out;
-      receive-states = λ own t p m out k. ap (λ (x : Standing). x .states) (receive-kept own t p m out k .standing);
-      receive-next = λ own t p m out k. ap (λ (x : Standing). x .next) (receive-kept own t p m out k .standing);
-      receive-output = λ own t p m out k. receive-kept own t p m out k .output;
-      receive-checked-states = λ own t s p m out r o a k. ap (λ (x : Standing). x .states) (checked-kept own t p m out s r o a k .standing);
-      receive-checked-next = λ own t s p m out r o a k. ap (λ (x : Standing). x .next) (checked-kept own t p m out s r o a k .standing);
-      receive-checked-output = λ own t s p m out r o a k. checked-kept own t p m out s r o a k .output;
+      receive = λ own t p m out. kept p out (receivedOf own t p m (length out)) (leftOf own t p m out) (receive-kept own t p m out);
+      receive-checked = λ own t s p m out r o a. kept p out r o (checked-kept own t p m out s r o a);
     }
 
 in-order : InOrder
@@ -167,6 +173,35 @@ module _ (own : ℕ) (t : List ℕ) (p : Standing) (m : List ℕ) (room : ℕ) (
 receive-in-order : ReceiveInOrder
 receive-in-order own t p m room ho hn o = received-in-order own t p m room ho hn o
 
+-- the same on sections
+module _ (own : ℕ) (t : List ℕ) (s : Sections) (f : Found) (p : Standing) (m : List ℕ) (room : ℕ) where
+  answered-number : receiveNumber (outcomeOf own t s f p (readOut m) room .answer) ≡ cond (ltb room (owedIn own t s f p m)) 10 0
+  unfolding outcomeOf answered
+  answered-number = go (ltb room (owedIn own t s f p m))
+    where
+      go : (b : Bool) → receiveNumber (cond b (refused p noRoom) (taken (headerIn m) (reactionTo own t s f p (headerIn m) (kindIn m) headerLength (payloadSizeIn m)) (owedIn own t s f p m)) .answer) ≡ cond b 10 0
+      go true = refl
+      go false = refl
+
+  found-in-order : Answers (λ (n : ℕ). n) 0 (readChecks own m ++ (10 when (room < owedIn own t s f p m) ∷ [])) (receiveNumber (outcomeOf own t s f p (readOf own m) room .answer))
+  unfolding outcomeOf
+  found-in-order =
+      then reading.Refused (readOut m) (λ n. n) 0 (λ (x : Reading). receiveNumber (outcomeOf own t s f p x room .answer)) (λ n. refl) (read-in-order own m)
+      (λ _. subst (Answers (λ (n : ℕ). n) 0 (10 when (room < owedIn own t s f p m) ∷ [])) (sym answered-number) (by (λ n. n) 0 (ltb room (owedIn own t s f p m)) 10 (lt-decides room (owedIn own t s f p m)) none))
+
+  sections-in-order : Answers (λ (n : ℕ). n) 0 (30 when (within t s ≡ false) ∷ (readChecks own m ++ (10 when (room < owedIn own t s f p m) ∷ []))) (receiveNumber (sectionsOutcome own t s f p m room .answer))
+  unfolding sectionsOutcome
+  sections-in-order = go (within t s) refl
+    where
+      go : (b : Bool) → within t s ≡ b → Answers (λ (n : ℕ). n) 0 (30 when (within t s ≡ false) ∷ (readChecks own m ++ (10 when (room < owedIn own t s f p m) ∷ []))) (receiveNumber (cond b (outcomeOf own t s f p (readOf own m) room) (refused p 30) .answer))
+      go true e = next (λ (z : within t s ≡ false). let q : _≡_ {A = ℕ} 0 1 = cc in omega arith) found-in-order
+      go false e = this e
+
+receive-checked-in-order : ReceiveCheckedInOrder
+receive-checked-in-order own t s p m out r left x =
+    subst (λ (y : Received′). Answers (λ (n : ℕ). n) 0 (30 when (within t s ≡ false) ∷ (readChecks own m ++ (10 when (length out < owedIn own t s (x .found) p m) ∷ []))) (receiveNumber (y .answer))) (sym (x .outcome))
+    (sections-in-order own t s (x .found) p m (length out))
+
 pub demand-1 : Demand1
 demand-1 =
     record {
@@ -174,6 +209,7 @@ demand-1 =
       table-in-order = table-in-order;
       payload-in-order = payload-in-order;
       receive-in-order = receive-in-order;
+      receive-checked-in-order = receive-checked-in-order;
       one-answer = one;
       changes-nothing = changes-nothing;
     }

@@ -1,6 +1,6 @@
 -- Messages and binding headers, written and read.
 -- Assumes nothing.
-use Prim.Native.Nat.{ℕ, zero, suc, _+_, _≤_}
+use Prim.Native.Nat.{ℕ, zero, suc, _+_, _^_, _≤_, _<_}
 use mathlib.Core.Path.{_≡_, refl, sym, ap, subst, _∙_}
 use mathlib.Core.List.{List, []}
 use native.Mathlib.Omega.{arith}
@@ -12,11 +12,11 @@ use Rattle.message.specs.declared.Header.{Header}
 use Rattle.message.specs.declared.Status.{Status}
 use Rattle.message.specs.declared.Status.the-variants.{Down, Up}
 use Rattle.message.specs.declared.Message.{Message}
-use Rattle.message.specs.declared.Message.the-variants.{PlatformStatus, PlatformStatusRequest, UnknownOperation, VersionedDataPull}
+use Rattle.message.specs.declared.Message.the-variants.{PlatformStatus, PlatformStatusRequest, UnknownOperation, VersionedDataPull, Operation}
 use Rattle.message.specs.declared.Reading.{Reading}
 use Rattle.message.specs.declared.Reading.the-variants as reading
 use Rattle.message.specs.declared.Writing.the-variants as writing
-use Rattle.message.specs.Header.{headerLength, platformDomain, domainIn, senderIn, idIn, sequenceIn, payloadIn, headerIn}
+use Rattle.message.specs.Header.{headerLength, domainIn, senderIn, idIn, sequenceIn, payloadIn, headerIn}
 use Rattle.message.specs.Platform.{platformStatus, platformStatusRequest, unknownOperation, versionedDataPull, statusValue, messageOf}
 use Rattle.message.specs.Refusal.{contentsRefusal, readRefusal, writeRefusal}
 use Rattle.message.specs.Reading.{readOut, readOf, payloadOf}
@@ -27,7 +27,7 @@ use Rattle.message.proofs.Accepted.{readable, admits}
 use Rattle.message.proofs.RoundTrip.{reads-back, payload-back, same-bytes, writes-again}
 use Rattle.platform.proofs.Unchanged.{payload-stands}
 use Rattle.binding.proofs.Headers.{header-back, piece-back, bytes-back}
-use Rattle.promises.specs.Headers.{ReadsAs, Addressed, WrittenThenRead, ReadThenWritten, IsSentAs, PlatformMessages, HeaderThenRead, HeaderReadThenWritten}
+use Rattle.promises.specs.Headers.{ReadsAs, Addressed, WrittenThenRead, ReadThenWritten, IsSentAs, EachMessage, HeaderThenRead, HeaderReadThenWritten}
 
 -- what an answer says of the refusal behind it
 pub not-refused : (r k n : ℕ) → writes.answered r k ≡ writing.Written n → (r ≡ 0) × (n ≡ k)
@@ -85,27 +85,28 @@ read-then-written own s h m start len out o e l =
     let its-payload : payloadIn s ≡ payloadOf s (readOf own s) = sym (ap (λ (r : ℕ). payloadOf s (reads.answered r (readOut s))) (w .0) ∙ payload-stands own s (w .0)) in
     subst (λ (x : Header). Again s out x (payloadOf s (readOf own s))) fields (subst (λ (p : List ℕ). Again s out (headerIn s) p) its-payload (again own s out o (w .0) l))
 
--- a platform message whose contents nothing refuses
-sent-as : (id : ℕ) (payload : List ℕ) (kind : Message) → length payload ≤ 4 → contentsRefusal platformDomain id payload ≡ 0 → messageOf platformDomain id (number 2 payload 0) ≡ kind → IsSentAs id payload kind
-sent-as id payload kind few ok means own reader seq out a room =
-    let w : writeRefusal platformDomain id payload (length out) ≡ 0 = admits platformDomain id payload (length out) (record { domain = omega arith; size = omega arith; contents = ok; fits = room }) in (
+-- a message whose contents nothing refuses
+sent-as : (domain id : ℕ) (payload : List ℕ) (kind : Message) → domain < 2 → length payload < 2 ^ 32 → contentsRefusal domain id payload ≡ 0 → messageOf domain id (number 2 payload 0) ≡ kind → IsSentAs domain id payload kind
+sent-as domain id payload kind dom few ok means own reader seq out a room =
+    let w : writeRefusal domain id payload (length out) ≡ 0 = admits domain id payload (length out) (record { domain = dom; size = few; contents = ok; fits = room }) in (
       ap (λ (r : ℕ). writes.answered r (headerLength + length payload)) w,
-      subst (λ (m : Message). ReadsAs reader (take (headerLength + length payload) (outputAfter own platformDomain id seq payload out)) (headerFor own platformDomain id seq payload) m payload) means
-          (as-read own platformDomain id seq payload out w reader a),
+      subst (λ (m : Message). ReadsAs reader (take (headerLength + length payload) (outputAfter own domain id seq payload out)) (headerFor own domain id seq payload) m payload) means
+          (as-read own domain id seq payload out w reader a),
     )
 
-pub platform-messages : PlatformMessages
-platform-messages =
+pub each-message : EachMessage
+each-message =
     record {
       status = status;
-      request = sent-as platformStatusRequest [] PlatformStatusRequest (omega arith) refl refl;
-      unknown = λ id h. sent-as unknownOperation (bytes 2 id) (UnknownOperation id) (omega arith) refl (ap UnknownOperation (number-bytes 2 id [] h));
-      pull = λ id h. sent-as versionedDataPull (bytes 2 id) (VersionedDataPull id) (omega arith) refl (ap VersionedDataPull (number-bytes 2 id [] h));
+      request = sent-as 0 platformStatusRequest [] PlatformStatusRequest (omega arith) (omega arith) refl refl;
+      unknown = λ id h. sent-as 0 unknownOperation (bytes 2 id) (UnknownOperation id) (omega arith) (omega arith) refl (ap UnknownOperation (number-bytes 2 id [] h));
+      pull = λ id h. sent-as 0 versionedDataPull (bytes 2 id) (VersionedDataPull id) (omega arith) (omega arith) refl (ap VersionedDataPull (number-bytes 2 id [] h));
+      operation = λ id payload h. sent-as 1 id payload Operation (omega arith) h refl refl;
     }
   where
-    status : (x : Status) → IsSentAs platformStatus (bytes 2 (statusValue x)) (PlatformStatus x)
-    status Down = sent-as platformStatus (bytes 2 0) (PlatformStatus Down) (omega arith) refl refl
-    status Up = sent-as platformStatus (bytes 2 1) (PlatformStatus Up) (omega arith) refl refl
+    status : (x : Status) → IsSentAs 0 platformStatus (bytes 2 (statusValue x)) (PlatformStatus x)
+    status Down = sent-as 0 platformStatus (bytes 2 0) (PlatformStatus Down) (omega arith) (omega arith) refl refl
+    status Up = sent-as 0 platformStatus (bytes 2 1) (PlatformStatus Up) (omega arith) (omega arith) refl refl
 
 -- the binding header
 pub header-then-read : HeaderThenRead

@@ -1,3 +1,16 @@
+mod Checks
+mod Order
+mod TakeOrder
+pub mod TableOrder
+pub mod PayloadOrder
+pub mod Demand1
+pub mod Headers
+pub mod CutAndJoined
+pub mod Payloads
+mod Reacting
+mod Replying
+pub mod Platforms
+pub mod Demand2
 mod Machine
 mod OneChannel
 mod Complete
@@ -5,16 +18,5 @@ mod Apart
 mod Agrees
 mod Arrivals
 pub mod Demand3
-pub mod CutAndJoined
 pub mod Starred
-pub mod Headers
-pub mod Payloads
-pub mod Demand2
-pub mod Platforms
-mod Replying
-pub mod Checks
-pub mod Order
-mod TakeOrder
-pub mod TableOrder
-pub mod PayloadOrder
-pub mod Demand1
+pub mod Unique

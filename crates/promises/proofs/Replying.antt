@@ -2,28 +2,20 @@
 -- Assumes nothing.
 use Prim.Native.Nat.{ℕ, _+_, _*_, _^_, _≤_, _<_}
 use mathlib.Core.Path.{_≡_, refl, sym, ap, subst, _∙_}
-use mathlib.Core.Bool.{Bool, true, false, not, cond}
+use mathlib.Core.Bool.{Bool, cond}
 use mathlib.Core.List.{List, [], _∷_, map}
-use native.Mathlib.Nat.{mod-lt}
 use native.Mathlib.Omega.{arith}
-use borrow.Author.Tests.{eqb-true, eqb-false, le-ltb}
-use lib.Dec.{eqb}
-use lib.Pow.{pow-pos}
+use borrow.Author.Tests.{le-ltb}
 use lib.ListN.{length, take, drop, length-map}
 use lib.Seq.{take-at, drop-at}
 use Rattle.wire.specs.Bytes.{span, number, over, part}
 use Rattle.wire.proofs.Numbers.{number-lt, octets-drop}
 use Rattle.wire.proofs.Runs.{length-over, part-in}
 use Rattle.wire.proofs.Cond.{yes-lt, no-lt}
-use Rattle.table.specs.declared.Sections.{Sections}
-use Rattle.table.specs.declared.Found.{Found}
-use Rattle.table.specs.declared.Found.the-variants as found
-use Rattle.table.specs.declared.Checked.{Checked}
-use Rattle.table.specs.Operations.{operationOf}
+use Rattle.types.specs.declared.Sections.{Sections}
+use Rattle.types.specs.declared.Checked.{Checked}
 use Rattle.message.specs.declared.Header.{Header}
-use Rattle.message.specs.declared.Status.the-variants.{Down, Up}
 use Rattle.message.specs.declared.Message.{Message}
-use Rattle.message.specs.declared.Message.the-variants as message
 use Rattle.message.specs.declared.Reading.{Reading}
 use Rattle.message.specs.declared.Reading.the-variants as reading
 use Rattle.message.specs.Header.{headerLength, domainIn, idIn, payloadIn, headerIn}
@@ -31,152 +23,20 @@ use Rattle.message.specs.Platform.{messageOf}
 use Rattle.message.specs.Refusal.{platforms, noRoom, readRefusal}
 use Rattle.message.specs.Reading.{readOut, readOf}
 use Rattle.message.proofs.Accepted.{Readable, readable}
-use Rattle.states.specs.declared.States.{States}
 use Rattle.platform.specs.declared.Standing.{Standing}
 use Rattle.platform.specs.declared.Answer.the-variants.{Refused, Noted}
 use Rattle.platform.specs.declared.Outcome.{Outcome}
-use Rattle.states.specs.States.{isUp, turned}
-use Rattle.platform.specs.Replies.{allData, replyNumber, replyBytes, replyHeader, meant, Wide, replies, Each, owedBytes, owedLength}
-use Rattle.platform.specs.Reaction.{operationFor, operationIn, isData, foundData, noData, cameUp, onStatus, onPullAll, onPullOne, onPull, onOperation, reactionTo}
+use Rattle.platform.specs.States.{isUp}
+use Rattle.platform.specs.Replies.{replyBytes, replyHeader, Wide, replies, Each, owedBytes, owedLength}
+use Rattle.platform.specs.Reaction.{operationFor, operationIn}
 use Rattle.platform.specs.Receiving.{refused, taken, answered, laidOut, outcomeOf, outputOf, receivedBy, receivedOf, leftBy, leftOf, bytesWritten}
 use Rattle.platform.specs.Exchange.{sentOf}
-use Rattle.states.proofs.Ups.{noted-there, noted-elsewhere}
 use Rattle.platform.proofs.ReplyLaws.{length-reply, length-owed}
 use Rattle.platform.proofs.Unchanged.{allBytes, written-is-sent}
 use Rattle.platform.proofs.ReadBack.{reply-reads-back}
-use Rattle.promises.specs.Platforms.{Owed, owedFor, stateAfter, nextAfter, replyLength, AreReplies, Receives, Notes}
+use Rattle.promises.specs.Platforms.{owedFor, replyLength, AreReplies, Receives, Notes}
 use Rattle.promises.proofs.Headers.{was-read, headerRead}
-
--- the types of platform's own replies and reactions, which it keeps to itself
-abbrev Argument : {A B : Type 0} → (A → B) → Type 0
-Argument {A} f = A
-
-abbrev Reply : Type 0
-Reply = Argument replyNumber
-
-abbrev Reaction : Type 0
-Reaction = Argument (laidOut 0)
-
-abbrev said : Reply → Owed
-said r = record { number = replyNumber r; means = meant r }
-
--- a state that is as it was said already, and one that is turned
-module _ (own : ℕ) (s : States) (k who : ℕ) where
-  as-it-was : (b : Bool) → isUp own s who ≡ b → isUp own s k ≡ cond (eqb k who) b (isUp own s k)
-  as-it-was b e = go (eqb k who) refl
-    where
-      go : (c : Bool) → eqb k who ≡ c → isUp own s k ≡ cond c b (isUp own s k)
-      go true q = ap (isUp own s) (eqb-true k who q) ∙ e
-      go false q = refl
-
-  now-turned : (b : Bool) → isUp own s who ≡ b → k < platforms → who < platforms → (who ≡ own → ⊥) → isUp own (turned s who) k ≡ cond (eqb k who) (not b) (isUp own s k)
-  now-turned b e hk hw other = go (eqb k who) refl
-    where
-      go : (c : Bool) → eqb k who ≡ c → isUp own (turned s who) k ≡ cond c (not b) (isUp own s k)
-      go true q = ap (isUp own (turned s who)) (eqb-true k who q) ∙ noted-there own s who hw other ∙ ap not e
-      go false q = noted-elsewhere own s who hw k hk (eqb-false k who q)
-
--- the 32-bit field of a message's payload, if it has one
-abbrev fieldOf : Message → ℕ
-fieldOf (message.PlatformStatus x) = 0
-fieldOf message.PlatformStatusRequest = 0
-fieldOf (message.UnknownOperation id) = id
-fieldOf (message.VersionedDataPull id) = id
-fieldOf message.Operation = 0
-
--- what is known of the message, and what is wanted of the reaction to it
-module _ (own : ℕ) (t : List ℕ) (s : Sections) (p : Standing) (h : Header) (start len : ℕ) where
-  abbrev X : Message → Reaction
-  X kind = reactionTo own t s (operationFor t s h kind) p h kind start len
-
-  record Reacts (kind : Message) : Type 0 where
-    owed-is : map said (replies (X kind .owed)) ≡ owedFor own t s p h kind
-    long : owedLength (X kind .owed) ≡ replyLength * length (replies (X kind .owed))
-    wide : Each (λ r. Wide r) (replies (X kind .owed))
-    next : X kind .standing .next ≡ nextAfter own p h kind
-    states : (k : ℕ) → k < platforms → isUp own (X kind .standing .states) k ≡ stateAfter own p h kind k
-
-  module _ (hn : p .next < 2 ^ 32) (hs : h .platform < platforms) (other : h .platform ≡ own → ⊥) where
-    on-up : Reacts (message.PlatformStatus Up)
-    unfolding reactionTo onStatus cameUp
-    on-up = go (isUp own (p .states) (h .platform)) refl
-      where
-        go : (b : Bool) → isUp own (p .states) (h .platform) ≡ b → Reacts (message.PlatformStatus Up)
-        go true e = record { owed-is = rw e; long = rw e; wide = rw e tt; next = rw e; states = λ k l. rw e (as-it-was own (p .states) k (h .platform) true e) }
-        go false e =
-            record {
-              owed-is = rw e;
-              long = rw e;
-              wide = rw e (record { number = hn; field = omega arith }, (record { number = mod-lt (p .next + 1) (pow-pos 32); field = omega arith }, tt));
-              next = rw e;
-              states = λ k l. rw e (now-turned own (p .states) k (h .platform) false e l hs other);
-            }
-
-    on-down : Reacts (message.PlatformStatus Down)
-    unfolding reactionTo onStatus
-    on-down = go (isUp own (p .states) (h .platform)) refl
-      where
-        go : (b : Bool) → isUp own (p .states) (h .platform) ≡ b → Reacts (message.PlatformStatus Down)
-        go true e = record { owed-is = rw e; long = rw e; wide = rw e tt; next = rw e; states = λ k l. rw e (now-turned own (p .states) k (h .platform) true e l hs other) }
-        go false e = record { owed-is = rw e; long = rw e; wide = rw e tt; next = rw e; states = λ k l. rw e (as-it-was own (p .states) k (h .platform) false e) }
-
-    module _ (hq : h .sequence < 2 ^ 32) (hi : h .id < 2 ^ 32) where
-      on-request : Reacts message.PlatformStatusRequest
-      unfolding reactionTo
-      on-request = record { owed-is = refl; long = refl; wide = (record { number = hq; field = omega arith }, tt); next = refl; states = λ k l. refl }
-
-      on-unknown : (id : ℕ) → Reacts (message.UnknownOperation id)
-      unfolding reactionTo
-      on-unknown id = record { owed-is = refl; long = refl; wide = tt; next = refl; states = λ k l. refl }
-
-      on-pull : (id : ℕ) → id < 2 ^ 32 → Reacts (message.VersionedDataPull id)
-      unfolding reactionTo operationFor onPull onPullAll onPullOne foundData
-      on-pull id l = go (eqb id allData) refl (noData t s) refl (operationOf t s id) refl
-        where
-          one : (b : Bool) (i : ℕ) → eqb id allData ≡ false → operationOf t s id ≡ found.At i → isData t s i ≡ b → Reacts (message.VersionedDataPull id)
-          one true i e f d = record { owed-is = rw (e, f, d); long = rw (e, f, d); wide = rw (e, f, d) tt; next = rw (e, f, d); states = λ k l. rw (e, f, d) refl }
-          one false i e f d = record { owed-is = rw (e, f, d); long = rw (e, f, d); wide = rw (e, f, d) (record { number = hq; field = l }, tt); next = rw (e, f, d); states = λ k l. rw (e, f, d) refl }
-
-          go : (a : Bool) → eqb id allData ≡ a → (b : Bool) → noData t s ≡ b → (x : Found) → operationOf t s id ≡ x → Reacts (message.VersionedDataPull id)
-          go true e true d x f =
-              let q : id ≡ allData = eqb-true id allData e in
-              record {
-                owed-is = rw (e, d) (ap (λ (n : ℕ). record { number = h .sequence; means = message.UnknownOperation n } ∷ []) (sym q));
-                long = rw (e, d);
-                wide = rw (e, d) (record { number = hq; field = omega arith }, tt);
-                next = rw (e, d);
-                states = λ k l. rw (e, d) refl;
-              }
-          go true e false d x f = record { owed-is = rw (e, d); long = rw (e, d); wide = rw (e, d) tt; next = rw (e, d); states = λ k l. rw (e, d) refl }
-          go false e b d (found.At i) f = one (isData t s i) i e f refl
-          go false e b d found.Nothing f = record { owed-is = rw (e, f); long = rw (e, f); wide = rw (e, f) (record { number = hq; field = l }, tt); next = rw (e, f); states = λ k l. rw (e, f) refl }
-
-      on-operation : Reacts message.Operation
-      unfolding reactionTo operationFor onOperation
-      on-operation = go (operationOf t s (h .id)) refl
-        where
-          go : (x : Found) → operationOf t s (h .id) ≡ x → Reacts message.Operation
-          go (found.At i) f = record { owed-is = rw f; long = rw f; wide = rw f tt; next = rw f; states = λ k l. rw f refl }
-          go found.Nothing f = record { owed-is = rw f; long = rw f; wide = rw f (record { number = hq; field = hi }, tt); next = rw f; states = λ k l. rw f refl }
-
-      reacts : (kind : Message) → fieldOf kind < 2 ^ 32 → Reacts kind
-      reacts (message.PlatformStatus Up) l = on-up
-      reacts (message.PlatformStatus Down) l = on-down
-      reacts message.PlatformStatusRequest l = on-request
-      reacts (message.UnknownOperation id) l = on-unknown id
-      reacts (message.VersionedDataPull id) l = on-pull id l
-      reacts message.Operation l = on-operation
-
--- the field of a message that was read is 32 bits wide
-field-le : (domain id field : ℕ) → fieldOf (messageOf domain id field) ≤ field
-field-le domain id field = go (eqb domain 0) (eqb id 1) (eqb id 2) (eqb id 3) refl refl refl refl
-  where
-    go : (a b c d : Bool) → eqb domain 0 ≡ a → eqb id 1 ≡ b → eqb id 2 ≡ c → eqb id 3 ≡ d → fieldOf (messageOf domain id field) ≤ field
-    go false b c d ea eb ec ed = rw ea (omega arith)
-    go true true c d ea eb ec ed = rw (ea, eb) (omega arith)
-    go true false true d ea eb ec ed = rw (ea, eb, ec) (omega arith)
-    go true false false true ea eb ec ed = rw (ea, eb, ec, ed) (omega arith)
-    go true false false false ea eb ec ed = rw (ea, eb, ec, ed) (omega arith)
+use Rattle.promises.proofs.Reacting.{Reply, Reaction, said, fieldOf, X, Reacts, reacts, field-le}
 
 -- replies one behind another, as they are read
 module _ (own reader : ℕ) (ho : own < platforms) (other : own ≡ reader → ⊥) where

@@ -4,7 +4,8 @@ use Prim.Native.Nat.{ℕ, _<_}
 use mathlib.Core.Path.{_≡_}
 use mathlib.Core.List.{List, [], _∷_}
 
--- a check: its number, and when it applies
+-- a check: its number, and when it applies. Numbers and limits stand in the lists of checks as 01 has them, and not by the names
+-- that the code's definitions give them: what was changed there alone has no proof here
 pub record Check : Type 1 where
   pub number : ℕ
   pub applies : Type 0

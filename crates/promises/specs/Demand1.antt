@@ -3,22 +3,27 @@
 -- language's: each function is total. The theorem is in proofs/Demand1.antt.
 use Prim.Native.Nat.{ℕ, _*_, _^_, _<_}
 use mathlib.Core.Path.{_≡_}
+use mathlib.Core.Bool.{false}
 use mathlib.Core.List.{List, [], _∷_, _++_}
 use lib.ListN.{length}
 use Rattle.wire.specs.Bytes.{Octets, number}
-use Rattle.table.specs.declared.Sections.{Sections}
+use Rattle.types.specs.declared.Sections.{Sections}
+use Rattle.types.specs.declared.Found.{Found}
+use Rattle.types.specs.Layout.{within}
 use Rattle.message.specs.declared.Message.{Message}
-use Rattle.message.specs.Header.{domainIn, idIn, payloadIn, headerIn}
+use Rattle.message.specs.Header.{headerLength, domainIn, idIn, payloadSizeIn, payloadIn, headerIn}
 use Rattle.message.specs.Platform.{messageOf}
 use Rattle.message.specs.Refusal.{platforms}
 use Rattle.message.specs.Writing.{writeOf, outputAfter, numberGiven as writeNumber}
 use Rattle.binding.specs.Cutting.{madeOf, cutInto, cutRefusal}
-use Rattle.channels.specs.declared.Joiner.{Joiner}
+use Rattle.joiner.specs.declared.Joiner.{Joiner}
 use Rattle.joiner.specs.Take.{takenOf, roomsAfter}
 use Rattle.joiner.specs.Outcomes.{refusalIn}
 use Rattle.payload.specs.Calls.{unpackedIn, wordsIn, packedIn, bytesIn, unpacked, wordsAfter, packed, bytesAfter}
 use Rattle.platform.specs.declared.Standing.{Standing}
 use Rattle.platform.specs.declared.Outcome.{Outcome}
+use Rattle.platform.specs.Replies.{owedLength}
+use Rattle.platform.specs.Reaction.{reactionTo}
 use Rattle.platform.specs.Receiving.{receivedOf, leftOf, Received, numberGiven as receiveNumber}
 use Rattle.promises.specs.Checks.{Check, _when_, Answers, Keeps}
 use Rattle.promises.specs.Order.{readChecks, InOrder}
@@ -26,22 +31,30 @@ use Rattle.promises.specs.TableOrder.{sectionsIn, tableChecks, TableInOr
 use Rattle.promises.specs.PayloadOrder.{numberOf, PayloadInOrder}
 use Rattle.promises.specs.Platforms.{owedFor, replyLength}
 
--- "changes no channel, room, platform state, sequence number or output byte", call by call
+-- "changes no channel, room, platform state, sequence number or output byte", call by call: first what a call for one message keeps
+pub record Kept (p : Standing) (out : List ℕ) (r : Outcome) (left : List ℕ) : Type 0 where
+  pub states : Keeps (receiveNumber (r .answer)) (p .states) (r .standing .states)
+  pub next : Keeps (receiveNumber (r .answer)) (p .next) (r .standing .next)
+  pub output : Keeps (receiveNumber (r .answer)) out left
+
 pub record ChangesNothing : Type 0 where
-  pub write-output : (own domain id seq : ℕ) (payload out : List ℕ) → Keeps (writeNumber (writeOf domain id payload (length out))) out (outputAfter own domain id seq payload out)
-  pub cut-output : (msg : List ℕ) (s sender first i : ℕ) (out : List ℕ) → Keeps (cutRefusal (madeOf msg s sender first i (length out))) out (cutInto msg s sender first i out)
+  pub write-output : (own domain id seq : ℕ) (payload out : List ℕ) →
+      Keeps (writeNumber (writeOf domain id payload (length out))) out (outputAfter own domain id seq payload out)
+  pub cut-output : (msg : List ℕ) (s sender first i : ℕ) (out : List ℕ) →
+      Keeps (cutRefusal (madeOf msg s sender first i (length out))) out (cutInto msg s sender first i out)
   pub take-joiner : (j : Joiner) (rooms d : List ℕ) → Keeps (refusalIn (takenOf j rooms d .outcome)) j (takenOf j rooms d .joiner)
   pub take-rooms : (j : Joiner) (rooms d : List ℕ) → Keeps (refusalIn (takenOf j rooms d .outcome)) rooms (roomsAfter j rooms d)
-  pub unpack-words : (t : List ℕ) (i : ℕ) (b words : List ℕ) → Keeps (numberOf (unpacked t i b (length words))) words (wordsAfter t i b words)
-  pub unpack-in-words : (t : List ℕ) (s : Sections) (i : ℕ) (b words : List ℕ) → Keeps (numberOf (unpackedIn t s i b (length words))) words (wordsIn t s i b words)
+  pub unpack-words : (t : List ℕ) (i : ℕ) (b words : List ℕ) →
+      Keeps (numberOf (unpacked t i b (length words))) words (wordsAfter t i b words)
+  pub unpack-in-words : (t : List ℕ) (s : Sections) (i : ℕ) (b words : List ℕ) →
+      Keeps (numberOf (unpackedIn t s i b (length words))) words (wordsIn t s i b words)
   pub pack-output : (t : List ℕ) (i : ℕ) (ws out : List ℕ) → Keeps (numberOf (packed t i ws (length out))) out (bytesAfter t i ws out)
-  pub pack-in-output : (t : List ℕ) (s : Sections) (i : ℕ) (ws out : List ℕ) → Keeps (numberOf (packedIn t s i ws (length out))) out (bytesIn t s i ws out)
-  pub receive-states : (own : ℕ) (t : List ℕ) (p : Standing) (m out : List ℕ) → Keeps (receiveNumber (receivedOf own t p m (length out) .answer)) (p .states) (receivedOf own t p m (length out) .standing .states)
-  pub receive-next : (own : ℕ) (t : List ℕ) (p : Standing) (m out : List ℕ) → Keeps (receiveNumber (receivedOf own t p m (length out) .answer)) (p .next) (receivedOf own t p m (length out) .standing .next)
-  pub receive-output : (own : ℕ) (t : List ℕ) (p : Standing) (m out : List ℕ) → Keeps (receiveNumber (receivedOf own t p m (length out) .answer)) out (leftOf own t p m out)
-  pub receive-checked-states : (own : ℕ) (t : List ℕ) (s : Sections) (p : Standing) (m out : List ℕ) (r : Outcome) (left : List ℕ) → Received own t s p m out r left → Keeps (receiveNumber (r .answer)) (p .states) (r .standing .states)
-  pub receive-checked-next : (own : ℕ) (t : List ℕ) (s : Sections) (p : Standing) (m out : List ℕ) (r : Outcome) (left : List ℕ) → Received own t s p m out r left → Keeps (receiveNumber (r .answer)) (p .next) (r .standing .next)
-  pub receive-checked-output : (own : ℕ) (t : List ℕ) (s : Sections) (p : Standing) (m out : List ℕ) (r : Outcome) (left : List ℕ) → Received own t s p m out r left → Keeps (receiveNumber (r .answer)) out left
+  pub pack-in-output : (t : List ℕ) (s : Sections) (i : ℕ) (ws out : List ℕ) →
+      Keeps (numberOf (packedIn t s i ws (length out))) out (bytesIn t s i ws out)
+  pub receive : (own : ℕ) (t : List ℕ) (p : Standing) (m out : List ℕ) →
+      Kept p out (receivedOf own t p m (length out)) (leftOf own t p m out)
+  pub receive-checked : (own : ℕ) (t : List ℕ) (s : Sections) (p : Standing) (m out : List ℕ) (r : Outcome) (left : List ℕ) →
+      Received own t s p m out r left → Kept p out r left
 
 -- one call for one message: 30 to 33 for the table, 1 to 9 for the message, and "where they don't all fit it is 10"
 abbrev pub kindIn : List ℕ → Message
@@ -56,12 +69,23 @@ ReceiveInOrder =
     (own : ℕ) (t : List ℕ) (p : Standing) (m : List ℕ) (room : ℕ) → own < platforms → p .next < 2 ^ 32 → Octets m
     → Answers (λ n. n) 0 (receiveChecks own t p m room) (receiveNumber (receivedOf own t p m room .answer))
 
+-- how many bytes of replies are owed, with the operation that was found for the message
+abbrev pub owedIn : ℕ → List ℕ → Sections → Found → Standing → List ℕ → ℕ
+owedIn own t s f p m = owedLength (reactionTo own t s f p (headerIn m) (kindIn m) headerLength (payloadSizeIn m) .owed)
+
+-- the same on sections, whatever was found in them: 30 where these do not lie in the bytes
+abbrev pub ReceiveCheckedInOrder : Type 1
+ReceiveCheckedInOrder =
+    (own : ℕ) (t : List ℕ) (s : Sections) (p : Standing) (m out : List ℕ) (r : Outcome) (left : List ℕ) (x : Received own t s p m out r left)
+    → Answers (λ n. n) 0 (30 when (within t s ≡ false) ∷ (readChecks own m ++ (10 when (length out < owedIn own t s (x .found) p m) ∷ []))) (receiveNumber (r .answer))
+
 pub record Demand1 : Type 1 where
   -- "a fixed order of checks": what each call answers is the first of its checks that applies
   pub in-order : InOrder
   pub table-in-order : TableInOrder
   pub payload-in-order : PayloadInOrder
   pub receive-in-order : ReceiveInOrder
+  pub receive-checked-in-order : ReceiveCheckedInOrder
   -- which leaves no choice
   pub one-answer : {A : Type 0} (refused : ℕ → A) (good : A) (cs : List Check) (x y : A) → Answers refused good cs x → Answers refused good cs y → x ≡ y
   pub changes-nothing : ChangesNothing

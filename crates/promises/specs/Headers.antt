@@ -9,10 +9,10 @@ use Rattle.wire.specs.Bytes.{Octets, number, bytes, over}
 use Rattle.message.specs.declared.Header.{Header}
 use Rattle.message.specs.declared.Status.{Status}
 use Rattle.message.specs.declared.Message.{Message}
-use Rattle.message.specs.declared.Message.the-variants.{PlatformStatus, PlatformStatusRequest, UnknownOperation, VersionedDataPull}
+use Rattle.message.specs.declared.Message.the-variants.{PlatformStatus, PlatformStatusRequest, UnknownOperation, VersionedDataPull, Operation}
 use Rattle.message.specs.declared.Reading.the-variants.{Read}
 use Rattle.message.specs.declared.Writing.the-variants.{Written}
-use Rattle.message.specs.Header.{headerLength, platformDomain}
+use Rattle.message.specs.Header.{headerLength}
 use Rattle.message.specs.Platform.{platformStatus, platformStatusRequest, unknownOperation, versionedDataPull, statusValue, messageOf}
 use Rattle.message.specs.Reading.{readOf, payloadOf}
 use Rattle.message.specs.Writing.{headerFor, writeOf, outputAfter}
@@ -46,19 +46,20 @@ ReadThenWritten =
     → (writeOf (h .domain) (h .id) (payloadOf s (readOf own s)) (length out) ≡ Written (length s))
     × (outputAfter (h .platform) (h .domain) (h .id) (h .sequence) (payloadOf s (readOf own s)) out ≡ over out 0 s)
 
--- a message of this ID and payload is written wherever there is room, and reads back as this kind
-abbrev pub IsSentAs : ℕ → List ℕ → Message → Type 0
-IsSentAs id payload kind =
+-- a message of this domain, ID and payload is written wherever there is room, and reads back as this kind
+abbrev pub IsSentAs : ℕ → ℕ → List ℕ → Message → Type 0
+IsSentAs domain id payload kind =
     (own reader seq : ℕ) (out : List ℕ) → Addressed own reader id seq → headerLength + length payload ≤ length out
-    → (writeOf platformDomain id payload (length out) ≡ Written (headerLength + length payload))
-    × ReadsAs reader (take (headerLength + length payload) (outputAfter own platformDomain id seq payload out)) (headerFor own platformDomain id seq payload) kind payload
+    → (writeOf domain id payload (length out) ≡ Written (headerLength + length payload))
+    × ReadsAs reader (take (headerLength + length payload) (outputAfter own domain id seq payload out)) (headerFor own domain id seq payload) kind payload
 
--- 000, Tables 3 and 4: each platform message
-pub record PlatformMessages : Type 0 where
-  pub status : (x : Status) → IsSentAs platformStatus (bytes 2 (statusValue x)) (PlatformStatus x)
-  pub request : IsSentAs platformStatusRequest [] PlatformStatusRequest
-  pub unknown : (id : ℕ) → id < 2 ^ 32 → IsSentAs unknownOperation (bytes 2 id) (UnknownOperation id)
-  pub pull : (id : ℕ) → id < 2 ^ 32 → IsSentAs versionedDataPull (bytes 2 id) (VersionedDataPull id)
+-- 000, Tables 3 and 4: each platform message; and an operation, whose payload is any
+pub record EachMessage : Type 0 where
+  pub status : (x : Status) → IsSentAs 0 platformStatus (bytes 2 (statusValue x)) (PlatformStatus x)
+  pub request : IsSentAs 0 platformStatusRequest [] PlatformStatusRequest
+  pub unknown : (id : ℕ) → id < 2 ^ 32 → IsSentAs 0 unknownOperation (bytes 2 id) (UnknownOperation id)
+  pub pull : (id : ℕ) → id < 2 ^ 32 → IsSentAs 0 versionedDataPull (bytes 2 id) (VersionedDataPull id)
+  pub operation : (id : ℕ) (payload : List ℕ) → length payload < 2 ^ 32 → IsSentAs 1 id payload Operation
 
 -- 000, Table 9: the binding header before a piece of 1 to 65,503 bytes
 abbrev pub HeaderThenRead : Type 0

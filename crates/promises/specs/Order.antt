@@ -106,9 +106,14 @@ notSetUp n = record { answer = answer.Refused n; joiner = freshOf [] 0 }
 -- each call answers by its checks
 pub record InOrder : Type 1 where
   pub read : (own : ℕ) (s : List ℕ) → Answers reading.Refused (readOut s) (readChecks own s) (readOf own s)
-  pub write : (domain id : ℕ) (payload : List ℕ) (room : ℕ) → Answers writing.Refused (writing.Written (headerLength + length payload)) (writeChecks domain id payload room) (writeOf domain id payload room)
+  pub write : (domain id : ℕ) (payload : List ℕ) (room : ℕ) →
+      Answers writing.Refused (writing.Written (headerLength + length payload)) (writeChecks domain id payload room) (writeOf domain id payload room)
   pub header : (d : List ℕ) → Answers heard.Refused (heard.Piece (headerIn d)) (headerChecks d) (heardIn d)
-  pub setup : (ids : List ℕ) (R buffer : ℕ) → Answers notSetUp (fresh ids R) (20 when (¬ (Acceptable ids R buffer)) ∷ []) (setupOf ids R buffer)
-  pub take : (j : Joiner) (rooms d : List ℕ) → length (j .channels) ≡ 32 → Answers (keptWith j) (moved j d) (takeChecks j (length rooms) d) (takenOf j rooms d)
-  pub pieces : (m s : ℕ) → Answers counted.Refused (counted.Pieces (pieceCount m s)) (50 when (Outside 1 65560 m ⊎ Outside 1 65503 s) ∷ []) (countedOf m s)
-  pub cut : (msg : List ℕ) (s sender first i room : ℕ) → Answers made.Refused (made.Datagram (length (datagramOf msg s sender first i))) (cutChecks msg s sender first i room) (madeOf msg s sender first i room)
+  pub setup : (ids : List ℕ) (R buffer : ℕ) →
+      Answers notSetUp (fresh ids R) (20 when (¬ (Acceptable ids R buffer)) ∷ []) (setupOf ids R buffer)
+  pub take : (j : Joiner) (rooms d : List ℕ) → length (j .channels) ≡ 32 →
+      Answers (keptWith j) (moved j d) (takeChecks j (length rooms) d) (takenOf j rooms d)
+  pub pieces : (m s : ℕ) →
+      Answers counted.Refused (counted.Pieces (pieceCount m s)) (50 when (Outside 1 65560 m ⊎ Outside 1 65503 s) ∷ []) (countedOf m s)
+  pub cut : (msg : List ℕ) (s sender first i room : ℕ) →
+      Answers made.Refused (made.Datagram (length (datagramOf msg s sender first i))) (cutChecks msg s sender first i room) (madeOf msg s sender first i room)

@@ -78,7 +78,11 @@ GivesNumber checks a = Answers (λ n. n) 0 checks (numberOf a)
 
 -- the calls handed table bytes, and those on sections: 30 where these do not lie in the bytes
 pub record PayloadInOrder : Type 1 where
-  pub unpack : (t : List ℕ) (i : ℕ) (b : List ℕ) (room : ℕ) → GivesNumber (tableChecks t ++ walkChecks (reader b) (length b) t (sectionsIn t) i room) (unpacked t i b room)
-  pub pack : (t : List ℕ) (i : ℕ) (ws : List ℕ) (room : ℕ) → GivesNumber (tableChecks t ++ walkChecks (writer ws) (length ws) t (sectionsIn t) i room) (packed t i ws room)
-  pub unpack-in : (t : List ℕ) (s : Sections) (i : ℕ) (b : List ℕ) (room : ℕ) → GivesNumber (30 when (within t s ≡ false) ∷ walkChecks (reader b) (length b) t s i room) (unpackedIn t s i b room)
-  pub pack-in : (t : List ℕ) (s : Sections) (i : ℕ) (ws : List ℕ) (room : ℕ) → GivesNumber (30 when (within t s ≡ false) ∷ walkChecks (writer ws) (length ws) t s i room) (packedIn t s i ws room)
+  pub unpack : (t : List ℕ) (i : ℕ) (b : List ℕ) (room : ℕ) →
+      GivesNumber (tableChecks t ++ walkChecks (reader b) (length b) t (sectionsIn t) i room) (unpacked t i b room)
+  pub pack : (t : List ℕ) (i : ℕ) (ws : List ℕ) (room : ℕ) →
+      GivesNumber (tableChecks t ++ walkChecks (writer ws) (length ws) t (sectionsIn t) i room) (packed t i ws room)
+  pub unpack-in : (t : List ℕ) (s : Sections) (i : ℕ) (b : List ℕ) (room : ℕ) →
+      GivesNumber (30 when (within t s ≡ false) ∷ walkChecks (reader b) (length b) t s i room) (unpackedIn t s i b room)
+  pub pack-in : (t : List ℕ) (s : Sections) (i : ℕ) (ws : List ℕ) (room : ℕ) →
+      GivesNumber (30 when (within t s ≡ false) ∷ walkChecks (writer ws) (length ws) t s i room) (packedIn t s i ws room)

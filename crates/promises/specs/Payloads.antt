@@ -28,21 +28,28 @@ UnpackGives t i b words ws = (unpacked t i b (length words) ≡ Gave (length ws)
 -- packing accepts the values of the type, wherever there is room, and nothing else; and gives their bytes
 pub record PacksExactly (t : List ℕ) (s : Sections) (i : ℕ) : Type 0 where
   pub values : (ws bs out : List ℕ) → Value t s i ws bs → length bs ≤ length out → PackGives t i ws out bs
-  pub only : (ws out : List ℕ) (k : ℕ) → packed t i ws (length out) ≡ Gave k → (bs : List ℕ) × Value t s i ws bs × PackGives t i ws out bs
+  pub only : (ws out : List ℕ) (k : ℕ) → packed t i ws (length out) ≡ Gave k →
+      (bs : List ℕ) × Value t s i ws bs × PackGives t i ws out bs
 
 -- unpacking accepts the byte forms of values, wherever there is room, and nothing else; and gives their words
 pub record UnpacksExactly (t : List ℕ) (s : Sections) (i : ℕ) : Type 0 where
   pub forms : (ws b words : List ℕ) → Spoken t s i ws b → length ws ≤ length words → UnpackGives t i b words ws
-  pub only : (b words : List ℕ) (k : ℕ) → Octets b → unpacked t i b (length words) ≡ Gave k → (ws : List ℕ) × Spoken t s i ws b × UnpackGives t i b words ws
+  pub only : (b words : List ℕ) (k : ℕ) → Octets b → unpacked t i b (length words) ≡ Gave k →
+      (ws : List ℕ) × Spoken t s i ws b × UnpackGives t i b words ws
 
 pub record RoundTrips (t : List ℕ) (s : Sections) (i : ℕ) : Type 0 where
-  pub pack-then-unpack : (ws out words : List ℕ) (k : ℕ) → packed t i ws (length out) ≡ Gave k → length ws ≤ length words → UnpackGives t i (take k (bytesAfter t i ws out)) words ws
-  pub unpack-then-pack : (b words out : List ℕ) (k : ℕ) → Octets b → unpacked t i b (length words) ≡ Gave k → length b ≤ length out → (cs : List ℕ) × BooleansAsOne t s i b cs × (length cs ≡ length b) × PackGives t i (take k (wordsAfter t i b words)) out cs
+  pub pack-then-unpack : (ws out words : List ℕ) (k : ℕ) → packed t i ws (length out) ≡ Gave k → length ws ≤ length words →
+      UnpackGives t i (take k (bytesAfter t i ws out)) words ws
+  pub unpack-then-pack : (b words out : List ℕ) (k : ℕ) → Octets b → unpacked t i b (length words) ≡ Gave k → length b ≤ length out →
+      (cs : List ℕ) × BooleansAsOne t s i b cs × (length cs ≡ length b) × PackGives t i (take k (wordsAfter t i b words)) out cs
 
 -- the same calls on the sections that `check` gave answer and leave the same
 pub record OnSections (t : List ℕ) (s : Sections) (i : ℕ) : Type 0 where
-  pub packing : (ws out : List ℕ) → (packedIn t s i ws (length out) ≡ packed t i ws (length out)) × (bytesIn t s i ws out ≡ bytesAfter t i ws out)
-  pub unpacking : (b words : List ℕ) → (unpackedIn t s i b (length words) ≡ unpacked t i b (length words)) × (wordsIn t s i b words ≡ wordsAfter t i b words)
+  pub packing : (ws out : List ℕ) →
+      (packedIn t s i ws (length out) ≡ packed t i ws (length out)) × (bytesIn t s i ws out ≡ bytesAfter t i ws out)
+  pub unpacking : (b words : List ℕ) →
+      (unpackedIn t s i b (length words) ≡ unpacked t i b (length words)) × (wordsIn t s i b words ≡ wordsAfter t i b words)
 
 abbrev pub Payloads : Type 0
-Payloads = (t : List ℕ) (s : Sections) (i : ℕ) → Known t s i → PacksExactly t s i × UnpacksExactly t s i × RoundTrips t s i × OnSections t s i
+Payloads =
+    (t : List ℕ) (s : Sections) (i : ℕ) → Known t s i → PacksExactly t s i × UnpacksExactly t s i × RoundTrips t s i × OnSections t s i

@@ -119,8 +119,12 @@ pub record Notes (own : ℕ) (t : List ℕ) (s : Sections) (p : Standing) (m out
 
 -- and where they don't, "it is 10"
 pub record Replies : Type 0 where
-  pub fit : (own : ℕ) (t : List ℕ) (s : Sections) (p : Standing) (m out : List ℕ) (h : Header) (kind : Message) → Receives own t s p m h kind → replyLength * length (owedFor own t s p h kind) ≤ length out → Notes own t s p m out h kind (replyLength * length (owedFor own t s p h kind))
-  pub do-not-fit : (own : ℕ) (t : List ℕ) (s : Sections) (p : Standing) (m out : List ℕ) (h : Header) (kind : Message) → Receives own t s p m h kind → length out < replyLength * length (owedFor own t s p h kind) → receivedOf own t p m (length out) .answer ≡ Refused noRoom
+  pub fit : (own : ℕ) (t : List ℕ) (s : Sections) (p : Standing) (m out : List ℕ) (h : Header) (kind : Message) →
+      Receives own t s p m h kind → replyLength * length (owedFor own t s p h kind) ≤ length out →
+      Notes own t s p m out h kind (replyLength * length (owedFor own t s p h kind))
+  pub do-not-fit : (own : ℕ) (t : List ℕ) (s : Sections) (p : Standing) (m out : List ℕ) (h : Header) (kind : Message) →
+      Receives own t s p m h kind → length out < replyLength * length (owedFor own t s p h kind) →
+      receivedOf own t p m (length out) .answer ≡ Refused noRoom
 
 -- "two platforms would answer for ever": they do not. From any two states, whatever their tables and outputs, in whatever order
 -- messages arrive and whichever are lost, an exchange that one status starts ends after at most seven, with none under way
@@ -133,7 +137,9 @@ pub record Starts (a b : ℕ) (p q : Standing) (number : ℕ) : Type 0 where
   pub number-fits : number < 2 ^ 32
 
 pub record FallSilent : Type 0 where
-  pub at-most : (a b : ℕ) (p q : Standing) (number : ℕ) → Starts a b p q number → (n : ℕ) (z : Pair) → Exchange a b n (started p q number) z → n ≤ longestExchange
-  pub then-none : (a b : ℕ) (p q : Standing) (number : ℕ) → Starts a b p q number → (z : Pair) → Exchange a b longestExchange (started p q number) z → (z .toA ≡ []) × (z .toB ≡ [])
+  pub at-most : (a b : ℕ) (p q : Standing) (number : ℕ) → Starts a b p q number →
+      (n : ℕ) (z : Pair) → Exchange a b n (started p q number) z → n ≤ longestExchange
+  pub then-none : (a b : ℕ) (p q : Standing) (number : ℕ) → Starts a b p q number →
+      (z : Pair) → Exchange a b longestExchange (started p q number) z → (z .toA ≡ []) × (z .toB ≡ [])
   -- and seven are reached: two that start, neither of which provides versioned data
   pub reached : (z : Pair) × Exchange 1 2 longestExchange (started (freshStanding 1) (freshStanding 2) 0) z

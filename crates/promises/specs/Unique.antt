@@ -1,0 +1,195 @@
+-- 01, "What the promises have to say": "Show that two outcomes allowed by one promise are equal." For each public function, over
+-- its very contract (`Post`: what its `ensures` says of arguments, result and lent slices): whatever two outcomes it allows for
+-- the same arguments, the answers are the same, and so is what each lent slice holds. A contract that allows a choice has no
+-- proof here. The two that allow one, on tables that `check` did not accept, stand last, with what they promise on those that
+-- it did. The theorem is in proofs/Unique.antt.
+use Prim.Native.Nat.{ℕ}
+use mathlib.Core.Path.{_≡_}
+use mathlib.Core.Bool.{true}
+use mathlib.Core.List.{List}
+use lib.ListN.{length}
+use denote.Ref.{now}
+use Rattle.types.specs.declared.Sections.{Sections}
+use Rattle.types.specs.declared.Checked.the-variants.{Table}
+use Rattle.types.specs.Operations.{idsRise}
+use Rattle.types.specs.Table.{checked}
+use Rattle.platform.specs.declared.Standing.{Standing}
+use Rattle.platform.specs.declared.Outcome.{Outcome}
+use Rattle.platform.specs.Receiving.{receivedOf, leftOf, Received}
+use Rattle.wire.proofs.u8_at.Reads.{Post as wire-u8-at}
+use Rattle.wire.proofs.u16_at.Reads.{Post as wire-u16-at}
+use Rattle.wire.proofs.u32_at.Reads.{Post as wire-u32-at}
+use Rattle.wire.proofs.u64_at.Reads.{Post as wire-u64-at}
+use Rattle.wire.proofs.put_u8.Reads.{Post as wire-put-u8}
+use Rattle.wire.proofs.put_u16.Reads.{Post as wire-put-u16}
+use Rattle.wire.proofs.put_u32.Reads.{Post as wire-put-u32}
+use Rattle.wire.proofs.put_u64.Reads.{Post as wire-put-u64}
+use Rattle.wire.proofs.put_run.Reads.{Post as wire-put-run}
+use Rattle.wire.proofs.part.Reads.{Post as wire-part}
+use Rattle.wire.proofs.has_room.Reads.{Post as wire-has-room}
+use Rattle.message.proofs.Header.new.Reads.{Post as message-Header-new}
+use Rattle.message.proofs.Header.of_bytes.Reads.{Post as message-Header-of-bytes}
+use Rattle.message.proofs.read.Reads.{Post as message-read}
+use Rattle.message.proofs.payload.Reads.{Post as message-payload}
+use Rattle.message.proofs.write.Reads.{Post as message-write}
+use Rattle.binding.proofs.BindingHeader.new.Reads.{Post as binding-BindingHeader-new}
+use Rattle.binding.proofs.BindingHeader.read.Reads.{Post as binding-BindingHeader-read}
+use Rattle.binding.proofs.pieces.Reads.{Post as binding-pieces}
+use Rattle.binding.proofs.cut.Reads.{Post as binding-cut}
+use Rattle.joiner.proofs.setup.Reads.{Post as joiner-setup}
+use Rattle.joiner.proofs.take.Reads.{Post as joiner-take}
+use Rattle.joiner.proofs.message.Reads.{Post as joiner-message}
+use Rattle.types.proofs.check.Reads.{Post as types-check}
+use Rattle.types.proofs.entries.type_at.Reads.{Post as types-entries-type-at}
+use Rattle.types.proofs.entries.is_type.Reads.{Post as types-entries-is-type}
+use Rattle.types.proofs.entries.member_at.Reads.{Post as types-entries-member-at}
+use Rattle.types.proofs.entries.value_at.Reads.{Post as types-entries-value-at}
+use Rattle.types.proofs.entries.operation_at.Reads.{Post as types-entries-operation-at}
+use Rattle.types.proofs.entries.id_at.Reads.{Post as types-entries-id-at}
+use Rattle.types.proofs.layout.within.Reads.{Post as types-layout-within}
+use Rattle.types.proofs.leaf.width.Reads.{Post as types-leaf-width}
+use Rattle.types.proofs.leaf.allowed.Reads.{Post as types-leaf-allowed}
+use Rattle.types.proofs.rules.fields_ok.Reads.{Post as types-rules-fields-ok}
+use Rattle.types.proofs.sizes.largest.Reads.{Post as types-sizes-largest}
+use Rattle.leaves.proofs.word_at.Reads.{Post as leaves-word-at}
+use Rattle.leaves.proofs.put.Reads.{Post as leaves-put}
+use Rattle.leaves.proofs.takes.Reads.{Post as leaves-takes}
+use Rattle.payload.proofs.unpack.Reads.{Post as payload-unpack}
+use Rattle.payload.proofs.unpack_in.Reads.{Post as payload-unpack-in}
+use Rattle.payload.proofs.pack.Reads.{Post as payload-pack}
+use Rattle.payload.proofs.pack_in.Reads.{Post as payload-pack-in}
+use Rattle.platform.proofs.fresh.Reads.{Post as platform-fresh}
+use Rattle.platform.proofs.is_up.Reads.{Post as platform-is-up}
+use Rattle.platform.proofs.how_many_up.Reads.{Post as platform-how-many-up}
+use Rattle.platform.proofs.receive.Reads.{Post as platform-receive}
+use Rattle.platform.proofs.payload.Reads.{Post as platform-payload}
+use Rattle.recording.proofs.open.Reads.{Post as recording-open}
+use Rattle.recording.proofs.next.Reads.{Post as recording-next}
+use Rattle.recording.proofs.play.Reads.{Post as recording-play}
+use Rattle.recording.proofs.keep.Reads.{Post as recording-keep}
+use Rattle.recording.proofs.put_line.Reads.{Post as recording-put-line}
+use Rattle.recording.proofs.put_ending.Reads.{Post as recording-put-ending}
+use Rattle.recording.specs.Play.{stateOf}
+use Rattle.types.proofs.operations.find.Reads.{Post as types-operations-find}
+use Rattle.platform.proofs.receive_checked.Reads.{Post as platform-receive-checked}
+
+-- two outcomes for the same arguments agree on what is seen of them
+abbrev pub Same : {K : Type 0} {A Z E : K → Type 0} {B : Type 0} → ((k : K) → A k → Z k → E k → Type 0) → ((k : K) → Z k → E k → B) → Type 0
+Same {K} {A} {Z} {E} post seen = (k : K) (a : A k) (z z′ : Z k) (e e′ : E k) → post k a z e → post k a z′ e′ → seen k z e ≡ seen k z′ e′
+
+-- the answer
+abbrev pub Answer : {K : Type 0} {A E : K → Type 0} {B : Type 0} → ((k : K) → A k → B → E k → Type 0) → Type 0
+Answer post = Same post (λ k z e. z)
+
+-- what a lent slice holds afterwards
+abbrev pub Lent : {K : Type 0} {A Z E : K → Type 0} {B : Type 0} → ((k : K) → A k → Z k → E k → Type 0) → ((k : K) → E k → B) → Type 0
+Lent post left = Same post (λ k z e. left k e)
+
+-- the same, where something holds of the arguments
+abbrev pub SameWhere : {K : Type 0} {A Z E : K → Type 0} {B : Type 0} → ((k : K) → A k → Z k → E k → Type 0) → ((k : K) → A k → Type 0) → ((k : K) → Z k → E k → B) → Type 0
+SameWhere {K} {A} {Z} {E} post holds seen = (k : K) (a : A k) (z z′ : Z k) (e e′ : E k) → holds k a → post k a z e → post k a z′ e′ → seen k z e ≡ seen k z′ e′
+
+pub record WireUnique : Type 0 where
+  pub u8-at : Answer wire-u8-at
+  pub u16-at : Answer wire-u16-at
+  pub u32-at : Answer wire-u32-at
+  pub u64-at : Answer wire-u64-at
+  pub put-u8-s : Lent wire-put-u8 (λ k e. now (e .0))
+  pub put-u16-s : Lent wire-put-u16 (λ k e. now (e .0))
+  pub put-u32-s : Lent wire-put-u32 (λ k e. now (e .0))
+  pub put-u64-s : Lent wire-put-u64 (λ k e. now (e .0))
+  pub put-run-s : Lent wire-put-run (λ k e. now (e .0))
+  pub part : Same wire-part (λ k z e. now z)
+  pub has-room : Answer wire-has-room
+
+pub record MessageUnique : Type 0 where
+  pub new : Answer message-Header-new
+  pub of-bytes : Answer message-Header-of-bytes
+  pub read : Answer message-read
+  pub payload : Same message-payload (λ k z e. now z)
+  pub write : Answer message-write
+  pub write-out : Lent message-write (λ k e. now (e .1 .1 .1 .1 .1 .0))
+
+pub record BindingUnique : Type 0 where
+  pub new : Answer binding-BindingHeader-new
+  pub read : Answer binding-BindingHeader-read
+  pub pieces : Answer binding-pieces
+  pub cut : Answer binding-cut
+  pub cut-out : Lent binding-cut (λ k e. now (e .1 .1 .1 .1 .1 .0))
+
+pub record JoinerUnique : Type 0 where
+  pub setup : Answer joiner-setup
+  pub take : Answer joiner-take
+  pub take-rooms : Lent joiner-take (λ k e. now (e .1 .0))
+  pub message : Same joiner-message (λ k z e. now z)
+
+pub record TypesUnique : Type 0 where
+  pub check : Answer types-check
+  pub type-at : Answer types-entries-type-at
+  pub is-type : Answer types-entries-is-type
+  pub member-at : Answer types-entries-member-at
+  pub value-at : Answer types-entries-value-at
+  pub operation-at : Answer types-entries-operation-at
+  pub id-at : Answer types-entries-id-at
+  pub within : Answer types-layout-within
+  pub width : Answer types-leaf-width
+  pub allowed : Answer types-leaf-allowed
+  pub fields-ok : Answer types-rules-fields-ok
+  pub largest : Answer types-sizes-largest
+
+pub record LeavesUnique : Type 0 where
+  pub word-at : Answer leaves-word-at
+  pub put-s : Lent leaves-put (λ k e. now (e .0))
+  pub takes : Answer leaves-takes
+
+pub record PayloadUnique : Type 0 where
+  pub unpack : Answer payload-unpack
+  pub unpack-words : Lent payload-unpack (λ k e. now (e .1 .1 .1 .0))
+  pub unpack-in : Answer payload-unpack-in
+  pub unpack-in-words : Lent payload-unpack-in (λ k e. now (e .1 .1 .1 .1 .0))
+  pub pack : Answer payload-pack
+  pub pack-out : Lent payload-pack (λ k e. now (e .1 .1 .1 .0))
+  pub pack-in : Answer payload-pack-in
+  pub pack-in-out : Lent payload-pack-in (λ k e. now (e .1 .1 .1 .1 .0))
+
+pub record PlatformUnique : Type 0 where
+  pub fresh : Answer platform-fresh
+  pub is-up : Answer platform-is-up
+  pub how-many-up : Answer platform-how-many-up
+  pub receive : Answer platform-receive
+  pub receive-out : Lent platform-receive (λ k e. now (e .1 .1 .1 .1 .0))
+  pub payload : Same platform-payload (λ k z e. now z)
+
+pub record RecordingUnique : Type 0 where
+  pub opened : Answer recording-open
+  pub next : Answer recording-next
+  pub play : Same recording-play (λ k z e. stateOf z (now (e .1 .0)) (now (e .1 .1 .1 .0)))
+  pub keep : Answer recording-keep
+  pub keep-buffer : Lent recording-keep (λ k e. now (e .0))
+  pub put-line : Answer recording-put-line
+  pub put-line-output : Lent recording-put-line (λ k e. now (e .0))
+  pub put-ending : Answer recording-put-ending
+  pub put-ending-output : Lent recording-put-ending (λ k e. now (e .0))
+
+-- the exceptions (docs/DECISIONS.md, 20): an operation looked up in sections that `check` did not give may be any entry that bears
+-- the ID. Where the IDs rise, as they do on a table that `check` accepts, there is one, and the call on sections answers and
+-- leaves what the call on the bytes does
+pub record WhereIDsRise : Type 0 where
+  pub find : SameWhere types-operations-find (λ k a. idsRise (now (a .0)) (a .1 .0) ≡ true) (λ k z e. z)
+  pub receive-checked : SameWhere platform-receive-checked (λ k a. idsRise (now (a .1 .0)) (a .1 .1 .0) ≡ true) (λ k z e. z)
+  pub receive-checked-out : SameWhere platform-receive-checked (λ k a. idsRise (now (a .1 .0)) (a .1 .1 .0) ≡ true) (λ k z e. now (e .1 .1 .1 .1 .1 .0))
+  pub accepted-rise : (t : List ℕ) (s : Sections) → checked t ≡ Table s → idsRise t s ≡ true
+  pub as-receive : (own : ℕ) (t : List ℕ) (s : Sections) (p : Standing) (m out : List ℕ) (r : Outcome) (left : List ℕ) →
+      checked t ≡ Table s → Received own t s p m out r left → (r ≡ receivedOf own t p m (length out)) × (left ≡ leftOf own t p m out)
+
+pub record Unique : Type 0 where
+  pub wire : WireUnique
+  pub message : MessageUnique
+  pub binding : BindingUnique
+  pub joiner : JoinerUnique
+  pub types : TypesUnique
+  pub leaves : LeavesUnique
+  pub payload : PayloadUnique
+  pub platform : PlatformUnique
+  pub recording : RecordingUnique
+  pub exceptions : WhereIDsRise
