@@ -1,7 +1,6 @@
 -- `lent::put_count` meets its contract.
 -- Assumes nothing.
 use borrow.Author.Needs.{needs}
-
 use Rattle.lent.proofs.put_count.Statement.{statement}
 use Rattle.lent.proofs.put_count.Tie as tie
 

@@ -1,7 +1,6 @@
 -- `lent_tables::put_sections` meets its contract.
 -- Assumes nothing.
 use borrow.Author.Needs.{needs}
-
 use Rattle.lent_tables.proofs.put_sections.Statement.{statement}
 use Rattle.lent_tables.proofs.put_sections.Tie as tie
 
