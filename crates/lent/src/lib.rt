@@ -5,6 +5,11 @@ ghost use mathlib.Core.List.{[], _∷_};
 ghost use lib.ListN.{getD};
 ghost use Rattle.wire.specs.Bytes.{written};
 
+mod narrow;
+
+pub use narrow::put_u32;
+pub use narrow::u32_at;
+
 // 01's number: an output shorter than what must be written.
 pub const OUTPUT_TOO_SHORT: u32 = 10;
 
@@ -14,26 +19,8 @@ pub fn u64_at(words: &[u64], at: usize) -> u64
     if at < words.len() { words[at] } else { 0 }
 }
 
-pub fn u32_at(words: &[u32], at: usize) -> u32
-    ensures { λ r. ⌜ r ≡ getD (now (words .entry)) at 0 ⌝ }
-{
-    if at < words.len() { words[at] } else { 0 }
-}
-
 // Writes the whole of `run` at `at`.
 pub fn put_u64(words: &mut [u64], at: usize, run: &[u64])
-    ensures { λ _. ⌜ now (words .exit) ≡ written (now (words .entry)) at (now (run .entry)) ⌝ }
-{
-    if wire::has_room(words.len(), at, run.len()) {
-        let mut i = 0;
-        while i < run.len() {
-            words[at + i] = run[i];
-            i += 1;
-        }
-    }
-}
-
-pub fn put_u32(words: &mut [u32], at: usize, run: &[u32])
     ensures { λ _. ⌜ now (words .exit) ≡ written (now (words .entry)) at (now (run .entry)) ⌝ }
 {
     if wire::has_room(words.len(), at, run.len()) {

@@ -1,2 +1,4 @@
 pub mod Storing
+pub mod ReadBack
+pub mod WordsBack
 mod Calling

@@ -48,7 +48,7 @@ pub no-channels : {z : Channel} → z ≡ newChannel 0 → record { channels = r
 unfolding freshOf
 no-channels e = rw e
 
-records-length : (ws : List ℕ) (n : ℕ) → length (recordsIn ws n) ≡ n
+pub records-length : (ws : List ℕ) (n : ℕ) → length (recordsIn ws n) ≡ n
 records-length ws zero = refl
 records-length ws (suc n) = length-append (recordsIn ws n) (recordIn ws n ∷ []) ∙ omega (arith, records-length ws n)
 
@@ -120,7 +120,7 @@ pub long-enough : (n : ℕ) (b : Bool) → (leb joinerWords n && b) ≡ true →
 long-enough n b t = leb-true joinerWords n (and-left (leb joinerWords n) b t)
 
 -- writing them all
-words-length : (chs : List Channel) → length (recordsWords chs) ≡ 4 * length chs
+pub words-length : (chs : List Channel) → length (recordsWords chs) ≡ 4 * length chs
 words-length [] = refl
 words-length (ch ∷ chs) = omega (arith, words-length chs)
 

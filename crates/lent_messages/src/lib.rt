@@ -2,7 +2,6 @@
 mod reading;
 
 pub use reading::read;
-
 ghost use mathlib.Core.Path.{_≡_};
 ghost use lib.ListN.{length};
 ghost use Rattle.binding.specs.Cutting.{madeOf};

@@ -50,13 +50,7 @@ pub fn unpack_in(
 
 // Packs the words as a payload of the table's type of that number: 10 for too few words of answer, 30 to 33, 40 to 45, or 0 and
 // how many bytes were given.
-pub fn pack(
-    table: &[u8],
-    number: u16,
-    words: &[u64],
-    out: &mut [u8],
-    answer: &mut [u64],
-) -> u32
+pub fn pack(table: &[u8], number: u16, words: &[u64], out: &mut [u8], answer: &mut [u64]) -> u32
     ensures { λ r. ⌜ r ≡ payloadNumber (packed (now (table .entry)) number (now (words .entry)) (length (now (out .entry)))) (now (answer .entry)) ⌝ }
     ensures { λ _. ⌜ now (out .exit) ≡ payloadLeft (now (out .entry)) (bytesAfter (now (table .entry)) number (now (words .entry)) (now (out .entry))) (now (answer .entry)) ⌝ }
     ensures { λ _. ⌜ now (answer .exit) ≡ payloadAnswer (packed (now (table .entry)) number (now (words .entry)) (length (now (out .entry)))) (now (answer .entry)) ⌝ }

@@ -1,9 +1,9 @@
--- `lent::u32_at` meets its contract: past the end it is 0.
+-- `lent::narrow::u32_at` meets its contract: past the end it is 0.
 -- Assumes nothing.
 use borrow.Author.Needs.{needs}
 use Rattle.wire.proofs.Numbers.{past}
-use Rattle.lent.proofs.u32_at.Statement.{statement}
-use Rattle.lent.proofs.u32_at.Tie as tie
+use Rattle.lent.proofs.narrow.u32_at.Statement.{statement}
+use Rattle.lent.proofs.narrow.u32_at.Tie as tie
 
 pub u32-at-spec : {M : Type 1} → statement M
 u32-at-spec =

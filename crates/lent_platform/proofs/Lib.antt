@@ -1,0 +1,3 @@
+pub mod Storing
+mod Telling
+mod Calling

@@ -1,0 +1,22 @@
+// A table checked and its operations looked up. Sections are eight words, an answer three (`lent_tables`).
+ghost use mathlib.Core.Path.{_≡_};
+ghost use Rattle.lent_tables.specs.Words.{sectionsIn};
+ghost use Rattle.lent_tables.specs.Calls.{checkNumber, checkAnswer, findNumber, Finds};
+
+// Checks a table: 10 for too few words, 30 to 33, or 0 and its sections.
+#[no_mangle]
+pub extern "C" fn nyr_check_table(table: &[u8], sections: &mut [u64]) -> u32
+    ensures { λ r. ⌜ r ≡ checkNumber (now (table .entry)) (now (sections .entry)) ⌝ }
+    ensures { λ _. ⌜ now (sections .exit) ≡ checkAnswer (now (table .entry)) (now (sections .entry)) ⌝ }
+{
+    lent_tables::check(table, sections)
+}
+
+// Looks an operation up: 10 for too few words of answer, 30 for sections that do not lie in the table, or 0 and what was found.
+#[no_mangle]
+pub extern "C" fn nyr_find(table: &[u8], sections: &[u64], id: u32, answer: &mut [u64]) -> u32
+    ensures { λ r. ⌜ r ≡ findNumber (now (table .entry)) (sectionsIn (now (sections .entry))) (now (answer .entry)) ⌝ }
+    ensures { λ _. ⌜ Finds (now (table .entry)) (sectionsIn (now (sections .entry))) id (now (answer .entry)) (now (answer .exit)) ⌝ }
+{
+    lent_tables::find(table, sections, id, answer)
+}
