@@ -187,7 +187,6 @@ void fuzz_receive(void)
     copy(before, platform, sizeof platform);
     if (one_in(64))
         fill(before, sizeof before);
-    before[4] &= UINT32_MAX;
     for (int in = 0; in < 2; in++) {
         calling(in ? "nyr_receive_in" : "nyr_receive");
         uint64_t *state = lend(PLATFORM, before, words, sizeof *state),
