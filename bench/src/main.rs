@@ -56,7 +56,7 @@ fn table() {
     println!("|---|---:|---:|---:|---:|---:|");
     for case in cases::all() {
         let times = measure::measure(&mut (case.make)());
-        let bare = times.bare.map_or("| ".to_string(), |copy| {
+        let bare = times.bare.map_or("– | –".to_string(), |copy| {
             format!("{copy:.1} | {:.2}", times.ours / copy)
         });
         let ratio = times.ours / times.plain;

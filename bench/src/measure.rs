@@ -1,7 +1,5 @@
 //! Time for each call: rounds of many calls, the programs by turns, and of each the median round.
 
-use std::time::Instant;
-
 /// So many calls.
 pub type Calls = Box<dyn FnMut(usize)>;
 
@@ -30,10 +28,31 @@ pub fn opaque<T>(value: T) -> T {
     }
 }
 
+extern "C" {
+    fn clock_gettime(clock: i32, time: *mut [i64; 2]) -> i32;
+}
+
+/// The time that this thread has had a processor, in nanoseconds: what else the machine does is not in it.
+fn now() -> i64 {
+    const THREAD_CPU_TIME: i32 = 3;
+    let mut time = [0; 2];
+    assert_eq!(unsafe { clock_gettime(THREAD_CPU_TIME, &mut time) }, 0);
+    time[0] * 1_000_000_000 + time[1]
+}
+
 fn nanoseconds(calls: &mut Calls, count: usize) -> f64 {
-    let start = Instant::now();
+    let start = now();
     calls(count);
-    start.elapsed().as_nanos() as f64 / count as f64
+    (now() - start) as f64 / count as f64
+}
+
+/// So many calls that a round is long beside the clock and short beside a processor's turn.
+fn round(calls: &mut Calls) -> usize {
+    let mut count = 16;
+    while nanoseconds(calls, count) * (count as f64) < ROUND_NS / 4.0 {
+        count *= 2;
+    }
+    (ROUND_NS / nanoseconds(calls, count)) as usize + 1
 }
 
 fn median(mut rounds: Vec<f64>) -> f64 {
@@ -42,28 +61,19 @@ fn median(mut rounds: Vec<f64>) -> f64 {
 }
 
 pub fn measure(case: &mut Case) -> Times {
-    // So many calls that a round is long beside the clock and short beside what else the machine does.
-    let mut count = 16;
-    while nanoseconds(&mut case.plain, count) * (count as f64) < ROUND_NS / 4.0 {
-        count *= 2;
-    }
-    let count = (ROUND_NS / nanoseconds(&mut case.plain, count)) as usize + 1;
-    let (mut ours, mut plain, mut bare) = (Vec::new(), Vec::new(), Vec::new());
-    for round in 0..ROUNDS {
-        if round % 2 == 0 {
-            ours.push(nanoseconds(&mut case.ours, count));
-            plain.push(nanoseconds(&mut case.plain, count));
-        } else {
-            plain.push(nanoseconds(&mut case.plain, count));
-            ours.push(nanoseconds(&mut case.ours, count));
-        }
-        if let Some(copy) = &mut case.bare {
-            bare.push(nanoseconds(copy, count));
+    let mut sides = vec![&mut case.ours, &mut case.plain];
+    sides.extend(&mut case.bare);
+    let counts: Vec<usize> = sides.iter_mut().map(|side| round(side)).collect();
+    let mut rounds = vec![Vec::new(); sides.len()];
+    for _ in 0..ROUNDS {
+        for ((side, count), rounds) in sides.iter_mut().zip(&counts).zip(&mut rounds) {
+            rounds.push(nanoseconds(side, *count));
         }
     }
+    let mut medians = rounds.into_iter().map(median);
     Times {
-        ours: median(ours),
-        plain: median(plain),
-        bare: case.bare.as_ref().map(|_| median(bare)),
+        ours: medians.next().unwrap(),
+        plain: medians.next().unwrap(),
+        bare: medians.next(),
     }
 }

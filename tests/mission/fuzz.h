@@ -16,6 +16,10 @@ size_t about(size_t needed);                  /* a length: mostly just as needed
 void scramble(uint8_t *bytes, size_t length); /* a few bytes changed */
 void fill(void *bytes, size_t length);
 
+/* As memcpy and memcmp, but of no bytes the pointers may be null. */
+void copy(void *to, const void *from, size_t bytes);
+int differ(const void *one, const void *other, size_t bytes);
+
 /* A buffer that is lent: its end, or its start, stands against a page that may not be touched. */
 typedef struct {
     uint8_t *pages, *at, *before;

@@ -85,7 +85,7 @@ void fuzz_setup(void)
         expect(record[0] == (k < channels ? wide[k] : 0) && !record[1] && !record[2] && !record[3],
                "a record is not fresh");
     }
-    memcpy(joiner, out, sizeof joiner);
+    copy(joiner, out, sizeof joiner);
     rooms_length = length;
 }
 
@@ -143,7 +143,7 @@ static void check_taken(const uint32_t *before, const uint32_t *after, const uin
     expect(answer[0] >= NYR_REPEATED && answer[0] <= NYR_TOO_LONG, "no such outcome");
     outcomes_met |= N(answer[0]) | (answer[3] == NYR_IN_ROOMS ? N(0) : 0);
     if (answer[0] == NYR_REPEATED) {
-        expect(old[1] && old[2] == counter && memcmp(before, after, sizeof joiner) == 0,
+        expect(old[1] && old[2] == counter && !differ(before, after, sizeof joiner),
                "repeated, and something changed");
         missed = 0;
     } else {
@@ -171,8 +171,8 @@ static void check_taken(const uint32_t *before, const uint32_t *after, const uin
         expect(answer[2] == 0 && answer[4] == 0, "bytes of what has none");
         piece = 0;
     }
-    expect(memcmp(rooms_before, after_rooms, start) == 0 && memcmp(after_rooms + start, datagram + 4, piece) == 0 &&
-               memcmp(rooms_before + start + piece, after_rooms + start + piece, before[0] * room - start - piece) == 0,
+    expect(!differ(rooms_before, after_rooms, start) && !differ(after_rooms + start, datagram + 4, piece) &&
+               !differ(rooms_before + start + piece, after_rooms + start + piece, before[0] * room - start - piece),
            "the rooms are not those with the piece in its place");
 }
 
@@ -185,7 +185,7 @@ void fuzz_take(void)
     uint32_t number;
     int good;
     fill(before, sizeof before);
-    memcpy(before, joiner, sizeof joiner);
+    copy(before, joiner, sizeof joiner);
     if (one_in(16)) {
         size_t at = below(FIRST + RECORD * (1 + joiner[0] % NYR_CHANNELS));
         before[at] = (uint32_t)(one_in(2) ? below(40) : narrow());
@@ -199,7 +199,7 @@ void fuzz_take(void)
     uint8_t *lent_rooms = lend(ROOMS, length <= rooms_length ? rooms : NULL, length, 1);
     uint8_t *lent_datagram = lend(DATAGRAM, datagram, datagram_length, 1);
     uint64_t *answer = lend(ANSWER, NULL, answers, sizeof *answer);
-    memcpy(rooms, lent_rooms == NULL ? rooms : lent_rooms, length);
+    copy(rooms, lent_rooms, length);
     may_change(JOINER, 0, words, sizeof *state);
     may_change(ROOMS, 0, length, 1);
     may_change(ANSWER, 0, answers < NYR_TAKE_ANSWER ? 0 : NYR_TAKE_ANSWER, sizeof *answer);
@@ -214,10 +214,10 @@ void fuzz_take(void)
     if (number != 0)
         return;
     check_taken(before, state, lent_rooms, rooms, datagram_length, answer);
-    expect(memcmp(before + NYR_JOINER_WORDS, state + NYR_JOINER_WORDS, (words - NYR_JOINER_WORDS) * sizeof *state) == 0,
+    expect(!differ(before + NYR_JOINER_WORDS, state + NYR_JOINER_WORDS, (words - NYR_JOINER_WORDS) * sizeof *state),
            "words behind the joiner changed");
-    memcpy(joiner, state, sizeof joiner);
-    memcpy(rooms, lent_rooms, length);
+    copy(joiner, state, sizeof joiner);
+    copy(rooms, lent_rooms, length);
     rooms_length = length;
     calling("nyr_take, again");
     state = lend(JOINER, joiner, NYR_JOINER_WORDS, sizeof *state);
@@ -236,7 +236,7 @@ static void check_cut(const uint8_t *out, size_t written, size_t length, size_t 
     expect(written == NYR_DATAGRAM_HEADER + bytes, "a datagram of another length");
     expect(out[0] == (part << 4 | sender >> 8) && out[1] == (sender & 255), "the datagram's part and sender");
     expect(((size_t)out[2] << 8 | out[3]) == (first + piece) % 65536, "the datagram's counter");
-    expect(memcmp(out + NYR_DATAGRAM_HEADER, message + piece * size, bytes) == 0, "the datagram's piece");
+    expect(!differ(out + NYR_DATAGRAM_HEADER, message + piece * size, bytes), "the datagram's piece");
 }
 
 void fuzz_cut(void)

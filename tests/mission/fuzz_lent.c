@@ -85,6 +85,17 @@ void fill(void *bytes, size_t length)
     }
 }
 
+void copy(void *to, const void *from, size_t bytes)
+{
+    if (bytes > 0)
+        memcpy(to, from, bytes);
+}
+
+int differ(const void *one, const void *other, size_t bytes)
+{
+    return bytes > 0 && memcmp(one, other, bytes) != 0;
+}
+
 static void stop(const char *what)
 {
     printf("fuzz: seed %llu, call %llu, %s: %s\n", (unsigned long long)seeded, (unsigned long long)calls, name, what);

@@ -43,7 +43,7 @@ static size_t make_message(unsigned sender)
     int domain = id <= 4 && one_in(2) ? 0 : (int)below(2);
     size_t length = domain == 1 ? below(one_in(20) ? 40000 : 60) : id == 2 ? 0 : 4;
     static const uint8_t start[3] = {0xEC, 0x0A, 2};
-    memcpy(message, start, sizeof start);
+    copy(message, start, sizeof start);
     message[3] = (uint8_t)domain;
     put32(message + 4, sender);
     put32(message + 8, id);
@@ -109,7 +109,7 @@ void fuzz_write(void)
         return;
     expect(answer[0] == NYR_MESSAGE_HEADER + length, "another length");
     /* What was written reads back the same at another platform. */
-    memcpy(message, out, (size_t)answer[0]);
+    copy(message, out, (size_t)answer[0]);
     length = (size_t)answer[0];
     calling("nyr_read, of what was written");
     lent = lend(MESSAGE, message, length, 1);
@@ -118,7 +118,7 @@ void fuzz_write(void)
     expect(called(nyr_read((uint8_t)(own + 1), lent, length, answer, NYR_READ_ANSWER), READING) == 0, "refused");
     expect(answer[2] == own && answer[3] == sequence && answer[5] == length - NYR_MESSAGE_HEADER, "another header");
     expect(answer[0] == (domain == 1 ? (uint64_t)NYR_OPERATION : id), "another kind");
-    expect(memcmp(message + NYR_MESSAGE_HEADER, payload, length - NYR_MESSAGE_HEADER) == 0, "another payload");
+    expect(!differ(message + NYR_MESSAGE_HEADER, payload, length - NYR_MESSAGE_HEADER), "another payload");
 }
 
 static int is_up(const uint64_t *states, uint8_t own, uint64_t k)
@@ -178,16 +178,15 @@ void fuzz_receive(void)
     int good = !one_in(12);
     if (one_in(20) || table.length == 0)
         make_table(&table);
-    memcpy(spoilt, table.bytes, sizeof spoilt);
+    copy(spoilt, table.bytes, sizeof spoilt);
     if (!good)
         scramble(spoilt, table.length);
     bytes = good ? table.length : near(table.length) % sizeof table.bytes;
     length = make_message(one_in(16) ? own : (unsigned)below(one_in(3) ? 256 : 4));
     fill(before, sizeof before);
-    memcpy(before, platform, sizeof platform);
+    copy(before, platform, sizeof platform);
     if (one_in(64))
         fill(before, sizeof before);
-    before[4] &= UINT32_MAX;
     for (int in = 0; in < 2; in++) {
         calling(in ? "nyr_receive_in" : "nyr_receive");
         uint64_t *state = lend(PLATFORM, before, words, sizeof *state),
@@ -196,7 +195,7 @@ void fuzz_receive(void)
         uint8_t *out = lend(OUT, NULL, room, 1);
         uint64_t lent_sections[32], *lent_to;
         fill(lent_sections, sizeof lent_sections);
-        memcpy(lent_sections, table.sections, sizeof table.sections);
+        copy(lent_sections, table.sections, sizeof table.sections);
         lent_to = lend(SECTIONS, lent_sections, sections, sizeof *lent_to);
         may_change(PLATFORM, 0, words < NYR_PLATFORM_WORDS ? 0 : NYR_PLATFORM_WORDS, sizeof *state);
         may_change(ANSWER, 0, answers < NYR_RECEIVE_ANSWER ? 0 : NYR_RECEIVE_ANSWER, sizeof *answer);
@@ -214,20 +213,20 @@ void fuzz_receive(void)
             number = again;
             if (number == 0) {
                 check_received(own, before, state, length, out, answer);
-                memcpy(first, answer, sizeof first);
-                memcpy(after, state, sizeof after);
-                memcpy(stored, out, (size_t)answer[6]);
+                copy(first, answer, sizeof first);
+                copy(after, state, sizeof after);
+                copy(stored, out, (size_t)answer[6]);
             }
         } else if (good && sections >= NYR_SECTIONS_WORDS) {
             expect(number == again, "by sections another number");
             expect(number != 0 ||
-                       (memcmp(first, answer, sizeof first) == 0 && memcmp(after, state, sizeof after) == 0 &&
-                        memcmp(stored, out, (size_t)first[6]) == 0),
+                       (!differ(first, answer, sizeof first) && !differ(after, state, sizeof after) &&
+                        !differ(stored, out, (size_t)first[6])),
                    "by sections another answer");
         }
     }
     if (number == 0)
-        memcpy(platform, after, sizeof platform);
+        copy(platform, after, sizeof platform);
 }
 
 void fuzz_states(void)
@@ -246,7 +245,7 @@ void fuzz_states(void)
             expect(state[k] == (k == own / 64 ? UINT64_C(1) << own % 64 : 0), "a fresh state");
         expect(state[4] == 0, "own numbers do not start at 0");
         if (one_in(4))
-            memcpy(platform, state, sizeof platform);
+            copy(platform, state, sizeof platform);
     }
     fill(states, sizeof states);
     words = NYR_PLATFORM_WORDS + below(3);

@@ -16,7 +16,7 @@ static uint8_t payload[MOST_BYTES], first_bytes[MOST_BYTES];
 static void make_sections(uint64_t *sections, size_t room)
 {
     fill(sections, room * sizeof *sections);
-    memcpy(sections, table.sections, sizeof table.sections);
+    copy(sections, table.sections, sizeof table.sections);
     if (one_in(16)) {
         static const uint64_t edges[] = {257, 1025, 65536, UINT64_C(1) << 32};
         size_t at = below(8);
@@ -58,7 +58,7 @@ void fuzz_table(void)
     expect(!good || room < NYR_SECTIONS_WORDS || number == 0, "a good table is refused");
     if (number == 0) {
         check_sections(out, bytes);
-        expect(!good || memcmp(out, table.sections, sizeof table.sections) == 0, "sections of another table");
+        expect(!good || !differ(out, table.sections, sizeof table.sections), "sections of another table");
     }
     make_sections(sections, 32);
     room = about(NYR_SECTIONS_WORDS);
@@ -72,7 +72,7 @@ void fuzz_table(void)
     expect((number == NYR_NO_ROOM) == (answers < NYR_FIND_ANSWER), "10 at the wrong place");
     expect(number == NYR_NO_ROOM || (number == NYR_TABLE_LENGTH) == !lie_in(sections, room, bytes),
            "30 at the wrong place");
-    if (number != 0 || !good || memcmp(sections, table.sections, sizeof table.sections) != 0)
+    if (number != 0 || !good || differ(sections, table.sections, sizeof table.sections))
         return;
     size_t there = 0;
     for (size_t i = 0; i < table.operations; i++)
@@ -129,7 +129,7 @@ void fuzz_unpack(void)
     }
     make_sections(sections, 32);
     same =
-        !spoilt && sections_room >= NYR_SECTIONS_WORDS && memcmp(sections, table.sections, sizeof table.sections) == 0;
+        !spoilt && sections_room >= NYR_SECTIONS_WORDS && !differ(sections, table.sections, sizeof table.sections);
     for (int in = 0; in < 2; in++) {
         calling(in ? "nyr_unpack_in" : "nyr_unpack");
         uint8_t *lent_table = lend(TABLE, table.bytes, table.length, 1), *lent = lend(PAYLOAD, payload, length, 1);
@@ -151,15 +151,15 @@ void fuzz_unpack(void)
         if (again == 0)
             expect(answer[0] <= room && answer[0] <= length, "more words than bytes");
         if (whole && count > 0 && (in ? same : !spoilt))
-            expect(again == 0 && answer[0] == count && memcmp(out, words, count * sizeof *out) == 0,
+            expect(again == 0 && answer[0] == count && !differ(out, words, count * sizeof *out),
                    "not the words that were packed");
         if (!in) {
             number = again;
             given = again == 0 ? answer[0] : 0;
-            memcpy(first_words, out == NULL ? words : out, (size_t)given * sizeof *out);
+            copy(first_words, out, (size_t)given * sizeof *out);
         } else if (same) {
             expect(again == number && (again != 0 || (answer[0] == given &&
-                                                      memcmp(out, first_words, (size_t)given * sizeof *out) == 0)),
+                                                      !differ(out, first_words, (size_t)given * sizeof *out))),
                    "by sections another answer");
         }
     }
@@ -189,7 +189,7 @@ void fuzz_pack(void)
     }
     make_sections(sections, 32);
     same =
-        !spoilt && sections_room >= NYR_SECTIONS_WORDS && memcmp(sections, table.sections, sizeof table.sections) == 0;
+        !spoilt && sections_room >= NYR_SECTIONS_WORDS && !differ(sections, table.sections, sizeof table.sections);
     for (int in = 0; in < 2; in++) {
         calling(in ? "nyr_pack_in" : "nyr_pack");
         uint8_t *lent_table = lend(TABLE, table.bytes, table.length, 1), *out = lend(OUT, NULL, room, 1);
@@ -211,15 +211,15 @@ void fuzz_pack(void)
         if (again == 0)
             expect(answer[0] <= room && answer[0] <= 8 * count, "more bytes than words can be");
         if (whole && count > 0 && (in ? same : !spoilt))
-            expect(again == 0 && answer[0] == length && memcmp(out, payload, length) == 0,
+            expect(again == 0 && answer[0] == length && !differ(out, payload, length),
                    "not the payload that was packed");
         if (!in) {
             number = again;
             given = again == 0 ? answer[0] : 0;
-            memcpy(first_bytes, out == NULL ? payload : out, (size_t)given);
+            copy(first_bytes, out, (size_t)given);
         } else if (same) {
             expect(again == number &&
-                       (again != 0 || (answer[0] == given && memcmp(out, first_bytes, (size_t)given) == 0)),
+                       (again != 0 || (answer[0] == given && !differ(out, first_bytes, (size_t)given))),
                    "by sections another answer");
         }
     }

@@ -251,6 +251,10 @@ impl Store<'_, '_> {
             self.rest = &self.rest[4..];
             self.next(1)[0] = count as u64;
         }
+        // Of no elements the type was not looked at.
+        if count == 0 {
+            return;
+        }
         let child = usize::from(e.of);
         let element = self.table.entry(child);
         if element.kind <= ENUM {
@@ -442,6 +446,10 @@ impl Lay<'_, '_> {
         if e.kind == ARRAY {
             count = self.rest[0] as usize;
             self.leaf(9);
+        }
+        // Of no elements the type was not looked at.
+        if count == 0 {
+            return;
         }
         let child = usize::from(e.of);
         let element = self.table.entry(child);
