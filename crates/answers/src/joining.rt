@@ -3,8 +3,8 @@ ghost use Prim.Native.Nat.{_≤_};
 use crate::Answered;
 use crate::fields;
 use crate::platforms::Kept;
-use joiner::Channel;
-use joiner::Joiner;
+use channels::Channel;
+use channels::Joiner;
 use joiner::Outcome;
 use joiner::Place;
 
@@ -17,7 +17,7 @@ const LAST_AT: usize = 3;
 
 const HELD_AT: usize = 7;
 
-const MOST_BYTES: usize = RECORD * joiner::CHANNELS;
+const MOST_BYTES: usize = RECORD * channels::CHANNELS;
 
 pub(crate) fn take(
     kept: Kept,
@@ -56,7 +56,7 @@ fn seen_or_not(records: &[u8]) -> bool {
 
 fn take_by(call: &[u8], records: &[u8], octets: &mut [u8], output: &mut [u8], at: usize) -> usize {
     if records.len() > MOST_BYTES {
-        return fields::put_refused(output, at, joiner::BAD_SETUP);
+        return fields::put_refused(output, at, channels::BAD_SETUP);
     }
     let joiner = joiner_of(records, fields::n32(call, 0));
     let rooms = calls::argument(call, 2);
@@ -136,9 +136,9 @@ fn put_counts(output: &mut [u8], at: usize, name: &[u8], missed: u32, bytes: usi
 
 fn joiner_of(records: &[u8], room: u32) -> Joiner {
     let count = records.len() / RECORD;
-    let mut channels = [no_channel(); joiner::CHANNELS];
+    let mut channels = [no_channel(); channels::CHANNELS];
     let mut i = 0;
-    while i < joiner::CHANNELS {
+    while i < channels::CHANNELS {
         channels[i] = channel_of(records, RECORD * i);
         i += 1;
     }
@@ -173,7 +173,7 @@ fn put_records(output: &mut [u8], at: usize, joiner: Joiner) -> usize {
     let mut bytes = [0u8; MOST_BYTES];
     let channels = joiner.channels;
     let mut i = 0;
-    while i < joiner::CHANNELS {
+    while i < channels::CHANNELS {
         put_record(&mut bytes, RECORD * i, channels[i]);
         i += 1;
     }
@@ -182,7 +182,7 @@ fn put_records(output: &mut [u8], at: usize, joiner: Joiner) -> usize {
 
 // The first `count` records.
 fn put_first(output: &mut [u8], at: usize, records: &[u8], count: usize) -> usize {
-    if count <= joiner::CHANNELS {
+    if count <= channels::CHANNELS {
         fields::put_bytes(output, at, wire::part(records, 0, RECORD * count))
     } else {
         at

@@ -3,7 +3,7 @@ ghost use Prim.Native.Nat.{_≤_};
 ghost use lib.ListN.{length};
 use crate::fields;
 use payload::Answer;
-use types::Checked;
+use table::Checked;
 
 // The codes of the calls on sections.
 const UNPACK_CHECKED: u16 = 13;

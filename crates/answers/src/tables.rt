@@ -1,8 +1,8 @@
 // Type tables: checked (code 4), and an operation looked up (code 15).
 use crate::fields;
-use types::Checked;
-use types::Found;
-use types::Sections;
+use table::Checked;
+use table::Found;
+use table::Sections;
 
 pub(crate) fn check(call: &[u8], output: &mut [u8], at: usize) -> usize {
     match types::check(calls::argument(call, 0)) {
@@ -26,10 +26,10 @@ fn put_counts(output: &mut [u8], at: usize, s: Sections) -> usize {
 }
 
 fn put_operation(output: &mut [u8], at: usize, table: &[u8], s: Sections, id: u32) -> usize {
-    match types::operations::find(table, s, id) {
+    match table::operations::find(table, s, id) {
         Found::Nothing => text::put_text(output, at, b"none"),
         Found::At(i) => {
-            let operation = types::entries::operation_at(table, s, i);
+            let operation = table::entries::operation_at(table, s, i);
             let named = text::put_text(output, at, b"entry");
             put_pair(output, named, operation.kind, operation.carries)
         }

@@ -14,11 +14,12 @@ use lib.Seq.{length-take-le, set-at, set-append-left, getD-append-add, getD-set-
 use Rattle.wire.specs.Bytes.{over, written}
 use Rattle.wire.proofs.Runs.{written-in, length-over}
 use Rattle.wire.proofs.Numbers.{read-before, read-behind}
-use Rattle.joiner.specs.Setup.{channelLimit, newChannel, freshOf, channelAt}
+use Rattle.channels.specs.Setup.{channelLimit, newChannel, freshOf, channelAt}
 use Rattle.joiner.specs.Take.{changed}
-use Rattle.joiner.specs.declared.Channel.{Channel}
-use Rattle.joiner.specs.declared.Joiner.{Joiner}
-use Rattle.joiner.proofs.Places.{and-left, and-right, and-true}
+use Rattle.channels.specs.declared.Channel.{Channel}
+use Rattle.channels.specs.declared.Joiner.{Joiner}
+use Rattle.table.proofs.AllBelow.{and-left, and-right}
+use Rattle.wire.proofs.Cond.{and-true}
 use Rattle.lent_joiner.specs.Words.{recordAt, joinerWords, senderLimit, seenLimit, recordIn, isRecord, areRecords, recordsIn, channelsIn, isJoiner, joinerIn, recordWords}
 use Rattle.lent_joiner.proofs.Storing.{records-length}
 

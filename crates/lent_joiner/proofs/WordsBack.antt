@@ -17,16 +17,16 @@ use Rattle.wire.proofs.Runs.{written-in}
 use Rattle.binding.specs.Header.{senders, senderIn, partIn, counterIn, pieceIn}
 use Rattle.binding.specs.declared.MessagePart.{MessagePart}
 use Rattle.joiner.specs.Channel.{roomOf, notedOf, steppedOf}
-use Rattle.joiner.specs.Setup.{channelLimit, newChannel, freshOf, channelAt, channelsOf, sendersOf, placeOf, good, goodChannel}
+use Rattle.channels.specs.Setup.{channelLimit, newChannel, freshOf, channelAt, channelsOf, sendersOf, placeOf, good, goodChannel}
 use Rattle.joiner.specs.Take.{judgedOf, takenBy, takenOf, changed}
-use Rattle.joiner.specs.declared.Channel.{Channel}
-use Rattle.joiner.specs.declared.Joiner.{Joiner}
+use Rattle.channels.specs.declared.Channel.{Channel}
+use Rattle.channels.specs.declared.Joiner.{Joiner}
 use Rattle.joiner.specs.declared.Room.{Room}
 use Rattle.joiner.specs.declared.Step.{Step}
 use Rattle.joiner.specs.declared.Judged.{Judged}
 use Rattle.joiner.specs.declared.Judged.the-variants.{Refusal, Move}
 use Rattle.joiner.specs.declared.Taken.{Taken}
-use Rattle.joiner.proofs.Places.{and-true}
+use Rattle.wire.proofs.Cond.{and-true}
 use Rattle.joiner.proofs.Judging.{Moved, judged-moved, good-sizes, good-says, channel-says}
 use Rattle.joiner.proofs.Cases.{Stepped, again, whole, begins, stray, long, goes-on, ends, step-cases}
 use Rattle.lent_joiner.specs.Words.{recordAt, joinerWords, senderLimit, recordIn, isRecord, areRecords, recordsIn, channelsIn, isJoiner, joinerIn, recordWords, recordsWords, wordsOf}

@@ -6,7 +6,7 @@ ghost use mathlib.Core.Path.{_≡_};
 ghost use mathlib.Core.Bool.{cond, _||_};
 ghost use lib.Dec.{ltb};
 ghost use lib.ListN.{length};
-ghost use Rattle.platform.specs.States.{isUp, howManyUp};
+ghost use Rattle.states.specs.States.{isUp, howManyUp};
 ghost use Rattle.platform.specs.Receiving.{receivedOf, leftOf};
 ghost use Rattle.lent_tables.specs.Words.{sectionsIn};
 ghost use Rattle.lent_platform.specs.Words.{platformWords, statesIn, standingIn};

@@ -1,6 +1,6 @@
 // A platform in its words, read and written.
 use platform::Standing;
-use platform::States;
+use states::States;
 ghost use mathlib.Core.Path.{_≡_};
 ghost use Rattle.wire.specs.Bytes.{written};
 ghost use Rattle.lent_platform.specs.Words.{statesIn, standingIn, standingWords};

@@ -2,7 +2,7 @@
 ghost use mathlib.Core.Path.{_≡_};
 ghost use mathlib.Core.Bool.{cond};
 ghost use lib.ListN.{length};
-ghost use Rattle.platform.specs.States.{isUp, howManyUp};
+ghost use Rattle.states.specs.States.{isUp, howManyUp};
 ghost use Rattle.platform.specs.Receiving.{receivedOf, leftOf};
 ghost use Rattle.lent_tables.specs.Words.{sectionsIn};
 ghost use Rattle.lent_platform.specs.Words.{statesIn, standingIn};

@@ -8,11 +8,11 @@ use native.Mathlib.Omega.{arith}
 use lib.Dec.{ltb}
 use lib.ListN.{length}
 use Rattle.wire.specs.Bytes.{Octets, over}
-use Rattle.types.specs.declared.Sections.{Sections}
-use Rattle.types.specs.declared.Found.{Found}
-use Rattle.types.specs.Layout.{within}
-use Rattle.types.specs.declared.Checked.{Checked}
-use Rattle.types.specs.declared.Checked.the-variants as check
+use Rattle.table.specs.declared.Sections.{Sections}
+use Rattle.table.specs.declared.Found.{Found}
+use Rattle.table.specs.Layout.{within}
+use Rattle.table.specs.declared.Checked.{Checked}
+use Rattle.table.specs.declared.Checked.the-variants as check
 use Rattle.types.specs.Table.{checked}
 use Rattle.message.specs.declared.Reading.{Reading}
 use Rattle.message.specs.declared.Reading.the-variants as reading
@@ -31,10 +31,11 @@ use Rattle.joiner.specs.Outcomes.{refusalIn}
 use Rattle.joiner.proofs.Standing.{refusal-keeps-joiner, refusal-keeps-rooms}
 use Rattle.payload.specs.declared.Answer.{Answer}
 use Rattle.payload.specs.declared.Answer.the-variants as answer
-use Rattle.payload.specs.Walk.{Codec, left, typeWalk}
-use Rattle.payload.specs.Reading.{reader}
-use Rattle.payload.specs.Writing.{writer}
-use Rattle.payload.specs.Calls.{start, answeredIn, leftBy, leftIn, answeredIf, leftIf}
+use Rattle.walk.specs.Walk.{Codec, left, typeWalk}
+use Rattle.unpacking.specs.Reading.{reader}
+use Rattle.packing.specs.Writing.{writer}
+use Rattle.walk.specs.Walk.{start}
+use Rattle.payload.specs.Calls.{answeredIn, leftBy, leftIn, answeredIf, leftIf}
 use Rattle.platform.specs.declared.Standing.{Standing}
 use Rattle.platform.specs.declared.Outcome.{Outcome as Received′}
 use Rattle.platform.specs.declared.Answer.{Answer as Noting}

@@ -11,23 +11,23 @@ use lib.Dec.{eqb}
 use lib.Pow.{pow-pos}
 use lib.ListN.{length}
 use Rattle.wire.specs.Bytes.{number}
-use Rattle.types.specs.declared.Sections.{Sections}
-use Rattle.types.specs.declared.Found.{Found}
-use Rattle.types.specs.declared.Found.the-variants as found
-use Rattle.types.specs.Operations.{operationOf}
+use Rattle.table.specs.declared.Sections.{Sections}
+use Rattle.table.specs.declared.Found.{Found}
+use Rattle.table.specs.declared.Found.the-variants as found
+use Rattle.table.specs.Operations.{operationOf}
 use Rattle.message.specs.declared.Header.{Header}
 use Rattle.message.specs.declared.Status.the-variants.{Down, Up}
 use Rattle.message.specs.declared.Message.{Message}
 use Rattle.message.specs.declared.Message.the-variants as message
 use Rattle.message.specs.Platform.{messageOf}
 use Rattle.message.specs.Refusal.{platforms}
-use Rattle.platform.specs.declared.States.{States}
+use Rattle.states.specs.declared.States.{States}
 use Rattle.platform.specs.declared.Standing.{Standing}
-use Rattle.platform.specs.States.{isUp, turned}
+use Rattle.states.specs.States.{isUp, turned}
 use Rattle.platform.specs.Replies.{allData, replyNumber, meant, Wide, replies, Each, owedLength}
 use Rattle.platform.specs.Reaction.{operationFor, isData, foundData, noData, cameUp, onStatus, onPullAll, onPullOne, onPull, onOperation, reactionTo}
 use Rattle.platform.specs.Receiving.{laidOut}
-use Rattle.platform.proofs.Ups.{noted-there, noted-elsewhere}
+use Rattle.states.proofs.Ups.{noted-there, noted-elsewhere}
 use Rattle.promises.specs.Platforms.{Owed, owedFor, stateAfter, nextAfter, replyLength}
 
 -- the types of platform's own replies and reactions, which it keeps to itself

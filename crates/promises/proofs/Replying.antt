@@ -12,8 +12,8 @@ use Rattle.wire.specs.Bytes.{span, number, over, part}
 use Rattle.wire.proofs.Numbers.{number-lt, octets-drop}
 use Rattle.wire.proofs.Runs.{length-over, part-in}
 use Rattle.wire.proofs.Cond.{yes-lt, no-lt}
-use Rattle.types.specs.declared.Sections.{Sections}
-use Rattle.types.specs.declared.Checked.{Checked}
+use Rattle.table.specs.declared.Sections.{Sections}
+use Rattle.table.specs.declared.Checked.{Checked}
 use Rattle.message.specs.declared.Header.{Header}
 use Rattle.message.specs.declared.Message.{Message}
 use Rattle.message.specs.declared.Reading.{Reading}
@@ -26,7 +26,7 @@ use Rattle.message.proofs.Accepted.{Readable, readable}
 use Rattle.platform.specs.declared.Standing.{Standing}
 use Rattle.platform.specs.declared.Answer.the-variants.{Refused, Noted}
 use Rattle.platform.specs.declared.Outcome.{Outcome}
-use Rattle.platform.specs.States.{isUp}
+use Rattle.states.specs.States.{isUp}
 use Rattle.platform.specs.Replies.{replyBytes, replyHeader, Wide, replies, Each, owedBytes, owedLength}
 use Rattle.platform.specs.Reaction.{operationFor, operationIn}
 use Rattle.platform.specs.Receiving.{refused, taken, answered, laidOut, outcomeOf, outputOf, receivedBy, receivedOf, leftBy, leftOf, bytesWritten}

@@ -3,7 +3,7 @@
 use mathlib.Core.Path.{_≡_, sym, _∙_}
 use denote.Ref.{now}
 use Rattle.types.proofs.Accepted.{accepted, ids-rise}
-use Rattle.types.proofs.Unique.{answers-unique}
+use Rattle.table.proofs.Unique.{answers-unique}
 use Rattle.platform.proofs.Unique.{the-outcome, the-output, same-outcome, same-output}
 use Rattle.promises.specs.Unique.{WireUnique, MessageUnique, BindingUnique, JoinerUnique, TypesUnique, LeavesUnique, PayloadUnique, PlatformUnique, RecordingUnique, WhereIDsRise, Unique}
 

@@ -7,16 +7,16 @@ use mathlib.Core.Bool.{false}
 use mathlib.Core.List.{List, [], _∷_, _++_}
 use lib.ListN.{length}
 use Rattle.wire.specs.Bytes.{Octets, number}
-use Rattle.types.specs.declared.Sections.{Sections}
-use Rattle.types.specs.declared.Found.{Found}
-use Rattle.types.specs.Layout.{within}
+use Rattle.table.specs.declared.Sections.{Sections}
+use Rattle.table.specs.declared.Found.{Found}
+use Rattle.table.specs.Layout.{within}
 use Rattle.message.specs.declared.Message.{Message}
 use Rattle.message.specs.Header.{headerLength, domainIn, idIn, payloadSizeIn, payloadIn, headerIn}
 use Rattle.message.specs.Platform.{messageOf}
 use Rattle.message.specs.Refusal.{platforms}
 use Rattle.message.specs.Writing.{writeOf, outputAfter, numberGiven as writeNumber}
 use Rattle.binding.specs.Cutting.{madeOf, cutInto, cutRefusal}
-use Rattle.joiner.specs.declared.Joiner.{Joiner}
+use Rattle.channels.specs.declared.Joiner.{Joiner}
 use Rattle.joiner.specs.Take.{takenOf, roomsAfter}
 use Rattle.joiner.specs.Outcomes.{refusalIn}
 use Rattle.payload.specs.Calls.{unpackedIn, wordsIn, packedIn, bytesIn, unpacked, wordsAfter, packed, bytesAfter}

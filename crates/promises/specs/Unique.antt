@@ -9,9 +9,9 @@ use mathlib.Core.Bool.{true}
 use mathlib.Core.List.{List}
 use lib.ListN.{length}
 use denote.Ref.{now}
-use Rattle.types.specs.declared.Sections.{Sections}
-use Rattle.types.specs.declared.Checked.the-variants.{Table}
-use Rattle.types.specs.Operations.{idsRise}
+use Rattle.table.specs.declared.Sections.{Sections}
+use Rattle.table.specs.declared.Checked.the-variants.{Table}
+use Rattle.table.specs.Operations.{idsRise}
 use Rattle.types.specs.Table.{checked}
 use Rattle.platform.specs.declared.Standing.{Standing}
 use Rattle.platform.specs.declared.Outcome.{Outcome}
