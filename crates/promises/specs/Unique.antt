@@ -36,19 +36,19 @@ use Rattle.binding.proofs.BindingHeader.new.Reads.{Post as binding-BindingHeade
 use Rattle.binding.proofs.BindingHeader.read.Reads.{Post as binding-BindingHeader-read}
 use Rattle.binding.proofs.pieces.Reads.{Post as binding-pieces}
 use Rattle.binding.proofs.cut.Reads.{Post as binding-cut}
-use Rattle.joiner.proofs.setup.Reads.{Post as joiner-setup}
+use Rattle.channels.proofs.setup.Reads.{Post as channels-setup}
 use Rattle.joiner.proofs.take.Reads.{Post as joiner-take}
 use Rattle.joiner.proofs.message.Reads.{Post as joiner-message}
 use Rattle.types.proofs.check.Reads.{Post as types-check}
-use Rattle.types.proofs.entries.type_at.Reads.{Post as types-entries-type-at}
-use Rattle.types.proofs.entries.is_type.Reads.{Post as types-entries-is-type}
-use Rattle.types.proofs.entries.member_at.Reads.{Post as types-entries-member-at}
-use Rattle.types.proofs.entries.value_at.Reads.{Post as types-entries-value-at}
-use Rattle.types.proofs.entries.operation_at.Reads.{Post as types-entries-operation-at}
-use Rattle.types.proofs.entries.id_at.Reads.{Post as types-entries-id-at}
-use Rattle.types.proofs.layout.within.Reads.{Post as types-layout-within}
-use Rattle.types.proofs.leaf.width.Reads.{Post as types-leaf-width}
-use Rattle.types.proofs.leaf.allowed.Reads.{Post as types-leaf-allowed}
+use Rattle.table.proofs.entries.type_at.Reads.{Post as table-entries-type-at}
+use Rattle.table.proofs.entries.is_type.Reads.{Post as table-entries-is-type}
+use Rattle.table.proofs.entries.member_at.Reads.{Post as table-entries-member-at}
+use Rattle.table.proofs.entries.value_at.Reads.{Post as table-entries-value-at}
+use Rattle.table.proofs.entries.operation_at.Reads.{Post as table-entries-operation-at}
+use Rattle.table.proofs.entries.id_at.Reads.{Post as table-entries-id-at}
+use Rattle.table.proofs.layout.within.Reads.{Post as table-layout-within}
+use Rattle.table.proofs.leaf.width.Reads.{Post as table-leaf-width}
+use Rattle.table.proofs.leaf.allowed.Reads.{Post as table-leaf-allowed}
 use Rattle.types.proofs.rules.fields_ok.Reads.{Post as types-rules-fields-ok}
 use Rattle.types.proofs.sizes.largest.Reads.{Post as types-sizes-largest}
 use Rattle.leaves.proofs.word_at.Reads.{Post as leaves-word-at}
@@ -67,10 +67,10 @@ use Rattle.recording.proofs.open.Reads.{Post as recording-open}
 use Rattle.recording.proofs.next.Reads.{Post as recording-next}
 use Rattle.recording.proofs.play.Reads.{Post as recording-play}
 use Rattle.recording.proofs.keep.Reads.{Post as recording-keep}
-use Rattle.recording.proofs.put_line.Reads.{Post as recording-put-line}
-use Rattle.recording.proofs.put_ending.Reads.{Post as recording-put-ending}
+use Rattle.lines.proofs.put_line.Reads.{Post as lines-put-line}
+use Rattle.lines.proofs.put_ending.Reads.{Post as lines-put-ending}
 use Rattle.recording.specs.Play.{stateOf}
-use Rattle.types.proofs.operations.find.Reads.{Post as types-operations-find}
+use Rattle.table.proofs.operations.find.Reads.{Post as table-operations-find}
 use Rattle.platform.proofs.receive_checked.Reads.{Post as platform-receive-checked}
 
 -- two outcomes for the same arguments agree on what is seen of them
@@ -118,22 +118,22 @@ pub record BindingUnique : Type 0 where
   pub cut-out : Lent binding-cut (λ k e. now (e .1 .1 .1 .1 .1 .0))
 
 pub record JoinerUnique : Type 0 where
-  pub setup : Answer joiner-setup
+  pub setup : Answer channels-setup
   pub take : Answer joiner-take
   pub take-rooms : Lent joiner-take (λ k e. now (e .1 .0))
   pub message : Same joiner-message (λ k z e. now z)
 
 pub record TypesUnique : Type 0 where
   pub check : Answer types-check
-  pub type-at : Answer types-entries-type-at
-  pub is-type : Answer types-entries-is-type
-  pub member-at : Answer types-entries-member-at
-  pub value-at : Answer types-entries-value-at
-  pub operation-at : Answer types-entries-operation-at
-  pub id-at : Answer types-entries-id-at
-  pub within : Answer types-layout-within
-  pub width : Answer types-leaf-width
-  pub allowed : Answer types-leaf-allowed
+  pub type-at : Answer table-entries-type-at
+  pub is-type : Answer table-entries-is-type
+  pub member-at : Answer table-entries-member-at
+  pub value-at : Answer table-entries-value-at
+  pub operation-at : Answer table-entries-operation-at
+  pub id-at : Answer table-entries-id-at
+  pub within : Answer table-layout-within
+  pub width : Answer table-leaf-width
+  pub allowed : Answer table-leaf-allowed
   pub fields-ok : Answer types-rules-fields-ok
   pub largest : Answer types-sizes-largest
 
@@ -166,16 +166,16 @@ pub record RecordingUnique : Type 0 where
   pub play : Same recording-play (λ k z e. stateOf z (now (e .1 .0)) (now (e .1 .1 .1 .0)))
   pub keep : Answer recording-keep
   pub keep-buffer : Lent recording-keep (λ k e. now (e .0))
-  pub put-line : Answer recording-put-line
-  pub put-line-output : Lent recording-put-line (λ k e. now (e .0))
-  pub put-ending : Answer recording-put-ending
-  pub put-ending-output : Lent recording-put-ending (λ k e. now (e .0))
+  pub put-line : Answer lines-put-line
+  pub put-line-output : Lent lines-put-line (λ k e. now (e .0))
+  pub put-ending : Answer lines-put-ending
+  pub put-ending-output : Lent lines-put-ending (λ k e. now (e .0))
 
 -- the exceptions (docs/DECISIONS.md, 20): an operation looked up in sections that `check` did not give may be any entry that bears
 -- the ID. Where the IDs rise, as they do on a table that `check` accepts, there is one, and the call on sections answers and
 -- leaves what the call on the bytes does
 pub record WhereIDsRise : Type 0 where
-  pub find : SameWhere types-operations-find (λ k a. idsRise (now (a .0)) (a .1 .0) ≡ true) (λ k z e. z)
+  pub find : SameWhere table-operations-find (λ k a. idsRise (now (a .0)) (a .1 .0) ≡ true) (λ k z e. z)
   pub receive-checked : SameWhere platform-receive-checked (λ k a. idsRise (now (a .1 .0)) (a .1 .1 .0) ≡ true) (λ k z e. z)
   pub receive-checked-out : SameWhere platform-receive-checked (λ k a. idsRise (now (a .1 .0)) (a .1 .1 .0) ≡ true) (λ k z e. now (e .1 .1 .1 .1 .1 .0))
   pub accepted-rise : (t : List ℕ) (s : Sections) → checked t ≡ Table s → idsRise t s ≡ true
