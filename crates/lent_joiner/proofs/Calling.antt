@@ -9,7 +9,7 @@ use mir.Syntax.{w64}
 use mir.Val.{Fits}
 use denote.Enum.Declared.{tagOf}
 use types.Run.{OneOf}
-use Rattle.payload.proofs.Calls.{the-type}
+use Rattle.joiner.proofs.Outcome.{the-type}
 use native.Mathlib.Omega.{arith}
 use borrow.Author.Tests.{leb-true}
 use lib.Dec.{leb}
