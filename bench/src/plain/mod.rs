@@ -4,9 +4,11 @@
 pub mod binding;
 pub mod joiner;
 pub mod message;
+mod packing;
 pub mod payload;
 pub mod platform;
 pub mod types;
+mod unpacking;
 
 fn be16(bytes: &[u8], at: usize) -> u16 {
     u16::from_be_bytes(bytes[at..at + 2].try_into().unwrap())

@@ -1,0 +1,133 @@
+//! Joining and cutting.
+
+use crate::measure::{opaque, Calls, Case};
+use crate::ours;
+use crate::pair::{joiner_words, take_words};
+use crate::tables::{put_binding_header, Random};
+use bench::plain::binding;
+use bench::plain::joiner::{Joiner, Outcome};
+
+type Take = fn(&mut Joiner, &mut [u8], &[u8]) -> Result<Outcome, u32>;
+type Cut = fn(&[u8], usize, usize, usize, usize, &mut [u8]) -> Result<usize, u32>;
+
+/// One stream of datagrams, the channels by turns: messages of four pieces, or where two do not fit a room their first alone.
+#[derive(Clone)]
+struct Stream {
+    ids: Vec<u16>,
+    datagram: Vec<u8>,
+    parts: &'static [u8],
+    at: usize,
+}
+
+impl Stream {
+    fn new(channels: u16, piece: usize) -> Stream {
+        Stream {
+            ids: (0..channels).map(|k| 0x100 + 3 * k).collect(),
+            datagram: Random(7).bytes(4 + piece),
+            parts: if piece > 30_000 { &[0] } else { &[0, 1, 1, 2] },
+            at: 0,
+        }
+    }
+
+    fn next(&mut self) -> usize {
+        let channel = self.at % self.ids.len();
+        let step = self.at / self.ids.len();
+        let part = self.parts[step % self.parts.len()];
+        put_binding_header(&mut self.datagram, part, self.ids[channel], step as u16);
+        self.at += 1;
+        channel
+    }
+}
+
+pub fn joining(channels: u16, piece: usize) -> Case {
+    let room = if piece > 30_000 { 65_560 } else { 8_192 };
+    let length = usize::from(channels) * room;
+    let mut stream = Stream::new(channels, piece);
+    let mut rooms = vec![0; length];
+    let mut plain_rooms = rooms.clone();
+    let mut state = vec![0; 130];
+    let mut answer = [0; 5];
+    assert_eq!(ours::setup(&stream.ids, room as u32, length, &mut state), 0);
+    let mut joiner = Joiner::new(&stream.ids, room as u32, length).unwrap();
+    assert_eq!(state, joiner_words(&joiner));
+    for _ in 0..40 * channels {
+        stream.next();
+        assert_eq!(
+            ours::take(&mut state, &mut rooms, &stream.datagram, &mut answer),
+            0
+        );
+        let outcome = joiner.take(&mut plain_rooms, &stream.datagram).unwrap();
+        assert_eq!(answer, take_words(outcome));
+        assert_eq!(state, joiner_words(&joiner));
+    }
+    assert!(rooms == plain_rooms);
+    let (mut plain_stream, mut bare_stream, mut bare_rooms) =
+        (stream.clone(), stream.clone(), rooms.clone());
+    let bare: Calls = Box::new(move |count| {
+        for _ in 0..count {
+            let channel = bare_stream.next();
+            opaque(&mut bare_rooms[channel * room..][..piece])
+                .copy_from_slice(&bare_stream.datagram[4..]);
+        }
+    });
+    Case {
+        ours: Box::new(move |count| {
+            for _ in 0..count {
+                stream.next();
+                assert_eq!(
+                    ours::take(&mut state, &mut rooms, &stream.datagram, &mut answer),
+                    0
+                );
+            }
+        }),
+        plain: Box::new(move |count| {
+            let take = opaque(Joiner::take as Take);
+            for _ in 0..count {
+                plain_stream.next();
+                assert!(take(&mut joiner, &mut plain_rooms, &plain_stream.datagram).is_ok());
+            }
+        }),
+        bare: (piece > 30_000).then(|| bare),
+    }
+}
+
+pub fn cutting(piece: usize) -> Case {
+    let bytes = Random(11).bytes(60_000);
+    let count = binding::pieces(bytes.len(), piece).unwrap();
+    let mut out = vec![0; 4 + piece];
+    let mut plain_out = out.clone();
+    let mut answer = [0];
+    for i in 0..count {
+        assert_eq!(
+            ours::cut(&bytes, piece, 0x102, 65_530, i, &mut out, &mut answer),
+            0
+        );
+        let length = binding::cut(&bytes, piece, 0x102, 65_530, i, &mut plain_out).unwrap();
+        assert_eq!(answer[0], length as u64);
+        assert!(out == plain_out);
+    }
+    let (plain_bytes, mut at, mut plain_at) = (bytes.clone(), 0, 0);
+    Case {
+        ours: Box::new(move |calls| {
+            for _ in 0..calls {
+                assert_eq!(
+                    ours::cut(&bytes, piece, 0x102, 65_530, at, &mut out, &mut answer),
+                    0
+                );
+                at = if at + 1 == count { 0 } else { at + 1 };
+            }
+        }),
+        plain: Box::new(move |calls| {
+            let cut = opaque(binding::cut as Cut);
+            for _ in 0..calls {
+                assert!(cut(&plain_bytes, piece, 0x102, 65_530, plain_at, &mut plain_out).is_ok());
+                plain_at = if plain_at + 1 == count {
+                    0
+                } else {
+                    plain_at + 1
+                };
+            }
+        }),
+        bare: None,
+    }
+}

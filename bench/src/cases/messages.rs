@@ -1,0 +1,85 @@
+//! Messages read, and the platform call.
+
+use super::payloads::checked;
+use crate::measure::{opaque, Case};
+use crate::ours;
+use crate::pair::{platform_words, read_words, receive_words, OWN};
+use bench::plain::message::{self, Message};
+use bench::plain::platform::{Answer, Platform};
+use bench::plain::types::Sections;
+
+type Read = for<'m> fn(u8, &'m [u8]) -> Result<Message<'m>, u32>;
+type Receive =
+    for<'m> fn(&mut Platform, &[u8], &Sections, &'m [u8], &mut [u8]) -> Result<Answer<'m>, u32>;
+
+pub fn reading(bytes: &[u8]) -> Case {
+    let mut answer = [0; 6];
+    assert_eq!(ours::read(OWN, bytes, &mut answer), 0);
+    assert_eq!(answer, read_words(&message::read(OWN, bytes).unwrap()));
+    let (bytes, plain_bytes) = (bytes.to_vec(), bytes.to_vec());
+    Case {
+        ours: Box::new(move |count| {
+            for _ in 0..count {
+                assert_eq!(ours::read(OWN, &bytes, &mut answer), 0);
+            }
+        }),
+        plain: Box::new(move |count| {
+            let read = opaque(message::read as Read);
+            for _ in 0..count {
+                assert!(read(OWN, &plain_bytes).is_ok());
+            }
+        }),
+        bare: None,
+    }
+}
+
+pub fn receiving(table: &[u8], bytes: &[u8]) -> Case {
+    let (words, sections) = checked(table);
+    let (mut state, mut answer, mut out, mut plain_out) = ([0; 5], [0; 7], [0; 48], [0; 48]);
+    assert_eq!(ours::platform(OWN, &mut state), 0);
+    let mut platform = Platform::new(OWN);
+    assert_eq!(
+        ours::receive_in(OWN, &mut state, table, &words, bytes, &mut out, &mut answer),
+        0
+    );
+    let heard = platform
+        .receive_in(table, &sections, bytes, &mut plain_out)
+        .unwrap();
+    assert_eq!(answer, receive_words(&heard));
+    assert_eq!(out, plain_out);
+    assert_eq!(state.to_vec(), platform_words(&platform));
+    let (table, bytes) = (table.to_vec(), bytes.to_vec());
+    let (plain_table, plain_bytes) = (table.clone(), bytes.clone());
+    Case {
+        ours: Box::new(move |count| {
+            for _ in 0..count {
+                assert_eq!(
+                    ours::receive_in(
+                        OWN,
+                        &mut state,
+                        &table,
+                        &words,
+                        &bytes,
+                        &mut out,
+                        &mut answer
+                    ),
+                    0
+                );
+            }
+        }),
+        plain: Box::new(move |count| {
+            let receive = opaque(Platform::receive_in as Receive);
+            for _ in 0..count {
+                assert!(receive(
+                    &mut platform,
+                    &plain_table,
+                    &sections,
+                    &plain_bytes,
+                    &mut plain_out
+                )
+                .is_ok());
+            }
+        }),
+        bare: None,
+    }
+}

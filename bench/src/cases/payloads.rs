@@ -1,0 +1,157 @@
+//! Tables checked, payloads unpacked and packed.
+
+use crate::measure::{opaque, Case};
+use crate::ours;
+use crate::pair::sections_words;
+use bench::plain::payload;
+use bench::plain::types::{self, Sections};
+
+type Unpack = fn(&[u8], &Sections, u16, &[u8], &mut [u64]) -> Result<usize, u32>;
+type Pack = fn(&[u8], &Sections, u16, &[u64], &mut [u8]) -> Result<usize, u32>;
+type Check = fn(&[u8]) -> Result<Sections, u32>;
+
+pub fn checked(table: &[u8]) -> ([u64; 8], Sections) {
+    let mut words = [0; 8];
+    assert_eq!(ours::check(table, &mut words), 0);
+    let sections = types::check(table).unwrap();
+    assert_eq!(words, sections_words(&sections));
+    (words, sections)
+}
+
+fn packed(table: &[u8], number: u16, words: &[u64]) -> ([u64; 8], Sections, Vec<u8>) {
+    let (section_words, sections) = checked(table);
+    let (mut bytes, mut plain_bytes, mut answer) =
+        (vec![0; 8 * words.len()], vec![0; 8 * words.len()], [0]);
+    assert_eq!(
+        ours::pack_in(
+            table,
+            &section_words,
+            number,
+            words,
+            &mut bytes,
+            &mut answer
+        ),
+        0
+    );
+    let length = answer[0] as usize;
+    assert_eq!(
+        payload::pack_in(table, &sections, number, words, &mut plain_bytes),
+        Ok(length)
+    );
+    assert_eq!(bytes, plain_bytes);
+    bytes.truncate(length);
+    (section_words, sections, bytes)
+}
+
+pub fn unpacking((table, number, words): (Vec<u8>, u16, Vec<u64>)) -> Case {
+    let (section_words, sections, bytes) = packed(&table, number, &words);
+    let (mut out, mut plain_out, mut answer) = (vec![0; words.len()], vec![0; words.len()], [0]);
+    assert_eq!(
+        ours::unpack_in(
+            &table,
+            &section_words,
+            number,
+            &bytes,
+            &mut out,
+            &mut answer
+        ),
+        0
+    );
+    assert_eq!(
+        payload::unpack_in(&table, &sections, number, &bytes, &mut plain_out),
+        Ok(words.len())
+    );
+    assert_eq!(
+        (answer[0], &out, &plain_out),
+        (words.len() as u64, &words, &words)
+    );
+    let (plain_table, plain_bytes) = (table.clone(), bytes.clone());
+    Case {
+        ours: Box::new(move |count| {
+            for _ in 0..count {
+                assert_eq!(
+                    ours::unpack_in(
+                        &table,
+                        &section_words,
+                        number,
+                        &bytes,
+                        &mut out,
+                        &mut answer
+                    ),
+                    0
+                );
+            }
+        }),
+        plain: Box::new(move |count| {
+            let unpack = opaque(payload::unpack_in as Unpack);
+            for _ in 0..count {
+                assert!(unpack(
+                    &plain_table,
+                    &sections,
+                    number,
+                    &plain_bytes,
+                    &mut plain_out
+                )
+                .is_ok());
+            }
+        }),
+        bare: None,
+    }
+}
+
+pub fn packing((table, number, words): (Vec<u8>, u16, Vec<u64>)) -> Case {
+    let (section_words, sections, mut out) = packed(&table, number, &words);
+    let (plain_table, plain_words, mut plain_out) = (table.clone(), words.clone(), out.clone());
+    let mut answer = [0];
+    Case {
+        ours: Box::new(move |count| {
+            for _ in 0..count {
+                assert_eq!(
+                    ours::pack_in(
+                        &table,
+                        &section_words,
+                        number,
+                        &words,
+                        &mut out,
+                        &mut answer
+                    ),
+                    0
+                );
+            }
+        }),
+        plain: Box::new(move |count| {
+            let pack = opaque(payload::pack_in as Pack);
+            for _ in 0..count {
+                assert!(pack(
+                    &plain_table,
+                    &sections,
+                    number,
+                    &plain_words,
+                    &mut plain_out
+                )
+                .is_ok());
+            }
+        }),
+        bare: None,
+    }
+}
+
+pub fn checking(table: Vec<u8>) -> Case {
+    checked(&table);
+    let plain_table = table.clone();
+    let mut sections = [0; 8];
+    Case {
+        ours: Box::new(move |count| {
+            for _ in 0..count {
+                assert_eq!(ours::check(&table, &mut sections), 0);
+            }
+        }),
+        plain: Box::new(move |count| {
+            let check = opaque(types::check as Check);
+            for _ in 0..count {
+                assert!(check(&plain_table).is_ok());
+            }
+        }),
+        bare: None,
+    }
+}
