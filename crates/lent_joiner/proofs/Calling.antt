@@ -31,7 +31,7 @@ use Rattle.joiner.specs.declared.Place.the-variants.{Datagram, Rooms}
 use Rattle.joiner.specs.declared.Outcome.{Outcome}
 use Rattle.joiner.specs.declared.Outcome.the-variants as outcome
 use Rattle.joiner.specs.declared.Taken.{Taken}
-use Rattle.table.proofs.AllBelow.{and-left}
+use Rattle.wire.proofs.Cond.{and-left}
 use Rattle.joiner.proofs.Judging.{Moved, judged-moved, good-sizes}
 use Rattle.lent.specs.Words.{outputTooShort}
 use Rattle.lent.proofs.Answers.{short, long, none-written}

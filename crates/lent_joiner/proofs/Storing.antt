@@ -17,7 +17,7 @@ use Rattle.wire.proofs.Runs.{written-in, written-out, over-none, over-over, len
 use Rattle.channels.specs.Setup.{channelLimit, newChannel, freshOf}
 use Rattle.channels.specs.declared.Channel.{Channel}
 use Rattle.channels.specs.declared.Joiner.{Joiner}
-use Rattle.table.proofs.AllBelow.{and-left, and-right}
+use Rattle.wire.proofs.Cond.{and-left, and-right}
 use Rattle.lent_joiner.specs.Words.{recordAt, joinerWords, senderLimit, seenLimit, recordIn, isRecord, areRecords, recordsIn, channelsIn, isJoiner, joinerIn, recordWords, recordsWords, wordsOf}
 
 -- one record

@@ -25,7 +25,8 @@ use Rattle.table.specs.Operations.{idsRise}
 use Rattle.types.specs.Operations.{fieldsOk as operationFields, operationOk}
 use Rattle.types.specs.Sizes.{mostBytes, largest, sizeFits, bytesUpTo, largestBelow, largestOf}
 use Rattle.types.specs.Table.{ruleBroken, tooLarge, entriesOk, sizesOk, judged, judging, checked}
-use Rattle.table.proofs.AllBelow.{and-left, and-right, at-below, all-below}
+use Rattle.wire.proofs.Cond.{and-left, and-right}
+use Rattle.table.proofs.AllBelow.{at-below, all-below}
 use Rattle.types.proofs.TypeRules.{base-entry, enum-entry, record-entry, fixed-entry, array-entry, no-entry, points-to-values, points-to-members}
 use Rattle.table.proofs.Chain.{Chain, chain, finished, chain-within}
 

@@ -22,7 +22,8 @@ use Rattle.table.specs.All.{allBelow}
 use Rattle.table.specs.Leaf.{width}
 use Rattle.table.specs.Entries.{typeAt, memberAt, isType}
 use Rattle.types.specs.Sizes.{mostBytes, sumOf, sizeOf, sizes, largest, sizeFits, bytesUpTo, largestBelow, largestOf}
-use Rattle.table.proofs.AllBelow.{and-right, next-below, stop-below}
+use Rattle.wire.proofs.Cond.{and-right}
+use Rattle.table.proofs.AllBelow.{next-below, stop-below}
 
 -- a 16-bit count times a 32-bit size
 product : (n z : ℕ) → Fits w16 n → Fits w32 z → n * z ≤ 65535 * 4294967295

@@ -13,7 +13,7 @@ use lib.Seq.{drop-drop, drop-append-seam}
 use Rattle.wire.specs.Bytes.{over, written}
 use Rattle.wire.proofs.Runs.{over-over, over-none, length-over, written-in}
 use Rattle.table.specs.Leaf.{allowed}
-use Rattle.table.proofs.AllBelow.{and-left, and-right}
+use Rattle.wire.proofs.Cond.{and-left, and-right}
 use Rattle.walk.specs.declared.Place.{Place}
 use Rattle.walk.specs.Tree.{Tree, leaf, row, array, broken}
 use Rattle.walk.specs.Walk.{Step, on, stop, next, through, Codec, item, counted, countCode, walk}
