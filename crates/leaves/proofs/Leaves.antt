@@ -14,10 +14,9 @@ use lib.Dec.{ltb, leb, eqb}
 use lib.ListN.{length, getD, take, drop}
 use lib.Pow.{pow-lt}
 use Rattle.wire.specs.Bytes.{span, number, bytes, Octets}
-use Rattle.wire.proofs.Cond.{yes-lt, no-lt, yes-eq, no-eq}
+use Rattle.wire.proofs.Cond.{yes-lt, no-lt, yes-eq, no-eq, and-left, and-right}
 use Rattle.wire.proofs.Numbers.{number-lt, number-append, number-bytes, length-bytes, bytes-number}
 use Rattle.table.specs.Leaf.{Leaf, boolean, signed, unsigned, float, none, codes, base, bytesOf, inSigned, finite, isValue, width, allowed}
-use Rattle.wire.proofs.Cond.{and-left, and-right}
 use Rattle.leaves.specs.Forms.{truth, extended, wordOf, form, wordAt, formOf, Truth, Says}
 
 -- no base code is wider than 8 bytes

@@ -18,8 +18,7 @@ use Rattle.channels.specs.Setup.{channelLimit, newChannel, freshOf, channelAt}
 use Rattle.joiner.specs.Take.{changed}
 use Rattle.channels.specs.declared.Channel.{Channel}
 use Rattle.channels.specs.declared.Joiner.{Joiner}
-use Rattle.wire.proofs.Cond.{and-left, and-right}
-use Rattle.wire.proofs.Cond.{and-true}
+use Rattle.wire.proofs.Cond.{and-left, and-right, and-true}
 use Rattle.lent_joiner.specs.Words.{recordAt, joinerWords, senderLimit, seenLimit, recordIn, isRecord, areRecords, recordsIn, channelsIn, isJoiner, joinerIn, recordWords}
 use Rattle.lent_joiner.proofs.Storing.{records-length}
 
