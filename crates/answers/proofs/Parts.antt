@@ -1,7 +1,7 @@
 -- That every part of a buffer that the program lends lies in the buffer.
 -- Assumes nothing.
 use Prim.Native.Nat.{ℕ, _+_, _-_, _^_, _≤_, _<_}
-use mathlib.Core.Path.{_≡_, refl, sym, ap}
+use mathlib.Core.Path.{_≡_, refl, sym}
 use mathlib.Core.Bool.{Bool, true, false}
 use mathlib.Core.List.{List}
 use native.Mathlib.Omega.{arith}
@@ -15,7 +15,11 @@ use Rattle.wire.specs.Bytes.{part}
 pub front : (s : List ℕ) (n : ℕ) → n ≤ length s → n ≡ length (take n s)
 front s n h = sym (length-take-le n s h)
 
--- also of one that was written to
+-- of an array
+pub front-of : (s : List ℕ) (n m : ℕ) → m ≡ length s → n ≤ m → n ≡ length (take n s)
+front-of s n m e h = front s n (omega arith)
+
+-- of one that was written to
 pub front-kept : (s u : List ℕ) (n : ℕ) → n ≤ length s → length u ≡ length s → n ≡ length (take n u)
 front-kept s u n h e = front u n (omega arith)
 

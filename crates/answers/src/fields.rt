@@ -1,6 +1,14 @@
 // A call's arguments as the numbers that they are, and the fields of a line. A number was judged when its call was found,
 // so that nothing of it is lost here.
 ghost use Prim.Native.Nat.{_≤_};
+ghost use mathlib.Core.Path.{_≡_};
+ghost use lib.ListN.{length};
+ghost use Rattle.answers.specs.Bounds.{octetsLength, wordsLength};
+
+// The longest output that a call can ask for, in bytes and in words.
+pub(crate) const OCTETS: usize = 70000;
+
+pub(crate) const WORDS: usize = 65536;
 
 // Where a call says how many arguments it has.
 const COUNT_AT: usize = 2;
@@ -23,6 +31,18 @@ pub(crate) fn n64(call: &[u8], k: usize) -> u64 {
 
 pub(crate) fn size(call: &[u8], k: usize) -> usize {
     n64(call, k) as usize
+}
+
+pub(crate) fn octet_buffer() -> [u8; OCTETS]
+    ensures { λ r. ⌜ octetsLength ≡ length r ⌝ }
+{
+    [0; OCTETS]
+}
+
+pub(crate) fn word_buffer() -> [u64; WORDS]
+    ensures { λ r. ⌜ wordsLength ≡ length r ⌝ }
+{
+    [0; WORDS]
 }
 
 // The length of a call's output, which is its last argument, within what there is.

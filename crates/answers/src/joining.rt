@@ -19,18 +19,12 @@ const HELD_AT: usize = 7;
 
 const MOST_BYTES: usize = RECORD * channels::CHANNELS;
 
-pub(crate) fn take(
-    kept: Kept,
-    call: &[u8],
-    octets: &mut [u8],
-    output: &mut [u8],
-    at: usize,
-) -> Answered {
+pub(crate) fn take(kept: Kept, call: &[u8], output: &mut [u8], at: usize) -> Answered {
     let records = calls::argument(call, 1);
     if seen_or_not(records) {
         return Answered {
             kept,
-            end: take_by(call, records, octets, output, at),
+            end: take_by(call, records, output, at),
             bad: false,
         };
     }
@@ -54,11 +48,23 @@ fn seen_or_not(records: &[u8]) -> bool {
     true
 }
 
-fn take_by(call: &[u8], records: &[u8], octets: &mut [u8], output: &mut [u8], at: usize) -> usize {
+fn take_by(call: &[u8], records: &[u8], output: &mut [u8], at: usize) -> usize {
     if records.len() > MOST_BYTES {
         return fields::put_refused(output, at, channels::BAD_SETUP);
     }
     let joiner = joiner_of(records, fields::n32(call, 0));
+    let mut space = fields::octet_buffer();
+    take_with(joiner, call, &mut space, output, at)
+}
+
+// The rooms are copied, as they are written to.
+fn take_with(
+    joiner: Joiner,
+    call: &[u8],
+    octets: &mut [u8],
+    output: &mut [u8],
+    at: usize,
+) -> usize {
     let rooms = calls::argument(call, 2);
     wire::put_run(octets, 0, rooms);
     let total = fields::least(rooms.len(), octets.len());

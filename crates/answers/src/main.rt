@@ -18,11 +18,6 @@ mod tables;
 // The longest call has 594,324 bytes: code 6, with 70,000 bytes of table and 65,536 words.
 const INPUT: usize = 655360;
 
-// The longest output of a call.
-const OCTETS: usize = 70000;
-
-const WORDS: usize = 65536;
-
 // Lines are written in blocks of this size; behind one there is room for the longest line, of 65,536 words.
 const BLOCK: usize = 131072;
 
@@ -67,9 +62,7 @@ fn main() {
 fn answer_file(fd: i32, name: &[u8]) {
     let mut block = input_buffer();
     let mut lines = output_buffer();
-    let mut words = word_buffer();
-    let mut octets = octet_buffer();
-    answer_all(fd, name, &mut block, &mut lines, &mut words, &mut octets);
+    answer_all(fd, name, &mut block, &mut lines);
 }
 
 fn input_buffer() -> [u8; INPUT] {
@@ -80,24 +73,9 @@ fn output_buffer() -> [u8; OUTPUT] {
     [0; OUTPUT]
 }
 
-fn word_buffer() -> [u64; WORDS] {
-    [0; WORDS]
-}
-
-fn octet_buffer() -> [u8; OCTETS] {
-    [0; OCTETS]
-}
-
 // Answers what is filled, and reads on, until nothing more comes. A proved loop has to end, and nothing says that a file
 // does: so it counts its turns down, from a number that no run uses up.
-fn answer_all(
-    fd: i32,
-    name: &[u8],
-    input: &mut [u8],
-    output: &mut [u8],
-    words: &mut [u64],
-    octets: &mut [u8],
-) {
+fn answer_all(fd: i32, name: &[u8], input: &mut [u8], output: &mut [u8]) {
     let mut run = Run {
         kept: platforms::first(),
         number: 0,
@@ -109,7 +87,7 @@ fn answer_all(
     let mut turns = u64::MAX;
     while turns > 0 {
         turns -= 1;
-        run = answer_block(run, &input[..filled], output, words, octets);
+        run = answer_block(run, &input[..filled], output);
         if run.over {
             return;
         }
@@ -137,20 +115,14 @@ fn refill(fd: i32, input: &mut [u8], at: usize, filled: usize) -> Refilled
 }
 
 // Answers the calls that are all there, one after the other.
-fn answer_block(
-    run: Run,
-    input: &[u8],
-    output: &mut [u8],
-    words: &mut [u64],
-    octets: &mut [u8],
-) -> Run {
+fn answer_block(run: Run, input: &[u8], output: &mut [u8]) -> Run {
     let mut run = run;
     let mut turns = u64::MAX;
     while turns > 0 {
         turns -= 1;
         match calls::next(input, run.at) {
             Found::Call { code, end } => {
-                run = answer_call(run, input, code, end, output, words, octets);
+                run = answer_call(run, input, code, end, output);
                 if run.over {
                     return run;
                 }
@@ -164,19 +136,11 @@ fn answer_block(
 }
 
 // The line of one call, which ends at `end` of the input.
-fn answer_call(
-    run: Run,
-    input: &[u8],
-    code: u16,
-    end: usize,
-    output: &mut [u8],
-    words: &mut [u64],
-    octets: &mut [u8],
-) -> Run {
+fn answer_call(run: Run, input: &[u8], code: u16, end: usize, output: &mut [u8]) -> Run {
     let call = wire::part(input, run.at, std::num::wrapping_sub_usize(end, run.at));
     let start = put_start(output, run.made, run.number);
     let kept = run.kept;
-    let answered = answer(kept, code, call, output, start, words, octets);
+    let answered = answer(kept, code, call, output, start);
     finished(run, answered, end, output)
 }
 
@@ -203,40 +167,24 @@ fn finished(run: Run, answered: Answered, end: usize, output: &mut [u8]) -> Run 
 }
 
 // The answer behind the call's number.
-fn answer(
-    kept: Kept,
-    code: u16,
-    call: &[u8],
-    output: &mut [u8],
-    at: usize,
-    words: &mut [u64],
-    octets: &mut [u8],
-) -> Answered {
+fn answer(kept: Kept, code: u16, call: &[u8], output: &mut [u8], at: usize) -> Answered {
     match code {
         7 => platforms::start(call, output, at),
-        8 => receive(kept, call, output, at, octets),
-        11 => joining::take(kept, call, octets, output, at),
+        8 => receive(kept, call, output, at),
+        11 => joining::take(kept, call, output, at),
         _ => Answered {
             kept,
-            end: answer_alone(kept, code, call, output, at, words, octets),
+            end: answer_alone(kept, code, call, output, at),
             bad: false,
         },
     }
 }
 
 // A call that changes nothing that is kept, and is never bad once it was found.
-fn answer_alone(
-    kept: Kept,
-    code: u16,
-    call: &[u8],
-    output: &mut [u8],
-    at: usize,
-    words: &mut [u64],
-    octets: &mut [u8],
-) -> usize {
+fn answer_alone(kept: Kept, code: u16, call: &[u8], output: &mut [u8], at: usize) -> usize {
     match code {
-        2 | 3 | 6 | 14 => answer_into(code, call, output, at, words, octets),
-        5 | 13 => unpack(code, call, output, at, words),
+        2 | 3 | 6 | 14 => answer_bytes(code, call, output, at),
+        5 | 13 => unpack(code, call, output, at),
         _ => answer_plain(kept, code, call, output, at),
     }
 }
@@ -252,32 +200,32 @@ fn answer_plain(kept: Kept, code: u16, call: &[u8], output: &mut [u8], at: usize
     }
 }
 
-// A call that is lent an output of as many bytes as it says, or words.
-fn answer_into(
-    code: u16,
-    call: &[u8],
-    output: &mut [u8],
-    at: usize,
-    words: &mut [u64],
-    octets: &mut [u8],
-) -> usize {
-    let room = fields::room(call, octets.len());
-    let lent = &mut octets[..room];
+// A call that is lent an output of as many bytes as it says.
+fn answer_bytes(code: u16, call: &[u8], output: &mut [u8], at: usize) -> usize {
+    let mut space = fields::octet_buffer();
+    let room = fields::room(call, fields::OCTETS);
+    answer_into(code, call, &mut space[..room], output, at)
+}
+
+fn answer_into(code: u16, call: &[u8], out: &mut [u8], output: &mut [u8], at: usize) -> usize {
     match code {
-        2 => messages::write(call, lent, output, at),
-        3 => cutting::cut(call, lent, output, at),
-        _ => payloads::pack(code, call, words, lent, output, at),
+        2 => messages::write(call, out, output, at),
+        3 => cutting::cut(call, out, output, at),
+        _ => payloads::pack(code, call, out, output, at),
     }
 }
 
-fn unpack(code: u16, call: &[u8], output: &mut [u8], at: usize, words: &mut [u64]) -> usize {
-    let room = fields::room(call, words.len());
-    payloads::unpack(code, call, &mut words[..room], output, at)
+fn receive(kept: Kept, call: &[u8], output: &mut [u8], at: usize) -> Answered {
+    let mut space = fields::octet_buffer();
+    let room = fields::room(call, fields::OCTETS);
+    platforms::receive(kept, call, &mut space[..room], output, at)
 }
 
-fn receive(kept: Kept, call: &[u8], output: &mut [u8], at: usize, octets: &mut [u8]) -> Answered {
-    let room = fields::room(call, octets.len());
-    platforms::receive(kept, call, &mut octets[..room], output, at)
+// A call that is lent an output of as many words as it says.
+fn unpack(code: u16, call: &[u8], output: &mut [u8], at: usize) -> usize {
+    let mut space = fields::word_buffer();
+    let room = fields::room(call, fields::WORDS);
+    payloads::unpack(code, call, &mut space[..room], output, at)
 }
 
 // A full block is written.

@@ -39,17 +39,15 @@ fn unpacked_checked(table: &[u8], number: u16, bytes: &[u8], words: &mut [u64]) 
     }
 }
 
-pub(crate) fn pack(
-    code: u16,
-    call: &[u8],
-    words: &mut [u64],
-    out: &mut [u8],
-    output: &mut [u8],
-    at: usize,
-) -> usize {
-    let count = read_words(words, calls::argument(call, 2));
-    let answer = packed(code, call, &words[..count], out);
+pub(crate) fn pack(code: u16, call: &[u8], out: &mut [u8], output: &mut [u8], at: usize) -> usize {
+    let mut space = fields::word_buffer();
+    let answer = pack_words(code, call, &mut space, out);
     put_packed(output, at, answer, out)
+}
+
+fn pack_words(code: u16, call: &[u8], words: &mut [u64], out: &mut [u8]) -> Answer {
+    let count = read_words(words, calls::argument(call, 2));
+    packed(code, call, &words[..count], out)
 }
 
 fn packed(code: u16, call: &[u8], words: &[u64], out: &mut [u8]) -> Answer {

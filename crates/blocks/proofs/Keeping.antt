@@ -1,8 +1,8 @@
 -- Bytes moved to the front of their own buffer: each is read before anything is written over it.
 -- Assumes nothing.
 use Prim.Native.Nat.{ℕ, _+_, _-_, _≤_, _<_}
-use mathlib.Core.Path.{_≡_, refl, sym, ap, _∙_}
-use mathlib.Core.Bool.{Bool, true, false}
+use mathlib.Core.Path.{_≡_, sym, ap, _∙_}
+use mathlib.Core.Bool.{Bool, false}
 use mathlib.Core.List.{List, []}
 use native.Mathlib.Nat.{zero-add}
 use native.Mathlib.Omega.{arith}
@@ -11,7 +11,7 @@ use lib.ListN.{length, getD, set, take, drop, length-drop}
 use lib.Seq.{length-take-le, take-all, getD-take, getD-drop}
 use Rattle.wire.specs.Bytes.{over, part}
 use Rattle.wire.proofs.Numbers.{read-behind}
-use Rattle.wire.proofs.Runs.{held, failed, part-in, part-out, over-none, over-more}
+use Rattle.wire.proofs.Runs.{failed, part-in, part-out, over-none, over-more}
 
 -- what is to stand at the front
 abbrev pub moving : List ℕ → ℕ → ℕ → List ℕ

@@ -1,7 +1,7 @@
 // A file of calls: where the next call stands, and what its arguments are. It is read a block at a time: `next` is handed
 // what has come so far and says whether it needs more.
 ghost use mathlib.Core.Path.{_≡_};
-ghost use Prim.Native.Nat.{_+_, _≤_};
+ghost use Prim.Native.Nat.{_+_};
 ghost use lib.ListN.{length};
 ghost use mathlib.Core.Bool.{true};
 ghost use Rattle.calls.specs.Shapes.{numberIn};

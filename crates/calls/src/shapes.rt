@@ -1,6 +1,5 @@
 // The calls: for each code how many arguments it has and of what kinds, and what an argument of each kind may be.
 ghost use mathlib.Core.Path.{_≡_};
-ghost use mathlib.Core.Bool.{_&&_};
 ghost use lib.ListN.{getD, length};
 ghost use Rattle.calls.specs.Shapes.{shapeAt, kindOf, isHead, takesLength, takes};
 

@@ -9,15 +9,11 @@ use Rattle.answers.proofs.answer_all.Statement.{statement}
 use Rattle.answers.proofs.answer_all.Tie as tie
 
 abbrev Inv-loop : tie.InvT-loop
-Inv-loop fd name input₀ output₀ words₀ octets₀ run₀ filled₀ turns₀ input output words octets run filled turns =
-    (filled ≤ length input₀)
-    × (length input ≡ length input₀)
-    × (length output ≡ length output₀)
-    × (length words ≡ length words₀)
-    × (length octets ≡ length octets₀)
+Inv-loop fd name input₀ output₀ run₀ filled₀ turns₀ input output run filled turns =
+    (filled ≤ length input₀) × (length input ≡ length input₀) × (length output ≡ length output₀)
 
 abbrev μ-loop : tie.MeasureT-loop
-μ-loop fd name input₀ output₀ words₀ octets₀ run₀ filled₀ turns₀ input output words octets run filled turns = turns
+μ-loop fd name input₀ output₀ run₀ filled₀ turns₀ input output run filled turns = turns
 
 pub answer-all-spec : {M : Type 1} → statement M
 answer-all-spec =
@@ -26,7 +22,7 @@ answer-all-spec =
     Inv-loop
     μ-loop
     (λ c κs. search needs)
-    (λ c. (search needs, search needs, search needs, search needs, search needs))
+    (λ c. (search needs, search needs, search needs))
     (λ c. search needs)
     (λ c. search needs)
     (λ c. search front-kept)
@@ -34,19 +30,13 @@ answer-all-spec =
     (λ c. search needs)
     (λ c. search needs)
     (λ c. search needs)
-    (λ c. search needs)
-    (λ c. search needs)
     (λ c κs. search needs)
     (λ c κs. search needs)
     (λ c. search needs)
     (λ c. search needs)
     (λ c. search needs)
     (λ c. search needs)
-    (λ c. search needs)
-    (λ c. search needs)
-    (λ c. (search needs, search needs, search needs, search needs, search needs))
-    (λ c. search needs)
-    (λ c. search needs)
+    (λ c. (search needs, search needs, search needs))
     (λ c. search needs)
     (λ c. search needs)
     (λ c. search needs))

@@ -7,10 +7,10 @@ use Rattle.answers.proofs.answer_block.Statement.{statement}
 use Rattle.answers.proofs.answer_block.Tie as tie
 
 abbrev Inv-loop : tie.InvT-loop
-Inv-loop input output₀ words₀ octets₀ run₀ turns₀ output words octets run turns = (length output ≡ length output₀) × (length words ≡ length words₀) × (length octets ≡ length octets₀)
+Inv-loop input output₀ run₀ turns₀ output run turns = length output ≡ length output₀
 
 abbrev μ-loop : tie.MeasureT-loop
-μ-loop input output₀ words₀ octets₀ run₀ turns₀ output words octets run turns = turns
+μ-loop input output₀ run₀ turns₀ output run turns = turns
 
 pub answer-block-spec : {M : Type 1} → statement M
 answer-block-spec =
@@ -18,7 +18,7 @@ answer-block-spec =
     (tie.spec
     Inv-loop
     μ-loop
-    (λ c. (search needs, search needs, search needs))
+    (λ c. search needs)
     (λ c. search needs)
     (λ c κs. search needs)
     (λ c. search needs)
@@ -28,17 +28,7 @@ answer-block-spec =
     (λ c. search needs)
     (λ c. search needs)
     (λ c. search needs)
-    (λ c. (search needs, search needs, search needs))
-    (λ c. search needs)
     (λ c κs. search needs)
-    (λ c. search needs)
-    (λ c. search needs)
-    (λ c. search needs)
-    (λ c. search needs)
-    (λ c. search needs)
-    (λ c. search needs)
-    (λ c. search needs)
-    (λ c. search needs)
     (λ c. search needs)
     (λ c. search needs)
     (λ c. search needs)

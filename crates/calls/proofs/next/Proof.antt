@@ -1,7 +1,6 @@
 -- `calls::next` meets its contract: what each test says.
 -- Assumes nothing.
 use borrow.Author.Needs.{needs}
-use Rattle.calls.proofs.Placing.{place-fits}
 use Rattle.calls.proofs.Walking.{nothing-next, cut-head, bad-head, good-head}
 use Rattle.calls.proofs.next.Statement.{statement}
 use Rattle.calls.proofs.next.Tie as tie

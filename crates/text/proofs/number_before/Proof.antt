@@ -5,7 +5,6 @@ use Prim.Native.Nat.{_+_, _-_, _^_, _≤_, _<_}
 use mathlib.Core.Path.{_≡_}
 use mathlib.Core.List.{_++_}
 use borrow.Author.Needs.{needs}
-use native.Mathlib.Omega.{arith}
 use lib.ListN.{length, drop}
 use Rattle.text.specs.Decimal.{base, digitLimit, digits, decimal}
 use Rattle.text.proofs.Decimals.{left, digits-none, digits-enough, one-less, rest-less, digits-more, digits-done}

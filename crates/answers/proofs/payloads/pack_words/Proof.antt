@@ -1,12 +1,12 @@
--- `answers::payloads::pack` meets its contract: what it lends lies in its buffer.
+-- `answers::payloads::pack_words` meets its contract: what it lends lies in its buffer.
 -- Assumes nothing.
 use borrow.Author.Needs.{needs}
 use Rattle.answers.proofs.Parts.{front-kept}
-use Rattle.answers.proofs.payloads.pack.Statement.{statement}
-use Rattle.answers.proofs.payloads.pack.Tie as tie
+use Rattle.answers.proofs.payloads.pack_words.Statement.{statement}
+use Rattle.answers.proofs.payloads.pack_words.Tie as tie
 
-pub pack-spec : {M : Type 1} → statement M
-pack-spec =
+pub pack-words-spec : {M : Type 1} → statement M
+pack-words-spec =
     tie.close
     (tie.spec
     (λ c κs. search needs)
@@ -14,8 +14,6 @@ pack-spec =
     (λ c. search needs)
     (λ c. search front-kept)
     (λ c κs. search needs)
-    (λ c κs. search needs)
-    (λ c. search needs)
     (λ c. search needs)
     (λ c. search needs)
     (λ c. search needs))
