@@ -3,13 +3,12 @@ use Prim.Native.Nat.{ℕ}
 use mathlib.Core.Bool.{cond}
 use mathlib.Core.List.{List, [], _∷_}
 use Rattle.wire.specs.Bytes.{written}
+use Rattle.message.specs.Platform.{statusValue}
 use Rattle.message.specs.Reading.{readOf}
 use Rattle.message.specs.Reading as reading
 use Rattle.message.specs.Writing.{writeOf, outputAfter}
 use Rattle.message.specs.Writing as writing
 use Rattle.message.specs.declared.Header.{Header}
-use Rattle.message.specs.declared.Status.{Status}
-use Rattle.message.specs.declared.Status.the-variants.{Down, Up}
 use Rattle.message.specs.declared.Message.{Message}
 use Rattle.message.specs.declared.Message.the-variants.{PlatformStatus, PlatformStatusRequest, UnknownOperation, VersionedDataPull, Operation}
 use Rattle.message.specs.declared.Reading.{Reading}
@@ -30,14 +29,9 @@ kindOf (UnknownOperation i) = 3
 kindOf (VersionedDataPull i) = 4
 kindOf Operation = 5
 
--- 000, Table 4
-abbrev pub statusOf : Status → ℕ
-statusOf Down = 0
-statusOf Up = 1
-
 -- the status; the ID in the payload; the operation's ID, which is the header's
 abbrev pub valueOf : ℕ → Message → ℕ
-valueOf id (PlatformStatus s) = statusOf s
+valueOf id (PlatformStatus s) = statusValue s
 valueOf id PlatformStatusRequest = 0
 valueOf id (UnknownOperation i) = i
 valueOf id (VersionedDataPull i) = i

@@ -2,7 +2,8 @@
 ghost use mathlib.Core.Path.{_≡_};
 ghost use mathlib.Core.List.{[], _∷_};
 ghost use Rattle.wire.specs.Bytes.{written};
-ghost use Rattle.lent_messages.specs.Messages.{kindOf, statusOf, valueOf, readWords, readNumber, readAnswer};
+ghost use Rattle.message.specs.Platform.{statusValue};
+ghost use Rattle.lent_messages.specs.Messages.{kindOf, valueOf, readWords, readNumber, readAnswer};
 use message::Header;
 use message::Message;
 use message::Own;
@@ -70,7 +71,7 @@ fn value_of(id: u32, message: Message) -> u64
 }
 
 fn status_of(status: Status) -> u64
-    ensures { λ r. ⌜ r ≡ statusOf status ⌝ }
+    ensures { λ r. ⌜ r ≡ statusValue status ⌝ }
 {
     match status {
         Status::Down => 0,

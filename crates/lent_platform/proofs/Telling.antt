@@ -6,6 +6,7 @@ use mathlib.Core.List.{List, [], _∷_}
 use Rattle.wire.specs.Bytes.{written}
 use Rattle.message.specs.declared.Header.{Header}
 use Rattle.message.specs.declared.Status.{Status}
+use Rattle.message.specs.Platform.{statusValue}
 use Rattle.platform.specs.declared.Standing.{Standing}
 use Rattle.platform.specs.declared.Heard.{Heard}
 use Rattle.platform.specs.declared.Heard.the-variants as heard
@@ -14,11 +15,11 @@ use Rattle.platform.specs.declared.Answer.the-variants.{Refused, Noted}
 use Rattle.platform.specs.Receiving.{numberGiven}
 use Rattle.lent.proofs.Answers.{none-written}
 use Rattle.lent_platform.specs.Words.{standingWords}
-use Rattle.lent_platform.specs.Calls.{statusOf, heardWords, answerWords, notedWords}
+use Rattle.lent_platform.specs.Calls.{heardWords, answerWords, notedWords}
 
 -- `put_heard`
 module _ {x : List ℕ} {y : Heard} (ws : List ℕ) (h : Header) (n : ℕ) where
-  pub told-status : {v : ℕ} (s : Status) → y ≡ heard.Status s → v ≡ statusOf s → x ≡ written ws 0 (1 ∷ v ∷ h .platform ∷ 0 ∷ 0 ∷ 0 ∷ n ∷ []) → x ≡ written ws 0 (heardWords h n y)
+  pub told-status : {v : ℕ} (s : Status) → y ≡ heard.Status s → v ≡ statusValue s → x ≡ written ws 0 (1 ∷ v ∷ h .platform ∷ 0 ∷ 0 ∷ 0 ∷ n ∷ []) → x ≡ written ws 0 (heardWords h n y)
   told-status s e ev f = rw e (f ∙ ap (λ (u : ℕ). written ws 0 (1 ∷ u ∷ h .platform ∷ 0 ∷ 0 ∷ 0 ∷ n ∷ [])) ev)
 
   pub told-request : y ≡ heard.Request → x ≡ written ws 0 (2 ∷ 0 ∷ h .platform ∷ 0 ∷ 0 ∷ 0 ∷ n ∷ []) → x ≡ written ws 0 (heardWords h n y)

@@ -8,8 +8,7 @@ use Rattle.wire.specs.Bytes.{written}
 use Rattle.table.specs.declared.Sections.{Sections}
 use Rattle.table.specs.declared.Found.{Found}
 use Rattle.message.specs.declared.Header.{Header}
-use Rattle.message.specs.declared.Status.{Status}
-use Rattle.message.specs.declared.Status.the-variants.{Down, Up}
+use Rattle.message.specs.Platform.{statusValue}
 use Rattle.message.specs.Reading.{readOf}
 use Rattle.platform.specs.declared.Standing.{Standing}
 use Rattle.platform.specs.declared.Heard.{Heard}
@@ -33,13 +32,8 @@ freshWords own ws = cond (tooFew platformWords ws) ws (written ws 0 (standingWor
 abbrev pub heardLength : ℕ
 heardLength = 7
 
--- 000, Table 4
-abbrev pub statusOf : Status → ℕ
-statusOf Down = 0
-statusOf Up = 1
-
 abbrev pub heardWords : Header → ℕ → Heard → List ℕ
-heardWords h n (heard.Status x) = 1 ∷ statusOf x ∷ h .platform ∷ 0 ∷ 0 ∷ 0 ∷ n ∷ []
+heardWords h n (heard.Status x) = 1 ∷ statusValue x ∷ h .platform ∷ 0 ∷ 0 ∷ 0 ∷ n ∷ []
 heardWords h n heard.Request = 2 ∷ 0 ∷ h .platform ∷ 0 ∷ 0 ∷ 0 ∷ n ∷ []
 heardWords h n (heard.UnknownOperation id) = 3 ∷ id ∷ h .platform ∷ 0 ∷ 0 ∷ 0 ∷ n ∷ []
 heardWords h n heard.PullOfAll = 4 ∷ 0 ∷ h .platform ∷ 0 ∷ 0 ∷ 0 ∷ n ∷ []

@@ -8,8 +8,9 @@ use platform::Outcome;
 ghost use mathlib.Core.Path.{_≡_};
 ghost use mathlib.Core.List.{[], _∷_};
 ghost use Rattle.wire.specs.Bytes.{written};
+ghost use Rattle.message.specs.Platform.{statusValue};
 ghost use Rattle.platform.specs.Receiving.{numberGiven};
-ghost use Rattle.lent_platform.specs.Calls.{statusOf, heardWords, answerWords, notedWords};
+ghost use Rattle.lent_platform.specs.Calls.{heardWords, answerWords, notedWords};
 
 // What a message was.
 pub const STATUS: u64 = 1;
@@ -119,7 +120,7 @@ fn put_entry(
 }
 
 fn status_of(status: Status) -> u32
-    ensures { λ r. ⌜ r ≡ statusOf status ⌝ }
+    ensures { λ r. ⌜ r ≡ statusValue status ⌝ }
 {
     match status {
         Status::Down => 0,
