@@ -2,6 +2,7 @@
 use Prim.Native.Nat.{ℕ}
 use mathlib.Core.Bool.{Bool, cond, _||_}
 use lib.Dec.{eqb, leb, ltb}
+use Rattle.message.specs.Header.{platformDomain}
 use Rattle.message.specs.declared.Status.{Status}
 use Rattle.message.specs.declared.Status.the-variants.{Down, Up}
 use Rattle.message.specs.declared.Message.{Message}
@@ -38,8 +39,7 @@ abbrev pub statusValue : Status → ℕ
 statusValue Down = 0
 statusValue Up = 1
 
--- 01, Wire layouts: the message read out, its kind, and within a status its UP or DOWN
--- the platform-level message with this ID whose payload's field, if it has one, is this
+-- 01, Wire layouts: the message read out, its kind, and within a status its UP or DOWN: the platform-level message with this ID whose payload's field, if it has one, is this
 abbrev pub platformMessage : ℕ → ℕ → Message
 platformMessage id field =
     cond (eqb id platformStatus) (PlatformStatus (statusOf field))
@@ -48,4 +48,4 @@ platformMessage id field =
     (VersionedDataPull field)))
 
 abbrev pub messageOf : ℕ → ℕ → ℕ → Message
-messageOf domain id field = cond (eqb domain 0) (platformMessage id field) Operation
+messageOf domain id field = cond (eqb domain platformDomain) (platformMessage id field) Operation

@@ -28,7 +28,7 @@ pub fn write_type(table: &[u8], s: Sections, i: u16, words: &[u64], out: &mut [u
         Met::Leaf(e) => write_leaf(table, s, e, words, out, p),
         Met::Members(e) => write_members(table, s, i, e, words, out, p),
         Met::Elements(e) => write_elements(table, s, i, e, words, out, p),
-        Met::Broken => Walked::Stopped(32, p),
+        Met::Broken => Walked::Stopped(types::RULE_BROKEN, p),
     }
 }
 
@@ -55,7 +55,7 @@ fn write_members(
             Met::Leaf(c) => write_leaf(table, s, c, words, out, at),
             Met::Members(c) => write_members(table, s, child, c, words, out, at),
             Met::Elements(c) => write_elements(table, s, child, c, words, out, at),
-            Met::Broken => Walked::Stopped(32, at),
+            Met::Broken => Walked::Stopped(types::RULE_BROKEN, at),
         };
         match step {
             Walked::Went(q) => {
@@ -95,7 +95,7 @@ fn write_elements(
                     Met::Leaf(c) => write_leaf(table, s, c, words, out, at),
                     Met::Members(c) => write_members(table, s, child, c, words, out, at),
                     Met::Elements(c) => write_elements(table, s, child, c, words, out, at),
-                    Met::Broken => Walked::Stopped(32, at),
+                    Met::Broken => Walked::Stopped(types::RULE_BROKEN, at),
                 };
                 match step {
                     Walked::Went(q) => {
@@ -139,10 +139,10 @@ fn begin(words: &[u64], out: &mut [u8], e: Entry, p: Place) -> Walked
                 to: p.to + COUNT_BYTES,
             })
         } else {
-            Walked::Stopped(43, p)
+            Walked::Stopped(walk::COUNT_OVER, p)
         }
     } else {
-        Walked::Stopped(40, p)
+        Walked::Stopped(walk::ENDS_EARLY, p)
     }
 }
 
@@ -169,10 +169,10 @@ fn write_leaf(
                 to: p.to + width,
             })
         } else {
-            Walked::Stopped(42, p)
+            Walked::Stopped(walk::NOT_ALLOWED, p)
         }
     } else {
-        Walked::Stopped(40, p)
+        Walked::Stopped(walk::ENDS_EARLY, p)
     }
 }
 

@@ -1,5 +1,5 @@
 -- 01, "Numbers given back", 40 to 45: what the calls answer, and what they leave. 44 comes before the walk, 41 after it and 45
--- last; a call handed table bytes gives 30 to 33 for them before anything else. READINGS R13: on sections, 30 where they do
+-- last; a call handed table bytes gives 30 to 33 for them before anything else. On sections (docs/DECISIONS.md, 20), 30 where they do
 -- not lie in the bytes, and 32 for an entry that the walk meets and that breaks a rule.
 use Prim.Native.Nat.{ℕ}
 use mathlib.Core.Bool.{cond}

@@ -11,6 +11,11 @@ ghost use Rattle.unpacking.specs.Reading.{reader};
 ghost use Rattle.packing.specs.Writing.{writer};
 ghost use Rattle.payload.specs.Calls.{answered, answeredType, leftBy, unpackedIn, wordsIn, unpacked, wordsAfter, packedIn, bytesIn, packed, bytesAfter};
 
+// 01, Numbers given back. 40 to 43 are the walk's, 30 to 33 the table's.
+pub const NO_SUCH_TYPE: u32 = 44;
+
+pub const TOO_SHORT: u32 = 45;
+
 // What unpacking and packing answer: a number, which is a case of its own where it is the walk's (40 to 43), or how many words
 // or bytes were given.
 pub enum Answer {
@@ -45,10 +50,10 @@ pub fn unpack_in(
         if table::entries::is_type(s, number) {
             unpack_type(table, s, number, payload, words)
         } else {
-            Answer::Refused(44)
+            Answer::Refused(NO_SUCH_TYPE)
         }
     } else {
-        Answer::Refused(30)
+        Answer::Refused(table::CUT_SHORT)
     }
 }
 
@@ -72,10 +77,10 @@ pub fn pack_in(table: &[u8], s: Sections, number: u16, words: &[u64], out: &mut 
         if table::entries::is_type(s, number) {
             pack_type(table, s, number, words, out)
         } else {
-            Answer::Refused(44)
+            Answer::Refused(NO_SUCH_TYPE)
         }
     } else {
-        Answer::Refused(30)
+        Answer::Refused(table::CUT_SHORT)
     }
 }
 
@@ -109,7 +114,7 @@ fn answered(len: usize, room: usize, walked: Walked) -> Answer
 {
     match walked {
         Walked::Stopped(n, _) => {
-            if n == 32 {
+            if n == types::RULE_BROKEN {
                 Answer::Refused(n)
             } else {
                 Answer::Stopped(n)
@@ -117,10 +122,10 @@ fn answered(len: usize, room: usize, walked: Walked) -> Answer
         }
         Walked::Went(q) => {
             if q.from < len {
-                return Answer::Stopped(41);
+                return Answer::Stopped(walk::LEFT_OVER);
             }
             if room < q.to {
-                return Answer::Refused(45);
+                return Answer::Refused(TOO_SHORT);
             }
             Answer::Gave(q.to)
         }

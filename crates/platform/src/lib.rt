@@ -15,6 +15,7 @@ use message::Own;
 use message::Reading;
 use message::Status;
 use states::States;
+use table::CUT_SHORT;
 use table::Checked;
 use table::Found;
 use table::Sections;
@@ -82,8 +83,6 @@ struct Reaction {
 }
 
 const NO_ROOM: u32 = 10;
-
-const CUT_SHORT: u32 = 30;
 
 // This platform is UP, the others are DOWN, and own numbers start at 0.
 pub fn fresh(own: Own) -> Standing

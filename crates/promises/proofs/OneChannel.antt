@@ -12,7 +12,7 @@ use native.Mathlib.Omega.{arith}
 use borrow.Author.Tests.{eq-eqb, ne-eqb, ltb-true, ltb-false, leb-true}
 use lib.Dec.{leb, eqb}
 use lib.ListN.{replicate}
-use Rattle.wire.proofs.Cond.{yes-if, no-if, no-eq}
+use Rattle.wire.proofs.Cond.{yes-if, no-if, no-eq, both}
 use Rattle.binding.specs.declared.MessagePart.{MessagePart}
 use Rattle.binding.specs.Header.{counters}
 use Rattle.promises.specs.Senders.{Sent, after, arrived, mostLost, lossesWithin}

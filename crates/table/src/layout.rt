@@ -1,5 +1,7 @@
 // Where the sections of a table lie. They are found in reading order, each after the one before, and the first refusal
 // met is the answer: 30 for a table cut short or one with bytes after its end, 31 for a count outside its limits.
+use crate::COUNT_OUTSIDE;
+use crate::CUT_SHORT;
 use crate::Checked;
 use crate::Part;
 use crate::Section;
@@ -130,7 +132,7 @@ fn ended(table: &[u8], s: Sections) -> Checked
     if end(operations, OPERATION_WIDTH) == table.len() {
         Checked::Table(s)
     } else {
-        Checked::Refused(30)
+        Checked::Refused(CUT_SHORT)
     }
 }
 
@@ -140,18 +142,18 @@ fn section(table: &[u8], at: usize, width: u16, least: u16, most: u16) -> Part
     ensures { λ r. ⌜ r ≡ sectionAt width least most (now (table .entry)) at ⌝ }
 {
     if table.len() < at + 2 {
-        return Part::Missing(30);
+        return Part::Missing(CUT_SHORT);
     }
     let count = wire::u16_at(table, at);
     if (count < least) | (most < count) {
-        return Part::Missing(31);
+        return Part::Missing(COUNT_OUTSIDE);
     }
     let found = Section {
         at: (at + 2) as u16,
         count,
     };
     if table.len() < end(found, width) {
-        return Part::Missing(30);
+        return Part::Missing(CUT_SHORT);
     }
     Part::Found(found)
 }

@@ -6,6 +6,11 @@ pub mod layout;
 pub mod leaf;
 pub mod operations;
 
+// 01, Numbers given back.
+pub const CUT_SHORT: u32 = 30;
+
+pub const COUNT_OUTSIDE: u32 = 31;
+
 // A section of a table: where its first entry stands, and how many there are.
 pub struct Section {
     pub at: u16,

@@ -30,8 +30,10 @@ distinct t s e = allBelow (unlikeBefore t s e) (e .count)
 unfoldable pub valuesOk : List ℕ → Sections → Entry → Bool
 valuesOk t s e = allBelow (valueOk t s e) (e .count) && distinct t s e
 
+-- a value for comparing: in a signed base (codes below 6) the negative ones come first
 unfoldable pub rank : List ℕ → Sections → Entry → ℕ → ℕ
 rank t s e k = cond (ltb (e .of) 6) ((valueOf t s e k + 2 ^ 63) % 2 ^ 64) (valueOf t s e k)
 
+-- values that rise are distinct, which is seen in one pass
 unfoldable pub rising : List ℕ → Sections → Entry → Bool
 rising t s e = allBelow (above (rank t s e)) (e .count)

@@ -13,6 +13,11 @@ ghost use Prim.Native.Nat.{_≤_};
 ghost use Rattle.table.specs.Layout.{mostTypes};
 ghost use Rattle.types.specs.Table.{checked, judged, entriesOk};
 
+// 01, Numbers given back. 30 and 31 are the sections'.
+pub const RULE_BROKEN: u32 = 32;
+
+pub const TOO_LARGE: u32 = 33;
+
 // The largest size of a type in bytes; unknown of a number that is no type's, and where it is above 65,536.
 pub enum Largest {
     Bytes(u32),
@@ -37,10 +42,10 @@ fn judged(table: &[u8], s: Sections) -> Checked
         if sizes::all_fit(table, s) {
             Checked::Table(s)
         } else {
-            Checked::Refused(33)
+            Checked::Refused(TOO_LARGE)
         }
     } else {
-        Checked::Refused(32)
+        Checked::Refused(RULE_BROKEN)
     }
 }
 

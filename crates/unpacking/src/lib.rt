@@ -27,7 +27,7 @@ pub fn read_type(table: &[u8], s: Sections, i: u16, payload: &[u8], words: &mut 
         Met::Leaf(e) => read_leaf(table, s, e, payload, words, p),
         Met::Members(e) => read_members(table, s, i, e, payload, words, p),
         Met::Elements(e) => read_elements(table, s, i, e, payload, words, p),
-        Met::Broken => Walked::Stopped(32, p),
+        Met::Broken => Walked::Stopped(types::RULE_BROKEN, p),
     }
 }
 
@@ -54,7 +54,7 @@ fn read_members(
             Met::Leaf(c) => read_leaf(table, s, c, payload, words, at),
             Met::Members(c) => read_members(table, s, child, c, payload, words, at),
             Met::Elements(c) => read_elements(table, s, child, c, payload, words, at),
-            Met::Broken => Walked::Stopped(32, at),
+            Met::Broken => Walked::Stopped(types::RULE_BROKEN, at),
         };
         match step {
             Walked::Went(q) => {
@@ -94,7 +94,7 @@ fn read_elements(
                     Met::Leaf(c) => read_leaf(table, s, c, payload, words, at),
                     Met::Members(c) => read_members(table, s, child, c, payload, words, at),
                     Met::Elements(c) => read_elements(table, s, child, c, payload, words, at),
-                    Met::Broken => Walked::Stopped(32, at),
+                    Met::Broken => Walked::Stopped(types::RULE_BROKEN, at),
                 };
                 match step {
                     Walked::Went(q) => {
@@ -138,10 +138,10 @@ fn begin(payload: &[u8], words: &mut [u64], e: Entry, p: Place) -> Walked
                 to: p.to + COUNT_WORDS,
             })
         } else {
-            Walked::Stopped(43, p)
+            Walked::Stopped(walk::COUNT_OVER, p)
         }
     } else {
-        Walked::Stopped(40, p)
+        Walked::Stopped(walk::ENDS_EARLY, p)
     }
 }
 
@@ -168,10 +168,10 @@ fn read_leaf(
                 to: p.to + 1,
             })
         } else {
-            Walked::Stopped(42, p)
+            Walked::Stopped(walk::NOT_ALLOWED, p)
         }
     } else {
-        Walked::Stopped(40, p)
+        Walked::Stopped(walk::ENDS_EARLY, p)
     }
 }
 

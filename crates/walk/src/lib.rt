@@ -5,6 +5,15 @@ use table::Sections;
 ghost use mathlib.Core.Path.{_≡_};
 ghost use Rattle.walk.specs.Tree.{byKind, look, meet};
 
+// 01, Numbers given back: what a walk can be refused with, and, behind it, what is left over.
+pub const ENDS_EARLY: u32 = 40;
+
+pub const LEFT_OVER: u32 = 41;
+
+pub const NOT_ALLOWED: u32 = 42;
+
+pub const COUNT_OVER: u32 = 43;
+
 // A walk's place: how far it has come in what it reads, and in what it writes. One of the two counts words, so the leaves
 // completed, array counts included.
 pub struct Place {
