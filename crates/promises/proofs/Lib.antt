@@ -20,3 +20,4 @@ mod Arrivals
 pub mod Demand3
 pub mod Starred
 pub mod Unique
+pub mod UniqueBelow

@@ -14,3 +14,4 @@ pub mod Demand3
 pub mod Cases
 pub mod Starred
 pub mod Unique
+pub mod UniqueBelow

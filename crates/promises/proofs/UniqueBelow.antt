@@ -1,0 +1,144 @@
+-- Two outcomes that one promise allows are equal: each contract is an equation with a definition.
+-- Assumes nothing.
+use mathlib.Core.Path.{_≡_, sym, _∙_}
+use Rattle.promises.specs.UniqueBelow.{ChannelsUnique, TableUnique, WalkUnique, UnpackingUnique, PackingUnique, StatesUnique, TextUnique, CallsUnique, LentUnique, LentJoinerUnique, LentMessagesUnique, LentTablesUnique, LentPayloadsUnique, LentPlatformUnique, UniqueBelow}
+
+channels : ChannelsUnique
+channels =
+    record {
+      is-good = λ k a z z′ e e′ p q. p ∙ sym q;
+      look = λ k a z z′ e e′ p q. p ∙ sym q;
+      room-start = λ k a z z′ e e′ p q. p ∙ sym q;
+    }
+
+table : TableUnique
+table =
+    record {
+      read = λ k a z z′ e e′ p q. p ∙ sym q;
+    }
+
+walk : WalkUnique
+walk =
+    record {
+      meet = λ k a z z′ e e′ p q. p ∙ sym q;
+      look = λ k a z z′ e e′ p q. p ∙ sym q;
+    }
+
+unpacking : UnpackingUnique
+unpacking =
+    record {
+      read-type = λ k a z z′ e e′ p q. p .0 ∙ sym (q .0);
+      read-type-words = λ k a z z′ e e′ p q. p .1 ∙ sym (q .1);
+    }
+
+packing : PackingUnique
+packing =
+    record {
+      write-type = λ k a z z′ e e′ p q. p .0 ∙ sym (q .0);
+      write-type-out = λ k a z z′ e e′ p q. p .1 ∙ sym (q .1);
+    }
+
+states : StatesUnique
+states =
+    record {
+      fresh = λ k a z z′ e e′ p q. p ∙ sym q;
+      is-up = λ k a z z′ e e′ p q. p ∙ sym q;
+      how-many-up = λ k a z z′ e e′ p q. p ∙ sym q;
+      turned = λ k a z z′ e e′ p q. p ∙ sym q;
+    }
+
+text : TextUnique
+text =
+    record {
+      put-text = λ k a z z′ e e′ p q. p .0 ∙ sym (q .0);
+      put-text-output = λ k a z z′ e e′ p q. p .1 ∙ sym (q .1);
+      put-decimal = λ k a z z′ e e′ p q. p .0 ∙ sym (q .0);
+      put-decimal-output = λ k a z z′ e e′ p q. p .1 ∙ sym (q .1);
+      put-hex = λ k a z z′ e e′ p q. p .0 ∙ sym (q .0);
+      put-hex-output = λ k a z z′ e e′ p q. p .1 ∙ sym (q .1);
+    }
+
+calls : CallsUnique
+calls =
+    record {
+      next = λ k a z z′ e e′ p q. p ∙ sym q;
+      argument = λ k a z z′ e e′ p q. p ∙ sym q;
+      number = λ k a z z′ e e′ p q. p ∙ sym q;
+    }
+
+lent : LentUnique
+lent =
+    record {
+      u64-at = λ k a z z′ e e′ p q. p ∙ sym q;
+      u32-at = λ k a z z′ e e′ p q. p ∙ sym q;
+      put-u64-words = λ k a z z′ e e′ p q. p ∙ sym q;
+      put-u32-words = λ k a z z′ e e′ p q. p ∙ sym q;
+      put-count-words = λ k a z z′ e e′ p q. p ∙ sym q;
+    }
+
+lent-joiner : LentJoinerUnique
+lent-joiner =
+    record {
+      setup = λ k a z z′ e e′ p q. p .0 ∙ sym (q .0);
+      setup-state = λ k a z z′ e e′ p q. p .1 ∙ sym (q .1);
+      take = λ k a z z′ e e′ p q. p .0 ∙ sym (q .0);
+      take-state = λ k a z z′ e e′ p q. p .1 .0 ∙ sym (q .1 .0);
+      take-rooms = λ k a z z′ e e′ p q. p .1 .1 .0 ∙ sym (q .1 .1 .0);
+      take-answer = λ k a z z′ e e′ p q. p .1 .1 .1 ∙ sym (q .1 .1 .1);
+    }
+
+lent-messages : LentMessagesUnique
+lent-messages =
+    record {
+      pieces = λ k a z z′ e e′ p q. p .0 ∙ sym (q .0);
+      pieces-answer = λ k a z z′ e e′ p q. p .1 ∙ sym (q .1);
+      cut = λ k a z z′ e e′ p q. p .0 ∙ sym (q .0);
+      cut-out = λ k a z z′ e e′ p q. p .1 .0 ∙ sym (q .1 .0);
+      cut-answer = λ k a z z′ e e′ p q. p .1 .1 ∙ sym (q .1 .1);
+      read = λ k a z z′ e e′ p q. p .0 ∙ sym (q .0);
+      read-answer = λ k a z z′ e e′ p q. p .1 ∙ sym (q .1);
+      write = λ k a z z′ e e′ p q. p .0 ∙ sym (q .0);
+      write-out = λ k a z z′ e e′ p q. p .1 .0 ∙ sym (q .1 .0);
+      write-answer = λ k a z z′ e e′ p q. p .1 .1 ∙ sym (q .1 .1);
+    }
+
+lent-tables : LentTablesUnique
+lent-tables =
+    record {
+      check = λ k a z z′ e e′ p q. p .0 ∙ sym (q .0);
+      check-sections = λ k a z z′ e e′ p q. p .1 ∙ sym (q .1);
+      sections-in = λ k a z z′ e e′ p q. p ∙ sym q;
+    }
+
+lent-payloads : LentPayloadsUnique
+lent-payloads =
+    record {
+      unpack = λ k a z z′ e e′ p q. p .0 ∙ sym (q .0);
+      unpack-words = λ k a z z′ e e′ p q. p .1 .0 ∙ sym (q .1 .0);
+      unpack-answer = λ k a z z′ e e′ p q. p .1 .1 ∙ sym (q .1 .1);
+      unpack-in = λ k a z z′ e e′ p q. p .0 ∙ sym (q .0);
+      unpack-in-words = λ k a z z′ e e′ p q. p .1 .0 ∙ sym (q .1 .0);
+      unpack-in-answer = λ k a z z′ e e′ p q. p .1 .1 ∙ sym (q .1 .1);
+      pack = λ k a z z′ e e′ p q. p .0 ∙ sym (q .0);
+      pack-out = λ k a z z′ e e′ p q. p .1 .0 ∙ sym (q .1 .0);
+      pack-answer = λ k a z z′ e e′ p q. p .1 .1 ∙ sym (q .1 .1);
+      pack-in = λ k a z z′ e e′ p q. p .0 ∙ sym (q .0);
+      pack-in-out = λ k a z z′ e e′ p q. p .1 .0 ∙ sym (q .1 .0);
+      pack-in-answer = λ k a z z′ e e′ p q. p .1 .1 ∙ sym (q .1 .1);
+    }
+
+lent-platform : LentPlatformUnique
+lent-platform =
+    record {
+      fresh = λ k a z z′ e e′ p q. p .0 ∙ sym (q .0);
+      fresh-platform = λ k a z z′ e e′ p q. p .1 ∙ sym (q .1);
+      receive = λ k a z z′ e e′ p q. p .0 ∙ sym (q .0);
+      receive-platform = λ k a z z′ e e′ p q. p .1 .0 ∙ sym (q .1 .0);
+      receive-out = λ k a z z′ e e′ p q. p .1 .1 .0 ∙ sym (q .1 .1 .0);
+      receive-answer = λ k a z z′ e e′ p q. p .1 .1 .1 ∙ sym (q .1 .1 .1);
+      is-up = λ k a z z′ e e′ p q. p ∙ sym q;
+      how-many-up = λ k a z z′ e e′ p q. p ∙ sym q;
+    }
+
+pub unique-below : UniqueBelow
+unique-below = record { channels = channels; table = table; walk = walk; unpacking = unpacking; packing = packing; states = states; text = text; calls = calls; lent = lent; lent-joiner = lent-joiner; lent-messages = lent-messages; lent-tables = lent-tables; lent-payloads = lent-payloads; lent-platform = lent-platform }

@@ -1,0 +1,155 @@
+-- Demand 1 and 01, "What the promises have to say": two outcomes that one promise allows are equal, for the functions that the
+-- calls of specs/Unique are made of, and for the calls in lent words, as programs in C have them. The theorem is in
+-- proofs/UniqueBelow.antt. `nyr_find` and `nyr_receive_in` are exceptions, as what they are made of (`WhereIDsRise`).
+use denote.Ref.{now}
+use Rattle.promises.specs.Unique.{Same, Answer, Lent}
+use Rattle.channels.proofs.is_good.Reads.{Post as channels-is-good}
+use Rattle.channels.proofs.look.Reads.{Post as channels-look}
+use Rattle.channels.proofs.room_start.Reads.{Post as channels-room-start}
+use Rattle.table.proofs.layout.read.Reads.{Post as table-layout-read}
+use Rattle.walk.proofs.meet.Reads.{Post as walk-meet}
+use Rattle.walk.proofs.look.Reads.{Post as walk-look}
+use Rattle.unpacking.proofs.read_type.Reads.{Post as unpacking-read-type}
+use Rattle.packing.proofs.write_type.Reads.{Post as packing-write-type}
+use Rattle.states.proofs.fresh.Reads.{Post as states-fresh}
+use Rattle.states.proofs.is_up.Reads.{Post as states-is-up}
+use Rattle.states.proofs.how_many_up.Reads.{Post as states-how-many-up}
+use Rattle.states.proofs.turned.Reads.{Post as states-turned}
+use Rattle.text.proofs.put_text.Reads.{Post as text-put-text}
+use Rattle.text.proofs.put_decimal.Reads.{Post as text-put-decimal}
+use Rattle.text.proofs.put_hex.Reads.{Post as text-put-hex}
+use Rattle.calls.proofs.next.Reads.{Post as calls-next}
+use Rattle.calls.proofs.argument.Reads.{Post as calls-argument}
+use Rattle.calls.proofs.number.Reads.{Post as calls-number}
+use Rattle.lent.proofs.u64_at.Reads.{Post as lent-u64-at}
+use Rattle.lent.proofs.u32_at.Reads.{Post as lent-u32-at}
+use Rattle.lent.proofs.put_u64.Reads.{Post as lent-put-u64}
+use Rattle.lent.proofs.put_u32.Reads.{Post as lent-put-u32}
+use Rattle.lent.proofs.put_count.Reads.{Post as lent-put-count}
+use Rattle.lent_joiner.proofs.setup.Reads.{Post as lent-joiner-setup}
+use Rattle.lent_joiner.proofs.take.Reads.{Post as lent-joiner-take}
+use Rattle.lent_messages.proofs.pieces.Reads.{Post as lent-messages-pieces}
+use Rattle.lent_messages.proofs.cut.Reads.{Post as lent-messages-cut}
+use Rattle.lent_messages.proofs.read.Reads.{Post as lent-messages-read}
+use Rattle.lent_messages.proofs.write.Reads.{Post as lent-messages-write}
+use Rattle.lent_tables.proofs.check.Reads.{Post as lent-tables-check}
+use Rattle.lent_tables.proofs.sections_in.Reads.{Post as lent-tables-sections-in}
+use Rattle.lent_payloads.proofs.unpack.Reads.{Post as lent-payloads-unpack}
+use Rattle.lent_payloads.proofs.unpack_in.Reads.{Post as lent-payloads-unpack-in}
+use Rattle.lent_payloads.proofs.pack.Reads.{Post as lent-payloads-pack}
+use Rattle.lent_payloads.proofs.pack_in.Reads.{Post as lent-payloads-pack-in}
+use Rattle.lent_platform.proofs.fresh.Reads.{Post as lent-platform-fresh}
+use Rattle.lent_platform.proofs.receive.Reads.{Post as lent-platform-receive}
+use Rattle.lent_platform.proofs.is_up.Reads.{Post as lent-platform-is-up}
+use Rattle.lent_platform.proofs.how_many_up.Reads.{Post as lent-platform-how-many-up}
+
+pub record ChannelsUnique : Type 0 where
+  pub is-good : Answer channels-is-good
+  pub look : Answer channels-look
+  pub room-start : Answer channels-room-start
+
+pub record TableUnique : Type 0 where
+  pub read : Answer table-layout-read
+
+pub record WalkUnique : Type 0 where
+  pub meet : Answer walk-meet
+  pub look : Answer walk-look
+
+pub record UnpackingUnique : Type 0 where
+  pub read-type : Answer unpacking-read-type
+  pub read-type-words : Lent unpacking-read-type (λ k e. now (e .1 .1 .1 .1 .0))
+
+pub record PackingUnique : Type 0 where
+  pub write-type : Answer packing-write-type
+  pub write-type-out : Lent packing-write-type (λ k e. now (e .1 .1 .1 .1 .0))
+
+pub record StatesUnique : Type 0 where
+  pub fresh : Answer states-fresh
+  pub is-up : Answer states-is-up
+  pub how-many-up : Answer states-how-many-up
+  pub turned : Answer states-turned
+
+pub record TextUnique : Type 0 where
+  pub put-text : Answer text-put-text
+  pub put-text-output : Lent text-put-text (λ k e. now (e .0))
+  pub put-decimal : Answer text-put-decimal
+  pub put-decimal-output : Lent text-put-decimal (λ k e. now (e .0))
+  pub put-hex : Answer text-put-hex
+  pub put-hex-output : Lent text-put-hex (λ k e. now (e .0))
+
+pub record CallsUnique : Type 0 where
+  pub next : Answer calls-next
+  pub argument : Same calls-argument (λ k z e. now z)
+  pub number : Answer calls-number
+
+pub record LentUnique : Type 0 where
+  pub u64-at : Answer lent-u64-at
+  pub u32-at : Answer lent-u32-at
+  pub put-u64-words : Lent lent-put-u64 (λ k e. now (e .0))
+  pub put-u32-words : Lent lent-put-u32 (λ k e. now (e .0))
+  pub put-count-words : Lent lent-put-count (λ k e. now (e .0))
+
+pub record LentJoinerUnique : Type 0 where
+  pub setup : Answer lent-joiner-setup
+  pub setup-state : Lent lent-joiner-setup (λ k e. now (e .1 .1 .1 .0))
+  pub take : Answer lent-joiner-take
+  pub take-state : Lent lent-joiner-take (λ k e. now (e .0))
+  pub take-rooms : Lent lent-joiner-take (λ k e. now (e .1 .0))
+  pub take-answer : Lent lent-joiner-take (λ k e. now (e .1 .1 .1 .0))
+
+pub record LentMessagesUnique : Type 0 where
+  pub pieces : Answer lent-messages-pieces
+  pub pieces-answer : Lent lent-messages-pieces (λ k e. now (e .1 .1 .0))
+  pub cut : Answer lent-messages-cut
+  pub cut-out : Lent lent-messages-cut (λ k e. now (e .1 .1 .1 .1 .1 .0))
+  pub cut-answer : Lent lent-messages-cut (λ k e. now (e .1 .1 .1 .1 .1 .1 .0))
+  pub read : Answer lent-messages-read
+  pub read-answer : Lent lent-messages-read (λ k e. now (e .1 .1 .0))
+  pub write : Answer lent-messages-write
+  pub write-out : Lent lent-messages-write (λ k e. now (e .1 .1 .1 .1 .1 .0))
+  pub write-answer : Lent lent-messages-write (λ k e. now (e .1 .1 .1 .1 .1 .1 .0))
+
+pub record LentTablesUnique : Type 0 where
+  pub check : Answer lent-tables-check
+  pub check-sections : Lent lent-tables-check (λ k e. now (e .1 .0))
+  pub sections-in : Answer lent-tables-sections-in
+
+pub record LentPayloadsUnique : Type 0 where
+  pub unpack : Answer lent-payloads-unpack
+  pub unpack-words : Lent lent-payloads-unpack (λ k e. now (e .1 .1 .1 .0))
+  pub unpack-answer : Lent lent-payloads-unpack (λ k e. now (e .1 .1 .1 .1 .0))
+  pub unpack-in : Answer lent-payloads-unpack-in
+  pub unpack-in-words : Lent lent-payloads-unpack-in (λ k e. now (e .1 .1 .1 .1 .0))
+  pub unpack-in-answer : Lent lent-payloads-unpack-in (λ k e. now (e .1 .1 .1 .1 .1 .0))
+  pub pack : Answer lent-payloads-pack
+  pub pack-out : Lent lent-payloads-pack (λ k e. now (e .1 .1 .1 .0))
+  pub pack-answer : Lent lent-payloads-pack (λ k e. now (e .1 .1 .1 .1 .0))
+  pub pack-in : Answer lent-payloads-pack-in
+  pub pack-in-out : Lent lent-payloads-pack-in (λ k e. now (e .1 .1 .1 .1 .0))
+  pub pack-in-answer : Lent lent-payloads-pack-in (λ k e. now (e .1 .1 .1 .1 .1 .0))
+
+pub record LentPlatformUnique : Type 0 where
+  pub fresh : Answer lent-platform-fresh
+  pub fresh-platform : Lent lent-platform-fresh (λ k e. now (e .1 .0))
+  pub receive : Answer lent-platform-receive
+  pub receive-platform : Lent lent-platform-receive (λ k e. now (e .1 .0))
+  pub receive-out : Lent lent-platform-receive (λ k e. now (e .1 .1 .1 .1 .0))
+  pub receive-answer : Lent lent-platform-receive (λ k e. now (e .1 .1 .1 .1 .1 .0))
+  pub is-up : Answer lent-platform-is-up
+  pub how-many-up : Answer lent-platform-how-many-up
+
+pub record UniqueBelow : Type 0 where
+  pub channels : ChannelsUnique
+  pub table : TableUnique
+  pub walk : WalkUnique
+  pub unpacking : UnpackingUnique
+  pub packing : PackingUnique
+  pub states : StatesUnique
+  pub text : TextUnique
+  pub calls : CallsUnique
+  pub lent : LentUnique
+  pub lent-joiner : LentJoinerUnique
+  pub lent-messages : LentMessagesUnique
+  pub lent-tables : LentTablesUnique
+  pub lent-payloads : LentPayloadsUnique
+  pub lent-platform : LentPlatformUnique
