@@ -28,7 +28,7 @@ numberOf (Refused n) = n
 numberOf (Stopped n) = n
 numberOf (Gave n) = 0
 
--- a walk's place: how far it has come in what it reads and in what it writes (`payload` keeps the type to itself)
+-- a walk's place: how far it has come in what it reads and in what it writes
 abbrev TypeOf : {A : Type 0} → A → Type 0
 TypeOf {A} a = A
 
