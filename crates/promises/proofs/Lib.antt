@@ -21,3 +21,4 @@ pub mod Demand3
 pub mod Starred
 pub mod Unique
 pub mod UniqueBelow
+pub mod Exports

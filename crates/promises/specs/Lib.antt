@@ -15,3 +15,4 @@ pub mod Cases
 pub mod Starred
 pub mod Unique
 pub mod UniqueBelow
+pub mod Exports

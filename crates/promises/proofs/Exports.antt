@@ -1,0 +1,26 @@
+-- Each exported function has the contract of the call in lent words that it makes.
+-- Assumes nothing.
+use mathlib.Core.Path.{refl}
+use Rattle.promises.specs.Exports.{Exports}
+
+pub exports : Exports
+exports =
+    record {
+      setup = refl;
+      take = refl;
+      pieces = refl;
+      cut = refl;
+      read = refl;
+      write = refl;
+      check-table = refl;
+      find = refl;
+      unpack = refl;
+      unpack-in = refl;
+      pack = refl;
+      pack-in = refl;
+      platform = refl;
+      receive = refl;
+      receive-in = refl;
+      is-up = refl;
+      how-many-up = refl;
+    }
