@@ -25,7 +25,8 @@ use Rattle.walk.specs.Walk.{start}
 use Rattle.payload.specs.Calls.{answered, answeredType, answeredIn, answeredIf}
 use Rattle.promises.specs.Checks.{Check, _when_, Answers, none, this, next}
 use Rattle.promises.specs.TableOrder.{sectionsIn, tableChecks}
-use Rattle.promises.specs.PayloadOrder.{numberOf, Place, Stretch, itemMet, behind, inTurn, met, walkChecks, PayloadInOrder}
+use Rattle.walk.specs.declared.Place.{Place}
+use Rattle.promises.specs.PayloadOrder.{numberOf, Stretch, itemMet, behind, inTurn, met, walkChecks, PayloadInOrder}
 use Rattle.promises.proofs.Checks.{Decides, lt-decides, by, unless, then}
 use Rattle.promises.proofs.Order.{below-decides}
 use Rattle.promises.proofs.TableOrder.{table-in-order}

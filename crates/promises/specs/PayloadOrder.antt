@@ -13,6 +13,7 @@ use Rattle.table.specs.Layout.{within}
 use Rattle.table.specs.Leaf.{allowed}
 use Rattle.payload.specs.declared.Answer.{Answer}
 use Rattle.payload.specs.declared.Answer.the-variants.{Refused, Stopped, Gave}
+use Rattle.walk.specs.declared.Place.{Place}
 use Rattle.walk.specs.Tree.{Tree, leaf, row, array, broken, tree}
 use Rattle.walk.specs.Walk.{Codec, countCode}
 use Rattle.unpacking.specs.Reading.{reader}
@@ -27,13 +28,6 @@ abbrev pub numberOf : Answer → ℕ
 numberOf (Refused n) = n
 numberOf (Stopped n) = n
 numberOf (Gave n) = 0
-
--- a walk's place: how far it has come in what it reads and in what it writes
-abbrev TypeOf : {A : Type 0} → A → Type 0
-TypeOf {A} a = A
-
-abbrev pub Place : Type 0
-Place = TypeOf start
 
 -- what is met in a part of a payload, from the left, and the place behind it
 pub record Stretch : Type 1 where
