@@ -1,4 +1,4 @@
--- `wire::has_room` meets its contract: with `at` within the length, `count` fits what is left exactly where the sum fits the whole.
+-- `wire::has_room` meets its contract: with `count` within the length, it fits from `at` on exactly where `at` leaves it.
 -- Assumes nothing.
 use borrow.Author.Needs.{needs}
 use native.Mathlib.Omega.{arith}
