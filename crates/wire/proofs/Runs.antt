@@ -106,7 +106,10 @@ room-left n p k h = go (leb p (n - k)) refl
     go true e = e ∙ sym (le-leb (p + k) n (omega (arith, leb-true p (n - k) e)))
     go false e = e ∙ sym (lt-leb (p + k) n (omega (arith, leb-false p (n - k) e)))
 
-pub no-room : (n p k : ℕ) → n < k → false ≡ leb (p + k) n
+pub too-many : (n p k : ℕ) → n < k → false ≡ leb (p + k) n
+too-many n p k h = sym (lt-leb (p + k) n (omega arith))
+
+pub no-room : (n p k : ℕ) → n < p → false ≡ leb (p + k) n
 no-room n p k h = sym (lt-leb (p + k) n (omega arith))
 
 -- a place within a room that was found is a `usize`, and lies within the slice
@@ -119,8 +122,11 @@ the-part s p n e t = ap (λ (k : ℕ). take k (drop p s)) (add-sub-cancel-left p
 pub no-part : {r : Bool} (s : List ℕ) (p n : ℕ) → r ≡ leb (p + n) (length s) → r ≡ false → [] ≡ part s p n
 no-part s p n e t = sym (part-out s p n (failed (p + n) (length s) e t))
 
-pub over-all : {u : List ℕ} (s : List ℕ) (p : ℕ) (r : List ℕ) (j : ℕ) → u ≡ over s p (take j r) → length r ≤ j → u ≡ over s p r
-over-all s p r j e l = e ∙ ap (over s p) (take-all j r l)
+pub over-whole : {u : List ℕ} (s : List ℕ) (p : ℕ) (r : List ℕ) (j : ℕ) → u ≡ over s p (take j r) → length r ≤ j → u ≡ over s p r
+over-whole s p r j e l = e ∙ ap (over s p) (take-all j r l)
+
+pub over-all : {u : List ℕ} (s : List ℕ) (p : ℕ) (r : List ℕ) (j : ℕ) → u ≡ over s p (take j r) → length r ≤ j → p + length r ≤ length s → u ≡ written s p r
+over-all s p r j e l h = over-whole s p r j e l ∙ sym (written-in s p r h)
 
 -- the copy by blocks: what the list is after j of the run's bytes, and after the next n
 pub over-block : {u e : List ℕ} (s : List ℕ) (p : ℕ) (r : List ℕ) (j n : ℕ) → u ≡ over s p (take j r) → p + length r ≤ length s → j + n ≤ length r → e ≡ over u (p + j) (take (j + n - j) (drop j r)) → e ≡ over s p (take (j + n) r)

@@ -6,7 +6,7 @@ use native.Mathlib.Omega.{arith}
 use lib.ListN.{length, take}
 use borrow.Author.Needs.{needs}
 use Rattle.wire.specs.Bytes.{over}
-use Rattle.wire.proofs.Runs.{over-none, over-more, over-all}
+use Rattle.wire.proofs.Runs.{over-none, over-more, over-whole}
 use Rattle.wire.proofs.copy.Statement.{statement}
 use Rattle.wire.proofs.copy.Tie as tie
 
@@ -30,4 +30,4 @@ copy-spec =
     (λ c. search needs)
     (λ c. (search needs, search needs, search needs, search over-more))
     (λ c. search needs)
-    (λ c. search over-all))
+    (λ c. search over-whole))

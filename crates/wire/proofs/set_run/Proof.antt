@@ -6,7 +6,7 @@ use native.Mathlib.Omega.{arith}
 use lib.ListN.{length, take, length-take, length-drop}
 use borrow.Author.Needs.{needs}
 use Rattle.wire.specs.Bytes.{over}
-use Rattle.wire.proofs.Runs.{over-none, over-block, over-all}
+use Rattle.wire.proofs.Runs.{over-none, over-block, over-whole}
 use Rattle.wire.proofs.set_run.Statement.{statement}
 use Rattle.wire.proofs.set_run.Tie as tie
 
@@ -42,4 +42,4 @@ set-run-spec =
       over-block _ _ _ _ _ (l .loop .inv .3) (l .loop .inv .1) (omega arith) (c .before .before .set-block .ensures),
     ))
     (λ c. search needs)
-    (λ c. search over-all))
+    (λ c. search over-whole))
