@@ -1,14 +1,15 @@
 // A message read, in words.
 ghost use mathlib.Core.Path.{_≡_};
-ghost use mathlib.Core.List.{[], _∷_};
+ghost use mathlib.Core.Bool.{cond};
+ghost use lib.Dec.{eqb};
 ghost use Rattle.wire.specs.Bytes.{written};
-ghost use Rattle.message.specs.Platform.{statusValue};
-ghost use Rattle.lent_messages.specs.Messages.{kindOf, valueOf, readWords, readNumber, readAnswer};
+ghost use Rattle.message.specs.declared.Message.the-variants.{Operation};
+ghost use Rattle.message.specs.Header.{platformDomain, domainIn, idIn, payloadIn};
+ghost use Rattle.message.specs.Refusal.{contentsRefusal, readRefusal};
+ghost use Rattle.message.specs.Reading.{readOut};
+ghost use Rattle.lent_messages.specs.Messages.{kindOf, readWords, readNumber, readAnswer};
 use message::Header;
-use message::Message;
 use message::Own;
-use message::Reading;
-use message::Status;
 
 // How many words a message that was read is.
 pub const READING_WORDS: usize = 6;
@@ -24,57 +25,72 @@ pub fn read(own: u8, message: &[u8], answer: &mut [u64]) -> u32
     if answer.len() < READING_WORDS {
         return lent::OUTPUT_TOO_SHORT;
     }
-    match message::read(Own { platform: own }, message) {
-        Reading::Refused(number) => number,
-        Reading::Read {
-            header,
-            message,
-            start,
-            length,
-        } => {
-            let words = [
-                kind_of(message),
-                value_of(header.id, message),
-                header.platform as u64,
-                header.sequence as u64,
-                start as u64,
-                length as u64,
-            ];
-            lent::put_u64(answer, 0, &words);
-            0
+    let number = refusal(Own { platform: own }, message);
+    if number == 0 {
+        put_reading(message, answer);
+        0
+    } else {
+        number
+    }
+}
+
+// The number that `message::read_refusal` gives, by its three steps: that one is called elsewhere too, and is too long for the
+// compiler to lay it out here.
+fn refusal(own: Own, message: &[u8]) -> u32
+    ensures { λ r. ⌜ r ≡ readRefusal (own .platform) (now (message .entry)) ⌝ }
+{
+    let frame = message::frame_refusal(message);
+    if frame == 0 {
+        let address = message::address_refusal(own, message);
+        if address == 0 {
+            message::contents_refusal(
+                wire::u8_at(message, Header::DOMAIN_AT),
+                wire::u32_at(message, Header::ID_AT),
+                message::behind_header(message),
+            )
+        } else {
+            address
         }
+    } else {
+        frame
     }
 }
 
-fn kind_of(message: Message) -> u64
-    ensures { λ r. ⌜ r ≡ kindOf message ⌝ }
+// A message that nothing refuses, straight from its bytes: its kind is the ID, and its value the field of its payload, or the
+// ID of an operation.
+fn put_reading(message: &[u8], answer: &mut [u64])
+    requires { ⌜ contentsRefusal (domainIn (now message)) (idIn (now message)) (payloadIn (now message)) ≡ 0 ⌝ }
+    ensures { λ _. ⌜ now (answer .exit) ≡ written (now (answer .entry)) 0 (readWords (readOut (now (message .entry)))) ⌝ }
 {
-    match message {
-        Message::PlatformStatus(_) => Message::PLATFORM_STATUS as u64,
-        Message::PlatformStatusRequest => Message::PLATFORM_STATUS_REQUEST as u64,
-        Message::UnknownOperation(_) => Message::UNKNOWN_OPERATION as u64,
-        Message::VersionedDataPull(_) => Message::VERSIONED_DATA_PULL as u64,
-        Message::Operation => OPERATION,
+    let domain = wire::u8_at(message, Header::DOMAIN_AT);
+    let id = wire::u32_at(message, Header::ID_AT);
+    let words = [
+        kind_of(domain, id),
+        value_of(domain, id, wire::u32_at(message, Header::LENGTH)),
+        wire::u32_at(message, Header::PLATFORM_AT) as u64,
+        wire::u32_at(message, Header::SEQUENCE_AT) as u64,
+        Header::LENGTH as u64,
+        wire::u32_at(message, Header::PAYLOAD_SIZE_AT) as u64,
+    ];
+    lent::put_u64(answer, 0, &words);
+}
+
+fn kind_of(domain: u8, id: u32) -> u64
+    ensures { λ r. ⌜ r ≡ cond (eqb domain platformDomain) id (kindOf Operation) ⌝ }
+{
+    if domain == Header::PLATFORM_DOMAIN {
+        id as u64
+    } else {
+        OPERATION
     }
 }
 
-fn value_of(id: u32, message: Message) -> u64
-    ensures { λ r. ⌜ r ≡ valueOf id message ⌝ }
+fn value_of(domain: u8, id: u32, field: u32) -> u64
+    ensures { λ r. ⌜ r ≡ cond (eqb domain platformDomain) field id ⌝ }
 {
-    match message {
-        Message::PlatformStatus(status) => status_of(status),
-        Message::PlatformStatusRequest => 0,
-        Message::UnknownOperation(unknown) => unknown as u64,
-        Message::VersionedDataPull(pulled) => pulled as u64,
-        Message::Operation => id as u64,
-    }
-}
-
-fn status_of(status: Status) -> u64
-    ensures { λ r. ⌜ r ≡ statusValue status ⌝ }
-{
-    match status {
-        Status::Down => 0,
-        Status::Up => 1,
+    if domain == Header::PLATFORM_DOMAIN {
+        field as u64
+    } else {
+        id as u64
     }
 }

@@ -41,3 +41,11 @@ pub(crate) fn put_standing(words: &mut [u64], standing: Standing)
     ];
     lent::put_u64(words, 0, &run);
 }
+
+// The platform stays as it is: its own number alone is counted down into its range.
+pub(crate) fn keep(words: &mut [u64])
+    ensures { λ _. ⌜ now (words .exit) ≡ written (now (words .entry)) 0 (standingWords (standingIn (now (words .entry)))) ⌝ }
+{
+    let standing = standing_in(words);
+    put_standing(words, standing);
+}

@@ -89,13 +89,13 @@ fn put_heard(answer: &mut [u64], header: Header, heard: Heard, replies: usize)
     }
 }
 
-fn put_value(answer: &mut [u64], which: u64, value: u32, sender: u32, replies: usize)
+pub(crate) fn put_value(answer: &mut [u64], which: u64, value: u32, sender: u32, replies: usize)
     ensures { λ _. ⌜ now (answer .exit) ≡ written (now (answer .entry)) 0 (which ∷ value ∷ sender ∷ 0 ∷ 0 ∷ 0 ∷ replies ∷ []) ⌝ }
 {
     put_entry(answer, which, value, sender, 0, 0, 0, replies);
 }
 
-fn put_entry(
+pub(crate) fn put_entry(
     answer: &mut [u64],
     which: u64,
     value: u32,

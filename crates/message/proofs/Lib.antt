@@ -1,5 +1,5 @@
 pub mod Accepted
 mod Answers
 mod Messages
-mod Refusals
+pub mod Refusals
 pub mod RoundTrip

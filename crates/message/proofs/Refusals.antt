@@ -1,15 +1,16 @@
 -- Which refusal each return of the functions in `refusal` stands for: the tests that led there say which case of the
 -- definition holds.
 -- Assumes nothing.
-use Prim.Native.Nat.{ℕ, zero, suc, _+_, _-_, _^_, _≤_, _<_}
+use Prim.Native.Nat.{ℕ, zero, suc, _+_, _-_, _*_, _^_, _≤_, _<_}
 use mathlib.Core.Path.{_≡_, refl, sym, ap, _∙_}
 use mathlib.Core.Bool.{Bool, true, false, not, cond, _&&_, _||_}
 use mathlib.Core.List.{List, []}
 use native.Mathlib.Omega.{arith}
+use borrow.Author.Tests.{eq-eqb, ne-eqb, eqb-true, eqb-false, le-leb, lt-leb, not-true, not-false}
 use lib.Dec.{eqb, leb, ltb}
 use lib.ListN.{length, take, drop, length-drop, drop-of-length-le}
 use lib.Seq.{take-all}
-use Rattle.wire.specs.Bytes.{number}
+use Rattle.wire.specs.Bytes.{number, Octets}
 use Rattle.message.specs.Header.{headerLength, theMark, markIn, theVersion, versionIn, platformDomain, domainIn, reservedDomains, senderIn, idIn, payloadSizeIn, payloadIn}
 use Rattle.message.specs.Platform.{platformStatus, reservedID, payloadLength, reservedStates}
 use Rattle.message.specs.Refusal.{first, frameRefusal, platforms, addressRefusal, contentsRefusal, readRefusal, sizeLimit, writeRefusal}
@@ -42,15 +43,33 @@ module _ (own : ℕ) (s : List ℕ) (size len : ℕ) (z : size ≡ payloadSizeIn
   pub address-5 : (size ≡ len → ⊥) → 5 ≡ addressRefusal own s
   address-5 h = sym (yes-ne 5 _ (payloadSizeIn s) (length s - headerLength) (λ e. h (z ∙ e ∙ sym l)))
 
-  module _ (sender : ℕ) (sized : size ≡ len) (f : sender ≡ senderIn s) where
+  module _ (other : Bool) (sized : size ≡ len) (f : other ≡ not (leb platforms (senderIn s) || eqb (senderIn s) own)) where
     past-size : addressRefusal own s ≡ cond (leb platforms (senderIn s) || eqb (senderIn s) own) 6 0
     past-size = no-ne 5 _ (payloadSizeIn s) (length s - headerLength) (sym z ∙ sized ∙ l)
 
-    pub address-6 : (leb platforms sender || eqb sender own) ≡ true → 6 ≡ addressRefusal own s
-    address-6 h = sym (past-size ∙ yes-if 6 0 (ap (λ (x : ℕ). leb platforms x || eqb x own) (sym f) ∙ h))
+    pub address-6 : other ≡ false → 6 ≡ addressRefusal own s
+    address-6 h = sym (past-size ∙ yes-if 6 0 (not-false (leb platforms (senderIn s) || eqb (senderIn s) own) (sym f ∙ h)))
 
-    pub address-0 : (leb platforms sender || eqb sender own) ≡ false → 0 ≡ addressRefusal own s
-    address-0 h = sym (past-size ∙ no-if 6 0 (ap (λ (x : ℕ). leb platforms x || eqb x own) (sym f) ∙ h))
+    pub address-0 : other ≡ true → 0 ≡ addressRefusal own s
+    address-0 h = sym (past-size ∙ no-if 6 0 (not-true (leb platforms (senderIn s) || eqb (senderIn s) own) (sym f ∙ h)))
+
+-- the sender by its bytes: two, one, and the last
+by-bytes : (n a b c own : ℕ) → c < 256 → n ≡ a * 65536 + (b * 256 + c) → ((eqb a 0 && eqb b 0) && not (eqb c own)) ≡ not (leb 256 n || eqb n own)
+by-bytes n a b c own h e = go (eqb a 0) (eqb b 0) refl refl
+  where
+    go : (x y : Bool) → eqb a 0 ≡ x → eqb b 0 ≡ y → ((eqb a 0 && eqb b 0) && not (eqb c own)) ≡ not (leb 256 n || eqb n own)
+    go true true p q =
+        let k : n ≡ c = omega (arith, eqb-true a 0 p, eqb-true b 0 q) in
+        rw (p, q, k, lt-leb 256 c h)
+    go true false p q =
+        let k : 256 ≤ n = omega (arith, eqb-false b 0 q) in
+        rw (p, q, le-leb 256 n k)
+    go false y p q =
+        let k : 256 ≤ n = omega (arith, eqb-false a 0 p) in
+        rw (p, le-leb 256 n k)
+
+pub sender-judged : {a b c : ℕ} (own : ℕ) (s : List ℕ) → Octets s → a ≡ number 1 s 4 → b ≡ number 0 s 6 → c ≡ number 0 s 7 → ((eqb a 0 && eqb b 0) && not (eqb c own)) ≡ not (leb platforms (senderIn s) || eqb (senderIn s) own)
+sender-judged {a} {b} {c} own s o p q r = by-bytes (senderIn s) a b c own (rw r (o 7)) (rw (p, q, r) (omega arith))
 
 module _ (domain id : ℕ) (payload : List ℕ) where
   pub contents-other : (domain ≡ platformDomain → ⊥) → 0 ≡ contentsRefusal domain id payload
@@ -68,15 +87,22 @@ module _ (domain id : ℕ) (payload : List ℕ) where
       pub contents-8 : (length payload ≡ len → ⊥) → 8 ≡ contentsRefusal domain id payload
       contents-8 h = sym (past-id ∙ yes-ne 8 _ (length payload) (payloadLength id) (λ e. h (e ∙ sym l)))
 
-      module _ (sized : length payload ≡ len) (field : ℕ) (f : field ≡ number 2 payload 0) where
+      module _ (sized : length payload ≡ len) where
         past-length : contentsRefusal domain id payload ≡ cond (eqb id platformStatus && leb reservedStates (number 2 payload 0)) 9 0
         past-length = past-id ∙ no-ne 8 _ (length payload) (payloadLength id) (sized ∙ l)
 
-        pub contents-9 : (eqb id platformStatus && leb reservedStates field) ≡ true → 9 ≡ contentsRefusal domain id payload
-        contents-9 h = sym (past-length ∙ yes-if 9 0 (ap (λ (x : ℕ). eqb id platformStatus && leb reservedStates x) (sym f) ∙ h))
+        pub contents-stateless : (id ≡ platformStatus → ⊥) → 0 ≡ contentsRefusal domain id payload
+        contents-stateless h = sym (past-length ∙ rw (ne-eqb id platformStatus h))
 
-        pub contents-0 : (eqb id platformStatus && leb reservedStates field) ≡ false → 0 ≡ contentsRefusal domain id payload
-        contents-0 h = sym (past-length ∙ no-if 9 0 (ap (λ (x : ℕ). eqb id platformStatus && leb reservedStates x) (sym f) ∙ h))
+        module _ (field : ℕ) (i : id ≡ platformStatus) (f : field ≡ number 2 payload 0) where
+          past-status : contentsRefusal domain id payload ≡ cond (leb reservedStates field) 9 0
+          past-status = past-length ∙ rw (eq-eqb id platformStatus i, f)
+
+          pub contents-9 : reservedStates ≤ field → 9 ≡ contentsRefusal domain id payload
+          contents-9 h = sym (past-status ∙ yes-le 9 0 reservedStates field h)
+
+          pub contents-0 : field < reservedStates → 0 ≡ contentsRefusal domain id payload
+          contents-0 h = sym (past-status ∙ no-le 9 0 reservedStates field h)
 
 module _ (own : ℕ) (s : List ℕ) (frame : ℕ) (f : frame ≡ frameRefusal s) where
   pub frame-first : (frame ≡ 0 → ⊥) → frame ≡ readRefusal own s

@@ -4,6 +4,11 @@
 mod kind;
 mod refusal;
 
+pub use refusal::address_refusal;
+pub use refusal::behind_header;
+pub use refusal::contents_refusal;
+pub use refusal::frame_refusal;
+pub use refusal::read_refusal;
 ghost use mathlib.Core.Path.{_≡_};
 ghost use lib.ListN.{length};
 ghost use Rattle.wire.specs.Bytes.{written};
@@ -188,6 +193,21 @@ pub fn write(
     }
 }
 
+// Writes a header at the output's start; where it does not fit nothing changes.
+pub fn put_header(out: &mut [u8], header: Header)
+    ensures { λ _. ⌜ now (out .exit) ≡ written (now (out .entry)) 0 (headerBytes header) ⌝ }
+{
+    if Header::LENGTH <= out.len() {
+        wire::put_u16(out, Header::MARK_AT, Header::MARK);
+        wire::put_u8(out, Header::VERSION_AT, Header::VERSION);
+        wire::put_u8(out, Header::DOMAIN_AT, header.domain);
+        wire::put_u32(out, Header::PLATFORM_AT, header.platform);
+        wire::put_u32(out, Header::ID_AT, header.id);
+        wire::put_u32(out, Header::PAYLOAD_SIZE_AT, header.payload_size);
+        wire::put_u32(out, Header::SEQUENCE_AT, header.sequence);
+    }
+}
+
 fn read_out(message: &[u8]) -> Reading
     ensures { λ r. ⌜ r ≡ readOut (now (message .entry)) ⌝ }
 {
@@ -203,19 +223,5 @@ fn read_out(message: &[u8]) -> Reading
         ),
         start: Header::LENGTH,
         length: size as usize,
-    }
-}
-
-fn put_header(out: &mut [u8], header: Header)
-    ensures { λ _. ⌜ now (out .exit) ≡ written (now (out .entry)) 0 (headerBytes header) ⌝ }
-{
-    if Header::LENGTH <= out.len() {
-        wire::put_u16(out, Header::MARK_AT, Header::MARK);
-        wire::put_u8(out, Header::VERSION_AT, Header::VERSION);
-        wire::put_u8(out, Header::DOMAIN_AT, header.domain);
-        wire::put_u32(out, Header::PLATFORM_AT, header.platform);
-        wire::put_u32(out, Header::ID_AT, header.id);
-        wire::put_u32(out, Header::PAYLOAD_SIZE_AT, header.payload_size);
-        wire::put_u32(out, Header::SEQUENCE_AT, header.sequence);
     }
 }

@@ -1,10 +1,12 @@
 // When a message is refused: 01, "Numbers given back", 1 to 10.
 ghost use mathlib.Core.Path.{_≡_};
+ghost use mathlib.Core.Bool.{not, _||_};
+ghost use lib.Dec.{eqb, leb};
 ghost use Prim.Native.Nat.{_-_};
 ghost use lib.ListN.{length};
-ghost use Rattle.message.specs.Header.{headerLength, payloadIn};
+ghost use Rattle.message.specs.Header.{headerLength, senderIn, payloadIn};
 ghost use Rattle.message.specs.Platform.{reservedID, payloadLength};
-ghost use Rattle.message.specs.Refusal.{frameRefusal, addressRefusal, contentsRefusal, readRefusal, writeRefusal};
+ghost use Rattle.message.specs.Refusal.{frameRefusal, platforms, addressRefusal, contentsRefusal, readRefusal, writeRefusal};
 use crate::Header;
 use crate::Message;
 use crate::Own;
@@ -31,7 +33,7 @@ const RESERVED_VALUE: u32 = 9;
 const NO_ROOM: u32 = 10;
 
 // The number that refuses what is read, or 0.
-pub(crate) fn read_refusal(own: Own, message: &[u8]) -> u32
+pub fn read_refusal(own: Own, message: &[u8]) -> u32
     ensures { λ r. ⌜ r ≡ readRefusal (own .platform) (now (message .entry)) ⌝ }
 {
     let frame = frame_refusal(message);
@@ -74,7 +76,7 @@ pub(crate) fn write_refusal(domain: u8, id: u32, payload: &[u8], room: usize) ->
 }
 
 // 1 to 4.
-fn frame_refusal(message: &[u8]) -> u32
+pub fn frame_refusal(message: &[u8]) -> u32
     ensures { λ r. ⌜ r ≡ frameRefusal (now (message .entry)) ⌝ }
 {
     if message.len() < Header::LENGTH {
@@ -93,21 +95,31 @@ fn frame_refusal(message: &[u8]) -> u32
 }
 
 // 5 and 6.
-fn address_refusal(own: Own, message: &[u8]) -> u32
+pub fn address_refusal(own: Own, message: &[u8]) -> u32
     ensures { λ r. ⌜ r ≡ addressRefusal (own .platform) (now (message .entry)) ⌝ }
 {
     if wire::u32_at(message, Header::PAYLOAD_SIZE_AT) as usize != payload_length(message) {
         return WRONG_SIZE;
     }
-    let sender = wire::u32_at(message, Header::PLATFORM_AT);
-    if (Own::PLATFORMS <= sender) | (sender == own.platform as u32) {
-        return WRONG_SENDER;
+    if is_other(own, message) {
+        0
+    } else {
+        WRONG_SENDER
     }
-    0
+}
+
+// The sender is one of the other 255 platforms: the upper three bytes of its number are 0, and the last is not ours. By bytes,
+// since a test of the whole number makes the compiler put it together again from them.
+fn is_other(own: Own, message: &[u8]) -> bool
+    ensures { λ r. ⌜ r ≡ not (leb platforms (senderIn (now (message .entry))) || eqb (senderIn (now (message .entry))) (own .platform)) ⌝ }
+{
+    (wire::u16_at(message, Header::PLATFORM_AT) == 0)
+        & (wire::u8_at(message, Header::PLATFORM_AT + 2) == 0)
+        & (wire::u8_at(message, Header::PLATFORM_AT + 3) != own.platform)
 }
 
 // 7 to 9.
-fn contents_refusal(domain: u8, id: u32, payload: &[u8]) -> u32
+pub fn contents_refusal(domain: u8, id: u32, payload: &[u8]) -> u32
     ensures { λ r. ⌜ r ≡ contentsRefusal domain id (now (payload .entry)) ⌝ }
 {
     if domain != Header::PLATFORM_DOMAIN {
@@ -119,7 +131,10 @@ fn contents_refusal(domain: u8, id: u32, payload: &[u8]) -> u32
     if payload.len() != table_4_length(id) {
         return WRONG_LENGTH;
     }
-    if (id == Message::PLATFORM_STATUS) & (Status::RESERVED_STATES <= wire::u32_at(payload, 0)) {
+    if id != Message::PLATFORM_STATUS {
+        return 0;
+    }
+    if Status::RESERVED_STATES <= wire::u32_at(payload, 0) {
         return RESERVED_VALUE;
     }
     0
@@ -152,7 +167,7 @@ fn payload_length(message: &[u8]) -> usize
 }
 
 // What stands behind the header; empty where the message is shorter.
-pub(crate) fn behind_header(message: &[u8]) -> &[u8]
+pub fn behind_header(message: &[u8]) -> &[u8]
     ensures { λ r. ⌜ now r ≡ payloadIn (now (message .entry)) ⌝ }
 {
     if Header::LENGTH <= message.len() {

@@ -10,12 +10,11 @@ use lib.ListN.{length, take, drop, length-append, length-drop}
 use lib.Seq.{take-all, drop-length, drop-drop}
 use lib.Dec.{ltb}
 use Rattle.wire.specs.Bytes.{bytes, over, written}
-use Rattle.wire.proofs.Runs.{over-over, length-over, over-none}
+use Rattle.wire.proofs.Runs.{written-in, written-out, written-behind, over-over, length-over, over-none}
 use Rattle.wire.proofs.Cond.{yes-lt, no-lt}
 use Rattle.message.specs.declared.Header.{Header}
-use Rattle.message.specs.Header.{platformDomain}
+use Rattle.message.specs.Header.{headerLength, platformDomain, headerBytes}
 use Rattle.message.specs.Refusal.{writeRefusal}
-use Rattle.message.specs.Writing.{unlessRefused, outputAfter}
 use Rattle.platform.specs.declared.Standing.{Standing}
 use Rattle.platform.specs.declared.Outcome.{Outcome}
 use Rattle.platform.specs.declared.Reply.{Reply}
@@ -23,7 +22,7 @@ use Rattle.platform.specs.declared.Reply.the-variants.{StatusUp, PullAll
 use Rattle.platform.specs.declared.Owed.{Owed}
 use Rattle.platform.specs.declared.Owed.the-variants.{Nothing, One, Two}
 use Rattle.platform.specs.declared.Reaction.{Reaction}
-use Rattle.platform.specs.Replies.{replyID, replyNumber, replyField, replyBytes, replyLength, owedBytes, owedLength}
+use Rattle.platform.specs.Replies.{replyID, replyNumber, replyField, replyBytes, replyHeader, replyLength, owedBytes, owedLength}
 use Rattle.platform.specs.Receiving.{refused, taken, answered, laidOut}
 
 pub length-reply : (own : ℕ) (r : Reply) → length (replyBytes own r) ≡ replyLength
@@ -76,21 +75,31 @@ reply-writable (StatusUp n) room h = no-lt 10 0 room replyLength h
 reply-writable (PullAll n) room h = no-lt 10 0 room replyLength h
 reply-writable (Unknown n id) room h = no-lt 10 0 room replyLength h
 
--- a reply written into the part of the output from p on
-pub reply-laid : {last field : List ℕ} {id n f : ℕ} (own : ℕ) (r : Reply) (p : ℕ) (out : List ℕ) → p + replyLength ≤ length out → f ≡ replyField r → field ≡ written (0 ∷ 0 ∷ 0 ∷ 0 ∷ []) 0 (bytes 2 f) → id ≡ replyID r → n ≡ replyNumber r → last ≡ outputAfter own platformDomain id n field (take (length out - p) (drop p out)) → putMid p (length out - p) out last ≡ over out p (replyBytes own r)
-unfolding replyBytes
-reply-laid {last} {field} {id} {n} {f} own r p out h ef ep ei en el =
+-- a reply at the output's start: its header, and the field behind it
+module _ (own : ℕ) (r : Reply) (out : List ℕ) where
+  pub reply-put : {h : Header} {i n f : ℕ} {a b : List ℕ} → replyLength ≤ length out → i ≡ replyID r → n ≡ replyNumber r → h ≡ record { domain = platformDomain; platform = own; id = i; «payload_size» = 4; sequence = n } → a ≡ written out 0 (headerBytes h) → f ≡ replyField r → b ≡ written a headerLength (bytes 2 f) → b ≡ written out 0 (replyBytes own r)
+  unfolding replyBytes
+  reply-put {h} {i} {n} {f} {a} {b} long ei en eh ea ef eb =
+      let H : Header = replyHeader own r in
+      let field : List ℕ = bytes 2 (replyField r) in
+      let k : h ≡ H = eh ∙ ap₂ (λ (x y : ℕ). record { domain = platformDomain; platform = own; id = x; «payload_size» = 4; sequence = y }) ei en in
+      let w : a ≡ over out 0 (headerBytes H) = ea ∙ written-in out 0 (headerBytes h) (omega arith) ∙ ap (λ (x : Header). over out 0 (headerBytes x)) k in
+      written-behind out (headerBytes H) field headerLength w refl (omega arith) (eb ∙ ap (λ (x : ℕ). written a headerLength (bytes 2 x)) ef)
+      ∙ sym (written-in out 0 (replyBytes own r) (omega arith))
+
+  pub no-reply : length out < replyLength → out ≡ written out 0 (replyBytes own r)
+  unfolding replyBytes
+  no-reply short = sym (written-out out 0 (replyBytes own r) (omega arith))
+
+-- and in the part of the output from p on
+pub reply-laid : {last : List ℕ} (own : ℕ) (r : Reply) (p : ℕ) (out : List ℕ) → p + replyLength ≤ length out → last ≡ written (take (length out - p) (drop p out)) 0 (replyBytes own r) → putMid p (length out - p) out last ≡ over out p (replyBytes own r)
+reply-laid {last} own r p out h el =
     let D : List ℕ = drop p out in
     let M : List ℕ = replyBytes own r in
     let lm : length M ≡ replyLength = length-reply own r in
     let ld : length D ≡ length out - p = length-drop p out in
     let d : take (length out - p) D ≡ D = take-all (length out - p) D (omega arith) in
-    let payload : field ≡ bytes 2 (replyField r) = ep ∙ ap (bytes 2) ef in
-    let w : writeRefusal platformDomain (replyID r) (bytes 2 (replyField r)) (length D) ≡ 0 = reply-writable r (length D) (omega arith) in
-    let k : last ≡ M ++ drop (0 + length M) D =
-    el ∙ ap₂ (λ (x : List ℕ) (y : List ℕ). outputAfter own platformDomain id n x y) payload d
-    ∙ ap₂ (λ (x y : ℕ). outputAfter own platformDomain x y (bytes 2 (replyField r)) D) ei en
-    ∙ ap (λ (z : ℕ). unlessRefused z (over D 0 M) D) w in
+    let k : last ≡ M ++ drop (0 + length M) D = el ∙ ap (λ (x : List ℕ). written x 0 M) d ∙ written-in D 0 M (omega arith) in
     let b : drop (length out - p) D ≡ [] = ap (λ (z : ℕ). drop z D) (sym ld) ∙ drop-length D in
     let g : drop (0 + length M) D ≡ drop (p + length M) out = drop-drop (0 + length M) p out ∙ ap (λ (z : ℕ). drop (p + z) out) (zero-add (length M)) in
     ap₂ (λ (x y : List ℕ). take p out ++ (x ++ y)) k b ∙ ap (λ (x : List ℕ). take p out ++ x) (append-nil (M ++ drop (0 + length M) D))

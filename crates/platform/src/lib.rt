@@ -4,6 +4,7 @@
 mod reacting;
 mod replies;
 
+pub use replies::put_reply;
 ghost use mathlib.Core.Path.{_≡_};
 ghost use lib.ListN.{length};
 ghost use mathlib.Core.Bool.{true};
@@ -62,7 +63,7 @@ pub struct Outcome {
 }
 
 // A reply, with its sequence number.
-enum Reply {
+pub enum Reply {
     StatusUp(u32),
     PullAll(u32),
     // And the ID that is unknown here.

@@ -7,11 +7,13 @@ use message::Own;
 ghost use mathlib.Core.Path.{_≡_};
 ghost use Prim.Native.Nat.{_+_, _≤_};
 ghost use lib.ListN.{length};
-ghost use Rattle.wire.specs.Bytes.{over};
+ghost use Rattle.wire.specs.Bytes.{over, written};
 ghost use Rattle.platform.specs.Replies.{replyID, replyNumber, replyField, replyBytes, replyLength, owedBytes, owedLength, drawn};
 
 // A header and a field of 32 bits.
 const REPLY_LENGTH: usize = 24;
+
+const FIELD_LENGTH: u32 = 4;
 
 const STATE_UP: u32 = 1;
 
@@ -53,16 +55,24 @@ fn lay_reply(own: Own, reply: Reply, at: usize, out: &mut [u8])
     requires { ⌜ at + replyLength ≤ length (now out) ⌝ }
     ensures { λ _. ⌜ now (out .exit) ≡ over (now (out .entry)) at (replyBytes (own .platform) reply) ⌝ }
 {
-    let mut field = [0u8; 4];
-    wire::put_u32(&mut field, 0, field_of(reply));
-    message::write(
-        own,
-        Header::PLATFORM_DOMAIN,
-        id_of(reply),
-        number_of(reply),
-        &field,
-        &mut out[at..],
-    );
+    put_reply(own, reply, &mut out[at..]);
+}
+
+// Writes a reply at the output's start; where it does not fit nothing changes.
+pub fn put_reply(own: Own, reply: Reply, out: &mut [u8])
+    ensures { λ _. ⌜ now (out .exit) ≡ written (now (out .entry)) 0 (replyBytes (own .platform) reply) ⌝ }
+{
+    if REPLY_LENGTH <= out.len() {
+        let header = Header::new(
+            Header::PLATFORM_DOMAIN,
+            own.platform as u32,
+            id_of(reply),
+            FIELD_LENGTH,
+            number_of(reply),
+        );
+        message::put_header(out, header);
+        wire::put_u32(out, Header::LENGTH, field_of(reply));
+    }
 }
 
 fn id_of(reply: Reply) -> u32

@@ -2,7 +2,7 @@
 -- Assumes nothing.
 use borrow.Author.Needs.{needs}
 use Rattle.lent.proofs.Answers.{short, long}
-use Rattle.lent_messages.proofs.Answering.{read-refused, read-nothing, read-number, read-words}
+use Rattle.lent_messages.proofs.Words.{contents-known, read-refused, read-nothing, read-number, read-words}
 use Rattle.lent_messages.proofs.reading.read.Statement.{statement}
 use Rattle.lent_messages.proofs.reading.read.Tie as tie
 
@@ -12,14 +12,7 @@ read-spec =
     (tie.spec
     (λ c. (search short, search short))
     (λ c κs. search needs)
+    (λ c κs. search contents-known)
     (λ c. search needs)
-    (λ c. search needs)
-    (λ c κs. search needs)
-    (λ c κs. search needs)
-    (λ c. search needs)
-    (λ c. search needs)
-    (λ c. search needs)
-    (λ c κs. search needs)
-    (λ c. (search (long, read-refused), search (long, read-nothing)))
-    (λ c. search needs)
-    (λ c. (search (long, read-number), search (long, read-words))))
+    (λ c. (search (long, read-number), search (long, read-words)))
+    (λ c. (search (long, read-refused), search (long, read-nothing))))

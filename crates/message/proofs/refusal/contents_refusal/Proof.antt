@@ -1,7 +1,7 @@
 -- `message::refusal::contents_refusal` meets its contract: each return is the first number that applies.
 -- Assumes nothing.
 use borrow.Author.Needs.{needs}
-use Rattle.message.proofs.Refusals.{contents-0, contents-7, contents-8, contents-9, contents-other}
+use Rattle.message.proofs.Refusals.{contents-0, contents-7, contents-8, contents-9, contents-other, contents-stateless}
 use Rattle.message.proofs.refusal.contents_refusal.Statement.{statement}
 use Rattle.message.proofs.refusal.contents_refusal.Tie as tie
 
@@ -14,6 +14,7 @@ contents-refusal-spec =
     (λ c. search contents-7)
     (λ c κs. search needs)
     (λ c. search contents-8)
+    (λ c. search contents-stateless)
     (λ c κs. search needs)
     (λ c. search contents-9)
     (λ c. search contents-0))
