@@ -3,6 +3,6 @@ pub mod AllBelow
 pub mod Rising
 pub mod Places
 pub mod Lookups
-pub mod Scans
+pub mod Halving
 pub mod Chain
 pub mod Unique

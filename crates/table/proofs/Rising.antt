@@ -4,7 +4,7 @@ use Prim.Native.Nat.{ℕ, zero, suc, _+_, _-_, _≤_, _<_}
 use mathlib.Core.Path.{_≡_, refl, sym, ap, subst, _∙_}
 use mathlib.Core.Bool.{Bool, true, false, _||_}
 use mathlib.Core.Logic.{⊎-elim}
-use native.Mathlib.Nat.{eq-or-lt-of-le, lt-trans}
+use native.Mathlib.Nat.{eq-or-lt-of-le, lt-trans, le-of-eq, le-of-lt}
 use native.Mathlib.Omega.{arith}
 use borrow.Author.Tests.{ne-eqb, eqb-false, ltb-true}
 use lib.Dec.{ltb, eqb}
@@ -54,3 +54,6 @@ module _ (r : ℕ → ℕ) (n : ℕ) (all : allBelow (above r) n ≡ true) where
       (λ (e : j ≡ k). subst (λ (x : ℕ). r x < r (suc k)) (sym e) s)
       (λ (g : j < k). lt-trans (rising-apart j k g (omega arith)) s)
       (eq-or-lt-of-le m)
+
+  pub rising-up-to : (j k : ℕ) → j ≤ k → k < n → r j ≤ r k
+  rising-up-to j k l h = ⊎-elim (λ (e : j ≡ k). le-of-eq (ap r e)) (λ (g : j < k). le-of-lt (rising-apart j k g h)) (eq-or-lt-of-le l)
