@@ -12,7 +12,7 @@ use mir.Syntax.{w64}
 use mir.Val.{Fits}
 use lib.Dec.{leb}
 use lib.ListN.{length, getD, set, take, drop, length-append, length-drop, take-append-drop}
-use lib.Seq.{length-take-le, take-all, take-at, take-add, take-suc, drop-at, drop-drop, set-split}
+use lib.Seq.{length-take-le, take-all, take-at, take-suc, drop-at, drop-drop, set-split}
 use Rattle.wire.specs.Bytes.{over, written, part}
 
 -- what a test that held, or failed, says
@@ -127,20 +127,6 @@ over-whole s p r j e l = e ∙ ap (over s p) (take-all j r l)
 
 pub over-all : {u : List ℕ} (s : List ℕ) (p : ℕ) (r : List ℕ) (j : ℕ) → u ≡ over s p (take j r) → length r ≤ j → p + length r ≤ length s → u ≡ written s p r
 over-all s p r j e l h = over-whole s p r j e l ∙ sym (written-in s p r h)
-
--- the copy by blocks: what the list is after j of the run's bytes, and after the next n
-pub over-block : {u e : List ℕ} (s : List ℕ) (p : ℕ) (r : List ℕ) (j n : ℕ) → u ≡ over s p (take j r) → p + length r ≤ length s → j + n ≤ length r → e ≡ over u (p + j) (take (j + n - j) (drop j r)) → e ≡ over s p (take (j + n) r)
-over-block {u} s p r j n i h m e =
-    let b : List ℕ = take n (drop j r) in
-    let l : length (take j r) ≡ j = length-take-le j r (omega arith) in
-    let t : take j r ++ b ≡ take (j + n) r = sym (take-add j n r) in
-    let k : length (take (j + n) r) ≡ j + n = length-take-le (j + n) r m in
-    e
-    ∙ ap (λ (k : ℕ). over u (p + j) (take k (drop j r))) (add-sub-cancel-left j n)
-    ∙ ap (λ (u : List ℕ). over u (p + j) b) i
-    ∙ ap (λ (k : ℕ). over (over s p (take j r)) (p + k) b) (sym l)
-    ∙ over-over s p (take j r) b (omega (arith, ap length t))
-    ∙ ap (over s p) t
 
 -- what was written at the start of one list is what its beginning writes to another
 pub over-through : {b e : List ℕ} (z s : List ℕ) (p : ℕ) (r : List ℕ) → b ≡ over z 0 r → e ≡ over s p (take (length r) b) → e ≡ over s p r

@@ -1,5 +1,5 @@
--- How `wire` copies a run: a block at a time. What is written does not depend on it.
+-- How long a run `wire` copies at once. What is written does not depend on it.
 use Prim.Native.Nat.{ℕ}
 
 abbrev pub blockLength : ℕ
-blockLength = 16384
+blockLength = 65536

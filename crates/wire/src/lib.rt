@@ -1,14 +1,14 @@
 // Big-endian numbers and runs of bytes in lent slices. Every call is total: a byte past the end reads as 0, and a write
 // or a copy that does not fit changes nothing.
 ghost use mathlib.Core.Path.{_≡_};
-ghost use Prim.Native.Nat.{_+_, _≤_, _<_, min};
+ghost use Prim.Native.Nat.{_+_, _≤_, _<_};
 ghost use lib.Dec.{leb};
 ghost use lib.ListN.{length};
 ghost use Rattle.wire.specs.Bytes.{number, bytes, over, written, part};
 ghost use Rattle.wire.specs.Blocks.{blockLength};
 
-// How many bytes are copied at a time.
-const BLOCK: usize = 16384;
+// How many bytes are copied at once: more than a datagram has.
+const BLOCK: usize = 65536;
 
 pub fn u8_at(s: &[u8], at: usize) -> u8
     ensures { λ r. ⌜ r ≡ number 0 (now (s .entry)) at ⌝ }
@@ -83,7 +83,11 @@ pub fn put_run(s: &mut [u8], at: usize, run: &[u8])
     ensures { λ _. ⌜ now (s .exit) ≡ written (now (s .entry)) at (now (run .entry)) ⌝ }
 {
     if has_room(s.len(), at, run.len()) {
-        set_run(s, at, run);
+        if run.len() <= BLOCK {
+            set_block(s, at, run);
+        } else {
+            copy(s, at, run);
+        }
     }
 }
 
@@ -184,21 +188,8 @@ fn set_u64(s: &mut [u8], at: usize, x: u64)
     set_u32(s, at + 4, (x % 4294967296) as u32);
 }
 
-// A run for which there is room, block by block.
-fn set_run(s: &mut [u8], at: usize, run: &[u8])
-    requires { ⌜ at + length (now run) ≤ length (now s) ⌝ }
-    ensures { λ _. ⌜ now (s .exit) ≡ over (now (s .entry)) at (now (run .entry)) ⌝ }
-{
-    let mut done = 0;
-    while done < run.len() {
-        let count = least(BLOCK, run.len() - done);
-        set_block(s, at + done, &run[done..done + count]);
-        done += count;
-    }
-}
-
-// A run of up to BLOCK bytes. By way of an array, which no lent slice overlaps, the two loops are one call of the C
-// library's copy to the compiler, and the array goes.
+// A run of up to BLOCK bytes, by way of an array: no lent slice overlaps it, so the compiler makes one call of the C
+// library's copy of both loops, and the array goes.
 fn set_block(s: &mut [u8], at: usize, run: &[u8])
     requires { ⌜ at + length (now run) ≤ length (now s) ⌝ }
     requires { ⌜ length (now run) ≤ blockLength ⌝ }
@@ -218,10 +209,4 @@ fn copy(s: &mut [u8], at: usize, run: &[u8])
         s[at + i] = run[i];
         i += 1;
     }
-}
-
-fn least(a: usize, b: usize) -> usize
-    ensures { λ r. ⌜ r ≡ min a b ⌝ }
-{
-    if a <= b { a } else { b }
 }

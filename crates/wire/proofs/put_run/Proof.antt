@@ -10,7 +10,10 @@ put-run-spec =
     tie.close
     (tie.spec
     (λ c κs. search needs)
+    (λ c κs. (search held, search needs))
     (λ c κs. search held)
+    (λ c. search needs)
+    (λ c. search run-in)
     (λ c. search needs)
     (λ c. search run-in)
     (λ c. search no-run))
