@@ -1,3 +1,4 @@
 pub mod Storing
 mod Telling
 mod Calling
+mod Straight

@@ -35,6 +35,10 @@ module _ (ws : List ℕ) where
   pub fresh-words : {x : List ℕ} {p : Standing} (own : ℕ) → p ≡ freshStanding own → x ≡ written ws 0 (standingWords p) → x ≡ written ws 0 (standingWords (freshStanding own))
   fresh-words own e f = f ∙ ap (λ (q : Standing). written ws 0 (standingWords q)) e
 
+  -- one that stays as it is
+  pub kept : {x : List ℕ} {p : Standing} → p ≡ standingIn ws → x ≡ written ws 0 (standingWords p) → x ≡ written ws 0 (standingWords (standingIn ws))
+  kept e f = f ∙ ap (λ (q : Standing). written ws 0 (standingWords q)) e
+
 -- the words of a platform, whatever stands behind them, read back as that platform
 pub read-back : (p : Standing) (ws : List ℕ) → p .next < 2 ^ 32 → standingIn (standingWords p ++ ws) ≡ p
 read-back p ws h = rw (mod-eq-of-lt h)

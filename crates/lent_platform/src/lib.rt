@@ -1,4 +1,5 @@
 // The platform calls with the platform and the answers in lent words: as the C interface has them.
+mod receiving;
 mod stored;
 mod told;
 
@@ -12,6 +13,7 @@ ghost use Rattle.lent_tables.specs.Words.{sectionsIn};
 ghost use Rattle.lent_platform.specs.Words.{platformWords, statesIn, standingIn};
 ghost use Rattle.lent_platform.specs.Calls.{heardLength, freshNumber, freshWords, receiveNumber, receiveWords, receiveAnswer, receiveOutput, ReceivedIn};
 use message::Own;
+use table::CUT_SHORT;
 
 // How many words a platform is.
 pub const PLATFORM_WORDS: usize = 5;
@@ -89,16 +91,19 @@ pub fn receive_in(
         return lent::OUTPUT_TOO_SHORT;
     }
     let s = lent_tables::sections_in(sections);
-    let standing = stored::standing_in(platform);
-    let outcome = platform::receive_checked(
-        Own { platform: own },
-        table,
-        s,
-        standing,
-        message,
-        out,
-    );
-    told::tell(outcome, platform, answer)
+    if table::layout::within(table, s) {
+        receiving::received(
+            Own { platform: own },
+            platform,
+            table,
+            s,
+            message,
+            out,
+            answer,
+        )
+    } else {
+        CUT_SHORT
+    }
 }
 
 fn no_words(platform: usize, answer: usize) -> bool

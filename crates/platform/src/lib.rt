@@ -70,17 +70,17 @@ pub enum Reply {
     Unknown(u32, u32),
 }
 
-enum Owed {
+pub enum Owed {
     Nothing,
     One(Reply),
     Two(Reply, Reply),
 }
 
 // What a message comes to where the replies fit.
-struct Reaction {
-    standing: Standing,
-    heard: Heard,
-    owed: Owed,
+pub struct Reaction {
+    pub standing: Standing,
+    pub heard: Heard,
+    pub owed: Owed,
 }
 
 const NO_ROOM: u32 = 10;

@@ -1,7 +1,7 @@
 -- `lent_platform::receive_in` meets its contract.
 -- Assumes nothing.
 use borrow.Author.Needs.{needs}
-use Rattle.lent_platform.proofs.Calling.{no-words-in, received-in}
+use Rattle.lent_platform.proofs.Calling.{no-words-in, on-sections, outside, inside, enough-words}
 use Rattle.lent_platform.proofs.receive_in.Statement.{statement}
 use Rattle.lent_platform.proofs.receive_in.Tie as tie
 
@@ -13,9 +13,9 @@ receive-in-spec =
     (λ c. search no-words-in)
     (λ c κs. search needs)
     (λ c κs. search needs)
-    (λ c κs. search needs)
-    (λ c κs. search needs)
+    (λ c κs. search (inside, enough-words))
     (λ c. search needs)
     (λ c. search needs)
     (λ c. search needs)
-    (λ c. search received-in))
+    (λ c. search on-sections)
+    (λ c. search outside))
