@@ -7,13 +7,13 @@ use native.Mathlib.Nat.{add-assoc, add-zero, zero-add, pow-suc, one-le-pow, zero
 use native.Mathlib.Omega.{arith}
 use mathlib.Core.Bool.{Bool, true, false}
 use borrow.Author.Tests.{ltb-true, ltb-false}
-use lib.Dec.{ltb}
+use lib.Dec.{ltb, leb}
 use lib.Arith.{digits-lt, digits-div, digits-mod}
 use lib.Pow.{pow-add}
 use lib.ListN.{length, getD, take, drop, length-append, length-take, List·getD-eq-default, List·getD-append}
 use lib.Seq.{length-take-le, getD-append-add, getD-take, getD-drop, take-add, drop-drop, drop-cons}
 use Rattle.wire.specs.Bytes.{span, number, bytes, over, written, Octets}
-use Rattle.wire.proofs.Runs.{written-in}
+use Rattle.wire.proofs.Runs.{failed, written-in}
 
 -- 2 ^ suc k bytes are twice 2 ^ k bytes
 twice : (k : ℕ) → 2 ^ suc k ≡ 2 ^ k + 2 ^ k
@@ -45,6 +45,14 @@ past-end (suc k) s p h = rw (past-end k s p h, past-end k s (p + 2 ^ k) (omega a
 
 pub past : (k : ℕ) (s : List ℕ) (p : ℕ) → length s ≤ p → 0 ≡ number k s p
 past k s p h = sym (past-end k s p h)
+
+-- of two bytes that do not both fit, the second is past the end
+pub first-byte : {r : Bool} {x : ℕ} (s : List ℕ) (p : ℕ) → r ≡ leb (p + 2) (length s) → r ≡ false → x ≡ number 0 s p → x * 256 ≡ number 1 s p
+first-byte s p e f b = omega (arith, past-end 0 s (p + 1) (omega (arith, failed (p + 2) (length s) e f)))
+
+-- four bytes, each by its weight, are two halves
+pub four-bytes : {a b c d : ℕ} (s : List ℕ) (p : ℕ) → a ≡ number 0 s p → b ≡ number 0 s (p + 1) → c ≡ number 0 s (p + 2) → d ≡ number 0 s (p + 3) → a * 16777216 + b * 65536 + c * 256 + d ≡ number 2 s p
+four-bytes s p a b c d = omega (arith, ap (number 0 s) (add-assoc p 2 1))
 
 pub number-lt : (k : ℕ) (s : List ℕ) (p : ℕ) → Octets s → number k s p < span k
 number-lt zero s p o = o p

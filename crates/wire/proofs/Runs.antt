@@ -98,13 +98,16 @@ over-more s p r j e h i =
     ∙ over-over s p (take j r) (getD r j 0 ∷ []) (simp length-append (omega arith))
     ∙ ap (over s p) (sym (take-suc r j 0 i) ∙ ap (λ (n : ℕ). take n r) (sym (add-one j)))
 
--- with p within n, as much fits behind p as the sum leaves
-pub room-left : (n p k : ℕ) → p ≤ n → leb k (n - p) ≡ leb (p + k) n
-room-left n p k h = go (leb k (n - p)) refl
+-- with k within n, what starts at p fits exactly where p leaves k of n
+pub room-left : (n p k : ℕ) → k ≤ n → leb p (n - k) ≡ leb (p + k) n
+room-left n p k h = go (leb p (n - k)) refl
   where
-    go : (t : Bool) → leb k (n - p) ≡ t → leb k (n - p) ≡ leb (p + k) n
-    go true e = e ∙ sym (le-leb (p + k) n (omega (arith, leb-true k (n - p) e)))
-    go false e = e ∙ sym (lt-leb (p + k) n (omega (arith, leb-false k (n - p) e)))
+    go : (t : Bool) → leb p (n - k) ≡ t → leb p (n - k) ≡ leb (p + k) n
+    go true e = e ∙ sym (le-leb (p + k) n (omega (arith, leb-true p (n - k) e)))
+    go false e = e ∙ sym (lt-leb (p + k) n (omega (arith, leb-false p (n - k) e)))
+
+pub too-many : (n p k : ℕ) → n < k → false ≡ leb (p + k) n
+too-many n p k h = sym (lt-leb (p + k) n (omega arith))
 
 pub no-room : (n p k : ℕ) → n < p → false ≡ leb (p + k) n
 no-room n p k h = sym (lt-leb (p + k) n (omega arith))
@@ -119,8 +122,18 @@ the-part s p n e t = ap (λ (k : ℕ). take k (drop p s)) (add-sub-cancel-left p
 pub no-part : {r : Bool} (s : List ℕ) (p n : ℕ) → r ≡ leb (p + n) (length s) → r ≡ false → [] ≡ part s p n
 no-part s p n e t = sym (part-out s p n (failed (p + n) (length s) e t))
 
+pub over-whole : {u : List ℕ} (s : List ℕ) (p : ℕ) (r : List ℕ) (j : ℕ) → u ≡ over s p (take j r) → length r ≤ j → u ≡ over s p r
+over-whole s p r j e l = e ∙ ap (over s p) (take-all j r l)
+
 pub over-all : {u : List ℕ} (s : List ℕ) (p : ℕ) (r : List ℕ) (j : ℕ) → u ≡ over s p (take j r) → length r ≤ j → p + length r ≤ length s → u ≡ written s p r
-over-all s p r j e l h = e ∙ ap (over s p) (take-all j r l) ∙ sym (written-in s p r h)
+over-all s p r j e l h = over-whole s p r j e l ∙ sym (written-in s p r h)
+
+-- what was written at the start of one list is what its beginning writes to another
+pub over-through : {b e : List ℕ} (z s : List ℕ) (p : ℕ) (r : List ℕ) → b ≡ over z 0 r → e ≡ over s p (take (length r) b) → e ≡ over s p r
+over-through z s p r b e = e ∙ ap (over s p) (ap (take (length r)) b ∙ take-at r (drop (0 + length r) z) (length r) refl)
+
+pub run-in : {t : Bool} {e : List ℕ} (s : List ℕ) (p : ℕ) (r : List ℕ) → t ≡ leb (p + length r) (length s) → t ≡ true → e ≡ over s p r → e ≡ written s p r
+run-in s p r f t e = e ∙ sym (written-in s p r (held (p + length r) (length s) f t))
 
 pub no-run : {t : Bool} (s : List ℕ) (p : ℕ) (r : List ℕ) → t ≡ leb (p + length r) (length s) → t ≡ false → s ≡ written s p r
 no-run s p r e t = sym (written-out s p r (failed (p + length r) (length s) e t))

@@ -1,9 +1,14 @@
 // Big-endian numbers and runs of bytes in lent slices. Every call is total: a byte past the end reads as 0, and a write
 // or a copy that does not fit changes nothing.
 ghost use mathlib.Core.Path.{_≡_};
-ghost use Prim.Native.Nat.{_+_};
+ghost use Prim.Native.Nat.{_+_, _≤_, _<_};
 ghost use lib.Dec.{leb};
-ghost use Rattle.wire.specs.Bytes.{number, bytes, written, part};
+ghost use lib.ListN.{length};
+ghost use Rattle.wire.specs.Bytes.{number, bytes, over, written, part};
+ghost use Rattle.wire.specs.Blocks.{blockLength};
+
+// How many bytes are copied at once: more than a datagram has.
+const BLOCK: usize = 65536;
 
 pub fn u8_at(s: &[u8], at: usize) -> u8
     ensures { λ r. ⌜ r ≡ number 0 (now (s .entry)) at ⌝ }
@@ -14,30 +19,30 @@ pub fn u8_at(s: &[u8], at: usize) -> u8
 pub fn u16_at(s: &[u8], at: usize) -> u16
     ensures { λ r. ⌜ r ≡ number 1 (now (s .entry)) at ⌝ }
 {
-    if at < s.len() {
-        (u8_at(s, at) as u16) * 256 + (u8_at(s, at + 1) as u16)
+    if has_room(s.len(), at, 2) {
+        whole_u16(s, at)
     } else {
-        0
+        (u8_at(s, at) as u16) * 256
     }
 }
 
 pub fn u32_at(s: &[u8], at: usize) -> u32
     ensures { λ r. ⌜ r ≡ number 2 (now (s .entry)) at ⌝ }
 {
-    if at < s.len() {
-        (u16_at(s, at) as u32) * 65536 + (u16_at(s, at + 2) as u32)
+    if has_room(s.len(), at, 4) {
+        whole_u32(s, at)
     } else {
-        0
+        split_u32(s, at)
     }
 }
 
 pub fn u64_at(s: &[u8], at: usize) -> u64
     ensures { λ r. ⌜ r ≡ number 3 (now (s .entry)) at ⌝ }
 {
-    if at < s.len() {
-        (u32_at(s, at) as u64) * 4294967296 + (u32_at(s, at + 4) as u64)
+    if has_room(s.len(), at, 8) {
+        whole_u64(s, at)
     } else {
-        0
+        split_u64(s, at)
     }
 }
 
@@ -53,8 +58,7 @@ pub fn put_u16(s: &mut [u8], at: usize, x: u16)
     ensures { λ _. ⌜ now (s .exit) ≡ written (now (s .entry)) at (bytes 1 x) ⌝ }
 {
     if has_room(s.len(), at, 2) {
-        put_u8(s, at, (x / 256) as u8);
-        put_u8(s, at + 1, (x % 256) as u8);
+        set_u16(s, at, x);
     }
 }
 
@@ -62,8 +66,7 @@ pub fn put_u32(s: &mut [u8], at: usize, x: u32)
     ensures { λ _. ⌜ now (s .exit) ≡ written (now (s .entry)) at (bytes 2 x) ⌝ }
 {
     if has_room(s.len(), at, 4) {
-        put_u16(s, at, (x / 65536) as u16);
-        put_u16(s, at + 2, (x % 65536) as u16);
+        set_u32(s, at, x);
     }
 }
 
@@ -71,8 +74,7 @@ pub fn put_u64(s: &mut [u8], at: usize, x: u64)
     ensures { λ _. ⌜ now (s .exit) ≡ written (now (s .entry)) at (bytes 3 x) ⌝ }
 {
     if has_room(s.len(), at, 8) {
-        put_u32(s, at, (x / 4294967296) as u32);
-        put_u32(s, at + 4, (x % 4294967296) as u32);
+        set_u64(s, at, x);
     }
 }
 
@@ -81,10 +83,10 @@ pub fn put_run(s: &mut [u8], at: usize, run: &[u8])
     ensures { λ _. ⌜ now (s .exit) ≡ written (now (s .entry)) at (now (run .entry)) ⌝ }
 {
     if has_room(s.len(), at, run.len()) {
-        let mut i = 0;
-        while i < run.len() {
-            s[at + i] = run[i];
-            i += 1;
+        if run.len() <= BLOCK {
+            set_block(s, at, run);
+        } else {
+            copy(s, at, run);
         }
     }
 }
@@ -104,5 +106,107 @@ pub fn part(s: &[u8], at: usize, count: usize) -> &[u8]
 pub fn has_room(len: usize, at: usize, count: usize) -> bool
     ensures { λ r. ⌜ r ≡ leb (at + count) len ⌝ }
 {
-    if at <= len { count <= len - at } else { false }
+    if count <= len {
+        at <= len - count
+    } else {
+        false
+    }
+}
+
+// A number whose bytes are all there: with no test between them the compiler makes one load of it.
+fn whole_u16(s: &[u8], at: usize) -> u16
+    requires { ⌜ at + 2 ≤ length (now s) ⌝ }
+    ensures { λ r. ⌜ r ≡ number 1 (now (s .entry)) at ⌝ }
+{
+    (byte(s, at) * 256 + byte(s, at + 1)) as u16
+}
+
+fn whole_u32(s: &[u8], at: usize) -> u32
+    requires { ⌜ at + 4 ≤ length (now s) ⌝ }
+    ensures { λ r. ⌜ r ≡ number 2 (now (s .entry)) at ⌝ }
+{
+    byte(s, at) * 16777216 + byte(s, at + 1) * 65536 + byte(s, at + 2) * 256 + byte(s, at + 3)
+}
+
+fn whole_u64(s: &[u8], at: usize) -> u64
+    requires { ⌜ at + 8 ≤ length (now s) ⌝ }
+    ensures { λ r. ⌜ r ≡ number 3 (now (s .entry)) at ⌝ }
+{
+    (whole_u32(s, at) as u64) * 4294967296 + (whole_u32(s, at + 4) as u64)
+}
+
+fn byte(s: &[u8], at: usize) -> u32
+    requires { ⌜ at < length (now s) ⌝ }
+    ensures value { λ r. ⌜ r ≡ number 0 (now (s .entry)) at ⌝ }
+    ensures small { λ r. ⌜ r < 256 ⌝ }
+{
+    s[at] as u32
+}
+
+// A number that may end past the end: by halves, each of which is there, or not, or in part.
+fn split_u32(s: &[u8], at: usize) -> u32
+    ensures { λ r. ⌜ r ≡ number 2 (now (s .entry)) at ⌝ }
+{
+    if at < s.len() {
+        (u16_at(s, at) as u32) * 65536 + (u16_at(s, at + 2) as u32)
+    } else {
+        0
+    }
+}
+
+fn split_u64(s: &[u8], at: usize) -> u64
+    ensures { λ r. ⌜ r ≡ number 3 (now (s .entry)) at ⌝ }
+{
+    if at < s.len() {
+        (u32_at(s, at) as u64) * 4294967296 + (u32_at(s, at + 4) as u64)
+    } else {
+        0
+    }
+}
+
+fn set_u16(s: &mut [u8], at: usize, x: u16)
+    requires { ⌜ at + 2 ≤ length (now s) ⌝ }
+    ensures { λ _. ⌜ now (s .exit) ≡ over (now (s .entry)) at (bytes 1 x) ⌝ }
+{
+    s[at] = (x / 256) as u8;
+    s[at + 1] = (x % 256) as u8;
+}
+
+fn set_u32(s: &mut [u8], at: usize, x: u32)
+    requires { ⌜ at + 4 ≤ length (now s) ⌝ }
+    ensures { λ _. ⌜ now (s .exit) ≡ over (now (s .entry)) at (bytes 2 x) ⌝ }
+{
+    set_u16(s, at, (x / 65536) as u16);
+    set_u16(s, at + 2, (x % 65536) as u16);
+}
+
+fn set_u64(s: &mut [u8], at: usize, x: u64)
+    requires { ⌜ at + 8 ≤ length (now s) ⌝ }
+    ensures { λ _. ⌜ now (s .exit) ≡ over (now (s .entry)) at (bytes 3 x) ⌝ }
+{
+    set_u32(s, at, (x / 4294967296) as u32);
+    set_u32(s, at + 4, (x % 4294967296) as u32);
+}
+
+// A run of up to BLOCK bytes, by way of an array: no lent slice overlaps it, so the compiler makes one call of the C
+// library's copy of both loops, and the array goes.
+fn set_block(s: &mut [u8], at: usize, run: &[u8])
+    requires { ⌜ at + length (now run) ≤ length (now s) ⌝ }
+    requires { ⌜ length (now run) ≤ blockLength ⌝ }
+    ensures { λ _. ⌜ now (s .exit) ≡ over (now (s .entry)) at (now (run .entry)) ⌝ }
+{
+    let mut block = [0u8; BLOCK];
+    copy(&mut block, 0, run);
+    copy(s, at, &block[..run.len()]);
+}
+
+fn copy(s: &mut [u8], at: usize, run: &[u8])
+    requires { ⌜ at + length (now run) ≤ length (now s) ⌝ }
+    ensures { λ _. ⌜ now (s .exit) ≡ over (now (s .entry)) at (now (run .entry)) ⌝ }
+{
+    let mut i = 0;
+    while i < run.len() {
+        s[at + i] = run[i];
+        i += 1;
+    }
 }

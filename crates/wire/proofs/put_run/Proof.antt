@@ -1,35 +1,19 @@
--- `wire::put_run` meets its contract. The loop's invariant: the first i bytes of the run are written, and the rest is as it was.
+-- `wire::put_run` meets its contract: the whole run where there is room for it, and nothing where there is none.
 -- Assumes nothing.
-use Prim.Native.Nat.{_+_, _-_, _≤_}
-use mathlib.Core.Path.{_≡_}
-use native.Mathlib.Omega.{arith}
-use lib.ListN.{length, take}
 use borrow.Author.Needs.{needs}
-use Rattle.wire.specs.Bytes.{over}
-use Rattle.wire.proofs.Runs.{held, over-none, over-more, over-all, no-run}
+use Rattle.wire.proofs.Runs.{held, run-in, no-run}
 use Rattle.wire.proofs.put_run.Statement.{statement}
 use Rattle.wire.proofs.put_run.Tie as tie
-
-abbrev Inv-loop : tie.InvT-loop
-Inv-loop s₀ at run i₀ s i = (i ≤ length run) × (at + length run ≤ length s₀) × (length s ≡ length s₀) × (s ≡ over s₀ at (take i run))
-
-abbrev μ-loop : tie.MeasureT-loop
-μ-loop s₀ at run i₀ s i = length run - i
 
 pub put-run-spec : {M : Type 1} → statement M
 put-run-spec =
     tie.close
     (tie.spec
-    Inv-loop
-    μ-loop
     (λ c κs. search needs)
-    (λ c. (search needs, search held, search needs, search over-none))
+    (λ c κs. (search held, search needs))
+    (λ c κs. search held)
     (λ c. search needs)
+    (λ c. search run-in)
     (λ c. search needs)
-    (λ c. search needs)
-    (λ c. search needs)
-    (λ c. search needs)
-    (λ c. (search needs, search needs, search needs, search over-more))
-    (λ c. search needs)
-    (λ c. search over-all)
+    (λ c. search run-in)
     (λ c. search no-run))

@@ -1,0 +1,18 @@
+-- `wire::set_u64` meets its contract: its two halves, one behind the other.
+-- Assumes nothing.
+use borrow.Author.Needs.{needs}
+use Rattle.wire.proofs.Writes.{halves}
+use Rattle.wire.proofs.set_u64.Statement.{statement}
+use Rattle.wire.proofs.set_u64.Tie as tie
+
+pub set-u64-spec : {M : Type 1} → statement M
+set-u64-spec =
+    tie.close
+    (tie.spec
+    (λ c. search needs)
+    (λ c κs. search needs)
+    (λ c. search needs)
+    (λ c. search needs)
+    (λ c κs. search needs)
+    (λ c. search needs)
+    (λ c. search (halves 2)))
