@@ -13,13 +13,13 @@ ghost use Rattle.table.specs.Layout.{sectionsOf, liesIn, within, typeWid
 ghost use Rattle.table.specs.Layout.{typePlace, memberPlace, valuePlace, operationPlace};
 
 // The bytes of one entry of each section.
-const TYPE_WIDTH: u16 = 8;
+pub const TYPE_WIDTH: u16 = 8;
 
-const MEMBER_WIDTH: u16 = 2;
+pub const MEMBER_WIDTH: u16 = 2;
 
-const VALUE_WIDTH: u16 = 8;
+pub const VALUE_WIDTH: u16 = 8;
 
-const OPERATION_WIDTH: u16 = 8;
+pub const OPERATION_WIDTH: u16 = 8;
 
 // The most entries of each section; of types there is at least one.
 const MOST_TYPES: u16 = 256;

@@ -27,7 +27,7 @@ use Rattle.types.specs.Sizes.{mostBytes, largest, sizeFits, bytesUpTo, l
 use Rattle.types.specs.Table.{ruleBroken, tooLarge, entriesOk, sizesOk, judged, judging, checked}
 use Rattle.wire.proofs.Cond.{and-left, and-right}
 use Rattle.table.proofs.AllBelow.{at-below, all-below}
-use Rattle.types.proofs.TypeRules.{base-entry, enum-entry, record-entry, fixed-entry, array-entry, no-entry, points-to-values, points-to-members}
+use Rattle.types.proofs.TypeRules.{three, base-entry, enum-entry, record-entry, fixed-entry, array-entry, no-entry, points-to-values, points-to-members}
 use Rattle.table.proofs.Chain.{Chain, chain, finished, chain-within}
 
 -- a table that `check` accepts
@@ -73,9 +73,6 @@ pub record IsArray (i : ℕ) (e : Entry) : Type 0 where
 pub record IsOperation (s : Sections) (o : Operation) : Type 0 where
   pub id-below : o .id < noId
   pub carried : ((o .kind ≤ 1) × (o .carries < s .types .count)) ⊎ ((o .kind ≡ 0) × (o .carries ≡ noType))
-
-three : (a b c : Bool) → (a && b && c) ≡ true → (a ≡ true) × ((b ≡ true) × (c ≡ true))
-three a b c h = (and-left a b (and-left (a && b) c h), (and-right a b (and-left (a && b) c h), and-right (a && b) c h))
 
 or-cases : (b c : Bool) → (b || c) ≡ true → (b ≡ true) ⊎ (c ≡ true)
 or-cases true c h = inl refl

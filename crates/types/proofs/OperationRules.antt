@@ -1,17 +1,39 @@
 -- What the rules of an operation's entry come to.
 -- Assumes nothing.
-use Prim.Native.Nat.{ℕ, _+_, _<_}
+use Prim.Native.Nat.{ℕ, _+_, _≤_, _<_}
 use mathlib.Core.Path.{_≡_, refl, ap}
-use mathlib.Core.Bool.{Bool, true, false, _||_}
+use mathlib.Core.Bool.{Bool, true, false, _&&_, _||_}
 use mathlib.Core.List.{List}
-use lib.Dec.{ltb, eqb}
+use native.Mathlib.Omega.{arith}
+use borrow.Author.Tests.{lt-ltb, le-ltb, leb-false, ne-eqb}
+use lib.Dec.{ltb, leb, eqb}
 use Rattle.table.specs.declared.Sections.{Sections}
 use Rattle.table.specs.declared.Operation.{Operation}
 use Rattle.table.specs.All.{allBelow}
-use Rattle.table.specs.Entries.{idAt, operationAt}
+use Rattle.table.specs.Entries.{noId, noType, idAt, operationAt}
 use Rattle.types.specs.Operations.{fieldsOk, operationOk}
 use Rattle.table.proofs.AllBelow.{next-below, stop-below}
 use Rattle.table.proofs.Rising.{Carried, carried-next, carried-test}
+
+-- the fields, where a type is carried and where none can be
+module _ (s : Sections) (o : Operation) where
+  pub carries-a-type : o .carries < s .types .count → (ltb (o .id) noId && leb (o .kind) 1) ≡ fieldsOk s o
+  unfolding fieldsOk
+  carries-a-type h = rw (lt-ltb (o .carries) (s .types .count) h) (go (leb (o .kind) 1) refl)
+    where
+      go : (b : Bool) → leb (o .kind) 1 ≡ b → (ltb (o .id) noId && leb (o .kind) 1) ≡ (ltb (o .id) noId && ((leb (o .kind) 1 && true) || (eqb (o .kind) 0 && eqb (o .carries) noType)))
+      go true p = rw p refl
+      go false p = rw (p, ne-eqb (o .kind) 0 (omega (arith, leb-false (o .kind) 1 p))) refl
+
+  pub carries-none : s .types .count ≤ o .carries → (ltb (o .id) noId && eqb (o .kind) 0 && eqb (o .carries) noType) ≡ fieldsOk s o
+  unfolding fieldsOk
+  carries-none h = rw (le-ltb (o .carries) (s .types .count) h) (go (leb (o .kind) 1) refl (ltb (o .id) noId))
+    where
+      go : (b : Bool) → leb (o .kind) 1 ≡ b → (l : Bool) → (l && eqb (o .kind) 0 && eqb (o .carries) noType) ≡ (l && ((leb (o .kind) 1 && false) || (eqb (o .kind) 0 && eqb (o .carries) noType)))
+      go true p true = rw p refl
+      go true p false = refl
+      go false p true = rw p refl
+      go false p false = refl
 
 module _ (t : List ℕ) (s : Sections) (i last : ℕ) (o : Operation) (carried : Carried (idAt t s) i last) (is : o ≡ operationAt t s i) where
   the-id : o .id ≡ idAt t s i

@@ -1,16 +1,23 @@
 -- What the rules of a type's entry come to, return by return.
 -- Assumes nothing.
-use Prim.Native.Nat.{ℕ, _+_}
-use mathlib.Core.Path.{_≡_, refl, ap}
-use mathlib.Core.Bool.{Bool, true, false}
+use Prim.Native.Nat.{ℕ, _+_, _≤_, _<_}
+use mathlib.Core.Path.{_≡_, refl, sym, ap, _∙_}
+use mathlib.Core.Bool.{Bool, true, false, _&&_}
 use mathlib.Core.List.{List}
-use borrow.Author.Tests.{eq-eqb, ne-eqb}
-use lib.Dec.{ltb, eqb}
+use borrow.Author.Tests.{eq-eqb, ne-eqb, leb-true, lt-ltb, le-ltb}
+use lib.Dec.{ltb, leb, eqb}
 use Rattle.table.specs.declared.Sections.{Sections}
 use Rattle.table.specs.declared.Entry.{Entry}
-use Rattle.table.specs.Entries.{typeAt, memberAt}
+use Rattle.table.specs.All.{allBelow}
+use Rattle.table.specs.Leaf.{isEnumBase}
+use Rattle.table.specs.Entries.{memberAt}
 use Rattle.types.specs.Values.{valuesOk}
-use Rattle.types.specs.Rules.{baseFields, enumFields, recordFields, elementFields, fieldsOk, memberOk, membersOk, pointedOk, typeOk}
+use Rattle.types.specs.Rules.{baseFields, enumFields, recordFields, elementFields, fieldsOk, memberOk, membersOk, pointedOk}
+use Rattle.wire.proofs.Cond.{and-left, and-right}
+use Rattle.table.proofs.AllBelow.{next-below, stop-below}
+
+pub three : (a b c : Bool) → (a && b && c) ≡ true → (a ≡ true) × ((b ≡ true) × (c ≡ true))
+three a b c h = (and-left a b (and-left (a && b) c h), (and-right a b (and-left (a && b) c h), and-right (a && b) c h))
 
 -- the fields, by the kind
 module _ (s : Sections) (i : ℕ) (e : Entry) (r : Bool) where
@@ -38,7 +45,23 @@ pub no-entry : (s : Sections) (i : ℕ) (e : Entry) → (e .kind ≡ 0 → ⊥) 
 unfolding fieldsOk
 no-entry s i e a b c d f = simp (ne-eqb (e .kind) 0 a, ne-eqb (e .kind) 1 b, ne-eqb (e .kind) 2 c, ne-eqb (e .kind) 3 d, ne-eqb (e .kind) 4 f)
 
--- what an entry points to, and the whole rule
+-- an entry whose fields pass points into its section
+module _ (s : Sections) (i : ℕ) (e : Entry) (f : Bool) (p : f ≡ fieldsOk s i e) (h : f ≡ true) where
+  enum-passes : e .kind ≡ 1 → enumFields s e ≡ true
+  enum-passes k = enum-entry s i e (enumFields s e) k refl ∙ sym p ∙ h
+
+  pub enum-code : e .kind ≡ 1 → isEnumBase (e .of) ≡ true
+  enum-code k = three (isEnumBase (e .of)) (leb 1 (e .count)) (leb (e .first + e .count) (s .values .count)) (enum-passes k) .0
+
+  pub enum-inside : e .kind ≡ 1 → e .first + e .count ≤ s .values .count
+  enum-inside k = leb-true (e .first + e .count) (s .values .count) (three (isEnumBase (e .of)) (leb 1 (e .count)) (leb (e .first + e .count) (s .values .count)) (enum-passes k) .1 .1)
+
+  pub record-inside : e .kind ≡ 2 → e .first + e .count ≤ s .members .count
+  record-inside k =
+      leb-true (e .first + e .count) (s .members .count)
+      (three (eqb (e .of) 0) (leb 1 (e .count)) (leb (e .first + e .count) (s .members .count)) (record-entry s i e (recordFields s e) k refl ∙ sym p ∙ h) .1 .1)
+
+-- what an entry points to
 module _ (t : List ℕ) (s : Sections) (i : ℕ) (e : Entry) where
   pub points-to-values : (r : Bool) → e .kind ≡ 1 → r ≡ valuesOk t s e → r ≡ pointedOk t s i e
   unfolding pointedOk
@@ -50,18 +73,12 @@ module _ (t : List ℕ) (s : Sections) (i : ℕ) (e : Entry) where
       let a : eqb (e .kind) 1 ≡ false = ap (λ (n : ℕ). eqb n 1) k in
       rw (a, eq-eqb (e .kind) 2 k) h
 
-  pub points-to-none : (e .kind ≡ 1 → ⊥) → (e .kind ≡ 2 → ⊥) → true ≡ pointedOk t s i e
-  unfolding pointedOk
-  points-to-none a b = simp (ne-eqb (e .kind) 1 a, ne-eqb (e .kind) 2 b)
+-- the members, one after the other
+module _ (t : List ℕ) (s : Sections) (i : ℕ) (e : Entry) (k m : ℕ) (is : m ≡ memberAt t s (e .first + k)) where
+  pub member-next : m < i → allBelow (memberOk t s i e) k ≡ true → allBelow (memberOk t s i e) (k + 1) ≡ true
+  unfolding memberOk
+  member-next h a = next-below (memberOk t s i e) k true a (rw (← is, lt-ltb m i h) refl) refl
 
-  pub whole-rule : (f r : Bool) → e ≡ typeAt t s i → f ≡ fieldsOk s i e → f ≡ true → r ≡ pointedOk t s i e → r ≡ typeOk t s i
-  unfolding typeOk
-  whole-rule f r is p h q = rw (← is, ← p, h) q
-
-  pub bad-fields : (f : Bool) → e ≡ typeAt t s i → f ≡ fieldsOk s i e → f ≡ false → false ≡ typeOk t s i
-  unfolding typeOk
-  bad-fields f is p h = rw (← is, ← p, h) refl
-
-pub smaller-member : (t : List ℕ) (s : Sections) (i : ℕ) (e : Entry) (k m : ℕ) → m ≡ memberAt t s (e .first + k) → ltb m i ≡ memberOk t s i e k
-unfolding memberOk
-smaller-member t s i e k m h = ap (λ (n : ℕ). ltb n i) h
+  pub member-ends : i ≤ m → k < e .count → false ≡ membersOk t s i e
+  unfolding memberOk membersOk
+  member-ends h l = stop-below (memberOk t s i e) (e .count) k false (rw (← is, le-ltb m i h) refl) refl l

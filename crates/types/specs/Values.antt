@@ -1,11 +1,11 @@
 -- 01, "The type table": the values of an enum are allowed in its base and distinct. Number 32.
-use Prim.Native.Nat.{ℕ, _+_, _%_, _^_}
-use mathlib.Core.Bool.{Bool, _&&_, not, cond}
+use Prim.Native.Nat.{ℕ, _+_}
+use mathlib.Core.Bool.{Bool, _&&_, not}
 use mathlib.Core.List.{List}
-use lib.Dec.{ltb, eqb}
+use lib.Dec.{eqb}
 use Rattle.table.specs.declared.Sections.{Sections}
 use Rattle.table.specs.declared.Entry.{Entry}
-use Rattle.table.specs.All.{allBelow, above}
+use Rattle.table.specs.All.{allBelow}
 use Rattle.table.specs.Leaf.{allowed}
 use Rattle.table.specs.Entries.{valueAt}
 
@@ -29,11 +29,3 @@ distinct t s e = allBelow (unlikeBefore t s e) (e .count)
 
 unfoldable pub valuesOk : List ℕ → Sections → Entry → Bool
 valuesOk t s e = allBelow (valueOk t s e) (e .count) && distinct t s e
-
--- a value for comparing: in a signed base (codes below 6) the negative ones come first
-unfoldable pub rank : List ℕ → Sections → Entry → ℕ → ℕ
-rank t s e k = cond (ltb (e .of) 6) ((valueOf t s e k + 2 ^ 63) % 2 ^ 64) (valueOf t s e k)
-
--- values that rise are distinct, which is seen in one pass
-unfoldable pub rising : List ℕ → Sections → Entry → Bool
-rising t s e = allBelow (above (rank t s e)) (e .count)

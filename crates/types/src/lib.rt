@@ -1,6 +1,8 @@
 // The rules of a type table (01, "The type table"): checked once, which answers its sections, and looked up ever after by its
 // bytes and those sections. A bad table is refused: 30 and 31 by its sections, 32 for an entry that breaks a rule, 33 for a
 // type that can exceed 65,536 bytes.
+mod alike;
+mod inside;
 mod operations;
 pub mod rules;
 pub mod sizes;
@@ -9,8 +11,7 @@ mod values;
 use table::Checked;
 use table::Sections;
 ghost use mathlib.Core.Path.{_≡_};
-ghost use Prim.Native.Nat.{_≤_};
-ghost use Rattle.table.specs.Layout.{mostTypes};
+ghost use Rattle.types.specs.Inside.{Lying};
 ghost use Rattle.types.specs.Table.{checked, judged, entriesOk};
 
 // 01, Numbers given back. 30 and 31 are the sections'.
@@ -35,7 +36,7 @@ pub fn check(table: &[u8]) -> Checked
 
 // Every entry is judged before any size.
 fn judged(table: &[u8], s: Sections) -> Checked
-    requires { ⌜ s .types .count ≤ mostTypes ⌝ }
+    requires { ⌜ Lying (now table) s ⌝ }
     ensures { λ r. ⌜ r ≡ judged (now (table .entry)) s ⌝ }
 {
     if entries_ok(table, s) {
@@ -50,6 +51,7 @@ fn judged(table: &[u8], s: Sections) -> Checked
 }
 
 fn entries_ok(table: &[u8], s: Sections) -> bool
+    requires { ⌜ Lying (now table) s ⌝ }
     ensures { λ r. ⌜ r ≡ entriesOk (now (table .entry)) s ⌝ }
 {
     if rules::types_ok(table, s) {

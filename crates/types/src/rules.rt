@@ -1,113 +1,106 @@
 // The rules of a type's entry and of what it points to: number 32. Members and values that no type points to are not
 // looked at.
+use crate::alike;
+use crate::inside;
 use crate::values;
 use table::Entry;
 use table::Sections;
-use table::entries;
 ghost use mathlib.Core.Path.{_≡_};
+ghost use Prim.Native.Nat.{_+_, _≤_, _<_};
 ghost use Rattle.table.specs.All.{allBelow};
-ghost use Rattle.types.specs.Rules.{typeOk, fieldsOk, pointedOk, membersOk, memberOk};
-ghost use Rattle.types.specs.Rules.{baseFields, enumFields, recordFields, elementFields};
+ghost use Rattle.types.specs.Inside.{Lying};
+ghost use Rattle.types.specs.Rules.{typeOk, fieldsOk, membersOk};
+ghost use Rattle.types.specs.Passes.{quickOk, enumOk};
 
-// The fields of type i's entry, in constant time: what it points to is not looked at.
+// The fields of type i's entry, in constant time: what it points to is not looked at. Of the base codes an enum has int8, and
+// int16 to uint64.
 pub fn fields_ok(s: Sections, i: u16, e: Entry) -> bool
     ensures { λ r. ⌜ r ≡ fieldsOk s i e ⌝ }
 {
     let kind = e.kind;
     match kind {
-        0 => base_fields(e),
-        1 => enum_fields(s, e),
-        2 => record_fields(s, e),
-        3 => element_fields(i, e),
-        4 => element_fields(i, e),
+        0 => (e.of <= 12) & (e.first == 0) & (e.count == 0),
+        1 => ((e.of == 1) | ((3 <= e.of) & (e.of <= 10)))
+            & (1 <= e.count)
+            & (e.first as u32 + e.count as u32 <= s.values.count as u32),
+        2 => (e.of == 0)
+            & (1 <= e.count)
+            & (e.first as u32 + e.count as u32 <= s.members.count as u32),
+        3 => (e.of < i) & (e.first == 0) & (1 <= e.count),
+        4 => (e.of < i) & (e.first == 0) & (1 <= e.count),
         _ => false,
     }
 }
 
-// Every type of the table keeps its rule.
+// Every type of the table keeps its rule. The values of most enums rise, and then they are distinct; where some do not, all are
+// compared at the end.
 pub(crate) fn types_ok(table: &[u8], s: Sections) -> bool
+    requires { ⌜ Lying (now table) s ⌝ }
     ensures { λ r. ⌜ r ≡ allBelow (typeOk (now (table .entry)) s) (s .types .count) ⌝ }
 {
     let count = s.types.count;
+    let mut rise = true;
     let mut i: u16 = 0;
     while i < count {
-        if type_ok(table, s, i) {
+        if quick_ok(table, s, i) {
+            i += 1;
+        } else if enum_ok(table, s, i) {
+            rise = false;
             i += 1;
         } else {
             return false;
         }
     }
-    true
+    if rise {
+        true
+    } else {
+        alike::all_distinct(table, s)
+    }
 }
 
-fn base_fields(e: Entry) -> bool
-    ensures { λ r. ⌜ r ≡ baseFields e ⌝ }
+// A type that keeps its rule, as is seen in one pass; not an enum whose values do not rise.
+fn quick_ok(table: &[u8], s: Sections, i: u16) -> bool
+    requires { ⌜ Lying (now table) s × (i < s .types .count) ⌝ }
+    ensures { λ r. ⌜ r ≡ quickOk (now (table .entry)) s i ⌝ }
 {
-    (e.of <= 12) & (e.first == 0) & (e.count == 0)
-}
-
-// Of the base codes an enum has int8, and int16 to uint64.
-fn enum_fields(s: Sections, e: Entry) -> bool
-    ensures { λ r. ⌜ r ≡ enumFields s e ⌝ }
-{
-    ((e.of == 1) | ((3 <= e.of) & (e.of <= 10)))
-        & (1 <= e.count)
-        & (e.first as u32 + e.count as u32 <= s.values.count as u32)
-}
-
-fn record_fields(s: Sections, e: Entry) -> bool
-    ensures { λ r. ⌜ r ≡ recordFields s e ⌝ }
-{
-    (e.of == 0) & (1 <= e.count) & (e.first as u32 + e.count as u32 <= s.members.count as u32)
-}
-
-fn element_fields(i: u16, e: Entry) -> bool
-    ensures { λ r. ⌜ r ≡ elementFields i e ⌝ }
-{
-    (e.of < i) & (e.first == 0) & (1 <= e.count)
-}
-
-fn type_ok(table: &[u8], s: Sections, i: u16) -> bool
-    ensures { λ r. ⌜ r ≡ typeOk (now (table .entry)) s i ⌝ }
-{
-    let e = entries::type_at(table, s, i);
+    let e = inside::type_in(table, s, i);
     if fields_ok(s, i, e) {
-        pointed_ok(table, s, i, e)
+        let kind = e.kind;
+        match kind {
+            1 => values::in_order(table, s, e),
+            2 => members_ok(table, s, i, e),
+            _ => true,
+        }
     } else {
         false
     }
 }
 
-fn pointed_ok(table: &[u8], s: Sections, i: u16, e: Entry) -> bool
-    ensures { λ r. ⌜ r ≡ pointedOk (now (table .entry)) s i e ⌝ }
+// An enum that keeps its rule, but that its values may be alike.
+fn enum_ok(table: &[u8], s: Sections, i: u16) -> bool
+    requires { ⌜ Lying (now table) s × (i < s .types .count) ⌝ }
+    ensures { λ r. ⌜ r ≡ enumOk (now (table .entry)) s i ⌝ }
 {
-    let kind = e.kind;
-    if kind == 1 {
-        return values::values_ok(table, s, e);
+    let e = inside::type_in(table, s, i);
+    if fields_ok(s, i, e) & (e.kind == 1) {
+        values::values_allowed(table, s, e)
+    } else {
+        false
     }
-    if kind == 2 {
-        return members_ok(table, s, i, e);
-    }
-    true
 }
 
 fn members_ok(table: &[u8], s: Sections, i: u16, e: Entry) -> bool
+    requires { ⌜ Lying (now table) s × (e .first + e .count ≤ s .members .count) ⌝ }
     ensures { λ r. ⌜ r ≡ membersOk (now (table .entry)) s i e ⌝ }
 {
     let count = e.count;
     let mut k: u16 = 0;
     while k < count {
-        if member_ok(table, s, i, e, k) {
+        if inside::member_in(table, s, e.first as u32 + k as u32) < i {
             k += 1;
         } else {
             return false;
         }
     }
     true
-}
-
-fn member_ok(table: &[u8], s: Sections, i: u16, e: Entry, k: u16) -> bool
-    ensures { λ r. ⌜ r ≡ memberOk (now (table .entry)) s i e k ⌝ }
-{
-    entries::member_at(table, s, e.first as u32 + k as u32) < i
 }

@@ -1,28 +1,68 @@
 // The values of an enum: each is allowed in its base, and no two are alike. Number 32.
+use crate::inside;
 use table::Entry;
 use table::Sections;
 use table::entries;
 use table::leaf;
 ghost use mathlib.Core.Path.{_≡_};
+ghost use Prim.Native.Nat.{_+_, _≤_};
 ghost use Rattle.table.specs.All.{allBelow};
-ghost use Rattle.types.specs.Values.{valueOf, valueOk, unlike, unlikeBefore, distinct, valuesOk, rank, rising};
+ghost use Rattle.types.specs.Inside.{Lying};
+ghost use Rattle.types.specs.Values.{valueOf, valueOk};
+ghost use Rattle.types.specs.Passes.{offset, top, inOrder};
 
-// Values that rise, as most do, are distinct after one pass; the others are compared each with each.
-pub(crate) fn values_ok(table: &[u8], s: Sections, e: Entry) -> bool
-    ensures { λ r. ⌜ r ≡ valuesOk (now (table .entry)) s e ⌝ }
+// Whether all are allowed and rise, as those of most enums do: then they are distinct, after one pass.
+pub(crate) fn in_order(table: &[u8], s: Sections, e: Entry) -> bool
+    requires { ⌜ Lying (now table) s × (e .first + e .count ≤ s .values .count) ⌝ }
+    ensures { λ r. ⌜ r ≡ inOrder (now (table .entry)) s e ⌝ }
 {
-    if values_allowed(table, s, e) {
-        if rising(table, s, e) {
-            true
+    let count = e.count;
+    let zero = offset(e.of);
+    let most = top(e.of);
+    let mut last: u64 = 0;
+    let mut k: u16 = 0;
+    while k < count {
+        let value = inside::value_in(table, s, e.first as u32 + k as u32);
+        let next = std::num::wrapping_add_u64(value, zero);
+        if ((k == 0) | (last < next)) & (next <= most) {
+            last = next;
+            k += 1;
         } else {
-            all_unlike(table, s, e)
+            return false;
         }
-    } else {
-        false
+    }
+    true
+}
+
+// The values of an enum's base in rising order are counted from 0: where its zero comes, and its last.
+fn offset(code: u16) -> u64
+    ensures { λ r. ⌜ r ≡ offset code ⌝ }
+{
+    match code {
+        1 => 128,
+        3 => 32768,
+        4 => 2147483648,
+        5 => 9223372036854775808,
+        _ => 0,
     }
 }
 
-fn values_allowed(table: &[u8], s: Sections, e: Entry) -> bool
+fn top(code: u16) -> u64
+    ensures { λ r. ⌜ r ≡ top code ⌝ }
+{
+    match code {
+        1 => 255,
+        3 => 65535,
+        4 => 4294967295,
+        6 => 255,
+        7 => 255,
+        8 => 65535,
+        9 => 4294967295,
+        _ => 18446744073709551615,
+    }
+}
+
+pub(crate) fn values_allowed(table: &[u8], s: Sections, e: Entry) -> bool
     ensures { λ r. ⌜ r ≡ allBelow (valueOk (now (table .entry)) s e) (e .count) ⌝ }
 {
     let count = e.count;
@@ -41,72 +81,6 @@ fn value_ok(table: &[u8], s: Sections, e: Entry, k: u16) -> bool
     ensures { λ r. ⌜ r ≡ valueOk (now (table .entry)) s e k ⌝ }
 {
     leaf::allowed(e.of, value_of(table, s, e, k))
-}
-
-fn rising(table: &[u8], s: Sections, e: Entry) -> bool
-    ensures { λ r. ⌜ r ≡ rising (now (table .entry)) s e ⌝ }
-{
-    let count = e.count;
-    let mut last: u64 = 0;
-    let mut k: u16 = 0;
-    while k < count {
-        let next = rank(table, s, e, k);
-        if (k == 0) | (last < next) {
-            last = next;
-            k += 1;
-        } else {
-            return false;
-        }
-    }
-    true
-}
-
-// The k-th value, with its top bit turned where the base is signed, so that numbers below zero come first.
-fn rank(table: &[u8], s: Sections, e: Entry, k: u16) -> u64
-    ensures { λ r. ⌜ r ≡ rank (now (table .entry)) s e k ⌝ }
-{
-    let value = value_of(table, s, e, k);
-    if e.of < 6 {
-        std::num::wrapping_add_u64(value, 9223372036854775808)
-    } else {
-        value
-    }
-}
-
-fn all_unlike(table: &[u8], s: Sections, e: Entry) -> bool
-    ensures { λ r. ⌜ r ≡ distinct (now (table .entry)) s e ⌝ }
-{
-    let count = e.count;
-    let mut k: u16 = 0;
-    while k < count {
-        if unlike_before(table, s, e, k) {
-            k += 1;
-        } else {
-            return false;
-        }
-    }
-    true
-}
-
-fn unlike_before(table: &[u8], s: Sections, e: Entry, k: u16) -> bool
-    ensures { λ r. ⌜ r ≡ unlikeBefore (now (table .entry)) s e k ⌝ }
-{
-    let word = value_of(table, s, e, k);
-    let mut j: u16 = 0;
-    while j < k {
-        if unlike(table, s, e, word, j) {
-            j += 1;
-        } else {
-            return false;
-        }
-    }
-    true
-}
-
-fn unlike(table: &[u8], s: Sections, e: Entry, word: u64, j: u16) -> bool
-    ensures { λ r. ⌜ r ≡ unlike (now (table .entry)) s e word j ⌝ }
-{
-    value_of(table, s, e, j) != word
 }
 
 // The k-th value of an enum.

@@ -2,7 +2,7 @@
 -- Assumes nothing.
 use borrow.Author.Needs.{needs}
 use Rattle.types.proofs.Tables.{no-sections, the-sections}
-use Rattle.table.proofs.Chain.{few-types}
+use Rattle.types.proofs.Insides.{found-lie}
 use Rattle.types.proofs.check.Statement.{statement}
 use Rattle.types.proofs.check.Tie as tie
 
@@ -13,6 +13,6 @@ check-spec =
     (λ c κs. search needs)
     (λ c. search needs)
     (λ c. search needs)
-    (λ c κs. search few-types)
+    (λ c κs. search found-lie)
     (λ c. search no-sections)
     (λ c. search the-sections))

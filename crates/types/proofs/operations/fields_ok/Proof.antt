@@ -1,13 +1,12 @@
--- `types::operations::fields_ok` meets its contract: the test as it is written.
+-- `types::operations::fields_ok` meets its contract: with a type, and without.
 -- Assumes nothing.
-use mathlib.Core.Path.{refl}
-use Rattle.types.specs.Operations.{fieldsOk}
+use Rattle.types.proofs.OperationRules.{carries-a-type, carries-none}
 use Rattle.types.proofs.operations.fields_ok.Statement.{statement}
 use Rattle.types.proofs.operations.fields_ok.Tie as tie
 
 pub fields-ok-spec : {M : Type 1} → statement M
-unfolding fieldsOk
 fields-ok-spec =
     tie.close
     (tie.spec
-    (λ c. refl))
+    (λ c. search carries-a-type)
+    (λ c. search carries-none))

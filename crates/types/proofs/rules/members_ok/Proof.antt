@@ -6,7 +6,8 @@ use mathlib.Core.Path.{_≡_}
 use mathlib.Core.Bool.{true}
 use Rattle.table.specs.All.{allBelow}
 use Rattle.types.specs.Rules.{memberOk, membersOk}
-use Rattle.table.proofs.AllBelow.{none-below, next-below, stop-below, done-below}
+use Rattle.table.proofs.AllBelow.{none-below, done-below}
+use Rattle.types.proofs.TypeRules.{member-next, member-ends}
 use Rattle.types.proofs.rules.members_ok.Statement.{statement}
 use Rattle.types.proofs.rules.members_ok.Tie as tie
 
@@ -24,9 +25,12 @@ members-ok-spec =
     Inv-loop
     μ-loop
     (λ c. (search needs, search none-below))
+    (λ c. search needs)
+    (λ c. search needs)
+    (λ c. search needs)
     (λ c κs. search needs)
     (λ c. search needs)
     (λ c. search needs)
-    (λ c. (search needs, search next-below))
-    (λ c. search stop-below)
+    (λ c. (search needs, search member-next))
+    (λ c. search member-ends)
     (λ c. search done-below))

@@ -1,0 +1,49 @@
+-- What stands in the entries of sections that lie within the bytes, at the returns.
+-- Assumes nothing.
+use Prim.Native.Nat.{ℕ, _+_, _*_, _≤_}
+use mathlib.Core.Path.{_≡_, refl, sym, ap, _∙_}
+use mathlib.Core.List.{List}
+use native.Mathlib.Nat.{add-assoc}
+use native.Mathlib.Omega.{arith}
+use Rattle.wire.specs.Bytes.{number}
+use Rattle.table.specs.declared.Sections.{Sections}
+use Rattle.table.specs.declared.Entry.{Entry}
+use Rattle.table.specs.declared.Operation.{Operation}
+use Rattle.table.specs.declared.Checked.{Checked}
+use Rattle.table.specs.declared.Checked.the-variants.{Table}
+use Rattle.table.specs.Layout.{typePlace, operationPlace, memberPlace, valuePlace, sectionsOf}
+use Rattle.table.specs.Entries.{typeAt, memberAt, valueAt, operationAt}
+use Rattle.types.specs.Inside.{Lying}
+use Rattle.table.proofs.Chain.{Chain, chain}
+use Rattle.table.proofs.Lookups.{type-read, operation-read, member-read}
+
+-- four bytes, each by its weight, are two halves
+pub four-bytes : {a b c d : ℕ} (t : List ℕ) (p : ℕ) → a ≡ number 0 t p → b ≡ number 0 t (p + 1) → c ≡ number 0 t (p + 2) → d ≡ number 0 t (p + 3) → a * 16777216 + b * 65536 + c * 256 + d ≡ number 2 t p
+four-bytes t p a b c d = omega (arith, ap (number 0 t) (add-assoc p 2 1))
+
+module _ (t : List ℕ) (s : Sections) (i : ℕ) where
+  pub type-inside : {k o f n : ℕ} → k ≡ number 1 t (typePlace s i) → o ≡ number 1 t (typePlace s i + 2) → f ≡ number 1 t (typePlace s i + 4) → n ≡ number 1 t (typePlace s i + 6) → _≡_ {A = Entry} (record { kind = k; of = o; first = f; count = n }) (typeAt t s i)
+  type-inside {k} {o} {f} {n} a b c d = type-read t s i (typePlace s i) k o f n refl a b c d
+
+  pub operation-inside : {d k o : ℕ} → d ≡ number 2 t (operationPlace s i) → k ≡ number 1 t (operationPlace s i + 4) → o ≡ number 1 t (operationPlace s i + 6) → _≡_ {A = Operation} (record { id = d; kind = k; carries = o }) (operationAt t s i)
+  operation-inside {d} {k} {o} a b c = operation-read t s i (operationPlace s i) d k o refl a b c
+
+  pub member-inside : {r : ℕ} → r ≡ number 1 t (memberPlace s i) → r ≡ memberAt t s i
+  member-inside {r} a = member-read t s i (memberPlace s i) r refl a
+
+  pub value-inside : {a b : ℕ} → a ≡ number 2 t (valuePlace s i) → b ≡ number 2 t (valuePlace s i + 4) → a * 4294967296 + b ≡ valueAt t s i
+  unfolding valueAt
+  value-inside p q = rw (p, q) refl
+
+-- sections that were found lie within the bytes
+pub found-lie : (t : List ℕ) (s : Sections) (r : Checked) → r ≡ sectionsOf t → r ≡ Table s → Lying t s
+found-lie t s r p h =
+    let c = chain t s (sym p ∙ h) in
+    record {
+      types = c .types .ends;
+      members = c .members .ends;
+      values = c .values .ends;
+      operations = c .operations .ends;
+      few-types = c .types .few;
+      few-values = c .values .few;
+    }

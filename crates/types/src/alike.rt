@@ -1,0 +1,94 @@
+// Whether the values of each enum are distinct, in any order. Each value of the table is compared with those before it once,
+// however many enums share it; an enum's values are distinct if for none the last one alike is the enum's too.
+use crate::inside;
+use table::Sections;
+ghost use mathlib.Core.Path.{_≡_};
+ghost use mathlib.Core.Bool.{true};
+ghost use Prim.Native.Nat.{_+_, _≤_, _<_};
+ghost use lib.ListN.{length};
+ghost use Rattle.table.specs.All.{allBelow};
+ghost use Rattle.types.specs.Inside.{Lying};
+ghost use Rattle.types.specs.Passes.{looseOk, enumDistinct};
+ghost use Rattle.types.specs.Alike.{lastAlike, Alikes, unlikeIn};
+
+pub(crate) fn all_distinct(table: &[u8], s: Sections) -> bool
+    requires { ⌜ Lying (now table) s × (allBelow (looseOk (now table) s) (s .types .count) ≡ true) ⌝ }
+    ensures { λ r. ⌜ r ≡ allBelow (enumDistinct (now (table .entry)) s) (s .types .count) ⌝ }
+{
+    let mut room = [0u16; 1024];
+    fill(table, s, &mut room);
+    enums_distinct(table, s, &room)
+}
+
+fn fill(table: &[u8], s: Sections, room: &mut [u16])
+    requires { ⌜ Lying (now table) s × (s .values .count ≤ length (now room)) ⌝ }
+    ensures { λ _. ⌜ Alikes (now (table .entry)) s (s .values .count) (now (room .exit)) ⌝ }
+{
+    let count = s.values.count;
+    let mut k: u16 = 0;
+    while k < count {
+        room[k as usize] = last_alike(table, s, k);
+        k += 1;
+    }
+}
+
+// The number behind that of the last value before the k-th that is like it, or 0.
+fn last_alike(table: &[u8], s: Sections, k: u16) -> u16
+    requires { ⌜ Lying (now table) s × (k < s .values .count) ⌝ }
+    ensures { λ r. ⌜ r ≡ lastAlike (now (table .entry)) s k ⌝ }
+{
+    let word = inside::value_in(table, s, k as u32);
+    let mut j = k;
+    while 0 < j {
+        if inside::value_in(table, s, j as u32 - 1) == word {
+            return j;
+        }
+        j -= 1;
+    }
+    0
+}
+
+fn enums_distinct(table: &[u8], s: Sections, room: &[u16]) -> bool
+    requires { ⌜ Lying (now table) s × (allBelow (looseOk (now table) s) (s .types .count) ≡ true) ⌝ }
+    requires { ⌜ (s .values .count ≤ length (now room)) × Alikes (now table) s (s .values .count) (now room) ⌝ }
+    ensures { λ r. ⌜ r ≡ allBelow (enumDistinct (now (table .entry)) s) (s .types .count) ⌝ }
+{
+    let count = s.types.count;
+    let mut i: u16 = 0;
+    while i < count {
+        if enum_distinct(table, s, room, i) {
+            i += 1;
+        } else {
+            return false;
+        }
+    }
+    true
+}
+
+fn enum_distinct(table: &[u8], s: Sections, room: &[u16], i: u16) -> bool
+    requires { ⌜ Lying (now table) s × (i < s .types .count) × (looseOk (now table) s i ≡ true) ⌝ }
+    requires { ⌜ (s .values .count ≤ length (now room)) × Alikes (now table) s (s .values .count) (now room) ⌝ }
+    ensures { λ r. ⌜ r ≡ enumDistinct (now (table .entry)) s i ⌝ }
+{
+    let e = inside::type_in(table, s, i);
+    if e.kind == 1 {
+        unlike_in(room, e.first, e.count)
+    } else {
+        true
+    }
+}
+
+fn unlike_in(room: &[u16], first: u16, count: u16) -> bool
+    requires { ⌜ first + count ≤ length (now room) ⌝ }
+    ensures { λ r. ⌜ r ≡ allBelow (unlikeIn (now (room .entry)) first) count ⌝ }
+{
+    let mut k: u16 = 0;
+    while k < count {
+        if room[first as usize + k as usize] <= first {
+            k += 1;
+        } else {
+            return false;
+        }
+    }
+    true
+}

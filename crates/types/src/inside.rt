@@ -1,0 +1,78 @@
+// What stands in the entries of sections that lie within the bytes: no byte is tested, so that each number is one load.
+// `table::entries` answers for any sections.
+use table::Entry;
+use table::Operation;
+use table::Sections;
+use table::layout;
+ghost use mathlib.Core.Path.{_≡_};
+ghost use Prim.Native.Nat.{_+_, _≤_, _<_};
+ghost use lib.ListN.{length};
+ghost use Rattle.wire.specs.Bytes.{number};
+ghost use Rattle.table.specs.Entries.{typeAt, memberAt, valueAt, operationAt};
+ghost use Rattle.types.specs.Inside.{Lying};
+
+pub(crate) fn type_in(table: &[u8], s: Sections, i: u16) -> Entry
+    requires { ⌜ Lying (now table) s × (i < s .types .count) ⌝ }
+    ensures { λ r. ⌜ r ≡ typeAt (now (table .entry)) s i ⌝ }
+{
+    let at = s.types.at as usize + (layout::TYPE_WIDTH as usize) * (i as usize);
+    Entry {
+        kind: u16_in(table, at),
+        of: u16_in(table, at + 2),
+        first: u16_in(table, at + 4),
+        count: u16_in(table, at + 6),
+    }
+}
+
+pub(crate) fn member_in(table: &[u8], s: Sections, i: u32) -> u16
+    requires { ⌜ Lying (now table) s × (i < s .members .count) ⌝ }
+    ensures { λ r. ⌜ r ≡ memberAt (now (table .entry)) s i ⌝ }
+{
+    let at = s.members.at as usize + (layout::MEMBER_WIDTH as usize) * (i as usize);
+    u16_in(table, at)
+}
+
+pub(crate) fn value_in(table: &[u8], s: Sections, i: u32) -> u64
+    requires { ⌜ Lying (now table) s × (i < s .values .count) ⌝ }
+    ensures { λ r. ⌜ r ≡ valueAt (now (table .entry)) s i ⌝ }
+{
+    let at = s.values.at as usize + (layout::VALUE_WIDTH as usize) * (i as usize);
+    (u32_in(table, at) as u64) * 4294967296 + (u32_in(table, at + 4) as u64)
+}
+
+pub(crate) fn operation_in(table: &[u8], s: Sections, i: u16) -> Operation
+    requires { ⌜ Lying (now table) s × (i < s .operations .count) ⌝ }
+    ensures { λ r. ⌜ r ≡ operationAt (now (table .entry)) s i ⌝ }
+{
+    let at = s.operations.at as usize + (layout::OPERATION_WIDTH as usize) * (i as usize);
+    Operation {
+        id: u32_in(table, at),
+        kind: u16_in(table, at + 4),
+        carries: u16_in(table, at + 6),
+    }
+}
+
+fn u16_in(table: &[u8], at: usize) -> u16
+    requires { ⌜ at + 2 ≤ length (now table) ⌝ }
+    ensures { λ r. ⌜ r ≡ number 1 (now (table .entry)) at ⌝ }
+{
+    (byte_in(table, at) * 256 + byte_in(table, at + 1)) as u16
+}
+
+fn u32_in(table: &[u8], at: usize) -> u32
+    requires { ⌜ at + 4 ≤ length (now table) ⌝ }
+    ensures { λ r. ⌜ r ≡ number 2 (now (table .entry)) at ⌝ }
+{
+    byte_in(table, at) * 16777216
+        + byte_in(table, at + 1) * 65536
+        + byte_in(table, at + 2) * 256
+        + byte_in(table, at + 3)
+}
+
+fn byte_in(table: &[u8], at: usize) -> u32
+    requires { ⌜ at < length (now table) ⌝ }
+    ensures value { λ r. ⌜ r ≡ number 0 (now (table .entry)) at ⌝ }
+    ensures small { λ r. ⌜ r < 256 ⌝ }
+{
+    table[at] as u32
+}
