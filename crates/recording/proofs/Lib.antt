@@ -1,4 +1,3 @@
 pub mod Finding
 pub mod Playing
 pub mod Starting
-mod Keeping
