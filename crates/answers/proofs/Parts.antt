@@ -1,7 +1,7 @@
 -- That every part of a buffer that the program lends lies in the buffer.
 -- Assumes nothing.
 use Prim.Native.Nat.{ℕ, _+_, _-_, _^_, _≤_, _<_}
-use mathlib.Core.Path.{_≡_, refl, sym}
+use mathlib.Core.Path.{_≡_, refl, sym, subst}
 use mathlib.Core.Bool.{Bool, true, false}
 use mathlib.Core.List.{List}
 use native.Mathlib.Omega.{arith}
@@ -11,6 +11,9 @@ use lib.Dec.{leb}
 use lib.ListN.{length, take, drop, length-take, length-drop}
 use lib.Seq.{length-take-le}
 use Rattle.wire.specs.Bytes.{part}
+use Rattle.files.specs.Reading.{Brought}
+use Rattle.files.specs.declared.Came.{Came}
+use Rattle.files.specs.declared.Came.the-variants.{More}
 
 pub front : (s : List ℕ) (n : ℕ) → n ≤ length s → n ≡ length (take n s)
 front s n h = sym (length-take-le n s h)
@@ -32,9 +35,13 @@ length-part s p n = go (leb (p + n) (length s)) refl
     go false e = rw e (omega arith)
 
 -- what was kept, and what was read behind it
-module _ {k m : ℕ} (s u : List ℕ) (p n : ℕ) (e : k ≡ length (part s p n)) (l : length u ≡ length s) (h : m ≤ length u - k) where
-  pub filled-within : k + m ≤ length s
-  filled-within = let w : k ≤ length s = rw e (length-part s p n) in omega arith
+module _ {k : ℕ} (s : List ℕ) (p n : ℕ) (e : k ≡ length (part s p n)) where
+  pub kept-within : k ≤ length s
+  kept-within = rw e (length-part s p n)
 
-  pub filled-fits : length s < 2 ^ 64 → Fits w64 (k + m)
-  filled-fits f = record { fits = omega (arith, filled-within) }
+  module _ {came : Came} (u : List ℕ) (m : ℕ) (l : length u ≡ length s) (b : Brought k (length u) came) (g : came ≡ More m) where
+    pub filled-within : k + m ≤ length s
+    filled-within = let w : Brought k (length u) (More m) = subst (Brought k (length u)) g b in omega (arith, w .1)
+
+    pub filled-fits : length s < 2 ^ 64 → Fits w64 (k + m)
+    filled-fits f = record { fits = omega (arith, filled-within) }

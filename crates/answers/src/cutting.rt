@@ -25,7 +25,7 @@ pub(crate) fn pieces(call: &[u8], output: &mut [u8], at: usize) -> usize {
         Counted::Refused(number) => fields::put_refused(output, at, number),
         Counted::Pieces(n) => {
             let behind = text::put_text(output, at, b"pieces");
-            fields::put_number(output, behind, n as u64)
+            text::put_number(output, behind, n as u64)
         }
     }
 }

@@ -63,13 +63,7 @@ pub(crate) fn least(a: usize, b: usize) -> usize
 // `refused K`.
 pub(crate) fn put_refused(output: &mut [u8], at: usize, number: u32) -> usize {
     let named = text::put_text(output, at, b"refused");
-    put_number(output, named, number as u64)
-}
-
-// A number behind a space.
-pub(crate) fn put_number(output: &mut [u8], at: usize, n: u64) -> usize {
-    let start = text::put_text(output, at, b" ");
-    text::put_decimal(output, start, n)
+    text::put_number(output, named, number as u64)
 }
 
 // Bytes behind a space.

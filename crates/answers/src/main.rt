@@ -2,8 +2,9 @@
 // one that the first argument names; with no argument, standard input.
 ghost use Prim.Native.Nat.{_≤_};
 ghost use lib.ListN.{length};
-use blocks::Source;
 use calls::Found;
+use files::Came;
+use files::Source;
 use libc::STDIN_FILENO;
 use platforms::Kept;
 
@@ -48,8 +49,10 @@ struct Refilled {
 }
 
 fn main() {
-    let mut path = io::buffer();
-    match blocks::open_input(&mut path) {
+    let input = files::open_input();
+    let path = input.path;
+    let source = input.source;
+    match source {
         Source::StandardInput => answer_file(STDIN_FILENO, b"standard input"),
         Source::File { fd, length } => {
             answer_file(fd, wire::part(&path, 0, length));
@@ -106,11 +109,22 @@ fn refill(fd: i32, input: &mut [u8], at: usize, filled: usize) -> Refilled
     ensures { λ r. ⌜ r .filled ≤ length (now (input .entry)) ⌝ }
 {
     let kept = blocks::keep(input, at, std::num::wrapping_sub_usize(filled, at));
-    let came = blocks::fill(fd, input, kept);
-    Refilled {
-        kept,
-        filled: kept + came.more,
-        failed: came.failed,
+    match files::fill(fd, input, kept) {
+        Came::More(n) => Refilled {
+            kept,
+            filled: kept + n,
+            failed: false,
+        },
+        Came::Nothing => Refilled {
+            kept,
+            filled: kept,
+            failed: false,
+        },
+        Came::Failed => Refilled {
+            kept,
+            filled: kept,
+            failed: true,
+        },
     }
 }
 
@@ -240,7 +254,7 @@ fn written(run: Run, output: &[u8]) -> Run {
 }
 
 fn failed(output: &[u8], made: usize) -> bool {
-    if blocks::flush(output, made) {
+    if files::flush(output, made) {
         return false;
     }
     true
@@ -250,7 +264,7 @@ fn bad_call(run: Run, output: &mut [u8]) -> Run {
     let mut run = run;
     let numbered = text::put_decimal(output, run.made, run.number);
     let made = text::put_text(output, numbered, b" bad call\n");
-    blocks::flush(output, made);
+    files::flush(output, made);
     run.over = true;
     run
 }
@@ -258,15 +272,15 @@ fn bad_call(run: Run, output: &mut [u8]) -> Run {
 // Nothing more comes, and `kept` bytes are left: all lines are written, and then why the run ends here.
 fn end(name: &[u8], output: &mut [u8], made: usize, kept: usize, failed: bool) {
     if failed {
-        if blocks::flush(output, made) {
+        if files::flush(output, made) {
             os::fail(name);
         }
         return;
     }
     if kept == 0 {
-        blocks::flush(output, made);
+        files::flush(output, made);
         return;
     }
     let all = text::put_text(output, made, b"cut short\n");
-    blocks::flush(output, all);
+    files::flush(output, all);
 }

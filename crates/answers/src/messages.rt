@@ -80,12 +80,12 @@ pub(crate) fn put_status(output: &mut [u8], at: usize, status: Status) -> usize 
 
 fn put_id(output: &mut [u8], at: usize, name: &[u8], id: u32, header: Header) -> usize {
     let named = text::put_text(output, at, name);
-    let behind = fields::put_number(output, named, id as u64);
+    let behind = text::put_number(output, named, id as u64);
     put_origin(output, behind, header)
 }
 
 // The sender, and the sequence number.
 fn put_origin(output: &mut [u8], at: usize, header: Header) -> usize {
-    let behind = fields::put_number(output, at, header.platform as u64);
-    fields::put_number(output, behind, header.sequence as u64)
+    let behind = text::put_number(output, at, header.platform as u64);
+    text::put_number(output, behind, header.sequence as u64)
 }

@@ -104,7 +104,7 @@ fn put_each(output: &mut [u8], at: usize, words: &[u64], count: usize) -> usize 
     let mut i = 0;
     while i < words.len() {
         if i < count {
-            end = fields::put_number(output, end, words[i]);
+            end = text::put_number(output, end, words[i]);
             i += 1;
         } else {
             return end;

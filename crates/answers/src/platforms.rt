@@ -32,7 +32,7 @@ pub(crate) fn start(call: &[u8], output: &mut [u8], at: usize) -> Answered {
     let named = text::put_text(output, at, b"platform");
     Answered {
         kept: fresh(number),
-        end: fields::put_number(output, named, number as u64),
+        end: text::put_number(output, named, number as u64),
         bad: false,
     }
 }
@@ -81,7 +81,7 @@ pub(crate) fn count(kept: Kept, output: &mut [u8], at: usize) -> usize {
     };
     let states = kept.standing.states;
     let named = text::put_text(output, at, b"count");
-    fields::put_number(output, named, platform::how_many_up(own, states) as u64)
+    text::put_number(output, named, platform::how_many_up(own, states) as u64)
 }
 
 fn put_answer(output: &mut [u8], at: usize, answer: Answer, replies: &[u8]) -> usize {
@@ -117,12 +117,12 @@ fn put_heard(output: &mut [u8], at: usize, header: Header, heard: Heard) -> usiz
 
 fn put_id(output: &mut [u8], at: usize, name: &[u8], id: u32) -> usize {
     let named = text::put_text(output, at, name);
-    fields::put_number(output, named, id as u64)
+    text::put_number(output, named, id as u64)
 }
 
 // Who is owed what.
 fn put_owed(output: &mut [u8], at: usize, header: Header, replies: &[u8]) -> usize {
     let named = text::put_text(output, at, b" from");
-    let behind = fields::put_number(output, named, header.platform as u64);
+    let behind = text::put_number(output, named, header.platform as u64);
     fields::put_named(output, behind, b" owed", replies)
 }

@@ -37,6 +37,6 @@ fn put_operation(output: &mut [u8], at: usize, table: &[u8], s: Sections, id: u3
 }
 
 fn put_pair(output: &mut [u8], at: usize, a: u16, b: u16) -> usize {
-    let behind = fields::put_number(output, at, a as u64);
-    fields::put_number(output, behind, b as u64)
+    let behind = text::put_number(output, at, a as u64);
+    text::put_number(output, behind, b as u64)
 }

@@ -1,78 +1,118 @@
--- What the functions that make a line ask at their returns: a line grows from its end to its start, and is written where it
--- fits.
+-- What the functions that make a line ask at their returns: its words are put one behind another, and what they make
+-- together is the line.
 -- Assumes nothing.
-use Prim.Native.Nat.{ℕ, suc, _+_, _-_, _^_, _≤_, _<_}
+use Prim.Native.Nat.{ℕ, _+_, _≤_}
 use mathlib.Core.Path.{_≡_, refl, sym, ap, _∙_}
-use mathlib.Core.Bool.{Bool, true, false}
-use mathlib.Core.List.{List, [], _∷_, _++_, append-assoc}
+use mathlib.Core.List.{List, [], _∷_, _++_}
 use mathlib.Core.Logic.{⊎-elim}
 use native.Mathlib.Omega.{arith}
 use denote.Enum.Declared.{tagOf}
 use types.Run.{OneOf}
-use mir.Syntax.{w64}
-use mir.Val.{Fits}
-use lib.Dec.{leb}
-use lib.ListN.{length, set, take, drop, length-append, length-drop, drop-of-length-le}
-use lib.Seq.{take-all}
-use Rattle.wire.specs.Bytes.{written}
-use Rattle.wire.proofs.Cond.{yes-le, no-le}
-use Rattle.wire.proofs.Runs.{held, failed, written-in, drop-over}
+use lib.ListN.{length, length-append}
+use Rattle.wire.specs.Bytes.{written, part}
 use Rattle.joiner.specs.Outcomes.{nameOf, missedIn, bytesIn}
 use Rattle.joiner.specs.declared.Outcome.{Outcome}
 use Rattle.joiner.specs.declared.Outcome.the-variants.{Refused, Repeated, Delivered, Held, Stray, TooLong}
 use Rattle.joiner.proofs.Outcome.{the-type}
-use Rattle.lines.specs.Decimal.{digitLimit, digits, decimal}
-use Rattle.lines.specs.Line.{lineLimit, lineFeed, spaced, countsOf, valuesOf, lineOf, setupRefused, refusedLine, endingOf, behind}
+use Rattle.text.specs.Decimal.{digitLimit, decimal}
+use Rattle.text.specs.Places.{behind, spaced, joined, putAll, endAll}
+use Rattle.text.proofs.Decimals.{digits-few}
+use Rattle.text.proofs.Putting.{put-next, end-next, all-part}
+use Rattle.lines.specs.Line.{lineLimit, lineFeed, countsOf, valuesOf, lineOf, setupRefused, refusedLine, endingOf}
+use Rattle.lines.specs.Words.{refusalWords, countWords, valueWords}
 use Rattle.lines.specs.declared.Ending.{Ending}
-use Rattle.lines.proofs.Decimals.{digits-few, put-first}
 
--- a text that fits, and one that does not
-module _ {t : Bool} (n p : ℕ) (text : List ℕ) (e : t ≡ leb (p + length text) n) where
-  pub end-fits : t ≡ true → n < 2 ^ 64 → Fits w64 (p + length text)
-  end-fits f h = record { fits = omega (arith, held (p + length text) n e f) }
+-- the name of the outcome that was met, and its values
+module _ {x o : Outcome} (h : o ≡ x) where
+  pub name-end : {r : ℕ} (k at : ℕ) → r ≡ behind k at (spaced (nameOf x)) → r ≡ behind k at (spaced (nameOf o))
+  name-end k at e = rw h e
 
-  pub put-behind : t ≡ true → p + length text ≡ behind n p text
-  put-behind f = sym (yes-le _ _ (p + length text) n (held (p + length text) n e f))
+  pub name-put : {u : List ℕ} (w : List ℕ) (at : ℕ) → u ≡ written w at (spaced (nameOf x)) → u ≡ written w at (spaced (nameOf o))
+  name-put w at e = rw h e
 
-  pub not-put : t ≡ false → p ≡ behind n p text
-  not-put f = sym (no-le _ _ (p + length text) n (failed (p + length text) n e f))
+  pub value-end : {r : ℕ} (w : List ℕ) (at : ℕ) → r ≡ endAll (valueWords x) w at → r ≡ endAll (valueWords o) w at
+  value-end w at e = rw h e
 
--- a run that was put before `end`
-pub run-put : {u : List ℕ} (l run : List ℕ) (end : ℕ) → length run ≤ end → end ≤ length l → u ≡ written l (end - length run) run → drop (end - length run) u ≡ run ++ drop end l
-run-put {u} l run end h f e =
-    let m : end - length run + length run ≡ end = omega arith in
-    ap (drop (end - length run)) (e ∙ written-in l (end - length run) run (omega arith))
-    ∙ drop-over l (end - length run) run (omega arith)
-    ∙ ap (λ (k : ℕ). run ++ drop k l) m
+  pub value-put : {u : List ℕ} (w : List ℕ) (at : ℕ) → u ≡ putAll (valueWords x) w at → u ≡ putAll (valueWords o) w at
+  value-put w at e = rw h e
 
--- a space before what a number was put before
-pub space-put : (u v word : List ℕ) (at : ℕ) → 0 < at → at ≤ length u → drop at u ≡ word ++ v → drop (at - 1) (set u (at - 1) 32) ≡ spaced word ++ v
-space-put u v word at z h e =
-    let m : at - 1 + 1 ≡ at = omega arith in
-    put-first u (at - 1) 32 (omega arith) ∙ ap (λ (k : ℕ). 32 ∷ drop k u) m ∙ ap (λ (w : List ℕ). 32 ∷ w) e
+-- any outcome but a refusal, by the places of their variants
+module _ {m b : ℕ} (o : Outcome) (t : OneOf (1 ∷ 2 ∷ 3 ∷ 4 ∷ 5 ∷ []) (tagOf the-type o)) (e : m ≡ missedIn o) (f : b ≡ bytesIn o) where
+  counted : countWords m b ≡ valueWords o
+  counted = go o t e f
+    where
+      go : (x : Outcome) → OneOf (1 ∷ 2 ∷ 3 ∷ 4 ∷ 5 ∷ []) (tagOf the-type x) → m ≡ missedIn x → b ≡ bytesIn x → countWords m b ≡ valueWords x
+      go (Refused n) s g h =
+          absurd (⊎-elim (λ e. omega arith) (⊎-elim (λ e. omega arith) (⊎-elim (λ e. omega arith) (⊎-elim (λ e. omega arith) (λ e. omega arith)))) s)
+      go Repeated s g h = rw (g, h)
+      go (Delivered x y) s g h = rw (g, h)
+      go (Held x y) s g h = rw (g, h)
+      go (Stray x) s g h = rw (g, h)
+      go (TooLong x) s g h = rw (g, h)
 
--- what was put before the values is the name of the outcome that was met
-pub named : {x o : Outcome} (u v : List ℕ) → o ≡ x → u ≡ spaced (nameOf x) ++ v → u ≡ spaced (nameOf o) ++ v
-named u v e f = rw e f
+  pub counts-end : {r : ℕ} (w : List ℕ) (at : ℕ) → r ≡ endAll (countWords m b) w at → r ≡ endAll (valueWords o) w at
+  counts-end w at g = g ∙ ap (λ (ws : List (List ℕ)). endAll ws w at) counted
 
-pub valued : {x o : Outcome} (u : List ℕ) → o ≡ x → u ≡ valuesOf x → u ≡ valuesOf o
-valued u e f = rw e f
+  pub counts-put : {u : List ℕ} (w : List ℕ) (at : ℕ) → u ≡ putAll (countWords m b) w at → u ≡ putAll (valueWords o) w at
+  counts-put w at g = g ∙ ap (λ (ws : List (List ℕ)). putAll ws w at) counted
 
--- what stands from p on is all that is handed over
-rest-all : (l : List ℕ) (p : ℕ) → take (length l - p) (drop p l) ≡ drop p l
-rest-all l p = take-all (length l - p) (drop p l) (omega (arith, length-drop p l))
+-- no line is too long for its array
+few : (n : ℕ) → length (decimal n) ≤ digitLimit
+few n = digits-few digitLimit n
 
--- a line is its number before its name before its values
-module _ (k at n : ℕ) (o : Outcome) (a b l : List ℕ) (v m s : ℕ) (p : drop v a ≡ valuesOf o) (q : drop m b ≡ spaced (nameOf o) ++ drop v a) (f : drop s l ≡ decimal n ++ drop m b) where
-  line-made : take (length l - s) (drop s l) ≡ lineOf n o
-  unfolding lineOf
-  line-made = rest-all l s ∙ f ∙ ap (λ (u : List ℕ). decimal n ++ u) (q ∙ ap (λ (u : List ℕ). spaced (nameOf o) ++ u) p)
+refusal-short : (k : ℕ) → length (joined (refusalWords k)) ≤ 22
+refusal-short k = omega (arith, length-append (spaced (decimal k)) lineFeed, few k)
 
-  pub line-end : {r : ℕ} → r ≡ behind k at (take (length l - s) (drop s l)) → r ≡ behind k at (lineOf n o)
-  line-end e = e ∙ ap (behind k at) line-made
+counts-short : (m b : ℕ) → length (joined (countWords m b)) ≤ 43
+counts-short m b =
+    omega (arith, length-append (spaced (decimal m)) (spaced (decimal b) ++ lineFeed), length-append (spaced (decimal b)) lineFeed, few m, few b)
 
-  pub line-put : {u : List ℕ} (w : List ℕ) → u ≡ written w at (take (length l - s) (drop s l)) → u ≡ written w at (lineOf n o)
-  line-put w e = e ∙ ap (written w at) line-made
+values-short : (o : Outcome) → length (spaced (nameOf o)) + length (joined (valueWords o)) ≤ 53
+values-short (Refused k) = omega (arith, refusal-short k)
+values-short Repeated = omega (arith, counts-short (missedIn Repeated) (bytesIn Repeated))
+values-short (Delivered m p) = omega (arith, counts-short (missedIn (Delivered m p)) (bytesIn (Delivered m p)))
+values-short (Held m n) = omega (arith, counts-short (missedIn (Held m n)) (bytesIn (Held m n)))
+values-short (Stray m) = omega (arith, counts-short (missedIn (Stray m)) (bytesIn (Stray m)))
+values-short (TooLong m) = omega (arith, counts-short (missedIn (TooLong m)) (bytesIn (TooLong m)))
+
+-- its words are the line
+lineWords : ℕ → Outcome → List (List ℕ)
+lineWords n o = decimal n ∷ spaced (nameOf o) ∷ valueWords o
+
+line-words : (n : ℕ) (o : Outcome) → joined (lineWords n o) ≡ lineOf n o
+unfolding lineOf lineWords
+line-words n (Refused k) = refl
+line-words n Repeated = refl
+line-words n (Delivered m p) = refl
+line-words n (Held m b) = refl
+line-words n (Stray m) = refl
+line-words n (TooLong m) = refl
+
+line-short : (n : ℕ) (o : Outcome) → length (joined (lineWords n o)) ≤ lineLimit
+unfolding lineWords
+line-short n o =
+    omega (arith, length-append (decimal n) (spaced (nameOf o) ++ joined (valueWords o)), length-append (spaced (nameOf o)) (joined (valueWords o)), few n, values-short o)
+
+module _ (n : ℕ) (o : Outcome) (a b l s : List ℕ) (p q e : ℕ) (z : length s ≡ lineLimit)
+    (pe : p ≡ behind (length s) 0 (decimal n)) (ae : a ≡ written s 0 (decimal n))
+    (qe : q ≡ behind (length a) p (spaced (nameOf o))) (be : b ≡ written a p (spaced (nameOf o)))
+    (ee : e ≡ endAll (valueWords o) b q) (le : l ≡ putAll (valueWords o) b q) where
+  pub line-made : part l 0 e ≡ lineOf n o
+  unfolding lineWords
+  line-made =
+      let ws : List (List ℕ) = spaced (nameOf o) ∷ valueWords o in
+      let h : length (joined (lineWords n o)) ≤ length s = omega (arith, line-short n o) in
+      let u : l ≡ putAll (lineWords n o) s 0 = put-next (decimal n) s 0 ws ae pe (put-next (spaced (nameOf o)) a p (valueWords o) be qe le) in
+      let v : e ≡ endAll (lineWords n o) s 0 = end-next (decimal n) s 0 ws ae pe (end-next (spaced (nameOf o)) a p (valueWords o) be qe ee) in
+      ap (λ (x : List ℕ). part x 0 e) u ∙ ap (part (putAll (lineWords n o) s 0) 0) v ∙ all-part (lineWords n o) s h ∙ line-words n o
+
+-- a line that was made is written in one
+module _ (k at : ℕ) (line made l : List ℕ) (e : ℕ) (f : made ≡ part l 0 e) (g : part l 0 e ≡ line) where
+  pub line-end : {r : ℕ} → r ≡ behind k at made → r ≡ behind k at line
+  line-end h = h ∙ ap (behind k at) (f ∙ g)
+
+  pub line-put : {u : List ℕ} (w : List ℕ) → u ≡ written w at made → u ≡ written w at line
+  line-put w h = h ∙ ap (written w at) (f ∙ g)
 
 -- the line that a run ends with
 module _ (k at : ℕ) {x e : Ending} (h : e ≡ x) where
@@ -82,32 +122,14 @@ module _ (k at : ℕ) {x e : Ending} (h : e ≡ x) where
   pub ending-put : {u : List ℕ} (w : List ℕ) → u ≡ written w at (endingOf x) → u ≡ written w at (endingOf e)
   ending-put w f = rw h f
 
--- a refused set-up's line is its words before its number
-module _ (k at n : ℕ) (a l : List ℕ) (v s : ℕ) (p : drop v a ≡ spaced (decimal n) ++ lineFeed) (f : drop s l ≡ setupRefused ++ drop v a) where
-  refused-made : take (length l - s) (drop s l) ≡ refusedLine n
-  refused-made = rest-all l s ∙ f ∙ ap (λ (u : List ℕ). setupRefused ++ u) p
-
-  pub refused-end : {r : ℕ} → r ≡ behind k at (take (length l - s) (drop s l)) → r ≡ behind k at (refusedLine n)
-  refused-end q = q ∙ ap (behind k at) refused-made
-
-  pub refused-put : {u : List ℕ} (w : List ℕ) → u ≡ written w at (take (length l - s) (drop s l)) → u ≡ written w at (refusedLine n)
-  refused-put w q = q ∙ ap (written w at) refused-made
-
--- fields before the LF, which is the last byte
-pub fed-field : {u w : List ℕ} (l word : List ℕ) → length l ≡ lineLimit → w ≡ lineFeed ++ drop lineLimit l → u ≡ spaced word ++ w → u ≡ spaced word ++ lineFeed
-fed-field l word h f e =
-    let m : length l ≤ lineLimit = omega arith in
-    e ∙ ap (λ (v : List ℕ). spaced word ++ v) (f ∙ ap (λ (v : List ℕ). lineFeed ++ v) (drop-of-length-le l m))
-
-pub fed-fields : {u v w : List ℕ} (l : List ℕ) (m b : ℕ) → length l ≡ lineLimit → w ≡ lineFeed ++ drop lineLimit l → v ≡ spaced (decimal b) ++ w → u ≡ spaced (decimal m) ++ v → u ≡ countsOf m b
-fed-fields l m b h g f e = e ∙ ap (λ (v : List ℕ). spaced (decimal m) ++ v) (fed-field l (decimal b) h g f)
-
--- any outcome but a refusal, by the places of their variants
-pub counted : {m b : ℕ} (o : Outcome) (u : List ℕ) → OneOf (1 ∷ 2 ∷ 3 ∷ 4 ∷ 5 ∷ []) (tagOf the-type o) → m ≡ missedIn o → b ≡ bytesIn o → u ≡ countsOf m b → u ≡ valuesOf o
-counted (Refused n) u t e f g =
-    absurd (⊎-elim (λ e. omega arith) (⊎-elim (λ e. omega arith) (⊎-elim (λ e. omega arith) (⊎-elim (λ e. omega arith) (λ e. omega arith)))) t)
-counted Repeated u t e f g = rw (e, f) at g
-counted (Delivered m p) u t e f g = rw (e, f) at g
-counted (Held m n) u t e f g = rw (e, f) at g
-counted (Stray m) u t e f g = rw (e, f) at g
-counted (TooLong m) u t e f g = rw (e, f) at g
+-- a refused set-up's line is its words and its number
+module _ (n : ℕ) (a l s : List ℕ) (p e : ℕ) (z : length s ≡ lineLimit)
+    (pe : p ≡ behind (length s) 0 setupRefused) (ae : a ≡ written s 0 setupRefused)
+    (ee : e ≡ endAll (refusalWords n) a p) (le : l ≡ putAll (refusalWords n) a p) where
+  pub refused-made : part l 0 e ≡ refusedLine n
+  refused-made =
+      let ws : List (List ℕ) = setupRefused ∷ refusalWords n in
+      let h : length (joined ws) ≤ length s = omega (arith, refusal-short n) in
+      let u : l ≡ putAll ws s 0 = put-next setupRefused s 0 (refusalWords n) ae pe le in
+      let v : e ≡ endAll ws s 0 = end-next setupRefused s 0 (refusalWords n) ae pe ee in
+      ap (λ (x : List ℕ). part x 0 e) u ∙ ap (part (putAll ws s 0) 0) v ∙ all-part ws s h

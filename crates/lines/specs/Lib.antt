@@ -1,2 +1,2 @@
-pub mod Decimal
 pub mod Line
+pub mod Words

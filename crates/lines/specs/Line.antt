@@ -1,23 +1,18 @@
 -- The lines of a recording, byte by byte. 01, What is built: the datagram's number from 0, then `refused` and the number,
 -- or the outcome's name, missed, and the bytes held or delivered (else 0).
-use Prim.Native.Nat.{ℕ, _+_}
-use mathlib.Core.Bool.{cond}
+use Prim.Native.Nat.{ℕ}
 use mathlib.Core.List.{List, [], _∷_, _++_}
-use lib.Dec.{leb}
-use lib.ListN.{length}
 use Rattle.joiner.specs.Outcomes.{nameOf, missedIn, bytesIn}
 use Rattle.joiner.specs.declared.Outcome.{Outcome}
 use Rattle.joiner.specs.declared.Outcome.the-variants.{Refused, Repeated, Delivered, Held, Stray, TooLong}
-use Rattle.lines.specs.Decimal.{decimal}
+use Rattle.text.specs.Decimal.{decimal}
+use Rattle.text.specs.Places.{spaced}
 use Rattle.lines.specs.declared.Ending.{Ending}
 use Rattle.lines.specs.declared.Ending.the-variants.{Whole, CutShort, RefusedSetup}
 
 -- every line ends in one LF
 abbrev pub lineFeed : List ℕ
 lineFeed = 10 ∷ []
-
-abbrev pub spaced : List ℕ → List ℕ
-spaced word = 32 ∷ word
 
 -- no line is longer: three numbers of up to 20 digits, a name of up to 9 letters, three spaces and the LF
 abbrev pub lineLimit : ℕ
@@ -56,7 +51,3 @@ abbrev pub endingOf : Ending → List ℕ
 endingOf Whole = []
 endingOf CutShort = cutShort
 endingOf (RefusedSetup k) = refusedLine k
-
--- where the next line goes once this one was written at p of an output of n bytes: a line that does not fit is not written
-abbrev pub behind : ℕ → ℕ → List ℕ → ℕ
-behind n p line = cond (leb (p + length line) n) (p + length line) p

@@ -1,17 +1,18 @@
 -- That every part of a buffer that the program lends lies in the buffer.
 -- Assumes nothing.
 use Prim.Native.Nat.{ℕ, suc, _+_, _-_, _≤_, _<_}
-use mathlib.Core.Path.{_≡_, refl, sym, ap, _∙_}
+use mathlib.Core.Path.{_≡_, refl, sym, subst}
 use mathlib.Core.Bool.{Bool, true, false}
 use mathlib.Core.List.{List}
 use native.Mathlib.Omega.{arith}
 use borrow.Author.Tests.{leb-true, leb-false}
-use mir.Syntax.{w8}
+use mir.Syntax.{w8, w64}
 use mir.Val.{Fits}
 use lib.Dec.{leb}
 use lib.ListN.{length, getD, take, drop, length-take, List·getD-eq-default}
 use lib.Seq.{length-take-le, getD-take}
 use Rattle.wire.specs.Bytes.{part, Octets}
+use Rattle.channels.specs.Setup.{badSetup}
 use Rattle.recording.specs.Datagrams.{nextIn}
 use Rattle.recording.specs.Opening.{openedIn}
 use Rattle.recording.specs.declared.Found.{Found}
@@ -19,8 +20,15 @@ use Rattle.recording.specs.declared.Found.the-variants.{Unfinished}
 use Rattle.recording.specs.declared.Opening.the-variants as opening
 use Rattle.recording.specs.declared.Opened.{Opened}
 use Rattle.recording.proofs.Finding.{left-starts, left-short}
-use Rattle.recording.proofs.Starting.{unfinished-short, open-rooms}
+use Rattle.recording.proofs.Starting.{open-rooms, refused-by-20}
+use Rattle.files.specs.Reading.{Brought}
+use Rattle.files.specs.declared.Came.{Came}
+use Rattle.files.specs.declared.Came.the-variants.{More}
 use Rattle.player.specs.Bounds.{inputLength, roomsLength, RoomsFit}
+use Rattle.lines.specs.declared.Ending.{Ending}
+use Rattle.player.specs.Endings.{Says20, RefusalIs20, NextWithin}
+use Rattle.player.specs.declared.Next.{Next}
+use Rattle.player.specs.declared.Next.the-variants.{Filled, End}
 
 octets-take : (n : ℕ) (s : List ℕ) → Octets s → Octets (take n s)
 octets-take n s o i = go (leb (suc i) n) refl
@@ -40,18 +48,31 @@ length-part s p n = go (leb (p + n) (length s)) refl
     go true e = rw e (omega (arith, length-take n (drop p s)))
     go false e = rw e (omega arith)
 
+-- what more came lies in the input too, and at least one byte did
+module _ {came : Came} (all n m : ℕ) (l : all ≡ inputLength) (b : Brought n all came) (e : came ≡ More m) where
+  some-more : Brought n all (More m)
+  some-more = subst (Brought n all) e b
+
+  pub more-filled : n + m ≤ inputLength
+  more-filled = omega (arith, some-more .1)
+
+  pub more-left : inputLength - (n + m) < inputLength - n
+  more-left = omega (arith, some-more .0, some-more .1)
+
+  pub more-counted : Fits w64 (n + m)
+  more-counted = record { fits = omega (arith, some-more .1) }
+
 module _ (s : List ℕ) (n : ℕ) (l : length s ≡ inputLength) (h : n ≤ inputLength) where
   pub filled-part : n ≡ length (take n s)
   filled-part = sym (length-take-le n s (omega arith))
 
-  -- a start that needs more bytes leaves room for them
-  pub start-room : {o : Opened} → o ≡ openedIn (take n s) → o .opening ≡ opening.Unfinished → n < length s
-  start-room e g = omega (arith, filled-part, unfinished-short (take n s) e g)
-
   pub rooms-fit : {o : Opened} → o ≡ openedIn (take n s) → RoomsFit o
   rooms-fit e p b g = open-rooms (take n s) e p b g
 
-  -- and so does what is left of a datagram
+  pub refusal-is-20 : {o : Opened} → o ≡ openedIn (take n s) → RefusalIs20 o
+  refusal-is-20 e k g = refused-by-20 (take n s) e k g
+
+  -- what is left of a datagram leaves room for the rest
   pub left-within : {f : Found} (at : ℕ) → f ≡ nextIn (take n s) at → f ≡ Unfinished → at ≤ n
   left-within at e g = omega (arith, filled-part, left-starts (take n s) at e g)
 
@@ -65,3 +86,14 @@ rooms-part s n l h = sym (length-take-le n s (omega arith))
 
 pub rooms-in : (o : Opened) (p b : ℕ) → RoomsFit o → o .opening ≡ opening.Open p b → b ≤ roomsLength
 rooms-in o p b h e = h p b e
+
+pub numbered-20 : (o : Opened) (k : ℕ) → RefusalIs20 o → o .opening ≡ opening.Refused k → k ≡ badSetup
+numbered-20 o k h e = h k e
+
+-- what is to be done next, by what was met
+module _ {next : Next} (h : NextWithin next) where
+  pub next-filled : (n : ℕ) → next ≡ Filled n → n ≤ inputLength
+  next-filled n e = subst NextWithin e h
+
+  pub next-ending : (e : Ending) → next ≡ End e → Says20 e
+  next-ending e f = subst NextWithin f h

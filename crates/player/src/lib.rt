@@ -4,7 +4,8 @@ ghost use Prim.Native.Nat.{_≤_, _<_};
 ghost use mathlib.Core.Path.{_≡_};
 ghost use lib.ListN.{length};
 ghost use Rattle.player.specs.Bounds.{inputLength, roomsLength, RoomsFit};
-use libc::STDOUT_FILENO;
+ghost use Rattle.player.specs.Endings.{Says20, Refuses20, RefusalIs20, NextWithin};
+use files::Came;
 use lines::Ending;
 use recording::Found;
 use recording::Opened;
@@ -14,6 +15,13 @@ use recording::Run;
 // Some four of the longest datagrams.
 const INPUT: usize = 262144;
 
+// How a replay came to its end: its lines say so, or the recording could not be read, or its lines not be written.
+pub enum Replayed {
+    Told(Ending),
+    Unreadable,
+    Unwritable,
+}
+
 // The start of the recording, as far as it came, and how much of the input is filled.
 struct Begun {
     opened: Opened,
@@ -21,20 +29,19 @@ struct Begun {
     failed: bool,
 }
 
-// How much of the input is filled after a read.
-struct Filled {
-    filled: usize,
-    failed: bool,
-}
-
-// What playing has left: a datagram for whose line the output had no room, or the bytes that were moved to the front.
-struct Left {
-    datagram: bool,
-    kept: usize,
+// What is to be done once all that came was played: its lines are written first, or so much of the input is filled anew,
+// or the run ends.
+enum Next {
+    Write,
+    Filled(usize),
+    End(Ending),
+    Failed,
 }
 
 // Replays the recording that can be read at `fd`. `name` is what a message on standard error calls it.
-pub fn replay(fd: i32, name: &[u8]) {
+pub fn replay(fd: i32, name: &[u8]) -> Replayed
+    ensures { λ r. ⌜ Refuses20 r ⌝ }
+{
     let mut block = input_buffer();
     let input: &mut [u8] = &mut block;
     let mut text = io::large_buffer();
@@ -51,14 +58,14 @@ pub fn replay(fd: i32, name: &[u8]) {
                 at: start,
                 made: 0,
             };
-            play_in(fd, name, run, rooms, input, begun.filled, output);
+            play_in(fd, name, run, rooms, input, begun.filled, output)
         }
         Opening::Refused(number) => finish(output, 0, Ending::RefusedSetup(number)),
         Opening::Unfinished => {
             if begun.failed {
-                os::fail(name);
+                fail(name, output, 0)
             } else {
-                finish(output, 0, Ending::CutShort);
+                finish(output, 0, Ending::CutShort)
             }
         }
     }
@@ -73,24 +80,30 @@ fn input_buffer() -> [u8; INPUT]
 // Reads until the start of the recording is known, or nothing more comes.
 fn begin(fd: i32, input: &mut [u8]) -> Begun
     requires { ⌜ length (now input) ≡ inputLength ⌝ }
-    ensures { λ r. ⌜ (r .filled ≤ inputLength) × RoomsFit (r .opened) ⌝ }
+    ensures { λ r. ⌜ (r .filled ≤ inputLength) × RoomsFit (r .opened) × RefusalIs20 (r .opened) ⌝ }
 {
     let mut filled: usize = 0;
     loop {
         let opened = recording::open(&input[..filled]);
         let opening = opened.opening;
         match opening {
-            Opening::Unfinished => {
-                let got = fill(fd, input, filled);
-                if got.filled <= filled {
+            Opening::Unfinished => match files::fill(fd, input, filled) {
+                Came::More(n) => filled += n,
+                Came::Nothing => {
                     return Begun {
                         opened,
                         filled,
-                        failed: got.failed,
+                        failed: false,
                     };
                 }
-                filled = got.filled;
-            }
+                Came::Failed => {
+                    return Begun {
+                        opened,
+                        filled,
+                        failed: true,
+                    };
+                }
+            },
             _ => {
                 return Begun {
                     opened,
@@ -99,26 +112,6 @@ fn begin(fd: i32, input: &mut [u8]) -> Begun
                 };
             }
         }
-    }
-}
-
-// Reads once, behind what is filled already.
-fn fill(fd: i32, input: &mut [u8], filled: usize) -> Filled
-    requires { ⌜ filled < length (now input) ⌝ }
-    ensures { λ r. ⌜ (filled ≤ r .filled) × (r .filled ≤ length (now (input .entry))) ⌝ }
-{
-    let got = libc::read(fd, &mut input[filled..]);
-    if got < 0 {
-        return Filled {
-            filled,
-            failed: true,
-        };
-    }
-    let all = &input[..];
-    let more = io::count(got, &all[filled..]);
-    Filled {
-        filled: filled + more,
-        failed: false,
     }
 }
 
@@ -131,11 +124,12 @@ fn play_in(
     input: &mut [u8],
     filled: usize,
     output: &mut [u8],
-)
+) -> Replayed
     requires { ⌜ (length (now input) ≡ inputLength) × (filled ≤ inputLength) × (total ≤ roomsLength) ⌝ }
+    ensures { λ r. ⌜ Refuses20 r ⌝ }
 {
     let mut rooms = io::large_buffer();
-    play_all(fd, name, run, &mut rooms[..total], input, filled, output);
+    play_all(fd, name, run, &mut rooms[..total], input, filled, output)
 }
 
 // Plays what is filled, and reads on, until nothing more comes. A proved loop has to end, and nothing says that a file
@@ -148,8 +142,9 @@ fn play_all(
     input: &mut [u8],
     filled: usize,
     output: &mut [u8],
-)
+) -> Replayed
     requires { ⌜ (length (now input) ≡ inputLength) × (filled ≤ inputLength) ⌝ }
+    ensures { λ r. ⌜ Refuses20 r ⌝ }
 {
     let mut run = run;
     let mut filled = filled;
@@ -157,78 +152,86 @@ fn play_all(
     while turns > 0 {
         turns -= 1;
         run = recording::play(run, rooms, &input[..filled], output);
-        let left = left_over(input, filled, run.at);
-        if left.datagram {
-            if flush(output, run.made) {
-                run.made = 0;
-            } else {
-                return;
+        match read_on(fd, input, filled, run.at) {
+            Next::Write => {
+                if files::flush(output, run.made) {
+                    run.made = 0;
+                } else {
+                    return Replayed::Unwritable;
+                }
             }
-        } else {
-            let kept = left.kept;
-            let got = fill(fd, input, kept);
-            if got.filled <= kept {
-                end(name, output, run.made, kept, got.failed);
-                return;
+            Next::Filled(n) => {
+                filled = n;
+                run.at = 0;
             }
-            filled = got.filled;
-            run.at = 0;
+            Next::End(ending) => return finish(output, run.made, ending),
+            Next::Failed => return fail(name, output, run.made),
         }
     }
+    Replayed::Unreadable
 }
 
-// Whether the output is to be written before playing goes on; else what is left of the input, moved to its front.
-fn left_over(input: &mut [u8], filled: usize, at: usize) -> Left
+// Reads on behind what is left of the input, unless a whole datagram is left, for whose line the output had no room.
+fn read_on(fd: i32, input: &mut [u8], filled: usize, at: usize) -> Next
     requires { ⌜ (length (now input) ≡ inputLength) × (filled ≤ inputLength) ⌝ }
-    ensures { λ r. ⌜ r .kept < inputLength ⌝ }
+    ensures { λ r. ⌜ NextWithin r ⌝ }
 {
     match recording::next(&input[..filled], at) {
         Found::Datagram {
             start: _,
             length: _,
-        } => Left {
-            datagram: true,
-            kept: 0,
-        },
-        Found::Unfinished => Left {
-            datagram: false,
-            kept: recording::keep(input, at, filled - at),
-        },
-        Found::Nothing => Left {
-            datagram: false,
-            kept: 0,
-        },
+        } => Next::Write,
+        Found::Unfinished => {
+            let kept = blocks::keep(input, at, filled - at);
+            read_behind(fd, input, kept)
+        }
+        Found::Nothing => read_behind(fd, input, 0),
     }
 }
 
-// Nothing more comes, and `kept` bytes are left: all lines are written, and then why the run ends here.
-fn end(name: &[u8], output: &mut [u8], made: usize, kept: usize, failed: bool) {
-    if failed {
-        if flush(output, made) {
-            os::fail(name);
-        }
-        return;
+fn read_behind(fd: i32, input: &mut [u8], kept: usize) -> Next
+    requires { ⌜ (length (now input) ≡ inputLength) × (kept < inputLength) ⌝ }
+    ensures { λ r. ⌜ NextWithin r ⌝ }
+{
+    match files::fill(fd, input, kept) {
+        Came::More(n) => Next::Filled(kept + n),
+        Came::Nothing => Next::End(ending_after(kept)),
+        Came::Failed => Next::Failed,
     }
+}
+
+// How a run ends with so many bytes of a datagram left.
+fn ending_after(kept: usize) -> Ending
+    ensures { λ r. ⌜ Says20 r ⌝ }
+{
     if kept == 0 {
-        finish(output, made, Ending::Whole);
+        Ending::Whole
     } else {
-        finish(output, made, Ending::CutShort);
+        Ending::CutShort
     }
 }
 
 // Writes the lines that are made, and the one that the run ends with.
-fn finish(output: &mut [u8], made: usize, ending: Ending) {
-    if flush(output, made) {
+fn finish(output: &mut [u8], made: usize, ending: Ending) -> Replayed
+    requires { ⌜ Says20 ending ⌝ }
+    ensures { λ r. ⌜ Refuses20 r ⌝ }
+{
+    if files::flush(output, made) {
         let last = lines::put_ending(output, 0, ending);
-        flush(output, last);
+        if files::flush(output, last) {
+            return Replayed::Told(ending);
+        }
     }
+    Replayed::Unwritable
 }
 
-fn flush(output: &[u8], made: usize) -> bool {
-    let written = io::write_all(STDOUT_FILENO, wire::part(output, 0, made));
-    if written {
-        return true;
+// Writes the lines that are made, and then what is wrong with the recording.
+fn fail(name: &[u8], output: &[u8], made: usize) -> Replayed
+    ensures { λ r. ⌜ Refuses20 r ⌝ }
+{
+    if files::flush(output, made) {
+        os::fail(name);
+        return Replayed::Unreadable;
     }
-    os::fail(b"standard output");
-    false
+    Replayed::Unwritable
 }

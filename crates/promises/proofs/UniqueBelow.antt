@@ -54,6 +54,8 @@ text =
       put-text-output = λ k a z z′ e e′ p q. p .1 ∙ sym (q .1);
       put-decimal = λ k a z z′ e e′ p q. p .0 ∙ sym (q .0);
       put-decimal-output = λ k a z z′ e e′ p q. p .1 ∙ sym (q .1);
+      put-number = λ k a z z′ e e′ p q. p .0 ∙ sym (q .0);
+      put-number-output = λ k a z z′ e e′ p q. p .1 ∙ sym (q .1);
       put-hex = λ k a z z′ e e′ p q. p .0 ∙ sym (q .0);
       put-hex-output = λ k a z z′ e e′ p q. p .1 ∙ sym (q .1);
     }

@@ -66,7 +66,7 @@ use Rattle.platform.proofs.payload.Reads.{Post as platform-payload}
 use Rattle.recording.proofs.open.Reads.{Post as recording-open}
 use Rattle.recording.proofs.next.Reads.{Post as recording-next}
 use Rattle.recording.proofs.play.Reads.{Post as recording-play}
-use Rattle.recording.proofs.keep.Reads.{Post as recording-keep}
+use Rattle.blocks.proofs.keep.Reads.{Post as blocks-keep}
 use Rattle.lines.proofs.put_line.Reads.{Post as lines-put-line}
 use Rattle.lines.proofs.put_ending.Reads.{Post as lines-put-ending}
 use Rattle.recording.specs.Play.{stateOf}
@@ -164,8 +164,8 @@ pub record RecordingUnique : Type 0 where
   pub opened : Answer recording-open
   pub next : Answer recording-next
   pub play : Same recording-play (λ k z e. stateOf z (now (e .1 .0)) (now (e .1 .1 .1 .0)))
-  pub keep : Answer recording-keep
-  pub keep-buffer : Lent recording-keep (λ k e. now (e .0))
+  pub keep : Answer blocks-keep
+  pub keep-buffer : Lent blocks-keep (λ k e. now (e .0))
   pub put-line : Answer lines-put-line
   pub put-line-output : Lent lines-put-line (λ k e. now (e .0))
   pub put-ending : Answer lines-put-ending

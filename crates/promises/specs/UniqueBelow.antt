@@ -17,6 +17,7 @@ use Rattle.states.proofs.how_many_up.Reads.{Post as states-how-many-up}
 use Rattle.states.proofs.turned.Reads.{Post as states-turned}
 use Rattle.text.proofs.put_text.Reads.{Post as text-put-text}
 use Rattle.text.proofs.put_decimal.Reads.{Post as text-put-decimal}
+use Rattle.text.proofs.put_number.Reads.{Post as text-put-number}
 use Rattle.text.proofs.put_hex.Reads.{Post as text-put-hex}
 use Rattle.calls.proofs.next.Reads.{Post as calls-next}
 use Rattle.calls.proofs.argument.Reads.{Post as calls-argument}
@@ -74,6 +75,8 @@ pub record TextUnique : Type 0 where
   pub put-text-output : Lent text-put-text (λ k e. now (e .0))
   pub put-decimal : Answer text-put-decimal
   pub put-decimal-output : Lent text-put-decimal (λ k e. now (e .0))
+  pub put-number : Answer text-put-number
+  pub put-number-output : Lent text-put-number (λ k e. now (e .0))
   pub put-hex : Answer text-put-hex
   pub put-hex-output : Lent text-put-hex (λ k e. now (e .0))
 

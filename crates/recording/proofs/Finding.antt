@@ -24,14 +24,14 @@ module _ (s : List ℕ) (p : ℕ) where
   unfolding nextIn
   nothing-next h = sym (yes-le _ _ (length s) p h)
 
-  datagram-next : (n : ℕ) → n ≡ number 1 s p → p + 2 + n ≤ length s → Datagram (p + 2) n ≡ nextIn s p
+  pub datagram-next : (n : ℕ) → n ≡ number 1 s p → p + 2 + n ≤ length s → Datagram (p + 2) n ≡ nextIn s p
   unfolding nextIn
   datagram-next n e h =
       ap (Datagram (p + 2)) e
       ∙ sym (yes-le _ _ (p + 2 + number 1 s p) (length s) (rw e at h))
       ∙ sym (no-le _ _ (length s) p (omega arith))
 
-  unfinished-next : p < length s → length s < p + 2 + number 1 s p → Unfinished ≡ nextIn s p
+  pub unfinished-next : p < length s → length s < p + 2 + number 1 s p → Unfinished ≡ nextIn s p
   unfolding nextIn
   unfinished-next l h = sym (no-le _ _ (p + 2 + number 1 s p) (length s) h) ∙ sym (no-le _ _ (length s) p l)
 

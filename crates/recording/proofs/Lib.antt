@@ -1,4 +1,4 @@
 pub mod Finding
+pub mod More
 pub mod Playing
 pub mod Starting
-mod Keeping

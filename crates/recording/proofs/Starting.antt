@@ -1,7 +1,7 @@
 -- How a recording starts: the cases of `openedIn`.
 -- Assumes nothing.
 use Prim.Native.Nat.{ℕ, suc, _+_, _*_, _≤_, _<_}
-use mathlib.Core.Path.{_≡_, refl, sym, ap, ap₂, _∙_}
+use mathlib.Core.Path.{_≡_, refl, sym, ap, ap₂, subst⁻¹, _∙_}
 use mathlib.Core.Bool.{Bool, true, false, cond, _&&_}
 use mathlib.Core.List.{List, [], _∷_, _++_}
 use native.Mathlib.Numerals.{add-one}
@@ -14,7 +14,7 @@ use lib.ListN.{length, set, take, replicate}
 use lib.Seq.{length-take-le, take-suc-set}
 use Rattle.wire.specs.Bytes.{number}
 use Rattle.wire.proofs.Cond.{yes-lt, no-lt, yes-if, no-if, and-left, and-right}
-use Rattle.channels.specs.Setup.{channelLimit, badSetup, newChannel, freshOf, setupOf, smallestRoom, largestRoom, roomStart}
+use Rattle.channels.specs.Setup.{channelLimit, badSetup, newChannel, good, freshOf, refusedSetup, setupOf, smallestRoom, largestRoom, roomStart}
 use Rattle.channels.specs.declared.Channel.{Channel}
 use Rattle.channels.specs.declared.Joiner.{Joiner}
 use Rattle.channels.specs.declared.NewJoiner.{NewJoiner}
@@ -124,8 +124,18 @@ module _ {t : Bool} (s : List ℕ) (n R : ℕ) (l : sizesLength ≤ length s) (p
       ∙ sym (yes-if _ _ (sym judged ∙ g))
       ∙ sym (no-lt _ _ (length s) sizesLength l)
 
--- what is known of a start in each case: one that is not finished is short, and one that is open has rooms within the limit
-module _ (P : Opening → Type 0) (s : List ℕ) (short : length s < idPlace channelLimit → P Unfinished) (bad : (k : ℕ) → P (Refused k)) (ready : (p b : ℕ) → b ≤ roomsLimit → P (Open p b)) where
+-- a set-up is refused with 20 and no other number
+setup-refuses : (ids : List ℕ) (R b k : ℕ) → setupOf ids R b .answer ≡ answer.Refused k → k ≡ badSetup
+unfolding setupOf
+setup-refuses ids R b k e = go (leb (length ids) channelLimit && good (freshOf ids R) b) e
+  where
+    go : (t : Bool) → cond t (record { answer = answer.Accepted; joiner = freshOf ids R }) refusedSetup .answer ≡ answer.Refused k → k ≡ badSetup
+    go true f = let y : _≡_ {A = ℕ} 0 1 = cc in absurd (omega arith)
+    go false f = let z : badSetup ≡ k = cc in sym z
+
+-- what is known of a start in each case: one that is not finished is short, one that is refused has number 20, and one that
+-- is open has rooms within the limit
+module _ (P : Opening → Type 0) (s : List ℕ) (short : length s < idPlace channelLimit → P Unfinished) (bad : P (Refused badSetup)) (ready : (p b : ℕ) → b ≤ roomsLimit → P (Open p b)) where
   opening-says : P (openedIn s .opening)
   unfolding openedIn openedBy goodStart
   opening-says = start (ltb (length s) sizesLength) refl (goodStart n R) refl
@@ -136,19 +146,19 @@ module _ (P : Opening → Type 0) (s : List ℕ) (short : length s < idPlace cha
       R : ℕ
       R = roomIn s
 
-      answered : (a : Answer) → roomStart R n ≤ roomsLimit → P (openedBy (idPlace n) (roomStart R n) (setupIn s n R) a .opening)
-      answered answer.Accepted h = ready (idPlace n) (roomStart R n) h
-      answered (answer.Refused k) h = bad k
+      answered : (a : Answer) → setupIn s n R .answer ≡ a → roomStart R n ≤ roomsLimit → P (openedBy (idPlace n) (roomStart R n) (setupIn s n R) a .opening)
+      answered answer.Accepted e h = ready (idPlace n) (roomStart R n) h
+      answered (answer.Refused k) e h = subst⁻¹ (λ (m : ℕ). P (Refused m)) (setup-refuses (idsIn s n) R (roomStart R n) k e) bad
 
       ids : (v : Bool) → ltb (length s) (idPlace n) ≡ v → goodStart n R ≡ true → P (cond v (closed Unfinished) (readyIn s n R) .opening)
       ids true j g = short (omega (arith, ltb-true (length s) (idPlace n) j, start-few n R refl g))
-      ids false j g = answered (setupIn s n R .answer) (start-total n R refl g)
+      ids false j g = answered (setupIn s n R .answer) refl (start-total n R refl g)
 
       start : (t : Bool) → ltb (length s) sizesLength ≡ t → (u : Bool) → goodStart n R ≡ u →
           P (cond t (closed Unfinished) (cond u (cond (ltb (length s) (idPlace n)) (closed Unfinished) (readyIn s n R)) (closed (Refused badSetup))) .opening)
       start true h u i = short (omega (arith, ltb-true (length s) sizesLength h))
       start false h true i = ids (ltb (length s) (idPlace n)) refl i
-      start false h false i = bad badSetup
+      start false h false i = bad
 
 module _ {o : Opened} (s : List ℕ) (e : o ≡ openedIn s) where
   same : o .opening ≡ openedIn s .opening
@@ -158,7 +168,7 @@ module _ {o : Opened} (s : List ℕ) (e : o ≡ openedIn s) where
   unfinished-short g =
       opening-says (λ (q : Opening). q ≡ Unfinished → length s < idPlace channelLimit) s
       (λ h f. h)
-      (λ k f. let y : _≡_ {A = ℕ} 0 1 = cc in absurd (omega arith))
+      (λ f. let y : _≡_ {A = ℕ} 0 1 = cc in absurd (omega arith))
       (λ p b h f. let y : _≡_ {A = ℕ} 0 1 = cc in absurd (omega arith))
       (sym same ∙ g)
 
@@ -166,6 +176,14 @@ module _ {o : Opened} (s : List ℕ) (e : o ≡ openedIn s) where
   open-rooms p b g =
       opening-says (λ (q : Opening). q ≡ Open p b → b ≤ roomsLimit) s
       (λ h f. let y : _≡_ {A = ℕ} 0 1 = cc in absurd (omega arith))
-      (λ k f. let y : _≡_ {A = ℕ} 0 1 = cc in absurd (omega arith))
+      (λ f. let y : _≡_ {A = ℕ} 0 1 = cc in absurd (omega arith))
       (λ p' b' h f. let z : b' ≡ b = cc in omega arith)
+      (sym same ∙ g)
+
+  pub refused-by-20 : (k : ℕ) → o .opening ≡ Refused k → k ≡ badSetup
+  refused-by-20 k g =
+      opening-says (λ (q : Opening). q ≡ Refused k → k ≡ badSetup) s
+      (λ h f. let y : _≡_ {A = ℕ} 0 1 = cc in absurd (omega arith))
+      (λ f. let z : badSetup ≡ k = cc in sym z)
+      (λ p b h f. let y : _≡_ {A = ℕ} 0 1 = cc in absurd (omega arith))
       (sym same ∙ g)

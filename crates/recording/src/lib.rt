@@ -1,12 +1,8 @@
 // A recording: how it starts, where its datagrams stand, and how they are played, one after the other. It is read a block
 // at a time: each call is handed what has come so far and says what it needs more of.
 ghost use mathlib.Core.Path.{_≡_};
-ghost use lib.ListN.{length};
-ghost use Rattle.wire.specs.Bytes.{over, part};
 ghost use Rattle.recording.specs.Datagrams.{nextIn};
 ghost use Rattle.recording.specs.Play.{stateOf, played, steppedOf};
-ghost use Rattle.lines.specs.Line.{lineLimit};
-ghost use Prim.Native.Nat.{_+_, _≤_};
 use channels::Joiner;
 use lines::LINE_LIMIT;
 
@@ -103,21 +99,4 @@ fn play_one(run: Run, rooms: &mut [u8], datagram: &[u8], end: usize, output: &mu
         at: end,
         made,
     }
-}
-
-// Moves the `count` bytes from `from` on to the front, and answers how many they are: none where they do not all lie in
-// the buffer.
-pub fn keep(buffer: &mut [u8], from: usize, count: usize) -> usize
-    ensures { λ r. ⌜ r ≡ length (part (now (buffer .entry)) from count) ⌝ }
-    ensures { λ _. ⌜ now (buffer .exit) ≡ over (now (buffer .entry)) 0 (part (now (buffer .entry)) from count) ⌝ }
-{
-    if wire::has_room(buffer.len(), from, count) {
-        let mut i = 0;
-        while i < count {
-            buffer[i] = buffer[from + i];
-            i += 1;
-        }
-        return count;
-    }
-    0
 }

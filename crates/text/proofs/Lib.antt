@@ -1,3 +1,3 @@
-mod Decimals
-mod Putting
+pub mod Decimals
+pub mod Putting
 mod Hexes

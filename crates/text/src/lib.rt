@@ -8,10 +8,13 @@ ghost use lib.Dec.{leb};
 ghost use Rattle.wire.specs.Bytes.{over, written};
 ghost use Rattle.text.specs.Decimal.{digitLimit, decimal};
 ghost use Rattle.text.specs.Hex.{sign, pair, pairs, hex};
-ghost use Rattle.text.specs.Places.{behind};
+ghost use Rattle.text.specs.Places.{fieldLimit, behind, spaced};
 
 // Every number of 64 bits has so many digits or fewer.
 const DIGITS: usize = 20;
+
+// And a space before them.
+const FIELD: usize = DIGITS + 1;
 
 pub fn put_text(output: &mut [u8], at: usize, text: &[u8]) -> usize
     ensures { λ r. ⌜ r ≡ behind (length (now (output .entry))) at (now (text .entry)) ⌝ }
@@ -32,6 +35,18 @@ pub fn put_decimal(output: &mut [u8], at: usize, n: u64) -> usize
     let mut space = [0u8; DIGITS];
     let digits: &mut [u8] = &mut space;
     let start = number_before(digits, DIGITS, n);
+    let made = &digits[..];
+    put_text(output, at, &made[start..])
+}
+
+// A number behind a space.
+pub fn put_number(output: &mut [u8], at: usize, n: u64) -> usize
+    ensures { λ r. ⌜ r ≡ behind (length (now (output .entry))) at (spaced (decimal n)) ⌝ }
+    ensures { λ _. ⌜ now (output .exit) ≡ written (now (output .entry)) at (spaced (decimal n)) ⌝ }
+{
+    let mut space = [0u8; FIELD];
+    let digits: &mut [u8] = &mut space;
+    let start = field_before(digits, FIELD, n);
     let made = &digits[..];
     put_text(output, at, &made[start..])
 }
@@ -109,4 +124,15 @@ fn number_before(line: &mut [u8], end: usize, n: u64) -> usize
     at -= 1;
     line[at] = b'0' + rest as u8;
     at
+}
+
+// A space and the number.
+fn field_before(line: &mut [u8], end: usize, n: u64) -> usize
+    requires { ⌜ (fieldLimit ≤ end) × (end ≤ length (now line)) ⌝ }
+    ensures { λ r. ⌜ r ≤ end ⌝ }
+    ensures { λ r. ⌜ drop r (now (line .exit)) ≡ spaced (decimal n) ++ drop end (now (line .entry)) ⌝ }
+{
+    let start = number_before(line, end, n) - 1;
+    line[start] = b' ';
+    start
 }

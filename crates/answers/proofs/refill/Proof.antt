@@ -1,7 +1,7 @@
 -- `answers::refill` meets its contract: what is read lies behind what is kept, and both in the buffer.
 -- Assumes nothing.
 use borrow.Author.Needs.{needs}
-use Rattle.answers.proofs.Parts.{filled-within, filled-fits}
+use Rattle.answers.proofs.Parts.{kept-within, filled-within, filled-fits}
 use Rattle.answers.proofs.refill.Statement.{statement}
 use Rattle.answers.proofs.refill.Tie as tie
 
@@ -12,6 +12,13 @@ refill-spec =
     (λ c κs. search needs)
     (λ c κs. search needs)
     (λ c κs. search needs)
+    (λ c. search needs)
     (λ c. search filled-fits)
     (λ c. search needs)
-    (λ c. search filled-within))
+    (λ c. search needs)
+    (λ c. search needs)
+    (λ c. search filled-within)
+    (λ c. search needs)
+    (λ c. search kept-within)
+    (λ c. search needs)
+    (λ c. search kept-within))

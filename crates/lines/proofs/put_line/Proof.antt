@@ -1,4 +1,4 @@
--- `lines::put_line` meets its contract: the number, the name and the values, written in one.
+-- `lines::put_line` meets its contract: the line that was made, in one.
 -- Assumes nothing.
 use borrow.Author.Needs.{needs}
 use Rattle.lines.proofs.Lines.{line-end, line-put}
@@ -12,10 +12,6 @@ put-line-spec =
     (λ c. search needs)
     (λ c κs. search needs)
     (λ c κs. search needs)
-    (λ c κs. search needs)
-    (λ c. search needs)
-    (λ c. search needs)
-    (λ c. search needs)
     (λ c κs. search needs)
     (λ c. search needs)
     (λ c. (search line-end, search line-put)))

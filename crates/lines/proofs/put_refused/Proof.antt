@@ -1,7 +1,7 @@
--- `lines::put_refused` meets its contract: the words and the number, written in one.
+-- `lines::put_refused` meets its contract: the line that was made, in one.
 -- Assumes nothing.
 use borrow.Author.Needs.{needs}
-use Rattle.lines.proofs.Lines.{refused-end, refused-put}
+use Rattle.lines.proofs.Lines.{line-end, line-put}
 use Rattle.lines.proofs.put_refused.Statement.{statement}
 use Rattle.lines.proofs.put_refused.Tie as tie
 
@@ -11,11 +11,7 @@ put-refused-spec =
     (tie.spec
     (λ c. search needs)
     (λ c κs. search needs)
-    (λ c. search needs)
+    (λ c κs. search needs)
     (λ c κs. search needs)
     (λ c. search needs)
-    (λ c. search needs)
-    (λ c. search needs)
-    (λ c κs. search needs)
-    (λ c. search needs)
-    (λ c. (search refused-end, search refused-put)))
+    (λ c. (search line-end, search line-put)))

@@ -5,7 +5,7 @@ use Prim.Native.Nat.{_-_, _≤_}
 use mathlib.Core.Path.{_≡_}
 use lib.ListN.{length}
 use Rattle.player.specs.Bounds.{inputLength}
-use Rattle.player.proofs.Bounds.{filled-part, start-room, rooms-fit}
+use Rattle.player.proofs.Bounds.{filled-part, more-filled, more-left, more-counted, rooms-fit, refusal-is-20}
 use Rattle.player.proofs.begin.Statement.{statement}
 use Rattle.player.proofs.begin.Tie as tie
 
@@ -26,10 +26,16 @@ begin-spec =
     (λ c. search filled-part)
     (λ c κs. search needs)
     (λ c. search needs)
-    (λ c κs. search start-room)
+    (λ c κs. search needs)
     (λ c. search needs)
-    (λ c. (search needs, search rooms-fit))
+    (λ c. search more-counted)
+    (λ c. search more-left)
+    (λ c. (search needs, search needs, search more-filled))
     (λ c. search needs)
-    (λ c. (search needs, search needs, search needs))
     (λ c. search needs)
-    (λ c. (search needs, search rooms-fit)))
+    (λ c. (search needs, search rooms-fit, search refusal-is-20))
+    (λ c. search needs)
+    (λ c. search needs)
+    (λ c. (search needs, search rooms-fit, search refusal-is-20))
+    (λ c. search needs)
+    (λ c. (search needs, search rooms-fit, search refusal-is-20)))

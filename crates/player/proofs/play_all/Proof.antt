@@ -1,11 +1,11 @@
 -- `player::play_all` meets its contract: it is safe, and ends with its turns.
 -- Assumes nothing.
 use borrow.Author.Needs.{needs}
-use Prim.Native.Nat.{_-_, _≤_}
+use Prim.Native.Nat.{_≤_}
 use mathlib.Core.Path.{_≡_}
 use lib.ListN.{length}
 use Rattle.player.specs.Bounds.{inputLength}
-use Rattle.player.proofs.Bounds.{filled-part}
+use Rattle.player.proofs.Bounds.{filled-part, next-filled, next-ending}
 use Rattle.player.proofs.play_all.Statement.{statement}
 use Rattle.player.proofs.play_all.Tie as tie
 
@@ -32,6 +32,7 @@ play-all-spec =
     (λ c. search filled-part)
     (λ c κs. search needs)
     (λ c κs. search needs)
+    (λ c. search needs)
     (λ c κs. search needs)
     (λ c. search needs)
     (λ c. (search needs, search needs, search needs, search needs, search needs))
@@ -39,14 +40,21 @@ play-all-spec =
     (λ c. search needs)
     (λ c. search needs)
     (λ c. search needs)
+    (λ c. search needs)
+    (λ c. search needs)
+    (λ c. (search needs, search needs, search needs, search needs, search next-filled))
+    (λ c. search needs)
+    (λ c κs. search next-ending)
+    (λ c. search needs)
+    (λ c. search needs)
+    (λ c. search needs)
+    (λ c. search needs)
+    (λ c. search needs)
     (λ c κs. search needs)
-    (λ c κs. search needs)
     (λ c. search needs)
     (λ c. search needs)
     (λ c. search needs)
     (λ c. search needs)
-    (λ c. search needs)
-    (λ c. (search needs, search needs, search needs, search needs, search needs))
     (λ c. search needs)
     (λ c. search needs)
     (λ c. search needs)

@@ -1,7 +1,7 @@
--- `player::replay` meets its contract: every part that it lends lies in its buffer.
+-- `player::replay` meets its contract: every part that it lends lies in its buffer, and a set-up is refused with its own number.
 -- Assumes nothing.
 use borrow.Author.Needs.{needs}
-use Rattle.player.proofs.Bounds.{rooms-in}
+use Rattle.player.proofs.Bounds.{rooms-in, numbered-20}
 use Rattle.player.proofs.replay.Statement.{statement}
 use Rattle.player.proofs.replay.Tie as tie
 
@@ -17,7 +17,7 @@ replay-spec =
     (λ c. search needs)
     (λ c κs. (search needs, search needs, search rooms-in))
     (λ c. search needs)
-    (λ c κs. search needs)
+    (λ c κs. search numbered-20)
     (λ c. search needs)
     (λ c κs. search needs)
     (λ c κs. search needs)

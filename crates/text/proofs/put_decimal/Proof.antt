@@ -1,7 +1,7 @@
 -- `text::put_decimal` meets its contract: the digits, made at the end of an array, are written in one.
 -- Assumes nothing.
 use borrow.Author.Needs.{needs}
-use Rattle.text.proofs.Putting.{digits-end, digits-put}
+use Rattle.text.proofs.Putting.{word-end, word-put}
 use Rattle.text.proofs.put_decimal.Statement.{statement}
 use Rattle.text.proofs.put_decimal.Tie as tie
 
@@ -16,4 +16,4 @@ put-decimal-spec =
     (λ c. search needs)
     (λ c κs. search needs)
     (λ c. search needs)
-    (λ c. (search digits-end, search digits-put)))
+    (λ c. (search word-end, search word-put)))

@@ -1,0 +1,19 @@
+-- `player::finish` meets its contract: it tells the ending that it was handed.
+-- Assumes nothing.
+use borrow.Author.Needs.{needs}
+use Rattle.player.proofs.finish.Statement.{statement}
+use Rattle.player.proofs.finish.Tie as tie
+
+pub finish-spec : {M : Type 1} → statement M
+finish-spec =
+    tie.close
+    (tie.spec
+    (λ c κs. search needs)
+    (λ c κs. search needs)
+    (λ c κs. search needs)
+    (λ c. search needs)
+    (λ c. search needs)
+    (λ c. search needs)
+    (λ c. search needs)
+    (λ c. search needs)
+    (λ c. search needs))

@@ -1,0 +1,23 @@
+-- `player::read_behind` meets its contract: what came fits behind what is kept.
+-- Assumes nothing.
+use borrow.Author.Needs.{needs}
+use Rattle.player.proofs.Bounds.{more-filled, more-counted}
+use Rattle.player.proofs.read_behind.Statement.{statement}
+use Rattle.player.proofs.read_behind.Tie as tie
+
+pub read-behind-spec : {M : Type 1} → statement M
+read-behind-spec =
+    tie.close
+    (tie.spec
+    (λ c κs. search needs)
+    (λ c. search needs)
+    (λ c. search more-counted)
+    (λ c. search needs)
+    (λ c κs. search needs)
+    (λ c. search needs)
+    (λ c. search needs)
+    (λ c. search more-filled)
+    (λ c. search needs)
+    (λ c. search needs)
+    (λ c. search needs)
+    (λ c. search needs))
