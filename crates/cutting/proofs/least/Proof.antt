@@ -1,8 +1,8 @@
--- `binding::least` meets its contract: the smaller one.
+-- `cutting::least` meets its contract: the smaller one.
 -- Assumes nothing.
 use borrow.Author.Needs.{needs}
-use Rattle.binding.proofs.least.Statement.{statement}
-use Rattle.binding.proofs.least.Tie as tie
+use Rattle.cutting.proofs.least.Statement.{statement}
+use Rattle.cutting.proofs.least.Tie as tie
 
 pub least-spec : {M : Type 1} → statement M
 least-spec =
