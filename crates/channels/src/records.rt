@@ -66,7 +66,8 @@ fn earlier(at: usize, i: usize, same: bool) -> usize
     if same & (i <= at) { i } else { at }
 }
 
-fn has_good_sizes(count: usize, room: u32, buffer: usize) -> bool
+// How many channels there are, how large a room is, and whether the buffer is just their rooms.
+pub fn has_good_sizes(count: usize, room: u32, buffer: usize) -> bool
     ensures { λ r. ⌜ r ≡ goodSizes count room buffer ⌝ }
 {
     if (1 <= count) & (count <= CHANNELS) {
@@ -85,7 +86,7 @@ pub fn room_start(size: u32, number: u32) -> usize
     number as usize * size as usize
 }
 
-fn is_good_channel(channel: Channel, room: u32) -> bool
+pub fn is_good_channel(channel: Channel, room: u32) -> bool
     ensures { λ r. ⌜ r ≡ goodChannel room channel ⌝ }
 {
     ((channel.sender as usize) < BindingHeader::SENDERS)

@@ -7,13 +7,13 @@ use mathlib.Core.Bool.{Bool, true, false, _&&_, cond}
 use mathlib.Core.List.{List}
 use native.Mathlib.Nat.{mul-le-mul-right}
 use native.Mathlib.Omega.{arith}
-use borrow.Author.Tests.{leb-true, ltb-true, lt-ltb, le-ltb}
+use borrow.Author.Tests.{leb-true, ltb-true, lt-ltb, le-ltb, le-leb}
 use mir.Syntax.{w32}
 use mir.Val.{Fits}
 use lib.Dec.{leb, ltb}
 use lib.ListN.{length}
 use Rattle.wire.proofs.Cond.{and-left, and-right}
-use Rattle.binding.specs.Header.{headerLength, largestPiece, senders, counters, heardIn, headerIn, partIn, senderIn, counterIn, pieceIn}
+use Rattle.binding.specs.Header.{headerLength, largestPiece, largestDatagram, senders, counters, heardIn, headerIn, partIn, senderIn, counterIn, pieceIn}
 use Rattle.binding.specs.declared.BindingHeader.{BindingHeader}
 use Rattle.binding.specs.declared.Heard.{Heard}
 use Rattle.binding.specs.declared.Heard.the-variants as heard
@@ -23,10 +23,11 @@ use Rattle.channels.specs.declared.Joiner.{Joiner}
 use Rattle.joiner.specs.declared.Step.{Step}
 use Rattle.channels.specs.declared.Found.{Found}
 use Rattle.channels.specs.declared.Found.the-variants.{Bad, Nobody, Somebody}
+use Rattle.joiner.specs.declared.Judged.{Judged}
 use Rattle.joiner.specs.declared.Judged.the-variants.{Refusal, Move}
 use Rattle.joiner.specs.Channel.{Steppable, roomOf, steppedOf}
-use Rattle.channels.specs.Setup.{channelLimit, badSetup, newChannel, placeOf, distinct, every, channelsOf, sendersOf, channelAt, goodSizes, goodChannel, good, foundOf, roomStart}
-use Rattle.joiner.specs.Take.{notSetUp, sentTo, heardBy, judgedOf}
+use Rattle.channels.specs.Setup.{channelLimit, largestRoom, badSetup, newChannel, placeOf, distinct, every, channelsOf, sendersOf, channelAt, goodSizes, goodChannel, good, foundOf, roomStart}
+use Rattle.joiner.specs.Take.{notSetUp, sentTo, heardBy, judgedOf, senderBy, refusalBy, canMove, movedOf, judgedBy}
 use Rattle.channels.proofs.Places.{every-at}
 use Rattle.channels.proofs.Lookups.{Sizes, sizes-say, channels-length, channels-at, Borne, found-bad, found-nobody, found-somebody}
 
@@ -71,41 +72,102 @@ unfolding good
 good-sizes j b e =
     sizes-say (j .count) (j .room) b (and-left (goodSizes (j .count) (j .room) b) (every (goodChannel (j .room)) (channelsOf j) && distinct (sendersOf j)) e)
 
-pub number-fits : {f : Found} (j : Joiner) (b x k : ℕ) (ch : Channel) → f ≡ foundOf j b x → f ≡ Somebody k ch → Fits w32 k
-number-fits j b x k ch e m =
-    let y : Borne j b x k ch = found-somebody j b x e k ch m in
-    record { fits = omega (arith, y .known, good-sizes j b (y .well) .few) }
-
-module _ (d : List ℕ) (h : BindingHeader) {r : Heard} (e : r ≡ heardIn d) (m : r ≡ heard.Piece h) where
-  pub long-enough : headerLength ≤ length d
-  long-enough = omega (arith, heard-headed d h (sym e ∙ m) .long)
-
-  pub length-fits : Fits w32 (length d - headerLength)
-  length-fits = record { fits = omega (arith, heard-headed d h (sym e ∙ m) .short) }
-
-  pub is-a-piece : length d - headerLength ≤ largestPiece
-  is-a-piece = omega (arith, heard-headed d h (sym e ∙ m) .short)
-
 -- each room lies within the rooms
 pub room-within : (R n k : ℕ) → k < n → roomStart R k + R ≤ roomStart R n
 room-within R n k h =
     let m : (k + 1) * R ≤ n * R = mul-le-mul-right R (omega arith) in
     omega arith
 
-pub steppable : {f : Found} {r : Heard} {s : ℕ} (j : Joiner) (b : ℕ) (d : List ℕ) (h : BindingHeader) (k : ℕ) (ch : Channel) → length (j .channels) ≡ channelLimit → b < 2 ^ 64 → f ≡ foundOf j b (h .sender) → f ≡ Somebody k ch → r ≡ heardIn d → r ≡ heard.Piece h → s ≡ roomStart (j .room) k → Steppable (record { start = s; size = j .room }) ch (length d - headerLength)
-steppable {f} {r} {s} j b d h k ch w l e m er n es =
-    let y : Borne j b (h .sender) k ch = found-somebody j b (h .sender) e k ch m in
-    let g : Good j b = good-says j b w (y .well) in
-    let x : Sound (j .room) ch = rw (y .channel) (channel-says (j .room) (channelAt j k) (g .each k (y .known))) in
+-- `can_move`
+pub can-move : {t : Bool} (k R : ℕ) (ch : Channel) (n : ℕ) → t ≡ goodChannel R ch → ((ltb k channelLimit && leb R largestRoom) && (t && (leb headerLength n && leb n largestDatagram))) ≡ canMove k R ch n
+can-move k R ch n e = rw e
+
+-- `moved`
+pub record CanMove (k R : ℕ) (ch : Channel) (n : ℕ) : Type 0 where
+  pub few : k < channelLimit
+  pub narrow : R ≤ largestRoom
+  pub channel : goodChannel R ch ≡ true
+  pub long : headerLength ≤ n
+  pub short : n ≤ largestDatagram
+
+can-say : (k R : ℕ) (ch : Channel) (n : ℕ) → canMove k R ch n ≡ true → CanMove k R ch n
+can-say k R ch n e =
+    let p : (ltb k channelLimit && leb R largestRoom) ≡ true = and-left (ltb k channelLimit && leb R largestRoom) (goodChannel R ch && (leb headerLength n && leb n largestDatagram)) e in
+    let q : (goodChannel R ch && (leb headerLength n && leb n largestDatagram)) ≡ true = and-right (ltb k channelLimit && leb R largestRoom) (goodChannel R ch && (leb headerLength n && leb n largestDatagram)) e in
+    let r : (leb headerLength n && leb n largestDatagram) ≡ true = and-right (goodChannel R ch) (leb headerLength n && leb n largestDatagram) q in
     record {
-      size = g .sizes .narrow;
-      ends = omega (arith, room-within (j .room) (j .count) k (y .known), g .sizes .whole);
-      last = x .last;
-      held = x .held;
-      piece = is-a-piece d h er n;
+      few = ltb-true k channelLimit (and-left (ltb k channelLimit) (leb R largestRoom) p);
+      narrow = leb-true R largestRoom (and-right (ltb k channelLimit) (leb R largestRoom) p);
+      channel = and-left (goodChannel R ch) (leb headerLength n && leb n largestDatagram) q;
+      long = leb-true headerLength n (and-left (leb headerLength n) (leb n largestDatagram) r);
+      short = leb-true n largestDatagram (and-right (leb headerLength n) (leb n largestDatagram) r);
     }
 
--- `judge`
+module _ {t : Bool} (k R : ℕ) (ch : Channel) (n : ℕ) (e : t ≡ canMove k R ch n) where
+  pub not-moved : (h : BindingHeader) → t ≡ false → Refusal badSetup ≡ movedOf k R ch h n
+  unfolding movedOf
+  not-moved h f = rw (sym e ∙ f)
+
+  module _ (g : t ≡ true) where
+    says : CanMove k R ch n
+    says = can-say k R ch n (sym e ∙ g)
+
+    pub number-fits : Fits w32 k
+    number-fits = record { fits = omega (arith, says .few) }
+
+    pub long-enough : headerLength ≤ n
+    long-enough = says .long
+
+    pub length-fits : Fits w32 (n - headerLength)
+    length-fits = record { fits = omega (arith, says .short) }
+
+    pub steppable : {s : ℕ} → s ≡ roomStart R k → Steppable (record { start = s; size = R }) ch (n - headerLength)
+    steppable {s} es =
+        let x : Sound R ch = channel-says R ch (says .channel) in
+        record {
+          size = says .narrow;
+          ends = omega (arith, room-within R channelLimit k (says .few), says .narrow);
+          last = x .last;
+          held = x .held;
+          piece = omega (arith, says .short);
+        }
+
+    pub is-moved : {s : ℕ} {x : Step} (h : BindingHeader) → s ≡ roomStart R k → x ≡ steppedOf (record { start = s; size = R }) ch (h .part) (h .counter) (n - headerLength) → Move k x ≡ movedOf k R ch h n
+    unfolding movedOf
+    is-moved h es ex = rw (sym e ∙ g, ex, es)
+
+-- `judge`, `sender_of` and `refusal`
+module _ {x : Heard} where
+  pub sought-any : (n : ℕ) → x ≡ heard.Refused n → 0 ≡ senderBy x
+  sought-any n e = rw e
+
+  pub sought-own : (h : BindingHeader) → x ≡ heard.Piece h → h .sender ≡ senderBy x
+  sought-own h e = rw e
+
+  pub refused-own : (n : ℕ) → x ≡ heard.Refused n → n ≡ refusalBy x
+  refused-own n e = rw e
+
+  pub refused-unknown : (h : BindingHeader) → x ≡ heard.Piece h → notSetUp ≡ refusalBy x
+  refused-unknown h e = rw e
+
+module _ {f : Found} (R n : ℕ) (x : Heard) where
+  pub judged-bad : f ≡ Bad → Refusal badSetup ≡ judgedBy f R x n
+  unfolding judgedBy
+  judged-bad e = rw e
+
+  pub judged-nobody : {m : ℕ} → m ≡ refusalBy x → f ≡ Nobody → Refusal m ≡ judgedBy f R x n
+  unfolding judgedBy
+  judged-nobody q e = rw (e, q)
+
+  pub judged-refused : (k : ℕ) (ch : Channel) (m : ℕ) → f ≡ Somebody k ch → x ≡ heard.Refused m → Refusal m ≡ judgedBy f R x n
+  unfolding judgedBy
+  judged-refused k ch m e q = rw (e, q)
+
+  pub judged-somebody : {y : Judged} (k : ℕ) (ch : Channel) (h : BindingHeader) → f ≡ Somebody k ch → x ≡ heard.Piece h → y ≡ movedOf k R ch h n → y ≡ judgedBy f R x n
+  unfolding judgedBy
+  judged-somebody k ch h e q m = rw (e, q) m
+
+-- a datagram that is judged by what was found, as by the joiner itself
 module _ (j : Joiner) (b : ℕ) (d : List ℕ) {r : Heard} (er : r ≡ heardIn d) where
   not-well : good j b ≡ false → Refusal badSetup ≡ judgedOf j b d
   unfolding judgedOf
@@ -119,16 +181,10 @@ module _ (j : Joiner) (b : ℕ) (d : List ℕ) {r : Heard} (er : r ≡ heardIn d
   unfolding heardBy
   not-heard e g m = sym (by-header (sym e ∙ g) ∙ ap (heardBy j d) m)
 
-  pub not-heard-bad : {t : Bool} → t ≡ good j b → t ≡ false → Refusal badSetup ≡ judgedOf j b d
-  not-heard-bad e g = not-well (sym e ∙ g)
-
   module _ (h : BindingHeader) {f : Found} (m : r ≡ heard.Piece h) (e : f ≡ foundOf j b (h .sender)) where
     by-sender : good j b ≡ true → judgedOf j b d ≡ sentTo j d h
     unfolding heardBy
     by-sender g = by-header g ∙ ap (heardBy j d) m
-
-    pub in-a-bad-one : f ≡ Bad → Refusal badSetup ≡ judgedOf j b d
-    in-a-bad-one q = not-well (sym (found-bad j b (h .sender) e q))
 
     pub to-nobody : f ≡ Nobody → Refusal notSetUp ≡ judgedOf j b d
     unfolding sentTo
@@ -139,6 +195,34 @@ module _ (j : Joiner) (b : ℕ) (d : List ℕ) {r : Heard} (er : r ≡ heardIn d
     to-somebody k ch q es ex =
         let y : Borne j b (h .sender) k ch = found-somebody j b (h .sender) e k ch q in
         rw (by-sender (y .well), ← y .place, lt-ltb k (j .count) (y .known), piece-length d, ex, es, y .channel)
+
+    found-moves : (k : ℕ) (ch : Channel) → length (j .channels) ≡ channelLimit → f ≡ Somebody k ch → canMove k (j .room) ch (length d) ≡ true
+    found-moves k ch w q =
+        let y : Borne j b (h .sender) k ch = found-somebody j b (h .sender) e k ch q in
+        let g : Good j b = good-says j b w (y .well) in
+        let x : goodChannel (j .room) ch ≡ true = ap (goodChannel (j .room)) (y .channel) ∙ g .each k (y .known) in
+        let v : Headed d h = heard-headed d h (sym er ∙ m) in
+        let few : k < channelLimit = omega (arith, y .known, g .sizes .few) in
+        let long : headerLength ≤ length d = omega (arith, v .long) in
+        rw (lt-ltb k channelLimit few, le-leb (j .room) largestRoom (g .sizes .narrow), x, le-leb headerLength (length d) long, le-leb (length d) largestDatagram (v .short))
+
+pub judged-by : {f : Found} {r : Heard} {s : ℕ} {x : Judged} (j : Joiner) (b : ℕ) (d : List ℕ) → length (j .channels) ≡ channelLimit → r ≡ heardIn d → s ≡ senderBy r → f ≡ foundOf j b s → x ≡ judgedBy f (j .room) r (length d) → x ≡ judgedOf j b d
+unfolding judgedBy movedOf heardBy
+judged-by {f} {r} {s} j b d w er es ef ex = ex ∙ go f refl r refl
+  where
+    sought : (h : BindingHeader) → r ≡ heard.Piece h → f ≡ foundOf j b (h .sender)
+    sought h p = ef ∙ ap (foundOf j b) (es ∙ ap senderBy p)
+
+    refused : (n : ℕ) → r ≡ heard.Refused n → good j b ≡ true → Refusal n ≡ judgedOf j b d
+    refused n p g = not-heard j b d er {t = good j b} refl g p
+
+    go : (g : Found) → f ≡ g → (y : Heard) → r ≡ y → judgedBy g (j .room) y (length d) ≡ judgedOf j b d
+    go Bad q y p = not-well j b d er (sym (found-bad j b s ef q))
+    go Nobody q (heard.Refused n) p = refused n p (found-nobody j b s ef q .0)
+    go Nobody q (heard.Piece h) p = to-nobody j b d er h p (sought h p) q
+    go (Somebody k ch) q (heard.Refused n) p = refused n p (found-somebody j b s ef k ch q .well)
+    go (Somebody k ch) q (heard.Piece h) p =
+        rw (found-moves j b d er h p (sought h p) k ch w q) (to-somebody j b d er h p (sought h p) k ch q refl refl)
 
 -- what it says that a datagram moves a channel
 pub record Moved (j : Joiner) (b : ℕ) (d : List ℕ) (k : ℕ) (s : Step) : Type 0 where

@@ -1,19 +1,21 @@
 -- One datagram taken: 01, numbers 20 to 23 in their order, and Joining.
-use Prim.Native.Nat.{ℕ, _≤_, _<_}
+use Prim.Native.Nat.{ℕ, _-_, _≤_, _<_}
 use mathlib.Core.Path.{_≡_}
-use mathlib.Core.Bool.{Bool, true, false, cond}
+use mathlib.Core.Bool.{Bool, true, false, _&&_, cond}
 use mathlib.Core.List.{List, []}
-use lib.Dec.{ltb}
+use lib.Dec.{leb, ltb}
 use lib.ListN.{length, getD, set}
 use Rattle.wire.specs.Bytes.{written, part}
-use Rattle.binding.specs.Header.{theVersion, smallestDatagram, largestDatagram, versionIn, senderIn, heardIn, pieceIn}
+use Rattle.binding.specs.Header.{headerLength, theVersion, smallestDatagram, largestDatagram, versionIn, senderIn, heardIn, pieceIn}
 use Rattle.binding.specs.declared.BindingHeader.{BindingHeader}
 use Rattle.binding.specs.declared.Heard.{Heard}
 use Rattle.binding.specs.declared.Heard.the-variants as heard
 use Rattle.joiner.specs.Channel.{roomOf, steppedOf}
-use Rattle.channels.specs.Setup.{badSetup, channelAt, sendersOf, placeOf, good}
+use Rattle.channels.specs.Setup.{badSetup, channelLimit, largestRoom, channelAt, sendersOf, placeOf, goodChannel, good}
 use Rattle.channels.specs.declared.Channel.{Channel}
 use Rattle.channels.specs.declared.Joiner.{Joiner}
+use Rattle.channels.specs.declared.Found.{Found}
+use Rattle.channels.specs.declared.Found.the-variants.{Bad, Nobody, Somebody}
 use Rattle.joiner.specs.declared.Put.{Put}
 use Rattle.joiner.specs.declared.Put.the-variants.{Nowhere, At}
 use Rattle.joiner.specs.declared.Place.{Place}
@@ -41,6 +43,30 @@ heardBy j d (heard.Piece h) = sentTo j d h
 -- what the datagram d comes to in rooms of b bytes, before anything is written
 unfoldable pub judgedOf : Joiner → ℕ → List ℕ → Judged
 judgedOf j b d = cond (good j b) (heardBy j d (heardIn d)) (Refusal badSetup)
+
+-- the same of what a look found. The sender ID to look for: any, where the header is refused
+abbrev pub senderBy : Heard → ℕ
+senderBy (heard.Refused n) = 0
+senderBy (heard.Piece h) = h .sender
+
+-- the header's own number; else nobody bears its sender ID
+abbrev pub refusalBy : Heard → ℕ
+refusalBy (heard.Refused n) = n
+refusalBy (heard.Piece h) = notSetUp
+
+-- what holds of every record that is found in a good joiner, and of every datagram whose header is read
+abbrev pub canMove : ℕ → ℕ → Channel → ℕ → Bool
+canMove k R ch n = (ltb k channelLimit && leb R largestRoom) && (goodChannel R ch && (leb headerLength n && leb n largestDatagram))
+
+unfoldable pub movedOf : ℕ → ℕ → Channel → BindingHeader → ℕ → Judged
+movedOf k R ch h n = cond (canMove k R ch n) (Move k (steppedOf (roomOf R k) ch (h .part) (h .counter) (n - headerLength))) (Refusal badSetup)
+
+-- what a datagram of n bytes comes to, with rooms of R bytes
+unfoldable pub judgedBy : Found → ℕ → Heard → ℕ → Judged
+judgedBy Bad R x n = Refusal badSetup
+judgedBy Nobody R x n = Refusal (refusalBy x)
+judgedBy (Somebody k ch) R (heard.Refused m) n = Refusal m
+judgedBy (Somebody k ch) R (heard.Piece h) n = movedOf k R ch h n
 
 -- the joiner with channel k's record changed
 abbrev pub changed : Joiner → ℕ → Channel → Joiner

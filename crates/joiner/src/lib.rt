@@ -1,16 +1,15 @@
 // Joining: datagrams taken one at a time, each channel's pieces put behind one another in its own room, and the
 // messages that they make handed back. The state goes in by value and comes back by value; the rooms are lent.
 ghost use mathlib.Core.Path.{_≡_};
-ghost use Prim.Native.Nat.{_≤_};
-ghost use lib.ListN.{length};
-ghost use Rattle.joiner.specs.Take.{judgedOf, takenOf, roomsAfter, putBy, messageOf};
-ghost use Rattle.binding.specs.Header.{headerLength};
+ghost use Rattle.joiner.specs.Take.{senderBy, refusalBy, canMove, movedOf, judgedBy, takenOf, roomsAfter, putBy, messageOf};
 use binding::BindingHeader;
 use binding::Heard;
 use channels::BAD_SETUP;
+use channels::CHANNELS;
 use channels::Channel;
 use channels::Found;
 use channels::Joiner;
+use channels::LARGEST_ROOM;
 
 mod steps;
 
@@ -67,7 +66,9 @@ pub fn take(joiner: Joiner, rooms: &mut [u8], datagram: &[u8]) -> Taken
     ensures { λ r. ⌜ r ≡ takenOf joiner (now (rooms .entry)) (now (datagram .entry)) ⌝ }
     ensures { λ _. ⌜ now (rooms .exit) ≡ roomsAfter joiner (now (rooms .entry)) (now (datagram .entry)) ⌝ }
 {
-    match judge(joiner, rooms.len(), datagram) {
+    let heard = BindingHeader::read(datagram);
+    let found = channels::look(joiner, rooms.len(), sender_of(heard));
+    match judge(found, joiner.room, heard, datagram.len()) {
         Judged::Refusal(number) => Taken {
             outcome: Outcome::Refused(number),
             joiner,
@@ -101,42 +102,75 @@ pub fn message<'a>(outcome: Outcome, datagram: &'a [u8], rooms: &'a [u8]) -> &'a
     }
 }
 
-// What a datagram comes to, before anything is written: the numbers in their order, then its channel's step.
-fn judge(joiner: Joiner, rooms: usize, datagram: &[u8]) -> Judged
-    ensures { λ r. ⌜ r ≡ judgedOf joiner rooms (now (datagram .entry)) ⌝ }
+// The sender ID for which a joiner is looked at: any, where the header is refused.
+pub fn sender_of(heard: Heard) -> u16
+    ensures { λ r. ⌜ r ≡ senderBy heard ⌝ }
 {
-    match BindingHeader::read(datagram) {
-        Heard::Refused(number) => {
-            if channels::is_good(joiner, rooms) {
-                Judged::Refusal(number)
-            } else {
-                Judged::Refusal(BAD_SETUP)
-            }
-        }
-        Heard::Piece(header) => match channels::look(joiner, rooms, header.sender) {
-            Found::Bad => Judged::Refusal(BAD_SETUP),
-            Found::Nobody => Judged::Refusal(NOT_SET_UP),
-            Found::Somebody { at, channel } => {
-                let number = at as u32;
-                let room = Room {
-                    start: channels::room_start(joiner.room, number),
-                    size: joiner.room,
-                };
-                let length = (datagram.len() - BindingHeader::LENGTH) as u32;
-                let step = steps::stepped(room, channel, header, length);
-                Judged::Move { at, step }
-            }
+    match heard {
+        Heard::Refused(_) => 0,
+        Heard::Piece(header) => header.sender,
+    }
+}
+
+// What a datagram of `length` bytes comes to, before anything is written: the numbers in their order, then its channel's
+// step. `found` is what the look for its sender ID found in a joiner with rooms of `size` bytes.
+pub fn judge(found: Found, size: u32, heard: Heard, length: usize) -> Judged
+    ensures { λ r. ⌜ r ≡ judgedBy found size heard length ⌝ }
+{
+    match found {
+        Found::Bad => Judged::Refusal(BAD_SETUP),
+        Found::Nobody => Judged::Refusal(refusal(heard)),
+        Found::Somebody { at, channel } => match heard {
+            Heard::Refused(number) => Judged::Refusal(number),
+            Heard::Piece(header) => moved(at, size, channel, header, length),
         },
     }
 }
 
+fn refusal(heard: Heard) -> u32
+    ensures { λ r. ⌜ r ≡ refusalBy heard ⌝ }
+{
+    match heard {
+        Heard::Refused(number) => number,
+        Heard::Piece(_) => NOT_SET_UP,
+    }
+}
+
+// A record that no look finds is refused as a joiner that is not good.
+fn moved(at: usize, size: u32, channel: Channel, header: BindingHeader, length: usize) -> Judged
+    ensures { λ r. ⌜ r ≡ movedOf at size channel header length ⌝ }
+{
+    if can_move(at, size, channel, length) {
+        let room = Room {
+            start: channels::room_start(size, at as u32),
+            size,
+        };
+        let piece = (length - BindingHeader::LENGTH) as u32;
+        let step = steps::stepped(room, channel, header, piece);
+        Judged::Move { at, step }
+    } else {
+        Judged::Refusal(BAD_SETUP)
+    }
+}
+
+fn can_move(at: usize, size: u32, channel: Channel, length: usize) -> bool
+    ensures { λ r. ⌜ r ≡ canMove at size channel length ⌝ }
+{
+    ((at < CHANNELS) & (size <= LARGEST_ROOM))
+        & (channels::is_good_channel(channel, size)
+            & ((BindingHeader::LENGTH <= length) & (length <= BindingHeader::LARGEST_DATAGRAM)))
+}
+
 // Writes the datagram's piece, and nothing else.
-fn write_piece(rooms: &mut [u8], place: Put, datagram: &[u8])
-    requires { ⌜ headerLength ≤ length (now datagram) ⌝ }
+pub fn write_piece(rooms: &mut [u8], place: Put, datagram: &[u8])
     ensures { λ _. ⌜ now (rooms .exit) ≡ putBy (now (rooms .entry)) place (now (datagram .entry)) ⌝ }
 {
     match place {
         Put::Nowhere => {}
-        Put::At(at) => wire::put_run(rooms, at, &datagram[BindingHeader::LENGTH..]),
+        Put::At(at) => {
+            if BindingHeader::LENGTH <= datagram.len() {
+                wire::put_run(rooms, at, &datagram[BindingHeader::LENGTH..]);
+            }
+        }
     }
 }

@@ -1,27 +1,22 @@
 -- What set-up and take show at their returns.
 -- Assumes nothing.
-use Prim.Native.Nat.{ℕ, _≤_, _<_, _*_}
+use Prim.Native.Nat.{ℕ, _≤_, _<_}
 use mathlib.Core.Path.{_≡_, refl, sym, ap, _∙_}
 use mathlib.Core.Bool.{Bool, true, false, _&&_, cond}
 use mathlib.Core.List.{List, [], _∷_}
-use mathlib.Core.Logic.{⊎-elim}
-use mir.Syntax.{w64}
-use mir.Val.{Fits}
-use denote.Enum.Declared.{tagOf}
-use types.Run.{OneOf}
-use Rattle.joiner.proofs.Outcome.{the-type}
 use native.Mathlib.Omega.{arith}
 use borrow.Author.Tests.{leb-true}
 use lib.Dec.{leb}
 use lib.ListN.{length, getD}
 use Rattle.wire.specs.Bytes.{written}
-use Rattle.binding.specs.Header.{senderIn}
-use Rattle.channels.specs.Setup.{channelLimit, newChannel, freshOf, refusedSetup, good, setupOf, sendersOf, placeOf, channelAt}
-use Rattle.joiner.specs.Take.{judgedOf, takenBy, takenOf, roomsAfter}
+use Rattle.binding.specs.Header.{heardIn}
+use Rattle.binding.specs.declared.Heard.{Heard}
+use Rattle.channels.specs.Setup.{channelLimit, freshOf, refusedSetup, good, setupOf, foundOf}
+use Rattle.joiner.specs.Take.{judgedOf, senderBy, judgedBy, takenBy, takenOf, putBy, roomsBy, roomsAfter}
 use Rattle.joiner.specs.Outcomes.{answerIn, refusalIn}
 use Rattle.channels.specs.declared.Answer.{Answer}
 use Rattle.channels.specs.declared.Answer.the-variants.{Accepted, Refused}
-use Rattle.channels.specs.declared.Joiner.{Joiner}
+use Rattle.channels.specs.declared.Found.{Found}
 use Rattle.channels.specs.declared.NewJoiner.{NewJoiner}
 use Rattle.joiner.specs.declared.Step.{Step}
 use Rattle.joiner.specs.declared.Judged.{Judged}
@@ -31,12 +26,11 @@ use Rattle.joiner.specs.declared.Place.the-variants.{Datagram, Rooms}
 use Rattle.joiner.specs.declared.Outcome.{Outcome}
 use Rattle.joiner.specs.declared.Outcome.the-variants as outcome
 use Rattle.joiner.specs.declared.Taken.{Taken}
-use Rattle.wire.proofs.Cond.{and-left}
-use Rattle.joiner.proofs.Judging.{Moved, judged-moved, good-sizes}
 use Rattle.lent.specs.Words.{outputTooShort}
 use Rattle.lent.proofs.Answers.{short, long, none-written}
-use Rattle.lent_joiner.specs.Words.{joinerWords, recordAt, joinerIn, recordWords, wordsOf}
-use Rattle.lent_joiner.specs.Calls.{answerWords, acceptedWords, newWords, setupNumber, setupWords, deliveredWords, outcomeWords, unlessRefused, withRecord, placeIn, wordsBy, takeNumber, takeWords, takeRooms, takeAnswer}
+use Rattle.lent_channels.specs.Words.{joinerWords, recordAt, joinerIn, recordWords, wordsOf}
+use Rattle.lent_joiner.specs.Calls.{answerWords, acceptedWords, newWords, setupNumber, setupWords, outcomeWords, placeIn, wordsBy, takeNumber, takeWords, takeRooms, takeAnswer}
+use Rattle.lent_joiner.proofs.Moving.{step-number, judged-in, steps, words-moved}
 
 -- `setup`
 module _ (ids : List ℕ) (R b : ℕ) (ws : List ℕ) where
@@ -102,31 +96,7 @@ module _ {o : Outcome} (ws : List ℕ) where
     pub told-too-long : (m : ℕ) → o ≡ outcome.TooLong m → x ≡ written ws 0 (5 ∷ m ∷ 0 ∷ 0 ∷ 0 ∷ []) → x ≡ written ws 0 (outcomeWords o)
     told-too-long m e f = rw e f
 
--- `take`: an outcome that is no refusal, by the places of the variants
-abbrev pub Settled : Outcome → Type 0
-Settled o = OneOf (1 ∷ 2 ∷ 3 ∷ 4 ∷ 5 ∷ []) (tagOf the-type o)
-
-refusal-unsettled : {o : Outcome} (n : ℕ) → o ≡ outcome.Refused n → Settled o → ⊥
-refusal-unsettled n e s =
-    let t : Settled (outcome.Refused n) = rw e at s in
-    ⊎-elim (λ q. omega arith) (⊎-elim (λ q. omega arith) (⊎-elim (λ q. omega arith) (⊎-elim (λ q. omega arith) (λ q. omega arith)))) t
-
-pub settled-number : (o : Outcome) → Settled o → 0 ≡ refusalIn o
-settled-number (outcome.Refused n) s = absurd (refusal-unsettled n refl s)
-settled-number outcome.Repeated s = refl
-settled-number (outcome.Delivered m p) s = refl
-settled-number (outcome.Held m n) s = refl
-settled-number (outcome.Stray m) s = refl
-settled-number (outcome.TooLong m) s = refl
-
-pub settled-words : (o : Outcome) (old new : List ℕ) → Settled o → new ≡ unlessRefused o old new
-settled-words (outcome.Refused n) old new s = absurd (refusal-unsettled n refl s)
-settled-words outcome.Repeated old new s = refl
-settled-words (outcome.Delivered m p) old new s = refl
-settled-words (outcome.Held m n) old new s = refl
-settled-words (outcome.Stray m) old new s = refl
-settled-words (outcome.TooLong m) old new s = refl
-
+-- `take`
 module _ (ws rooms d out : List ℕ) where
   abbrev taken : Taken
   taken = takenOf (joinerIn ws) rooms d
@@ -147,71 +117,64 @@ module _ (ws rooms d out : List ℕ) where
   unfolding takeAnswer
   short-answer h = short answerWords out out (written out 0 (outcomeWords (taken .outcome))) h
 
-  module _ {j : Joiner} {t : Taken} (h : answerWords ≤ length out) (ej : j ≡ joinerIn ws) (et : t ≡ takenOf j rooms d) where
-    is-taken : t ≡ taken
-    is-taken = et ∙ ap (λ (x : Joiner). takenOf x rooms d) ej
+  module _ {f : Found} {r : Heard} {y R : ℕ} {x : Judged} (h : answerWords ≤ length out) (eR : R ≡ getD ws 1 0) (er : r ≡ heardIn d) (ey : y ≡ senderBy r) (ef : f ≡ foundOf (joinerIn ws) (length rooms) y) (ex : x ≡ judgedBy f R r (length d)) where
+    judged : x ≡ judgedOf (joinerIn ws) (length rooms) d
+    judged = judged-in ws (length rooms) d eR er ey ef ex
 
-    outcome-is : t .outcome ≡ taken .outcome
-    outcome-is = ap (λ (x : Taken). x .outcome) is-taken
+    module _ (n : ℕ) (m : x ≡ Refusal n) where
+      refused : taken ≡ record { outcome = outcome.Refused n; joiner = joinerIn ws }
+      unfolding takenOf takenBy
+      refused = rw (sym judged ∙ m)
 
-    pub taken-rooms : {x : List ℕ} → x ≡ roomsAfter j rooms d → x ≡ takeRooms ws rooms d out
-    unfolding takeRooms
-    taken-rooms e = long answerWords out rooms (roomsAfter (joinerIn ws) rooms d) h (e ∙ ap (λ (y : Joiner). roomsAfter y rooms d) ej)
-
-    pub refused-take : (n : ℕ) → t .outcome ≡ outcome.Refused n → n ≡ takeNumber ws rooms d out
-    unfolding takeNumber
-    refused-take n q = long answerWords out outputTooShort (refusalIn (taken .outcome)) h (sym (ap refusalIn (sym outcome-is ∙ q)))
-
-    pub refused-state : (n : ℕ) → t .outcome ≡ outcome.Refused n → ws ≡ takeWords ws rooms d out
-    unfolding takeWords
-    refused-state n q =
-        let new : List ℕ = withRecord ws (placeIn (joinerIn ws) d) (taken .joiner) in
-        long answerWords out ws (wordsBy ws (placeIn (joinerIn ws) d) taken) h (sym (ap (λ (o : Outcome). unlessRefused o ws new) (sym outcome-is ∙ q)))
-
-    pub refused-answer : (n : ℕ) → t .outcome ≡ outcome.Refused n → out ≡ takeAnswer ws rooms d out
-    unfolding takeAnswer
-    refused-answer n q =
-        long answerWords out out (written out 0 (outcomeWords (taken .outcome))) h (none-written out ∙ ap (λ (o : Outcome). written out 0 (outcomeWords o)) (sym (sym outcome-is ∙ q)))
-
-    module _ (s : Settled (t .outcome)) where
-      pub settled-take : 0 ≡ takeNumber ws rooms d out
+      refused-take : n ≡ takeNumber ws rooms d out
       unfolding takeNumber
-      settled-take = long answerWords out outputTooShort (refusalIn (taken .outcome)) h (settled-number (t .outcome) s ∙ ap refusalIn outcome-is)
+      refused-take = long answerWords out outputTooShort (refusalIn (taken .outcome)) h (sym (ap (λ (t : Taken). refusalIn (t .outcome)) refused))
 
-      pub settled-answer : {x : List ℕ} → x ≡ written out 0 (outcomeWords (t .outcome)) → x ≡ takeAnswer ws rooms d out
-      unfolding takeAnswer
-      settled-answer e = long answerWords out out (written out 0 (outcomeWords (taken .outcome))) h (e ∙ ap (λ (o : Outcome). written out 0 (outcomeWords o)) outcome-is)
-
-      pub settled-state : {x : List ℕ} {p y : ℕ} → y ≡ senderIn d → p ≡ placeOf (sendersOf j) y → x ≡ written ws (recordAt p) (recordWords (getD (t .joiner .channels) p (newChannel 0))) → x ≡ takeWords ws rooms d out
+      refused-state : ws ≡ takeWords ws rooms d out
       unfolding takeWords
-      settled-state {x} {p} {y} ey ep e =
-          let k : ℕ = placeIn (joinerIn ws) d in
-          let ek : p ≡ k = ep ∙ ap (placeOf (sendersOf j)) ey ∙ ap (λ (i : Joiner). placeIn i d) ej in
-          let w : x ≡ withRecord ws k (taken .joiner) =
-          e ∙ ap (λ (q : ℕ). withRecord ws q (t .joiner)) ek ∙ ap (λ (u : Taken). withRecord ws k (u .joiner)) is-taken in
-          let z : Settled (taken .outcome) = rw outcome-is at s in
-          long answerWords out ws (wordsBy ws k taken) h (w ∙ settled-words (taken .outcome) ws (withRecord ws k (taken .joiner)) z)
+      refused-state = long answerWords out ws (wordsBy ws (placeIn (joinerIn ws) d) taken) h (sym (ap (wordsBy ws (placeIn (joinerIn ws) d)) refused))
 
--- a datagram that was settled moved its channel, which is one of the joiner's
-module _ {t : Taken} (j : Joiner) (rooms d : List ℕ) (et : t ≡ takenOf j rooms d) (s : Settled (t .outcome)) where
-  pub few-taken : j .count ≤ channelLimit
-  unfolding takenOf takenBy
-  few-taken = go (judgedOf j (length rooms) d) refl et
-    where
-      go : (x : Judged) → judgedOf j (length rooms) d ≡ x → t ≡ takenBy j x → j .count ≤ channelLimit
-      go (Refusal n) e q = absurd (refusal-unsettled n (ap (λ (u : Taken). u .outcome) q) s)
-      go (Move k x) e q = good-sizes j (length rooms) (judged-moved j (length rooms) d k x e .well) .few
+      refused-rooms : rooms ≡ takeRooms ws rooms d out
+      unfolding takeRooms roomsAfter roomsBy
+      refused-rooms = long answerWords out rooms (roomsAfter (joinerIn ws) rooms d) h (rw (sym judged ∙ m))
 
-  pub place-taken : {p y : ℕ} → y ≡ senderIn d → p ≡ placeOf (sendersOf j) y → p < channelLimit
-  unfolding takenOf takenBy
-  place-taken {p} {y} ey ep = go (judgedOf j (length rooms) d) refl et
-    where
-      go : (x : Judged) → judgedOf j (length rooms) d ≡ x → t ≡ takenBy j x → p < channelLimit
-      go (Refusal n) e q = absurd (refusal-unsettled n (ap (λ (u : Taken). u .outcome) q) s)
-      go (Move k x) e q =
-          let v : Moved j (length rooms) d k x = judged-moved j (length rooms) d k x e in
-          let i : p ≡ k = ep ∙ ap (placeOf (sendersOf j)) ey ∙ sym (v .channel) in
-          omega (arith, v .known, good-sizes j (length rooms) (v .well) .few)
+      refused-answer : out ≡ takeAnswer ws rooms d out
+      unfolding takeAnswer
+      refused-answer =
+          long answerWords out out (written out 0 (outcomeWords (taken .outcome))) h (none-written out ∙ sym (ap (λ (t : Taken). written out 0 (outcomeWords (t .outcome))) refused))
 
-  pub place-fits : {p y : ℕ} → y ≡ senderIn d → p ≡ placeOf (sendersOf j) y → Fits w64 (p * 12)
-  place-fits ey ep = record { fits = omega (arith, place-taken ey ep) }
+      pub refused-all : (n ≡ takeNumber ws rooms d out) × ((ws ≡ takeWords ws rooms d out) × ((rooms ≡ takeRooms ws rooms d out) × (out ≡ takeAnswer ws rooms d out)))
+      refused-all = (refused-take, (refused-state, (refused-rooms, refused-answer)))
+
+    module _ (k : ℕ) (s : Step) (m : x ≡ Move k s) where
+      moved : judgedOf (joinerIn ws) (length rooms) d ≡ Move k s
+      moved = sym judged ∙ m
+
+      taken-is : taken ≡ takenBy (joinerIn ws) (Move k s)
+      unfolding takenOf
+      taken-is = rw moved
+
+      outcome-is : taken .outcome ≡ s .outcome
+      unfolding takenBy
+      outcome-is = ap (λ (t : Taken). t .outcome) taken-is
+
+      moved-take : 0 ≡ takeNumber ws rooms d out
+      unfolding takeNumber
+      moved-take = long answerWords out outputTooShort (refusalIn (taken .outcome)) h (step-number (steps ws (length rooms) d k s moved) ∙ ap refusalIn (sym outcome-is))
+
+      moved-state : {v : List ℕ} → v ≡ written ws (recordAt k) (recordWords (s .channel)) → v ≡ takeWords ws rooms d out
+      unfolding takeWords
+      moved-state e =
+          long answerWords out ws (wordsBy ws (placeIn (joinerIn ws) d) taken) h (e ∙ sym (ap (wordsBy ws (placeIn (joinerIn ws) d)) taken-is ∙ words-moved ws (length rooms) d k s moved))
+
+      moved-rooms : {v : List ℕ} → v ≡ putBy rooms (s .put) d → v ≡ takeRooms ws rooms d out
+      unfolding takeRooms roomsAfter roomsBy
+      moved-rooms e = long answerWords out rooms (roomsAfter (joinerIn ws) rooms d) h (rw moved e)
+
+      moved-answer : {v : List ℕ} → v ≡ written out 0 (outcomeWords (s .outcome)) → v ≡ takeAnswer ws rooms d out
+      unfolding takeAnswer
+      moved-answer e = long answerWords out out (written out 0 (outcomeWords (taken .outcome))) h (e ∙ ap (λ (o : Outcome). written out 0 (outcomeWords o)) (sym outcome-is))
+
+      pub moved-all : {u v w : List ℕ} → u ≡ written ws (recordAt k) (recordWords (s .channel)) → v ≡ putBy rooms (s .put) d → w ≡ written out 0 (outcomeWords (s .outcome)) →
+          (0 ≡ takeNumber ws rooms d out) × ((u ≡ takeWords ws rooms d out) × ((v ≡ takeRooms ws rooms d out) × (w ≡ takeAnswer ws rooms d out)))
+      moved-all eu ev ew = (moved-take, (moved-state eu, (moved-rooms ev, moved-answer ew)))

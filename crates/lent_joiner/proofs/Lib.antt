@@ -1,4 +1,5 @@
 pub mod Storing
 pub mod ReadBack
+pub mod Moving
 pub mod WordsBack
 mod Calling

@@ -19,8 +19,8 @@ use Rattle.joiner.specs.Take.{changed}
 use Rattle.channels.specs.declared.Channel.{Channel}
 use Rattle.channels.specs.declared.Joiner.{Joiner}
 use Rattle.wire.proofs.Cond.{and-left, and-right, and-true}
-use Rattle.lent_joiner.specs.Words.{recordAt, joinerWords, senderLimit, seenLimit, recordIn, isRecord, areRecords, recordsIn, channelsIn, isJoiner, joinerIn, recordWords}
-use Rattle.lent_joiner.proofs.Storing.{records-length}
+use Rattle.lent_channels.specs.Words.{recordAt, joinerWords, senderLimit, seenLimit, recordIn, isRecord, areRecords, recordsIn, channelsIn, isJoiner, joinerIn, recordWords}
+use Rattle.lent_channels.proofs.Stored.{records-length}
 
 -- a word that was written is read
 at-written : (ws : List ℕ) (p : ℕ) (b : List ℕ) (n : ℕ) → p ≤ length ws → getD (over ws p b) (p + n) 0 ≡ getD (b ++ drop (p + length b) ws) n 0

@@ -17,7 +17,7 @@ use Rattle.joiner.specs.declared.Outcome.{Outcome}
 use Rattle.joiner.specs.declared.Outcome.the-variants as outcome
 use Rattle.joiner.specs.declared.Taken.{Taken}
 use Rattle.lent.specs.Words.{outputTooShort, tooFew}
-use Rattle.lent_joiner.specs.Words.{joinerWords, recordAt, joinerIn, recordWords, wordsOf}
+use Rattle.lent_channels.specs.Words.{joinerWords, recordAt, joinerIn, recordWords, wordsOf}
 
 -- a joiner that was accepted, as words; none of one that was refused
 abbrev pub acceptedWords : Answer → Joiner → List ℕ

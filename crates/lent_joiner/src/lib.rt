@@ -3,18 +3,14 @@ mod stored;
 
 ghost use mathlib.Core.Path.{_≡_};
 ghost use mathlib.Core.List.{[], _∷_};
-ghost use Prim.Native.Nat.{_≤_};
 ghost use Rattle.wire.specs.Bytes.{written};
-ghost use Rattle.binding.specs.Header.{senderIn};
-ghost use Rattle.channels.specs.Setup.{channelLimit, sendersOf, placeOf};
 ghost use Rattle.lent_joiner.specs.Calls.{setupNumber, setupWords, outcomeWords, takeNumber, takeWords, takeRooms, takeAnswer};
+use binding::BindingHeader;
 use channels::Answer;
-use channels::Joiner;
+use joiner::Judged;
 use joiner::Outcome;
 use joiner::Place;
-
-// How many words a joiner is.
-pub const JOINER_WORDS: usize = 130;
+pub use lent_channels::JOINER_WORDS;
 
 // How many words an answer of `take` is.
 pub const ANSWER_WORDS: usize = 5;
@@ -66,40 +62,21 @@ pub fn take(state: &mut [u32], rooms: &mut [u8], datagram: &[u8], answer: &mut [
     if answer.len() < ANSWER_WORDS {
         return lent::OUTPUT_TOO_SHORT;
     }
-    let before = stored::joiner_in(state);
-    let taken = joiner::take(before, rooms, datagram);
-    let outcome = taken.outcome;
-    let after = taken.joiner;
-    match outcome {
-        Outcome::Refused(number) => number,
-        _ => {
-            let at = place(before, sender_in(datagram));
-            stored::put_record(state, at, after.channels[at]);
+    let heard = BindingHeader::read(datagram);
+    let size = lent::u32_at(state, 1);
+    let found = lent_channels::look(state, rooms.len(), joiner::sender_of(heard));
+    match joiner::judge(found, size, heard, datagram.len()) {
+        Judged::Refusal(number) => number,
+        Judged::Move { at, step } => {
+            let outcome = step.outcome;
+            let channel = step.channel;
+            let put = step.put;
             put_outcome(answer, outcome);
+            stored::put_record(state, at, channel);
+            joiner::write_piece(rooms, put, datagram);
             0
         }
     }
-}
-
-fn sender_in(datagram: &[u8]) -> u16
-    ensures { λ r. ⌜ r ≡ senderIn (now (datagram .entry)) ⌝ }
-{
-    (wire::u8_at(datagram, 0) % 16) as u16 * 256 + wire::u8_at(datagram, 1) as u16
-}
-
-// The place of the first channel that bears the sender ID, or the count where none does.
-fn place(joiner: Joiner, sender: u16) -> usize
-    requires { ⌜ joiner .count ≤ channelLimit ⌝ }
-    ensures { λ r. ⌜ r ≡ placeOf (sendersOf joiner) sender ⌝ }
-{
-    let mut i = 0;
-    while i < joiner.count {
-        if joiner.channels[i].sender == sender {
-            return i;
-        }
-        i += 1;
-    }
-    i
 }
 
 fn put_outcome(answer: &mut [u64], outcome: Outcome)

@@ -1,7 +1,10 @@
 -- `joiner::take` meets its contract: what was judged, and only then written.
 -- Assumes nothing.
+use mathlib.Core.Path.{_≡_}
 use borrow.Author.Needs.{needs}
-use Rattle.joiner.proofs.Taking.{moved-long, moved-known, moved-fits, refused-taken, refused-rooms, moved-taken, moved-rooms}
+use lib.ListN.{length, length-map}
+use Rattle.channels.specs.Setup.{channelLimit}
+use Rattle.joiner.proofs.Taking.{moved-known, moved-fits, refused-taken, refused-rooms, moved-taken, moved-rooms}
 use Rattle.joiner.proofs.take.Statement.{statement}
 use Rattle.joiner.proofs.take.Tie as tie
 
@@ -10,11 +13,26 @@ take-spec =
     tie.close
     (tie.spec
     (λ c κs. search needs)
+    (λ c κs. search needs)
+    (λ c κs. search needs)
+    (λ c κs. search needs)
     (λ c. search needs)
     (λ c. search needs)
-    (λ c κs. search moved-long)
-    (λ c. search moved-fits)
-    (λ c. search moved-known)
-    (λ c. (search refused-taken, search refused-rooms))
+    (λ c κs. search needs)
+    (λ c.
+    let start = c .before .before .before .before .before .before .before .before .before .before .before .before .before .before in
+    let w : length (start .args .joiner .channels) ≡ channelLimit = simp length-map at (start .good .0 .1 .1 .0 .1 .0 .1) in
+    search moved-fits)
+    (λ c.
+    let start = c .before .before .before .before .before .before .before .before .before .before .before .before .before .before in
+    let w : length (start .args .joiner .channels) ≡ channelLimit = simp length-map at (start .good .0 .1 .1 .0 .1 .0 .1) in
+    search moved-known)
+    (λ c.
+    let start = c .before .before .before .before .before .before .before .before .before in
+    let w : length (start .args .joiner .channels) ≡ channelLimit = simp length-map at (start .good .0 .1 .1 .0 .1 .0 .1) in
+    (search refused-taken, search refused-rooms))
     (λ c. search needs)
-    (λ c. (search moved-taken, search moved-rooms)))
+    (λ c.
+    let start = c .before .before .before .before .before .before .before .before .before .before .before .before .before .before in
+    let w : length (start .args .joiner .channels) ≡ channelLimit = simp length-map at (start .good .0 .1 .1 .0 .1 .0 .1) in
+    (search moved-taken, search moved-rooms)))

@@ -6,7 +6,7 @@ use borrow.Author.Needs.{needs}
 use lib.ListN.{length, take, length-map}
 use Rattle.wire.specs.Bytes.{over}
 use Rattle.channels.specs.Setup.{channelLimit}
-use Rattle.lent_joiner.specs.Words.{joinerWords, recordsWords}
+use Rattle.lent_channels.specs.Words.{joinerWords, recordsWords}
 use Rattle.lent_joiner.proofs.Storing.{write-none, write-more, write-all, write-short}
 use Rattle.lent_joiner.proofs.stored.put_joiner.Statement.{statement}
 use Rattle.lent_joiner.proofs.stored.put_joiner.Tie as tie

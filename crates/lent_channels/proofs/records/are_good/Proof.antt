@@ -1,0 +1,17 @@
+-- `lent_channels::records::are_good` meets its contract: by one pass, or by two.
+-- Assumes nothing.
+use borrow.Author.Needs.{needs}
+use Rattle.lent_channels.proofs.Looking.{good-rising, good-apart, not-good}
+use Rattle.lent_channels.proofs.records.are_good.Statement.{statement}
+use Rattle.lent_channels.proofs.records.are_good.Tie as tie
+
+pub are-good-spec : {M : Type 1} → statement M
+are-good-spec =
+    tie.close
+    (tie.spec
+    (λ c κs. search needs)
+    (λ c. search good-rising)
+    (λ c κs. search needs)
+    (λ c κs. search needs)
+    (λ c. search good-apart)
+    (λ c. search not-good))

@@ -1,0 +1,33 @@
+// A joiner's channels in lent words: whether they are good, and which of them bears a sender ID.
+mod records;
+
+ghost use mathlib.Core.Path.{_≡_};
+ghost use Rattle.channels.specs.Setup.{foundOf};
+ghost use Rattle.lent_channels.specs.Words.{joinerIn};
+use channels::CHANNELS;
+use channels::Found;
+
+// The words of a record behind one another, and where the first record starts.
+pub const RECORD_WORDS: usize = 4;
+
+pub const FIRST_RECORD: usize = 2;
+
+// How many words a joiner is.
+pub const JOINER_WORDS: usize = FIRST_RECORD + RECORD_WORDS * CHANNELS;
+
+// Whether the joiner in the words is good for rooms of so many bytes, and which channel bears the sender ID.
+pub fn look(state: &[u32], rooms: usize, sender: u16) -> Found
+    ensures { λ r. ⌜ r ≡ foundOf (joinerIn (now (state .entry))) rooms sender ⌝ }
+{
+    if JOINER_WORDS <= state.len() {
+        let count = state[0] as usize;
+        if channels::has_good_sizes(count, state[1], rooms) {
+            if records::are_good(state) {
+                return records::found(state, records::find(state, sender as u32));
+            }
+            return Found::Bad;
+        }
+        return Found::Bad;
+    }
+    Found::Bad
+}
