@@ -1,2 +1,2 @@
 pub mod Leaves
-mod Returns
+pub mod Returns

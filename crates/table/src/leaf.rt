@@ -3,14 +3,25 @@
 ghost use mathlib.Core.Path.{_≡_};
 ghost use Rattle.table.specs.Leaf.{width, allowed, inSigned};
 
-// The bytes of each base code, from boolean8 to double64.
-const WIDTHS: [usize; 13] = [1, 1, 1, 2, 4, 8, 1, 1, 2, 4, 8, 4, 8];
-
 pub fn width(code: u16) -> usize
     ensures { λ r. ⌜ r ≡ width code ⌝ }
 {
-    let at = code as usize;
-    if at < 13 { WIDTHS[at] } else { 0 }
+    match code {
+        0 => 1,
+        1 => 1,
+        2 => 1,
+        3 => 2,
+        4 => 4,
+        5 => 8,
+        6 => 1,
+        7 => 1,
+        8 => 2,
+        9 => 4,
+        10 => 8,
+        11 => 4,
+        12 => 8,
+        _ => 0,
+    }
 }
 
 // Whether the word is a value of the base code.

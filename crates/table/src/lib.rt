@@ -11,6 +11,15 @@ pub const CUT_SHORT: u32 = 30;
 
 pub const COUNT_OUTSIDE: u32 = 31;
 
+// Kinds of types.
+pub const BASE: u16 = 0;
+
+pub const ENUM: u16 = 1;
+
+pub const RECORD: u16 = 2;
+
+pub const FIXED: u16 = 3;
+
 // A section of a table: where its first entry stands, and how many there are.
 pub struct Section {
     pub at: u16,

@@ -1,1 +1,2 @@
 mod ReadReturns
+mod ReadBases

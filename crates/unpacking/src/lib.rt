@@ -1,21 +1,32 @@
 // Reading a payload: the reader of a record's members and the reader of an array's elements call each other, each by the kind
 // of what it meets, and the type number falls at each entry.
+mod bases;
+
 use table::Entry;
 use table::Sections;
 use walk::Met;
 use walk::Place;
 use walk::Walked;
 ghost use mathlib.Core.Path.{_≡_};
+ghost use Prim.Native.Nat.{ℕ, _≤_};
+ghost use lib.ListN.{length};
 ghost use Rattle.walk.specs.declared.Met.the-variants.{Members, Elements};
 ghost use Rattle.wire.specs.Bytes.{written};
-ghost use mathlib.Core.List.{[], _∷_};
-ghost use Rattle.walk.specs.Walk.{start, answer, left, begun, times, leafWalk, metWalk, typeWalk};
-ghost use Rattle.unpacking.specs.Reading.{reader, Reading};
+ghost use mathlib.Core.List.{List, [], _∷_};
+ghost use Rattle.walk.specs.declared.Place.{Place};
+ghost use Rattle.walk.specs.Walk.{Step, on, through, start, answer, left, begun, times, leafWalk, metWalk, typeWalk};
+ghost use Rattle.unpacking.specs.Reading.{reader, Reading, Reads, memberRead, Goes};
 
 // An array's count: its bytes on the wire, and its words.
 const COUNT_BYTES: usize = 4;
 
 const COUNT_WORDS: usize = 1;
+
+// How far a run of leaves was read: up to which member or element, and where it ends.
+struct Run {
+    upto: u32,
+    at: Place,
+}
 
 // Unpacks a payload as type i, and stores each word where there is room for it.
 pub fn read_type(table: &[u8], s: Sections, i: u16, payload: &[u8], words: &mut [u64]) -> Walked
@@ -45,21 +56,27 @@ fn read_members(
     ensures { λ r. ⌜ r ≡ answer (metWalk (reader (now (payload .entry))) (now (table .entry)) s i (Members e) p (now (words .entry))) ⌝ }
     ensures { λ _. ⌜ now (words .exit) ≡ left (metWalk (reader (now (payload .entry))) (now (table .entry)) s i (Members e) p (now (words .entry))) ⌝ }
 {
-    let count = e.count;
+    let count = e.count as u32;
     let mut at = p;
-    let mut k: u16 = 0;
+    let mut k: u32 = 0;
     while k < count {
-        let child = table::entries::member_at(table, s, e.first as u32 + k as u32);
+        let run = read_bases(table, s, i, e, k, payload, words, at);
+        let next = run.upto;
+        let here = run.at;
+        if next == count {
+            return Walked::Went(here);
+        }
+        let child = table::entries::member_at(table, s, e.first as u32 + next);
         let step = match walk::meet(table, s, i, child) {
-            Met::Leaf(c) => read_leaf(table, s, c, payload, words, at),
-            Met::Members(c) => read_members(table, s, child, c, payload, words, at),
-            Met::Elements(c) => read_elements(table, s, child, c, payload, words, at),
-            Met::Broken => Walked::Stopped(types::RULE_BROKEN, at),
+            Met::Leaf(c) => read_leaf(table, s, c, payload, words, here),
+            Met::Members(c) => read_members(table, s, child, c, payload, words, here),
+            Met::Elements(c) => read_elements(table, s, child, c, payload, words, here),
+            Met::Broken => Walked::Stopped(types::RULE_BROKEN, here),
         };
         match step {
             Walked::Went(q) => {
                 at = q;
-                k += 1;
+                k = next + 1;
             }
             Walked::Stopped(n, q) => return Walked::Stopped(n, q),
         }
@@ -87,8 +104,10 @@ fn read_elements(
     match begin(payload, words, e, p) {
         Walked::Stopped(n, q) => Walked::Stopped(n, q),
         Walked::Went(q) => {
-            let mut at = q;
-            let mut k: u32 = 0;
+            let code = walk::base_at(table, s, i, child);
+            let run = read_run(payload, words, code, count, q);
+            let mut at = run.at;
+            let mut k = run.upto;
             while k < count {
                 let step = match met {
                     Met::Leaf(c) => read_leaf(table, s, c, payload, words, at),
@@ -113,7 +132,7 @@ fn read_elements(
 fn times(payload: &[u8], e: Entry, p: Place) -> u32
     ensures { λ r. ⌜ r ≡ times (reader (now (payload .entry))) e p ⌝ }
 {
-    if e.kind == 3 {
+    if e.kind == table::FIXED {
         e.count as u32
     } else {
         wire::u32_at(payload, p.from)
@@ -126,7 +145,7 @@ fn begin(payload: &[u8], words: &mut [u64], e: Entry, p: Place) -> Walked
     ensures { λ r. ⌜ r ≡ answer (begun (reader (now (payload .entry))) e p (now (words .entry))) ⌝ }
     ensures { λ _. ⌜ now (words .exit) ≡ left (begun (reader (now (payload .entry))) e p (now (words .entry))) ⌝ }
 {
-    if e.kind == 3 {
+    if e.kind == table::FIXED {
         return Walked::Went(p);
     }
     if wire::has_room(payload.len(), p.from, COUNT_BYTES) {
@@ -182,4 +201,84 @@ fn put_word(words: &mut [u64], at: usize, word: u64)
     if at < words.len() {
         words[at] = word;
     }
+}
+
+// Reads a record's members from the k-th on, up to one that is no base, or whose leaf is refused: most members are bases.
+fn read_bases(
+    table: &[u8],
+    s: Sections,
+    i: u16,
+    e: Entry,
+    from: u32,
+    payload: &[u8],
+    words: &mut [u64],
+    p: Place,
+) -> Run
+    requires { ⌜ Reading (now payload) p × (from ≤ e .count) ⌝ }
+    ensures { λ r. ⌜ (from ≤ r .upto) × (r .upto ≤ e .count) × Reading (now (payload .entry)) (r .at) ⌝ }
+    ensures { λ _. ⌜ length (now (words .exit)) ≡ length (now (words .entry)) ⌝ }
+    ensures { λ r. ⌜ Goes (memberRead (now (payload .entry)) (now (table .entry)) s i e) from p (now (words .entry)) (r .upto) (r .at) (now (words .exit)) ⌝ }
+{
+    let count = e.count as u32;
+    let mut at = p;
+    let mut k = from;
+    while k < count {
+        let child = table::entries::member_at(table, s, e.first as u32 + k);
+        let code = walk::base_at(table, s, i, child);
+        if bases::is_there(payload, at.from, code) {
+            bases::put_base(payload, words, code, at.from, at.to);
+            at = Place {
+                from: at.from + table::leaf::width(code),
+                to: at.to + 1,
+            };
+            k += 1;
+        } else {
+            return Run { upto: k, at };
+        }
+    }
+    Run { upto: k, at }
+}
+
+// Reads elements of one base code, up to one whose leaf is refused. A call for each code, so that the compiler makes a loop for
+// each.
+fn read_run(payload: &[u8], words: &mut [u64], code: u16, count: u32, p: Place) -> Run
+    requires { ⌜ Reading (now payload) p ⌝ }
+    ensures { λ r. ⌜ (r .upto ≤ count) × Reading (now (payload .entry)) (r .at) ⌝ }
+    ensures { λ _. ⌜ length (now (words .exit)) ≡ length (now (words .entry)) ⌝ }
+    ensures { λ r. ⌜ ((f : ℕ → Place → List ℕ → Step) → Reads (now (payload .entry)) code f → through (r .upto) f p (now (words .entry)) ≡ on (r .at) (now (words .exit))) ⌝ }
+{
+    match code {
+        2 => read_each(payload, words, 2, count, p),
+        6 => read_each(payload, words, 6, count, p),
+        7 => read_each(payload, words, 7, count, p),
+        8 => read_each(payload, words, 8, count, p),
+        9 => read_each(payload, words, 9, count, p),
+        10 => read_each(payload, words, 10, count, p),
+        11 => read_each(payload, words, 11, count, p),
+        12 => read_each(payload, words, 12, count, p),
+        _ => read_each(payload, words, code, count, p),
+    }
+}
+
+fn read_each(payload: &[u8], words: &mut [u64], code: u16, count: u32, p: Place) -> Run
+    requires { ⌜ Reading (now payload) p ⌝ }
+    ensures { λ r. ⌜ (r .upto ≤ count) × Reading (now (payload .entry)) (r .at) ⌝ }
+    ensures { λ _. ⌜ length (now (words .exit)) ≡ length (now (words .entry)) ⌝ }
+    ensures { λ r. ⌜ ((f : ℕ → Place → List ℕ → Step) → Reads (now (payload .entry)) code f → through (r .upto) f p (now (words .entry)) ≡ on (r .at) (now (words .exit))) ⌝ }
+{
+    let mut at = p;
+    let mut k: u32 = 0;
+    while k < count {
+        if bases::is_there(payload, at.from, code) {
+            bases::put_base(payload, words, code, at.from, at.to);
+            at = Place {
+                from: at.from + table::leaf::width(code),
+                to: at.to + 1,
+            };
+            k += 1;
+        } else {
+            return Run { upto: k, at };
+        }
+    }
+    Run { upto: k, at }
 }

@@ -1,3 +1,4 @@
 pub mod Trees
 pub mod Walks
 pub mod Returns
+pub mod Bases

@@ -1,13 +1,13 @@
 -- 01, "The type table": a type of the table as a finite tree. Members and elements have smaller type numbers, so each tree is
 -- made of those before it; what points elsewhere, and any entry that breaks a rule that the walk sees, is broken.
 use Prim.Native.Nat.{ℕ, zero, suc, _+_}
-use mathlib.Core.Bool.{Bool, cond}
+use mathlib.Core.Bool.{Bool, _&&_, cond}
 use mathlib.Core.List.{List, [], _∷_, _++_}
 use lib.Dec.{ltb, leb, eqb}
 use lib.ListN.{getD}
 use Rattle.table.specs.declared.Sections.{Sections}
 use Rattle.table.specs.declared.Entry.{Entry}
-use Rattle.table.specs.Entries.{enumKind, recordKind, fixedKind, typeAt, memberAt}
+use Rattle.table.specs.Entries.{baseKind, enumKind, recordKind, fixedKind, typeAt, memberAt}
 use Rattle.types.specs.Rules.{fieldsOk}
 use Rattle.leaves.specs.Choice.{choice}
 use Rattle.walk.specs.declared.Met.{Met}
@@ -32,6 +32,17 @@ look t s i = cond (fieldsOk s i (typeAt t s i)) (byKind (typeAt t s i)) Broken
 -- and at type c, coming from type i
 unfoldable pub meet : List ℕ → Sections → ℕ → ℕ → Met
 meet t s i c = cond (ltb c i) (look t s c) Broken
+
+-- the code of a base that keeps its rule, and a number that is no base code for any other entry; and at type c, coming from
+-- type i
+abbrev pub noBase : ℕ
+noBase = 13
+
+unfoldable pub baseOf : Entry → ℕ
+baseOf e = cond (eqb (e .kind) baseKind && ltb (e .of) noBase && eqb (e .first) 0 && eqb (e .count) 0) (e .of) noBase
+
+unfoldable pub baseAt : List ℕ → Sections → ℕ → ℕ → ℕ
+baseAt t s i c = cond (ltb c i) (baseOf (typeAt t s c)) noBase
 
 unfoldable pub elementsOf : Entry → Tree → Tree
 elementsOf e a = cond (eqb (e .kind) fixedKind) (row (e .count) (λ k. a)) (array (e .count) a)

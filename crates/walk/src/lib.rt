@@ -3,7 +3,7 @@
 use table::Entry;
 use table::Sections;
 ghost use mathlib.Core.Path.{_≡_};
-ghost use Rattle.walk.specs.Tree.{byKind, look, meet};
+ghost use Rattle.walk.specs.Tree.{byKind, look, meet, baseOf, baseAt};
 
 // 01, Numbers given back: what a walk can be refused with, and, behind it, what is left over.
 pub const ENDS_EARLY: u32 = 40;
@@ -13,6 +13,9 @@ pub const LEFT_OVER: u32 = 41;
 pub const NOT_ALLOWED: u32 = 42;
 
 pub const COUNT_OVER: u32 = 43;
+
+// The code that stands for no base: the base codes are below it.
+pub const NO_BASE: u16 = 13;
 
 // A walk's place: how far it has come in what it reads, and in what it writes. One of the two counts words, so the leaves
 // completed, array counts included.
@@ -61,11 +64,31 @@ pub fn look(table: &[u8], s: Sections, i: u16) -> Met
 fn by_kind(e: Entry) -> Met
     ensures { λ r. ⌜ r ≡ byKind e ⌝ }
 {
-    if e.kind <= 1 {
+    if e.kind <= table::ENUM {
         return Met::Leaf(e);
     }
-    if e.kind == 2 {
+    if e.kind == table::RECORD {
         return Met::Members(e);
     }
     Met::Elements(e)
+}
+
+// The base code of type c where, coming from type i, a base is met there: most leaves are one, and this is cheaper than `meet`.
+pub fn base_at(table: &[u8], s: Sections, i: u16, c: u16) -> u16
+    ensures { λ r. ⌜ r ≡ baseAt (now (table .entry)) s i c ⌝ }
+{
+    if i <= c {
+        return NO_BASE;
+    }
+    base_of(table::entries::type_at(table, s, c))
+}
+
+fn base_of(e: Entry) -> u16
+    ensures { λ r. ⌜ r ≡ baseOf e ⌝ }
+{
+    if (e.kind == table::BASE) & (e.of < NO_BASE) & (e.first == 0) & (e.count == 0) {
+        e.of
+    } else {
+        NO_BASE
+    }
 }

@@ -1,15 +1,28 @@
--- `table::leaf::width` meets its contract: the table of widths is that of the codes, entry by entry.
+-- `table::leaf::width` meets its contract: each arm is the width of its code.
 -- Assumes nothing.
 use borrow.Author.Needs.{needs}
+use mathlib.Core.Path.{refl}
+use Rattle.table.specs.Leaf.{width, base, bytesOf}
 use Rattle.table.proofs.Leaves.{width-at, no-width}
 use Rattle.table.proofs.leaf.width.Statement.{statement}
 use Rattle.table.proofs.leaf.width.Tie as tie
 
 pub width-spec : {M : Type 1} → statement M
+unfolding width base bytesOf
 width-spec =
     tie.close
     (tie.spec
-    (λ c. search needs)
-    (λ c. search needs)
-    (λ c. search width-at)
+    (λ c. search (width-at 0 1 refl))
+    (λ c. search (width-at 1 1 refl))
+    (λ c. search (width-at 2 1 refl))
+    (λ c. search (width-at 3 2 refl))
+    (λ c. search (width-at 4 4 refl))
+    (λ c. search (width-at 5 8 refl))
+    (λ c. search (width-at 6 1 refl))
+    (λ c. search (width-at 7 1 refl))
+    (λ c. search (width-at 8 2 refl))
+    (λ c. search (width-at 9 4 refl))
+    (λ c. search (width-at 10 8 refl))
+    (λ c. search (width-at 11 4 refl))
+    (λ c. search (width-at 12 8 refl))
     (λ c. search no-width))

@@ -1,0 +1,40 @@
+-- `unpacking::bases::word_in` meets its contract: each arm is the number of its width.
+-- Assumes nothing.
+use borrow.Author.Needs.{needs}
+use mathlib.Core.Path.{refl}
+use Rattle.table.specs.Leaf.{width, base, bytesOf}
+use Rattle.leaves.specs.Forms.{wordAt, wordOf}
+use Rattle.leaves.proofs.Returns.{at-number}
+use Rattle.unpacking.proofs.ReadBases.{room-of}
+use Rattle.unpacking.proofs.bases.word_in.Statement.{statement}
+use Rattle.unpacking.proofs.bases.word_in.Tie as tie
+
+pub word-in-spec : {M : Type 1} → statement M
+unfolding width base bytesOf wordAt wordOf
+word-in-spec =
+    tie.close
+    (tie.spec
+    (λ c κs. search (room-of 2 1 refl))
+    (λ c. search needs)
+    (λ c κs. search (room-of 6 1 refl))
+    (λ c. search needs)
+    (λ c κs. search (room-of 7 1 refl))
+    (λ c. search needs)
+    (λ c κs. search (room-of 8 2 refl))
+    (λ c. search needs)
+    (λ c κs. search (room-of 9 4 refl))
+    (λ c. search needs)
+    (λ c κs. search (room-of 10 8 refl))
+    (λ c κs. search (room-of 11 4 refl))
+    (λ c. search needs)
+    (λ c κs. search (room-of 12 8 refl))
+    (λ c κs. search needs)
+    (λ c. search (at-number 2 0 (λ s p. refl)))
+    (λ c. search (at-number 6 0 (λ s p. refl)))
+    (λ c. search (at-number 7 0 (λ s p. refl)))
+    (λ c. search (at-number 8 1 (λ s p. refl)))
+    (λ c. search (at-number 9 2 (λ s p. refl)))
+    (λ c. search (at-number 10 3 (λ s p. refl)))
+    (λ c. search (at-number 11 2 (λ s p. refl)))
+    (λ c. search (at-number 12 3 (λ s p. refl)))
+    (λ c. search needs))
