@@ -1,7 +1,7 @@
 -- Two outcomes that one promise allows are equal: each contract is an equation with a definition.
 -- Assumes nothing.
 use mathlib.Core.Path.{_≡_, sym, _∙_}
-use Rattle.promises.specs.UniqueBelow.{ChannelsUnique, TableUnique, WalkUnique, UnpackingUnique, PackingUnique, StatesUnique, TextUnique, CallsUnique, LentUnique, LentJoinerUnique, LentMessagesUnique, LentTablesUnique, LentPayloadsUnique, LentPlatformUnique, UniqueBelow}
+use Rattle.promises.specs.UniqueBelow.{ChannelsUnique, JoinerUnique, MessageUnique, PlatformUnique, TableUnique, WalkUnique, UnpackingUnique, PackingUnique, StatesUnique, TextUnique, CallsUnique, LentUnique, LentChannelsUnique, LentJoinerUnique, LentMessagesUnique, LentTablesUnique, LentPayloadsUnique, LentPlatformUnique, UniqueBelow}
 
 channels : ChannelsUnique
 channels =
@@ -9,7 +9,31 @@ channels =
       is-good = λ k a z z′ e e′ p q. p ∙ sym q;
       look = λ k a z z′ e e′ p q. p ∙ sym q;
       room-start = λ k a z z′ e e′ p q. p ∙ sym q;
+      has-good-sizes = λ k a z z′ e e′ p q. p ∙ sym q;
+      is-good-channel = λ k a z z′ e e′ p q. p ∙ sym q;
     }
+
+joiner : JoinerUnique
+joiner =
+    record {
+      sender-of = λ k a z z′ e e′ p q. p ∙ sym q;
+      judge = λ k a z z′ e e′ p q. p ∙ sym q;
+      write-piece-rooms = λ k a z z′ e e′ p q. p ∙ sym q;
+    }
+
+message : MessageUnique
+message =
+    record {
+      read-refusal = λ k a z z′ e e′ p q. p ∙ sym q;
+      frame-refusal = λ k a z z′ e e′ p q. p ∙ sym q;
+      address-refusal = λ k a z z′ e e′ p q. p ∙ sym q;
+      contents-refusal = λ k a z z′ e e′ p q. p ∙ sym q;
+      behind-header = λ k a z z′ e e′ p q. p ∙ sym q;
+      put-header-out = λ k a z z′ e e′ p q. p ∙ sym q;
+    }
+
+platform : PlatformUnique
+platform = record { put-reply-out = λ k a z z′ e e′ p q. p ∙ sym q }
 
 table : TableUnique
 table =
@@ -22,6 +46,7 @@ walk =
     record {
       meet = λ k a z z′ e e′ p q. p ∙ sym q;
       look = λ k a z z′ e e′ p q. p ∙ sym q;
+      base-at = λ k a z z′ e e′ p q. p ∙ sym q;
     }
 
 unpacking : UnpackingUnique
@@ -77,6 +102,9 @@ lent =
       put-u32-words = λ k a z z′ e e′ p q. p ∙ sym q;
       put-count-words = λ k a z z′ e e′ p q. p ∙ sym q;
     }
+
+lent-channels : LentChannelsUnique
+lent-channels = record { look = λ k a z z′ e e′ p q. p ∙ sym q }
 
 lent-joiner : LentJoinerUnique
 lent-joiner =
@@ -143,4 +171,4 @@ lent-platform =
     }
 
 pub unique-below : UniqueBelow
-unique-below = record { channels = channels; table = table; walk = walk; unpacking = unpacking; packing = packing; states = states; text = text; calls = calls; lent = lent; lent-joiner = lent-joiner; lent-messages = lent-messages; lent-tables = lent-tables; lent-payloads = lent-payloads; lent-platform = lent-platform }
+unique-below = record { channels = channels; joiner = joiner; message = message; platform = platform; table = table; walk = walk; unpacking = unpacking; packing = packing; states = states; text = text; calls = calls; lent = lent; lent-channels = lent-channels; lent-joiner = lent-joiner; lent-messages = lent-messages; lent-tables = lent-tables; lent-payloads = lent-payloads; lent-platform = lent-platform }

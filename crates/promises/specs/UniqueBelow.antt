@@ -6,9 +6,22 @@ use Rattle.promises.specs.Unique.{Same, Answer, Lent}
 use Rattle.channels.proofs.is_good.Reads.{Post as channels-is-good}
 use Rattle.channels.proofs.look.Reads.{Post as channels-look}
 use Rattle.channels.proofs.room_start.Reads.{Post as channels-room-start}
+use Rattle.channels.proofs.has_good_sizes.Reads.{Post as channels-has-good-sizes}
+use Rattle.channels.proofs.is_good_channel.Reads.{Post as channels-is-good-channel}
+use Rattle.joiner.proofs.sender_of.Reads.{Post as joiner-sender-of}
+use Rattle.joiner.proofs.judge.Reads.{Post as joiner-judge}
+use Rattle.joiner.proofs.write_piece.Reads.{Post as joiner-write-piece}
+use Rattle.message.proofs.read_refusal.Reads.{Post as message-read-refusal}
+use Rattle.message.proofs.frame_refusal.Reads.{Post as message-frame-refusal}
+use Rattle.message.proofs.address_refusal.Reads.{Post as message-address-refusal}
+use Rattle.message.proofs.contents_refusal.Reads.{Post as message-contents-refusal}
+use Rattle.message.proofs.behind_header.Reads.{Post as message-behind-header}
+use Rattle.message.proofs.put_header.Reads.{Post as message-put-header}
+use Rattle.platform.proofs.put_reply.Reads.{Post as platform-put-reply}
 use Rattle.table.proofs.layout.read.Reads.{Post as table-layout-read}
 use Rattle.walk.proofs.meet.Reads.{Post as walk-meet}
 use Rattle.walk.proofs.look.Reads.{Post as walk-look}
+use Rattle.walk.proofs.base_at.Reads.{Post as walk-base-at}
 use Rattle.unpacking.proofs.read_type.Reads.{Post as unpacking-read-type}
 use Rattle.packing.proofs.write_type.Reads.{Post as packing-write-type}
 use Rattle.states.proofs.fresh.Reads.{Post as states-fresh}
@@ -27,6 +40,7 @@ use Rattle.lent.proofs.u32_at.Reads.{Post as lent-u32-at}
 use Rattle.lent.proofs.put_u64.Reads.{Post as lent-put-u64}
 use Rattle.lent.proofs.put_u32.Reads.{Post as lent-put-u32}
 use Rattle.lent.proofs.put_count.Reads.{Post as lent-put-count}
+use Rattle.lent_channels.proofs.look.Reads.{Post as lent-channels-look}
 use Rattle.lent_joiner.proofs.setup.Reads.{Post as lent-joiner-setup}
 use Rattle.lent_joiner.proofs.take.Reads.{Post as lent-joiner-take}
 use Rattle.lent_messages.proofs.pieces.Reads.{Post as lent-messages-pieces}
@@ -48,6 +62,24 @@ pub record ChannelsUnique : Type 0 where
   pub is-good : Answer channels-is-good
   pub look : Answer channels-look
   pub room-start : Answer channels-room-start
+  pub has-good-sizes : Answer channels-has-good-sizes
+  pub is-good-channel : Answer channels-is-good-channel
+
+pub record JoinerUnique : Type 0 where
+  pub sender-of : Answer joiner-sender-of
+  pub judge : Answer joiner-judge
+  pub write-piece-rooms : Lent joiner-write-piece (λ k e. now (e .0))
+
+pub record MessageUnique : Type 0 where
+  pub read-refusal : Answer message-read-refusal
+  pub frame-refusal : Answer message-frame-refusal
+  pub address-refusal : Answer message-address-refusal
+  pub contents-refusal : Answer message-contents-refusal
+  pub behind-header : Same message-behind-header (λ k z e. now z)
+  pub put-header-out : Lent message-put-header (λ k e. now (e .0))
+
+pub record PlatformUnique : Type 0 where
+  pub put-reply-out : Lent platform-put-reply (λ k e. now (e .1 .1 .0))
 
 pub record TableUnique : Type 0 where
   pub read : Answer table-layout-read
@@ -55,6 +87,7 @@ pub record TableUnique : Type 0 where
 pub record WalkUnique : Type 0 where
   pub meet : Answer walk-meet
   pub look : Answer walk-look
+  pub base-at : Answer walk-base-at
 
 pub record UnpackingUnique : Type 0 where
   pub read-type : Answer unpacking-read-type
@@ -91,6 +124,9 @@ pub record LentUnique : Type 0 where
   pub put-u64-words : Lent lent-put-u64 (λ k e. now (e .0))
   pub put-u32-words : Lent lent-put-u32 (λ k e. now (e .0))
   pub put-count-words : Lent lent-put-count (λ k e. now (e .0))
+
+pub record LentChannelsUnique : Type 0 where
+  pub look : Answer lent-channels-look
 
 pub record LentJoinerUnique : Type 0 where
   pub setup : Answer lent-joiner-setup
@@ -143,6 +179,9 @@ pub record LentPlatformUnique : Type 0 where
 
 pub record UniqueBelow : Type 0 where
   pub channels : ChannelsUnique
+  pub joiner : JoinerUnique
+  pub message : MessageUnique
+  pub platform : PlatformUnique
   pub table : TableUnique
   pub walk : WalkUnique
   pub unpacking : UnpackingUnique
@@ -151,6 +190,7 @@ pub record UniqueBelow : Type 0 where
   pub text : TextUnique
   pub calls : CallsUnique
   pub lent : LentUnique
+  pub lent-channels : LentChannelsUnique
   pub lent-joiner : LentJoinerUnique
   pub lent-messages : LentMessagesUnique
   pub lent-tables : LentTablesUnique
