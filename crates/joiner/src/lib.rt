@@ -141,8 +141,9 @@ fn moved(at: usize, size: u32, channel: Channel, header: BindingHeader, length: 
     ensures { λ r. ⌜ r ≡ movedOf at size channel header length ⌝ }
 {
     if can_move(at, size, channel, length) {
+        let number = at as u32;
         let room = Room {
-            start: channels::room_start(size, at as u32),
+            start: channels::room_start(size, number),
             size,
         };
         let piece = (length - BindingHeader::LENGTH) as u32;
