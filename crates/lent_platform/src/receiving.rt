@@ -5,6 +5,7 @@ use crate::told;
 use message::Header;
 use message::Message;
 use message::Own;
+use reactions::REPLY_LENGTH;
 use reactions::Reply;
 use table::Found;
 use table::Sections;
@@ -22,9 +23,6 @@ ghost use Rattle.reactions.specs.Reaction.{replied};
 ghost use Rattle.lent_platform.specs.Words.{standingIn, standingWords};
 ghost use Rattle.lent_platform.specs.Calls.{noWords, ReceivedIn};
 ghost use Rattle.lent_platform.specs.Told.{Told};
-
-// The bytes of a reply.
-const REPLY_LENGTH: usize = 24;
 
 pub(crate) fn received(
     own: Own,

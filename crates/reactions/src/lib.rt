@@ -11,6 +11,9 @@ pub use replies::length_of;
 pub use replies::put_reply;
 use states::States;
 
+// The bytes of a reply: a header and a field of 32 bits.
+pub const REPLY_LENGTH: usize = 24;
+
 // What a platform keeps from one message to the next: the states, and its next own sequence number.
 pub struct Standing {
     pub states: States,

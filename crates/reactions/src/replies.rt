@@ -1,5 +1,6 @@
 // The replies that are owed, laid one behind another into the output.
 use crate::Owed;
+use crate::REPLY_LENGTH;
 use crate::Reply;
 use message::Header;
 use message::Message;
@@ -9,9 +10,6 @@ ghost use Prim.Native.Nat.{_+_, _≤_};
 ghost use lib.ListN.{length};
 ghost use Rattle.wire.specs.Bytes.{over, written};
 ghost use Rattle.reactions.specs.Replies.{replyID, replyNumber, replyField, replyBytes, replyLength, owedBytes, owedLength, drawn};
-
-// A header and a field of 32 bits.
-const REPLY_LENGTH: usize = 24;
 
 const FIELD_LENGTH: u32 = 4;
 
