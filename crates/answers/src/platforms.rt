@@ -6,8 +6,8 @@ use crate::messages;
 use message::Header;
 use message::Own;
 use platform::Answer;
-use platform::Heard;
-use platform::Standing;
+use reactions::Heard;
+use reactions::Standing;
 
 // The platform that the calls speak to.
 pub(crate) struct Kept {

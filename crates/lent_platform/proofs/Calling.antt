@@ -12,9 +12,9 @@ use Rattle.table.specs.declared.Sections.{Sections}
 use Rattle.table.specs.declared.Found.{Found}
 use Rattle.table.specs.Layout.{cutShort, within}
 use Rattle.message.specs.Reading.{readOf}
-use Rattle.platform.specs.declared.Standing.{Standing}
+use Rattle.reactions.specs.declared.Standing.{Standing}
 use Rattle.platform.specs.declared.Outcome.{Outcome}
-use Rattle.platform.specs.Reaction.{Looked, operationIn}
+use Rattle.reactions.specs.Reaction.{Looked, operationIn}
 use Rattle.platform.specs.Receiving.{refused, numberGiven, outcomeOf, outputOf, receivedOf, leftOf, sectionsOutcome, sectionsOutput, Received}
 use Rattle.platform.proofs.Unique.{operation-looked}
 use Rattle.lent.specs.Words.{outputTooShort}

@@ -8,7 +8,7 @@ use native.Mathlib.Nat.{mod-eq-of-lt}
 use lib.ListN.{getD}
 use Rattle.wire.specs.Bytes.{written}
 use Rattle.states.specs.declared.States.{States}
-use Rattle.platform.specs.declared.Standing.{Standing}
+use Rattle.reactions.specs.declared.Standing.{Standing}
 use Rattle.states.specs.States.{isUp, howManyUp}
 use Rattle.platform.specs.Receiving.{freshStanding}
 use Rattle.lent_platform.specs.Words.{statesIn, standingIn, standingWords}

@@ -30,16 +30,16 @@ use Rattle.message.specs.Reading as read
 use Rattle.message.specs.Reading.{readOut, readOf}
 use Rattle.states.specs.declared.States.{States}
 use Rattle.states.specs.States.{isUp}
-use Rattle.platform.specs.declared.Standing.{Standing}
-use Rattle.platform.specs.declared.Heard.the-variants as heard
+use Rattle.reactions.specs.declared.Standing.{Standing}
+use Rattle.reactions.specs.declared.Heard.the-variants as heard
 use Rattle.platform.specs.declared.Outcome.{Outcome}
-use Rattle.platform.specs.declared.Reply.{Reply}
-use Rattle.platform.specs.declared.Reply.the-variants.{StatusUp}
-use Rattle.platform.specs.declared.Reaction.{Reaction}
-use Rattle.platform.specs.Replies.{replyBytes, replyLength, owedBytes, owedLength}
-use Rattle.platform.specs.Reaction.{Looked, LookedFor, operationIn, silent, replied, onStatus, onOperation, reactionTo}
+use Rattle.reactions.specs.declared.Reply.{Reply}
+use Rattle.reactions.specs.declared.Reply.the-variants.{StatusUp}
+use Rattle.reactions.specs.declared.Reaction.{Reaction}
+use Rattle.reactions.specs.Replies.{replyBytes, replyLength, owedBytes, owedLength}
+use Rattle.reactions.specs.Reaction.{Looked, LookedFor, operationIn, silent, replied, onStatus, onOperation, reactionTo}
 use Rattle.platform.specs.Receiving.{refused, taken, answered, laidOut, numberGiven, outcomeOf, outputOf, sectionsOutcome, sectionsOutput}
-use Rattle.platform.proofs.ReplyLaws.{length-reply}
+use Rattle.reactions.proofs.ReplyLaws.{length-reply}
 use Rattle.platform.proofs.Unique.{operation-looked}
 use Rattle.lent.specs.Words.{outputTooShort}
 use Rattle.lent.proofs.Answers.{none-written}

@@ -10,13 +10,13 @@ use Rattle.table.specs.declared.Found.{Found}
 use Rattle.message.specs.declared.Header.{Header}
 use Rattle.message.specs.Platform.{statusValue}
 use Rattle.message.specs.Reading.{readOf}
-use Rattle.platform.specs.declared.Standing.{Standing}
-use Rattle.platform.specs.declared.Heard.{Heard}
-use Rattle.platform.specs.declared.Heard.the-variants as heard
+use Rattle.reactions.specs.declared.Standing.{Standing}
+use Rattle.reactions.specs.declared.Heard.{Heard}
+use Rattle.reactions.specs.declared.Heard.the-variants as heard
 use Rattle.platform.specs.declared.Answer.{Answer}
 use Rattle.platform.specs.declared.Answer.the-variants.{Refused, Noted}
 use Rattle.platform.specs.declared.Outcome.{Outcome}
-use Rattle.platform.specs.Reaction.{Looked}
+use Rattle.reactions.specs.Reaction.{Looked}
 use Rattle.platform.specs.Receiving.{freshStanding, numberGiven, sectionsOutcome, sectionsOutput}
 use Rattle.lent.specs.Words.{outputTooShort, tooFew}
 use Rattle.lent_platform.specs.Words.{platformWords, standingIn, standingWords}

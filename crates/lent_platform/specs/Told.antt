@@ -6,7 +6,7 @@ use lib.ListN.{length}
 use Rattle.wire.specs.Bytes.{written}
 use Rattle.message.specs.declared.Header.{Header}
 use Rattle.platform.specs.declared.Outcome.{Outcome}
-use Rattle.platform.specs.declared.Reaction.{Reaction}
+use Rattle.reactions.specs.declared.Reaction.{Reaction}
 use Rattle.platform.specs.Receiving.{numberGiven, answered, laidOut}
 use Rattle.lent_platform.specs.Words.{standingIn}
 use Rattle.lent_platform.specs.Calls.{answerWords, notedWords}

@@ -5,7 +5,8 @@ use crate::told;
 use message::Header;
 use message::Message;
 use message::Own;
-use platform::Reply;
+use reactions::REPLY_LENGTH;
+use reactions::Reply;
 use table::Found;
 use table::Sections;
 ghost use mathlib.Core.Path.{_≡_};
@@ -16,15 +17,12 @@ ghost use Rattle.table.specs.Layout.{within};
 ghost use Rattle.message.specs.Header.{platformDomain, domainIn, sequenceIn, idIn, headerIn};
 ghost use Rattle.message.specs.Platform.{platformStatus};
 ghost use Rattle.message.specs.Refusal.{readRefusal};
-ghost use Rattle.platform.specs.declared.Heard.the-variants.{Request};
-ghost use Rattle.platform.specs.declared.Reply.the-variants.{StatusUp};
-ghost use Rattle.platform.specs.Reaction.{replied};
+ghost use Rattle.reactions.specs.declared.Heard.the-variants.{Request};
+ghost use Rattle.reactions.specs.declared.Reply.the-variants.{StatusUp};
+ghost use Rattle.reactions.specs.Reaction.{replied};
 ghost use Rattle.lent_platform.specs.Words.{standingIn, standingWords};
 ghost use Rattle.lent_platform.specs.Calls.{noWords, ReceivedIn};
 ghost use Rattle.lent_platform.specs.Told.{Told};
-
-// The bytes of a reply.
-const REPLY_LENGTH: usize = 24;
 
 pub(crate) fn received(
     own: Own,
@@ -127,7 +125,7 @@ fn on_request(
     }
     let sender = wire::u32_at(message, Header::PLATFORM_AT);
     let sequence = wire::u32_at(message, Header::SEQUENCE_AT);
-    platform::put_reply(own, Reply::StatusUp(sequence), out);
+    reactions::put_reply(own, Reply::StatusUp(sequence), out);
     stored::keep(platform);
     told::put_value(answer, told::REQUEST, 0, sender, REPLY_LENGTH);
     0

@@ -1,5 +1,5 @@
 // A platform in its words, read and written.
-use platform::Standing;
+use reactions::Standing;
 use states::States;
 ghost use mathlib.Core.Path.{_≡_};
 ghost use Rattle.wire.specs.Bytes.{written};

@@ -1,4 +1,3 @@
-pub mod ReactionLaws
 pub mod ReplyLaws
 pub mod ReadBack
 pub mod Silence

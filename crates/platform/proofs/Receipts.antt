@@ -21,14 +21,14 @@ use Rattle.message.specs.declared.Message.{Message}
 use Rattle.message.specs.declared.Reading.{Reading}
 use Rattle.message.specs.declared.Reading.the-variants as reading
 use Rattle.message.specs.Reading.{readOf}
-use Rattle.platform.specs.declared.Standing.{Standing}
-use Rattle.platform.specs.declared.Heard.{Heard}
-use Rattle.platform.specs.declared.Heard.the-variants as heard
+use Rattle.reactions.specs.declared.Standing.{Standing}
+use Rattle.reactions.specs.declared.Heard.{Heard}
+use Rattle.reactions.specs.declared.Heard.the-variants as heard
 use Rattle.platform.specs.declared.Outcome.{Outcome}
-use Rattle.platform.specs.declared.Reaction.{Reaction}
-use Rattle.platform.specs.Reaction.{Looked, operationIn, reactionTo}
+use Rattle.reactions.specs.declared.Reaction.{Reaction}
+use Rattle.reactions.specs.Reaction.{Looked, operationIn, reactionTo}
 use Rattle.platform.specs.Receiving.{refused, answered, laidOut, outcomeOf, outputOf, receivedBy, receivedOf, leftBy, leftOf, sectionsOutcome, sectionsOutput, Received, payloadHeard}
-use Rattle.platform.proofs.Heard.{the-type}
+use Rattle.reactions.proofs.Heard.{the-type}
 use Rattle.platform.proofs.Unique.{operation-looked, same-outcome, same-output}
 
 -- the message was refused, or read

@@ -22,10 +22,10 @@ use Rattle.message.specs.declared.Message.the-variants as message
 use Rattle.message.specs.declared.Reading.{Reading}
 use Rattle.message.specs.declared.Reading.the-variants as reading
 use Rattle.message.specs.Reading.{readOf}
-use Rattle.platform.specs.declared.Standing.{Standing}
+use Rattle.reactions.specs.declared.Standing.{Standing}
 use Rattle.platform.specs.declared.Outcome.{Outcome}
 use Rattle.platform.specs.Receiving.{refused, outcomeOf, outputOf, receivedBy, receivedOf, leftBy, leftOf, sectionsOutcome, sectionsOutput, Received}
-use Rattle.platform.specs.Reaction.{LookedFor, Looked, operationFor, operationIn}
+use Rattle.reactions.specs.Reaction.{LookedFor, Looked, operationFor, operationIn}
 
 module _ (t : List ℕ) (s : Sections) where
   operation-looked-for : (h : Header) (m : Message) → LookedFor t s h m (operationFor t s h m)

@@ -1,4 +1,2 @@
-pub mod Replies
-pub mod Reaction
 pub mod Receiving
 pub mod Exchange

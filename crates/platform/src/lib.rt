@@ -1,10 +1,6 @@
 // What a platform knows of the others, and what it owes them (01, "Platform states and replies"; 000, 6.3): one call reads
 // a message, notes the state it tells, and writes the owed replies one behind another. A refused call (1 to 10, and 30 to
 // 33 for the type table) changes no state, own number or output byte.
-mod reacting;
-mod replies;
-
-pub use replies::put_reply;
 ghost use mathlib.Core.Path.{_≡_};
 ghost use lib.ListN.{length};
 ghost use mathlib.Core.Bool.{true};
@@ -14,38 +10,14 @@ ghost use Rattle.platform.specs.Receiving.{freshStanding, refused, taken
 use message::Header;
 use message::Own;
 use message::Reading;
-use message::Status;
+use reactions::Heard;
+use reactions::Reaction;
+use reactions::Standing;
 use states::States;
 use table::CUT_SHORT;
 use table::Checked;
 use table::Found;
 use table::Sections;
-
-// What a platform keeps from one message to the next: the states, and its next own sequence number.
-pub struct Standing {
-    pub states: States,
-    pub next: u32,
-}
-
-// What a message was.
-pub enum Heard {
-    Status(Status),
-    Request,
-    // Reported: an operation that its sender does not know.
-    UnknownOperation(u32),
-    PullOfAll,
-    // The ID, and the number of its entry in the table.
-    PullOfOne(u32, u16),
-    // What was pulled is not versioned data here.
-    NotVersionedData(u32),
-    // The number of the operation's entry, and its payload: `length` bytes of the message from `start` on.
-    Operation {
-        entry: u16,
-        start: usize,
-        length: usize,
-    },
-    NotInTable(u32),
-}
 
 pub enum Answer {
     Refused(u32),
@@ -60,27 +32,6 @@ pub enum Answer {
 pub struct Outcome {
     pub standing: Standing,
     pub answer: Answer,
-}
-
-// A reply, with its sequence number.
-pub enum Reply {
-    StatusUp(u32),
-    PullAll(u32),
-    // And the ID that is unknown here.
-    Unknown(u32, u32),
-}
-
-pub enum Owed {
-    Nothing,
-    One(Reply),
-    Two(Reply, Reply),
-}
-
-// What a message comes to where the replies fit.
-pub struct Reaction {
-    pub standing: Standing,
-    pub heard: Heard,
-    pub owed: Owed,
 }
 
 const NO_ROOM: u32 = 10;
@@ -169,7 +120,7 @@ fn received(
     ensures { λ r. ⌜ Received (own .platform) (now (table .entry)) s standing (now (message .entry)) (now (out .entry)) r (now (out .exit)) ⌝ }
 {
     let reading = message::read(own, message);
-    let found = reacting::look_up(table, s, reading);
+    let found = reactions::look_up(table, s, reading);
     settled(own, table, s, found, standing, reading, out)
 }
 
@@ -193,7 +144,7 @@ fn settled(
             start,
             length,
         } => {
-            let reaction = reacting::reaction_to(
+            let reaction = reactions::reaction_to(
                 own,
                 table,
                 s,
@@ -221,11 +172,11 @@ fn answered(
     ensures output { λ r. ⌜ now (out .exit) ≡ laidOut (own .platform) reaction (now (out .entry)) ⌝ }
 {
     let owed = reaction.owed;
-    let written = replies::length_of(owed);
+    let written = reactions::length_of(owed);
     if out.len() < written {
         refused(standing, NO_ROOM)
     } else {
-        replies::lay(own, owed, out);
+        reactions::lay(own, owed, out);
         taken(header, reaction, written)
     }
 }

@@ -22,10 +22,10 @@ use Rattle.message.specs.declared.Message.the-variants as message
 use Rattle.message.specs.Platform.{messageOf}
 use Rattle.message.specs.Refusal.{platforms}
 use Rattle.states.specs.declared.States.{States}
-use Rattle.platform.specs.declared.Standing.{Standing}
+use Rattle.reactions.specs.declared.Standing.{Standing}
 use Rattle.states.specs.States.{isUp, turned}
-use Rattle.platform.specs.Replies.{allData, replyNumber, meant, Wide, replies, Each, owedLength}
-use Rattle.platform.specs.Reaction.{operationFor, isData, foundData, noData, cameUp, onStatus, onPullAll, onPullOne, onPull, onOperation, reactionTo}
+use Rattle.reactions.specs.Replies.{allData, replyNumber, meant, Wide, replies, Each, owedLength}
+use Rattle.reactions.specs.Reaction.{operationFor, isData, foundData, noData, cameUp, onStatus, onPullAll, onPullOne, onPull, onOperation, reactionTo}
 use Rattle.platform.specs.Receiving.{laidOut}
 use Rattle.states.proofs.Ups.{noted-there, noted-elsewhere}
 use Rattle.promises.specs.Platforms.{Owed, owedFor, stateAfter, nextAfter, replyLength}

@@ -13,7 +13,7 @@ use Rattle.table.specs.declared.Sections.{Sections}
 use Rattle.table.specs.declared.Checked.the-variants.{Table}
 use Rattle.table.specs.Operations.{idsRise}
 use Rattle.types.specs.Table.{checked}
-use Rattle.platform.specs.declared.Standing.{Standing}
+use Rattle.reactions.specs.declared.Standing.{Standing}
 use Rattle.platform.specs.declared.Outcome.{Outcome}
 use Rattle.platform.specs.Receiving.{receivedOf, leftOf, Received}
 use Rattle.wire.proofs.u8_at.Reads.{Post as wire-u8-at}

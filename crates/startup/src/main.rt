@@ -5,7 +5,7 @@ use message::Header;
 use message::Message;
 use message::Own;
 use platform::Answer;
-use platform::Standing;
+use reactions::Standing;
 
 // A header and one field of 32 bits.
 const LENGTH: usize = 24;

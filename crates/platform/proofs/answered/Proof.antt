@@ -1,7 +1,7 @@
 -- `platform::answered` meets its contract: all replies fit, or nothing changes.
 -- Assumes nothing.
 use borrow.Author.Needs.{needs}
-use Rattle.platform.proofs.ReplyLaws.{too-long, fitting, left-as-it-was, laid, room-for-all}
+use Rattle.platform.proofs.ReplyLaws.{too-long, fitting, left-as-it-was, laid}
 use Rattle.platform.proofs.answered.Statement.{statement}
 use Rattle.platform.proofs.answered.Tie as tie
 
@@ -11,7 +11,7 @@ answered-spec =
     (tie.spec
     (λ c κs. search needs)
     (λ c κs. search needs)
-    (λ c κs. search (needs, room-for-all))
+    (λ c κs. search needs)
     (λ c κs. search needs)
     (λ c. (search too-long, search left-as-it-was))
     (λ c. search needs)

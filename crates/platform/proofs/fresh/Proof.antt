@@ -1,7 +1,7 @@
 -- `platform::fresh` meets its contract.
 -- Assumes nothing.
 use borrow.Author.Needs.{needs}
-use Rattle.platform.proofs.ReactionLaws.{fresh-is}
+use Rattle.platform.proofs.ReplyLaws.{fresh-is}
 use Rattle.platform.proofs.fresh.Statement.{statement}
 use Rattle.platform.proofs.fresh.Tie as tie
 

@@ -1,0 +1,2 @@
+pub mod ReactionLaws
+pub mod ReplyLaws

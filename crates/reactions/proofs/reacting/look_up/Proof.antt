@@ -1,0 +1,16 @@
+-- `reactions::reacting::look_up` meets its contract.
+-- Assumes nothing.
+use borrow.Author.Needs.{needs}
+use Rattle.reactions.proofs.ReactionLaws.{none-looked, is-looked}
+use Rattle.reactions.proofs.reacting.look_up.Statement.{statement}
+use Rattle.reactions.proofs.reacting.look_up.Tie as tie
+
+pub look-up-spec : {M : Type 1} → statement M
+look-up-spec =
+    tie.close
+    (tie.spec
+    (λ c. search needs)
+    (λ c. search needs)
+    (λ c κs. search needs)
+    (λ c. search none-looked)
+    (λ c. search is-looked))
