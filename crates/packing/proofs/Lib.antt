@@ -1,1 +1,2 @@
 mod WriteReturns
+mod WriteBases

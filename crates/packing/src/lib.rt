@@ -1,15 +1,20 @@
 // Writing a payload: the writer of a record's members and the writer of an array's elements call each other, each by the kind
 // of what it meets, and the type number falls at each entry.
+mod bases;
+
 use table::Entry;
 use table::Sections;
 use walk::Met;
 use walk::Place;
 use walk::Walked;
 ghost use mathlib.Core.Path.{_≡_};
-ghost use lib.ListN.{getD};
+ghost use mathlib.Core.List.{List};
+ghost use Prim.Native.Nat.{ℕ, _≤_};
+ghost use lib.ListN.{length, getD};
+ghost use Rattle.walk.specs.declared.Place.{Place};
 ghost use Rattle.walk.specs.declared.Met.the-variants.{Members, Elements};
-ghost use Rattle.walk.specs.Walk.{start, answer, left, begun, times, leafWalk, metWalk, typeWalk};
-ghost use Rattle.packing.specs.Writing.{writer, Writing};
+ghost use Rattle.walk.specs.Walk.{Step, on, through, start, answer, left, begun, times, leafWalk, metWalk, typeWalk};
+ghost use Rattle.packing.specs.Writing.{writer, Writing, Writes, memberWritten, Goes};
 
 // An array's count: its base code, uint32, its bytes on the wire, and its words.
 const COUNT_CODE: u16 = 9;
@@ -17,6 +22,12 @@ const COUNT_CODE: u16 = 9;
 const COUNT_BYTES: usize = 4;
 
 const COUNT_WORDS: usize = 1;
+
+// How far a run of leaves was written: up to which member or element, and where it ends.
+struct Run {
+    upto: u64,
+    at: Place,
+}
 
 // Packs the words as a payload of type i, and stores the bytes of each where there is room for them.
 pub fn write_type(table: &[u8], s: Sections, i: u16, words: &[u64], out: &mut [u8]) -> Walked
@@ -46,21 +57,27 @@ fn write_members(
     ensures { λ r. ⌜ r ≡ answer (metWalk (writer (now (words .entry))) (now (table .entry)) s i (Members e) p (now (out .entry))) ⌝ }
     ensures { λ _. ⌜ now (out .exit) ≡ left (metWalk (writer (now (words .entry))) (now (table .entry)) s i (Members e) p (now (out .entry))) ⌝ }
 {
-    let count = e.count;
+    let count = e.count as u64;
     let mut at = p;
-    let mut k: u16 = 0;
+    let mut k: u64 = 0;
     while k < count {
-        let child = table::entries::member_at(table, s, e.first as u32 + k as u32);
+        let run = write_bases(table, s, i, e, k, words, out, at);
+        let next = run.upto;
+        let here = run.at;
+        if next == count {
+            return Walked::Went(here);
+        }
+        let child = table::entries::member_at(table, s, e.first as u32 + next as u32);
         let step = match walk::meet(table, s, i, child) {
-            Met::Leaf(c) => write_leaf(table, s, c, words, out, at),
-            Met::Members(c) => write_members(table, s, child, c, words, out, at),
-            Met::Elements(c) => write_elements(table, s, child, c, words, out, at),
-            Met::Broken => Walked::Stopped(types::RULE_BROKEN, at),
+            Met::Leaf(c) => write_leaf(table, s, c, words, out, here),
+            Met::Members(c) => write_members(table, s, child, c, words, out, here),
+            Met::Elements(c) => write_elements(table, s, child, c, words, out, here),
+            Met::Broken => Walked::Stopped(types::RULE_BROKEN, here),
         };
         match step {
             Walked::Went(q) => {
                 at = q;
-                k += 1;
+                k = next + 1;
             }
             Walked::Stopped(n, q) => return Walked::Stopped(n, q),
         }
@@ -88,8 +105,10 @@ fn write_elements(
     match begin(words, out, e, p) {
         Walked::Stopped(n, q) => Walked::Stopped(n, q),
         Walked::Went(q) => {
-            let mut at = q;
-            let mut k: u64 = 0;
+            let code = walk::base_at(table, s, i, child);
+            let run = write_run(words, out, code, count, q);
+            let mut at = run.at;
+            let mut k = run.upto;
             while k < count {
                 let step = match met {
                     Met::Leaf(c) => write_leaf(table, s, c, words, out, at),
@@ -114,7 +133,7 @@ fn write_elements(
 fn times(words: &[u64], e: Entry, p: Place) -> u64
     ensures { λ r. ⌜ r ≡ times (writer (now (words .entry))) e p ⌝ }
 {
-    if e.kind == 3 {
+    if e.kind == table::FIXED {
         e.count as u64
     } else {
         word_at(words, p.from)
@@ -127,7 +146,7 @@ fn begin(words: &[u64], out: &mut [u8], e: Entry, p: Place) -> Walked
     ensures { λ r. ⌜ r ≡ answer (begun (writer (now (words .entry))) e p (now (out .entry))) ⌝ }
     ensures { λ _. ⌜ now (out .exit) ≡ left (begun (writer (now (words .entry))) e p (now (out .entry))) ⌝ }
 {
-    if e.kind == 3 {
+    if e.kind == table::FIXED {
         return Walked::Went(p);
     }
     if p.from < words.len() {
@@ -181,4 +200,89 @@ fn word_at(words: &[u64], at: usize) -> u64
     ensures { λ r. ⌜ r ≡ getD (now (words .entry)) at 0 ⌝ }
 {
     if at < words.len() { words[at] } else { 0 }
+}
+
+// Writes a record's members from the k-th on, up to one that is no base, or whose word is refused: most members are bases.
+fn write_bases(
+    table: &[u8],
+    s: Sections,
+    i: u16,
+    e: Entry,
+    from: u64,
+    words: &[u64],
+    out: &mut [u8],
+    p: Place,
+) -> Run
+    requires { ⌜ Writing (now words) p × (from ≤ e .count) ⌝ }
+    ensures { λ r. ⌜ (from ≤ r .upto) × (r .upto ≤ e .count) × Writing (now (words .entry)) (r .at) ⌝ }
+    ensures { λ _. ⌜ length (now (out .exit)) ≡ length (now (out .entry)) ⌝ }
+    ensures { λ r. ⌜ Goes (memberWritten (now (words .entry)) (now (table .entry)) s i e) from p (now (out .entry)) (r .upto) (r .at) (now (out .exit)) ⌝ }
+{
+    let count = e.count as u64;
+    let mut at = p;
+    let mut k = from;
+    while k < count {
+        let child = table::entries::member_at(table, s, e.first as u32 + k as u32);
+        let code = walk::base_at(table, s, i, child);
+        if bases::is_there(words, at.from, code) {
+            bases::put_base(words, out, code, at.from, at.to);
+            at = Place {
+                from: at.from + 1,
+                to: at.to + table::leaf::width(code),
+            };
+            k += 1;
+        } else {
+            return Run { upto: k, at };
+        }
+    }
+    Run { upto: k, at }
+}
+
+// Writes elements of one base code, up to one whose word is refused. A call for each code, so that the compiler makes a loop for
+// each.
+fn write_run(words: &[u64], out: &mut [u8], code: u16, count: u64, p: Place) -> Run
+    requires { ⌜ Writing (now words) p ⌝ }
+    ensures { λ r. ⌜ (r .upto ≤ count) × Writing (now (words .entry)) (r .at) ⌝ }
+    ensures { λ _. ⌜ length (now (out .exit)) ≡ length (now (out .entry)) ⌝ }
+    ensures { λ r. ⌜ ((f : ℕ → Place → List ℕ → Step) → Writes (now (words .entry)) code f → through (r .upto) f p (now (out .entry)) ≡ on (r .at) (now (out .exit))) ⌝ }
+{
+    match code {
+        0 => write_each(words, out, 0, count, p),
+        1 => write_each(words, out, 1, count, p),
+        2 => write_each(words, out, 2, count, p),
+        3 => write_each(words, out, 3, count, p),
+        4 => write_each(words, out, 4, count, p),
+        5 => write_each(words, out, 5, count, p),
+        6 => write_each(words, out, 6, count, p),
+        7 => write_each(words, out, 7, count, p),
+        8 => write_each(words, out, 8, count, p),
+        9 => write_each(words, out, 9, count, p),
+        10 => write_each(words, out, 10, count, p),
+        11 => write_each(words, out, 11, count, p),
+        12 => write_each(words, out, 12, count, p),
+        _ => Run { upto: 0, at: p },
+    }
+}
+
+fn write_each(words: &[u64], out: &mut [u8], code: u16, count: u64, p: Place) -> Run
+    requires { ⌜ Writing (now words) p ⌝ }
+    ensures { λ r. ⌜ (r .upto ≤ count) × Writing (now (words .entry)) (r .at) ⌝ }
+    ensures { λ _. ⌜ length (now (out .exit)) ≡ length (now (out .entry)) ⌝ }
+    ensures { λ r. ⌜ ((f : ℕ → Place → List ℕ → Step) → Writes (now (words .entry)) code f → through (r .upto) f p (now (out .entry)) ≡ on (r .at) (now (out .exit))) ⌝ }
+{
+    let mut at = p;
+    let mut k: u64 = 0;
+    while k < count {
+        if bases::is_there(words, at.from, code) {
+            bases::put_base(words, out, code, at.from, at.to);
+            at = Place {
+                from: at.from + 1,
+                to: at.to + table::leaf::width(code),
+            };
+            k += 1;
+        } else {
+            return Run { upto: k, at };
+        }
+    }
+    Run { upto: k, at }
 }
