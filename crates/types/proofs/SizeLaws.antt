@@ -21,9 +21,13 @@ use Rattle.types.specs.declared.Largest.the-variants.{Bytes, Unknown}
 use Rattle.table.specs.All.{allBelow}
 use Rattle.table.specs.Leaf.{width}
 use Rattle.table.specs.Entries.{typeAt, memberAt, isType}
-use Rattle.types.specs.Sizes.{mostBytes, sumOf, sizeOf, sizes, largest, sizeFits, bytesUpTo, largestBelow, largestOf}
+use Rattle.types.specs.Sizes.{mostBytes, sumOf, sumFrom, sizeOf, sizes, largest, sizeFits, bytesUpTo, largestBelow, largestOf}
 use Rattle.wire.proofs.Cond.{and-right}
 use Rattle.table.proofs.AllBelow.{next-below, stop-below}
+
+-- where nothing is known nothing is asked
+pub unknown : (A : Type 0) → false ≡ true → A
+unknown A h = absurd (let z : _≡_ {A = ℕ} 0 1 = cc in omega arith)
 
 -- a 16-bit count times a 32-bit size
 product : (n z : ℕ) → Fits w16 n → Fits w32 z → n * z ≤ 65535 * 4294967295
@@ -50,17 +54,23 @@ pub not-known : (l : List ℕ) (i : ℕ) → length l ≤ i → 0 ≡ getD l i 0
 not-known l i h = sym (List·getD-eq-default l 0 h)
 
 -- the sum over a record's members, member by member
-module _ (t : List ℕ) (s : Sections) (known : List ℕ) (e : Entry) where
-  pub sum-none : 0 ≡ sumOf t s known e 0
-  unfolding sumOf
+module _ (t : List ℕ) (s : Sections) (known : List ℕ) (first : ℕ) where
+  pub sum-none : 0 ≡ sumFrom t s known first 0
+  unfolding sumFrom
   sum-none = refl
 
-  pub sum-more : (k total m z : ℕ) → total ≡ sumOf t s known e k → m ≡ memberAt t s (e .first + k) → z ≡ getD known m 0 → total + z ≡ sumOf t s known e (k + 1)
-  unfolding sumOf
+  pub sum-more : (k total m z : ℕ) → total ≡ sumFrom t s known first k → m ≡ memberAt t s (first + k) → z ≡ getD known m 0 → total + z ≡ sumFrom t s known first (k + 1)
+  unfolding sumFrom
   sum-more k total m z h p q = rw (add-one k, ← h, ← p, ← q) refl
 
-  pub sum-done : (k total : ℕ) → total ≡ sumOf t s known e k → k ≤ e .count → e .count ≤ k → total ≡ sumOf t s known e (e .count)
-  sum-done k total h a b = h ∙ ap (sumOf t s known e) (omega arith)
+  pub sum-done : (k n total : ℕ) → total ≡ sumFrom t s known first k → k ≤ n → n ≤ k → total ≡ sumFrom t s known first n
+  sum-done k n total h a b = h ∙ ap (sumFrom t s known first) (omega arith)
+
+module _ (t : List ℕ) (s : Sections) (known : List ℕ) (e : Entry) where
+  sum-from : (n : ℕ) → sumFrom t s known (e .first) n ≡ sumOf t s known e n
+  unfolding sumFrom sumOf
+  sum-from zero = refl
+  sum-from (suc n) = rw (sum-from n) refl
 
   -- the size of an entry, by its kind
   pub leaf-size : (r : ℕ) → e .kind ≤ 1 → r ≡ width (e .of) → r ≡ sizeOf t s known e
@@ -73,9 +83,9 @@ module _ (t : List ℕ) (s : Sections) (known : List ℕ) (e : Entry) where
   pub enum-size : (r : ℕ) → e .kind ≡ 1 → r ≡ width (e .of) → r ≡ sizeOf t s known e
   enum-size r k h = leaf-size r (omega arith) h
 
-  pub record-size : (r : ℕ) → e .kind ≡ 2 → r ≡ sumOf t s known e (e .count) → r ≡ sizeOf t s known e
+  pub record-size : (r : ℕ) → e .kind ≡ 2 → r ≡ sumFrom t s known (e .first) (e .count) → r ≡ sizeOf t s known e
   unfolding sizeOf
-  record-size r k h = rw (lt-leb (e .kind) 1 (omega arith), eq-eqb (e .kind) 2 k) h
+  record-size r k h = rw (lt-leb (e .kind) 1 (omega arith), eq-eqb (e .kind) 2 k) (h ∙ sum-from (e .count))
 
   pub fixed-size : (r z : ℕ) → e .kind ≡ 3 → r ≡ e .count * z → z ≡ getD known (e .of) 0 → r ≡ sizeOf t s known e
   unfolding sizeOf

@@ -17,11 +17,15 @@ use Rattle.table.specs.All.{allBelow}
 use Rattle.table.specs.Entries.{typeAt}
 use Rattle.types.specs.Values.{valueOk, distinct, valuesOk}
 use Rattle.types.specs.Rules.{fieldsOk, membersOk, pointedOk, typeOk}
+use Rattle.types.specs.Inside.{Lying}
+use Rattle.types.specs.Kept.{Kept}
+use Rattle.types.specs.Operations.{operationOk}
+use Rattle.types.specs.Table.{entriesOk}
 use Rattle.types.specs.Passes.{inOrder, quickOk, enumOk, looseOk, enumDistinct}
 use Rattle.wire.proofs.Cond.{and-left, and-right}
 use Rattle.table.proofs.AllBelow.{at-below, next-below, stop-below, done-below}
 use Rattle.types.proofs.ValueRules.{order-ok}
-use Rattle.types.proofs.TypeRules.{enum-code, enum-inside}
+use Rattle.types.proofs.TypeRules.{enum-code, enum-inside, record-inside}
 
 -- one type, as `quick_ok` and `enum_ok` see it
 module _ (t : List ℕ) (s : Sections) (i : ℕ) (e : Entry) (is : e ≡ typeAt t s i) (f : Bool) (p : f ≡ fieldsOk s i e) where
@@ -125,6 +129,23 @@ module _ (t : List ℕ) (s : Sections) (i : ℕ) where
 
   pub loose-room : (room : List ℕ) (e : Entry) → e ≡ typeAt t s i → looseOk t s i ≡ true → e .kind ≡ 1 → s .values .count ≤ length room → e .first + e .count ≤ length room
   loose-room room e is h k l = omega (arith, loose-inside e is h k)
+
+-- types that keep their rules, as the sizes want them
+pub kept-record : (t : List ℕ) (s : Sections) (n i : ℕ) (e : Entry) → Kept t s n → i < n → e ≡ typeAt t s i → e .kind ≡ 2 → e .first + e .count ≤ s .members .count
+unfolding typeOk
+kept-record t s n i e k l is h =
+    record-inside s i e true
+    (sym (ap (fieldsOk s i) is ∙ and-left (fieldsOk s i (typeAt t s i)) (pointedOk t s i (typeAt t s i)) (at-below (typeOk t s) n i (k .keep) l)))
+    refl h
+
+pub entries-kept : (t : List ℕ) (s : Sections) (a : Bool) → Lying t s → a ≡ entriesOk t s → a ≡ true → Kept t s (s .types .count)
+unfolding entriesOk
+entries-kept t s a l p h =
+    record {
+      lie = l;
+      few = omega arith;
+      keep = and-left (allBelow (typeOk t s) (s .types .count)) (allBelow (operationOk t s) (s .operations .count)) (sym p ∙ h);
+    }
 
 -- both passes together
 both-passes : (t : List ℕ) (s : Sections) (n : ℕ) → allBelow (looseOk t s) n ≡ true → allBelow (enumDistinct t s) n ≡ allBelow (typeOk t s) n

@@ -2,6 +2,7 @@ pub mod Inside
 pub mod Values
 pub mod Rules
 pub mod Passes
+pub mod Kept
 pub mod Alike
 pub mod Operations
 pub mod Sizes

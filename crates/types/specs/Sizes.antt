@@ -25,6 +25,11 @@ unfoldable pub sumOf : List ℕ → Sections → List ℕ → Entry → ℕ → 
 sumOf t s known e zero = 0
 sumOf t s known e (suc n) = sumOf t s known e n + getD known (memberAt t s (e .first + n)) 0
 
+-- the same from the first member's number on
+unfoldable pub sumFrom : List ℕ → Sections → List ℕ → ℕ → ℕ → ℕ
+sumFrom t s known first zero = 0
+sumFrom t s known first (suc n) = sumFrom t s known first n + getD known (memberAt t s (first + n)) 0
+
 -- the largest size of an entry, where the sizes of the types before it are known: a leaf's width, a record's sum, a fixed
 -- array's product, an array's product plus 4
 unfoldable pub sizeOf : List ℕ → Sections → List ℕ → Entry → ℕ

@@ -1,17 +1,21 @@
 // The largest sizes of the types, each from those of the types before it: number 33.
 use crate::Largest;
+use crate::inside;
 use table::Entry;
 use table::Sections;
 use table::entries;
 use table::leaf;
 ghost use mathlib.Core.Path.{_≡_};
 ghost use mathlib.Core.Bool.{true};
-ghost use Prim.Native.Nat.{_*_, _^_, _≤_, _<_};
+ghost use Prim.Native.Nat.{_+_, _*_, _^_, _≤_, _<_};
 ghost use lib.ListN.{length, getD, take};
 ghost use Rattle.table.specs.All.{allBelow};
 ghost use Rattle.table.specs.Layout.{mostTypes};
-ghost use Rattle.types.specs.Sizes.{sizeOf, sumOf, sizes, sizeFits, bytesUpTo, largestBelow, largestOf};
+ghost use Rattle.table.specs.Entries.{typeAt, memberAt};
+ghost use Rattle.types.specs.Inside.{Lying};
+ghost use Rattle.types.specs.Sizes.{sizeOf, sumFrom, sizes, sizeFits, bytesUpTo, largestBelow, largestOf};
 ghost use Rattle.types.specs.Table.{sizesOk};
+ghost use Rattle.types.specs.Kept.{Kept};
 
 // The largest size of one type.
 pub fn largest(table: &[u8], s: Sections, i: u16) -> Largest
@@ -24,14 +28,14 @@ pub fn largest(table: &[u8], s: Sections, i: u16) -> Largest
     }
 }
 
-// No type of the table can be too large.
+// No type of the table can be too large, where every type keeps its rule.
 pub(crate) fn all_fit(table: &[u8], s: Sections) -> bool
-    requires { ⌜ s .types .count ≤ mostTypes ⌝ }
+    requires { ⌜ Kept (now table) s (s .types .count) ⌝ }
     ensures { λ r. ⌜ r ≡ sizesOk (now (table .entry)) s ⌝ }
 {
     let n = s.types.count as usize;
     let mut room = [0u32; 256];
-    fill(table, s, &mut room, n)
+    fill(table, s, &mut room, n, true)
 }
 
 // From the sizes of the types below i, where none is too large.
@@ -41,9 +45,9 @@ fn largest_below(table: &[u8], s: Sections, i: u16) -> Largest
 {
     let n = i as usize;
     let mut room = [0u32; 256];
-    if fill(table, s, &mut room, n) {
+    if fill(table, s, &mut room, n, false) {
         let e = entries::type_at(table, s, i);
-        bytes_up_to(size_of(table, s, &room[..n], e))
+        bytes_up_to(size_of(table, s, &room[..n], e, false))
     } else {
         Largest::Unknown
     }
@@ -59,16 +63,18 @@ fn bytes_up_to(size: u64) -> Largest
     }
 }
 
-// Writes the largest sizes of the types below n, up to the first that is too large; whether none is.
-fn fill(table: &[u8], s: Sections, room: &mut [u32], n: usize) -> bool
+// Writes the largest sizes of the types below n, up to the first that is too large; whether none is. Where those types are
+// known to keep their rules, nothing is tested to read them.
+fn fill(table: &[u8], s: Sections, room: &mut [u32], n: usize, kept: bool) -> bool
     requires { ⌜ (n ≤ length (now room)) × (n ≤ mostTypes) ⌝ }
+    requires { ⌜ (kept ≡ true → Kept (now table) s n) ⌝ }
     ensures { λ r. ⌜ r ≡ allBelow (sizeFits (now (table .entry)) s) n ⌝ }
     ensures { λ r. ⌜ (r ≡ true → take n (now (room .exit)) ≡ sizes (now (table .entry)) s n) ⌝ }
 {
     let mut i = 0;
     while i < n {
-        let e = entries::type_at(table, s, i as u16);
-        let size = size_of(table, s, &room[..i], e);
+        let e = type_of(table, s, i as u16, kept);
+        let size = size_of(table, s, &room[..i], e, kept);
         if 65536 < size {
             return false;
         }
@@ -79,33 +85,56 @@ fn fill(table: &[u8], s: Sections, room: &mut [u32], n: usize) -> bool
 }
 
 // The largest size of an entry, from the sizes of the types before it. In 64 bits it cannot wrap.
-fn size_of(table: &[u8], s: Sections, known: &[u32], e: Entry) -> u64
+fn size_of(table: &[u8], s: Sections, known: &[u32], e: Entry, kept: bool) -> u64
+    requires { ⌜ (kept ≡ true → Lying (now table) s × (e .kind ≡ 2 → e .first + e .count ≤ s .members .count)) ⌝ }
     ensures { λ r. ⌜ r ≡ sizeOf (now (table .entry)) s (now (known .entry)) e ⌝ }
 {
     let kind = e.kind;
     match kind {
         0 => leaf::width(e.of) as u64,
         1 => leaf::width(e.of) as u64,
-        2 => sum(table, s, known, e),
+        2 => sum(table, s, known, e.first, e.count, kept),
         3 => times(e.count, known_at(known, e.of)),
         4 => times(e.count, known_at(known, e.of)) + 4,
         _ => 0,
     }
 }
 
-// The sum over a record's members.
-fn sum(table: &[u8], s: Sections, known: &[u32], e: Entry) -> u64
-    ensures { λ r. ⌜ r ≡ sumOf (now (table .entry)) s (now (known .entry)) e (e .count) ⌝ }
+// The sum over a record's members. Not of the entry: an entry that is passed on twice is copied through memory.
+fn sum(table: &[u8], s: Sections, known: &[u32], first: u16, count: u16, kept: bool) -> u64
+    requires { ⌜ (kept ≡ true → Lying (now table) s × (first + count ≤ s .members .count)) ⌝ }
+    ensures { λ r. ⌜ r ≡ sumFrom (now (table .entry)) s (now (known .entry)) first count ⌝ }
 {
-    let count = e.count;
     let mut total: u64 = 0;
     let mut k: u16 = 0;
     while k < count {
-        let member = entries::member_at(table, s, e.first as u32 + k as u32);
+        let member = member_of(table, s, first as u32 + k as u32, kept);
         total += known_at(known, member) as u64;
         k += 1;
     }
     total
+}
+
+fn type_of(table: &[u8], s: Sections, i: u16, kept: bool) -> Entry
+    requires { ⌜ (kept ≡ true → Lying (now table) s × (i < s .types .count)) ⌝ }
+    ensures { λ r. ⌜ r ≡ typeAt (now (table .entry)) s i ⌝ }
+{
+    if kept {
+        inside::type_in(table, s, i)
+    } else {
+        entries::type_at(table, s, i)
+    }
+}
+
+fn member_of(table: &[u8], s: Sections, i: u32, kept: bool) -> u16
+    requires { ⌜ (kept ≡ true → Lying (now table) s × (i < s .members .count)) ⌝ }
+    ensures { λ r. ⌜ r ≡ memberAt (now (table .entry)) s i ⌝ }
+{
+    if kept {
+        inside::member_in(table, s, i)
+    } else {
+        entries::member_at(table, s, i)
+    }
 }
 
 // The largest size of a type, as far as it is known.

@@ -2,6 +2,7 @@
 -- Assumes nothing.
 use borrow.Author.Needs.{needs}
 use Rattle.types.proofs.Tables.{judgements}
+use Rattle.types.proofs.TypePasses.{entries-kept}
 use Rattle.types.proofs.judged.Statement.{statement}
 use Rattle.types.proofs.judged.Tie as tie
 
@@ -10,7 +11,7 @@ judged-spec =
     tie.close
     (tie.spec
     (λ c κs. search needs)
-    (λ c κs. search needs)
+    (λ c κs. search entries-kept)
     (λ c. search judgements)
     (λ c. search judgements)
     (λ c. search judgements))

@@ -11,7 +11,7 @@ size-of-spec =
     (tie.spec
     (λ c κs. search needs)
     (λ c κs. search needs)
-    (λ c κs. search needs)
+    (λ c κs h. let p = c .before .before .before .pre h in (p .0, p .1 (search needs)))
     (λ c κs. search needs)
     (λ c κs. search needs)
     (λ c κs. search needs)

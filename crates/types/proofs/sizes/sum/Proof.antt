@@ -3,16 +3,17 @@
 use borrow.Author.Needs.{needs}
 use Prim.Native.Nat.{_-_, _*_, _≤_}
 use mathlib.Core.Path.{_≡_}
-use Rattle.types.specs.Sizes.{sumOf}
+use native.Mathlib.Omega.{arith}
+use Rattle.types.specs.Sizes.{sumFrom}
 use Rattle.types.proofs.SizeLaws.{sum-none, sum-more, sum-done}
 use Rattle.types.proofs.sizes.sum.Statement.{statement}
 use Rattle.types.proofs.sizes.sum.Tie as tie
 
 abbrev Inv-loop : tie.InvT-loop
-Inv-loop table s known e count total₀ k₀ total k = (k ≤ e .count) × (total ≡ sumOf table s known e k) × (total ≤ k * 4294967295)
+Inv-loop table s known first count kept total₀ k₀ total k = (k ≤ count) × (total ≡ sumFrom table s known first k) × (total ≤ k * 4294967295)
 
 abbrev μ-loop : tie.MeasureT-loop
-μ-loop table s known e count total₀ k₀ total k = e .count - k
+μ-loop table s known first count kept total₀ k₀ total k = count - k
 
 pub sum-spec : {M : Type 1} → statement M
 sum-spec =
@@ -23,8 +24,7 @@ sum-spec =
     (λ c. (search needs, search sum-none, search needs))
     (λ c. search needs)
     (λ c. search needs)
-    (λ c. search needs)
-    (λ c κs. search needs)
+    (λ c κs h. let p = c .before .before .before .before .pre h in (p .0, omega (arith, p .1)))
     (λ c κs. search needs)
     (λ c. search needs)
     (λ c. search needs)
