@@ -1,1 +1,1 @@
-mod Lines
+pub mod Lines

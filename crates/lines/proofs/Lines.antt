@@ -2,7 +2,7 @@
 -- together is the line.
 -- Assumes nothing.
 use Prim.Native.Nat.{ℕ, _+_, _≤_}
-use mathlib.Core.Path.{_≡_, refl, sym, ap, _∙_}
+use mathlib.Core.Path.{_≡_, refl, ap, _∙_}
 use mathlib.Core.List.{List, [], _∷_, _++_}
 use mathlib.Core.Logic.{⊎-elim}
 use native.Mathlib.Omega.{arith}
@@ -18,7 +18,7 @@ use Rattle.text.specs.Decimal.{digitLimit, decimal}
 use Rattle.text.specs.Places.{behind, spaced, joined, putAll, endAll}
 use Rattle.text.proofs.Decimals.{digits-few}
 use Rattle.text.proofs.Putting.{put-next, end-next, all-part}
-use Rattle.lines.specs.Line.{lineLimit, lineFeed, countsOf, valuesOf, lineOf, setupRefused, refusedLine, endingOf}
+use Rattle.lines.specs.Line.{lineLimit, lineFeed, lineOf, setupRefused, refusedLine, endingOf}
 use Rattle.lines.specs.Words.{refusalWords, countWords, valueWords}
 use Rattle.lines.specs.declared.Ending.{Ending}
 
@@ -92,6 +92,9 @@ line-short : (n : ℕ) (o : Outcome) → length (joined (lineWords n o)) ≤ lin
 unfolding lineWords
 line-short n o =
     omega (arith, length-append (decimal n) (spaced (nameOf o) ++ joined (valueWords o)), length-append (spaced (nameOf o)) (joined (valueWords o)), few n, values-short o)
+
+pub line-limit : (n : ℕ) (o : Outcome) → length (lineOf n o) ≤ lineLimit
+line-limit n o = rw (← line-words n o) (line-short n o)
 
 module _ (n : ℕ) (o : Outcome) (a b l s : List ℕ) (p q e : ℕ) (z : length s ≡ lineLimit)
     (pe : p ≡ behind (length s) 0 (decimal n)) (ae : a ≡ written s 0 (decimal n))

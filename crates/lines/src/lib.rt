@@ -3,7 +3,7 @@
 ghost use mathlib.Core.Path.{_≡_};
 ghost use lib.ListN.{length};
 ghost use Rattle.wire.specs.Bytes.{written, part};
-ghost use Rattle.joiner.specs.Outcomes.{nameOf, missedIn, bytesIn, lengthIn};
+ghost use Rattle.joiner.specs.Outcomes.{nameOf, missedIn, bytesIn};
 ghost use Rattle.text.specs.Places.{behind, spaced, putAll, endAll};
 ghost use Rattle.lines.specs.Line.{lineLimit, lineOf, refusedLine, endingOf};
 ghost use Rattle.lines.specs.Words.{refusalWords, countWords, valueWords};

@@ -1,7 +1,7 @@
 -- What a recording says stays as it is when more bytes come, and wherever in a buffer its bytes lie: only what was
 -- unfinished, or nothing, can become something else. So it does not matter in which blocks a recording is read.
 -- Assumes nothing.
-use Prim.Native.Nat.{ℕ, zero, suc, _+_, _-_, _*_, _≤_, _<_}
+use Prim.Native.Nat.{ℕ, zero, suc, _+_, _-_, _≤_, _<_}
 use mathlib.Core.Path.{_≡_, refl, sym, ap, _∙_}
 use mathlib.Core.Bool.{Bool, true, false}
 use mathlib.Core.List.{List, [], _∷_, _++_}
@@ -15,13 +15,13 @@ use Rattle.wire.proofs.Cond.{yes-if, no-if}
 use Rattle.wire.proofs.Numbers.{number-front, number-drop}
 use Rattle.wire.proofs.Runs.{part-in}
 use Rattle.recording.specs.Datagrams.{nextIn}
-use Rattle.recording.specs.Opening.{sizesLength, countIn, roomIn, idPlace, idsIn, goodStart, closed, openedBy, setupIn, readyIn, openedIn}
+use Rattle.recording.specs.Opening.{sizesLength, countIn, roomIn, idPlace, idsIn, goodStart, closed, readyIn, openedIn}
 use Rattle.recording.specs.Play.{State, steppedOf, hasRoom, goingOn, playedFor, played}
 use Rattle.recording.specs.declared.Found.{Found}
 use Rattle.recording.specs.declared.Found.the-variants.{Datagram, Unfinished, Nothing}
 use Rattle.recording.specs.declared.Opened.{Opened}
 use Rattle.recording.specs.declared.Opening.the-variants as opening
-use Rattle.recording.proofs.Finding.{Within, nothing-next, datagram-next, unfinished-next, found-within, found-more}
+use Rattle.recording.proofs.Finding.{nothing-next, datagram-next, unfinished-next, found-within, found-more}
 use Rattle.recording.proofs.Playing.{played-step}
 use Rattle.recording.proofs.Starting.{no-sizes, bad-start, no-ids, all-ids}
 
@@ -88,7 +88,7 @@ module _ (s more : List ℕ) where
               ready : idsIn (s ++ more) n ≡ idsIn s n → readyIn (s ++ more) n R ≡ readyIn s n R
               ready e = rw e
 
-  part-more : (p n : ℕ) → p + n ≤ length s → part (s ++ more) p n ≡ part s p n
+  pub part-more : (p n : ℕ) → p + n ≤ length s → part (s ++ more) p n ≡ part s p n
   part-more p n h =
       let d : length (drop p s) ≡ length s - p = length-drop p s in
       part-in (s ++ more) p n (omega (arith, longer))

@@ -1,3 +1,4 @@
 pub mod Opening
 pub mod Datagrams
 pub mod Play
+pub mod Whole
