@@ -26,19 +26,10 @@ use Rattle.reactions.specs.declared.Standing.{Standing}
 use Rattle.states.specs.States.{isUp, turned}
 use Rattle.reactions.specs.Replies.{allData, replyNumber, meant, Wide, replies, Each, owedLength}
 use Rattle.reactions.specs.Reaction.{operationFor, isData, foundData, noData, cameUp, onStatus, onPullAll, onPullOne, onPull, onOperation, reactionTo}
-use Rattle.platform.specs.Receiving.{laidOut}
+use Rattle.reactions.specs.declared.Reply.{Reply}
+use Rattle.reactions.specs.declared.Reaction.{Reaction}
 use Rattle.states.proofs.Ups.{noted-there, noted-elsewhere}
 use Rattle.promises.specs.Platforms.{Owed, owedFor, stateAfter, nextAfter, replyLength}
-
--- the types of platform's own replies and reactions, which it keeps to itself
-abbrev Argument : {A B : Type 0} → (A → B) → Type 0
-Argument {A} f = A
-
-abbrev pub Reply : Type 0
-Reply = Argument replyNumber
-
-abbrev pub Reaction : Type 0
-Reaction = Argument (laidOut 0)
 
 abbrev pub said : Reply → Owed
 said r = record { number = replyNumber r; means = meant r }

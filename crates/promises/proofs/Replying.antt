@@ -36,7 +36,9 @@ use Rattle.platform.proofs.Unchanged.{allBytes, written-is-sent}
 use Rattle.platform.proofs.ReadBack.{reply-reads-back}
 use Rattle.promises.specs.Platforms.{owedFor, replyLength, AreReplies, Receives, Notes}
 use Rattle.promises.proofs.Headers.{was-read, headerRead}
-use Rattle.promises.proofs.Reacting.{Reply, Reaction, said, fieldOf, X, Reacts, reacts, field-le}
+use Rattle.reactions.specs.declared.Reply.{Reply}
+use Rattle.reactions.specs.declared.Reaction.{Reaction}
+use Rattle.promises.proofs.Reacting.{said, fieldOf, X, Reacts, reacts, field-le}
 
 -- replies one behind another, as they are read
 module _ (own reader : ℕ) (ho : own < platforms) (other : own ≡ reader → ⊥) where

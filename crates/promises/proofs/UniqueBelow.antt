@@ -1,7 +1,7 @@
 -- Two outcomes that one promise allows are equal: each contract is an equation with a definition.
 -- Assumes nothing.
 use mathlib.Core.Path.{_≡_, sym, _∙_}
-use Rattle.promises.specs.UniqueBelow.{ChannelsUnique, JoinerUnique, MessageUnique, PlatformUnique, TableUnique, WalkUnique, UnpackingUnique, PackingUnique, StatesUnique, TextUnique, CallsUnique, LentUnique, LentChannelsUnique, LentJoinerUnique, LentMessagesUnique, LentTablesUnique, LentPayloadsUnique, LentPlatformUnique, UniqueBelow}
+use Rattle.promises.specs.UniqueBelow.{ChannelsUnique, JoinerUnique, MessageUnique, ReactionsUnique, TableUnique, WalkUnique, UnpackingUnique, PackingUnique, StatesUnique, TextUnique, CallsUnique, LentUnique, LentChannelsUnique, LentJoinerUnique, LentMessagesUnique, LentTablesUnique, LentPayloadsUnique, LentPlatformUnique, UniqueBelow}
 
 channels : ChannelsUnique
 channels =
@@ -32,8 +32,14 @@ message =
       put-header-out = λ k a z z′ e e′ p q. p ∙ sym q;
     }
 
-platform : PlatformUnique
-platform = record { put-reply-out = λ k a z z′ e e′ p q. p ∙ sym q }
+reactions : ReactionsUnique
+reactions =
+    record {
+      reaction-to = λ k a z z′ e e′ p q. p ∙ sym q;
+      length-of = λ k a z z′ e e′ p q. p ∙ sym q;
+      lay-out = λ k a z z′ e e′ p q. p ∙ sym q;
+      put-reply-out = λ k a z z′ e e′ p q. p ∙ sym q;
+    }
 
 table : TableUnique
 table =
@@ -171,4 +177,4 @@ lent-platform =
     }
 
 pub unique-below : UniqueBelow
-unique-below = record { channels = channels; joiner = joiner; message = message; platform = platform; table = table; walk = walk; unpacking = unpacking; packing = packing; states = states; text = text; calls = calls; lent = lent; lent-channels = lent-channels; lent-joiner = lent-joiner; lent-messages = lent-messages; lent-tables = lent-tables; lent-payloads = lent-payloads; lent-platform = lent-platform }
+unique-below = record { channels = channels; joiner = joiner; message = message; reactions = reactions; table = table; walk = walk; unpacking = unpacking; packing = packing; states = states; text = text; calls = calls; lent = lent; lent-channels = lent-channels; lent-joiner = lent-joiner; lent-messages = lent-messages; lent-tables = lent-tables; lent-payloads = lent-payloads; lent-platform = lent-platform }

@@ -1,6 +1,7 @@
 -- Demand 1 and 01, "What the promises have to say": two outcomes that one promise allows are equal, for the functions that the
 -- calls of specs/Unique are made of, and for the calls in lent words, as programs in C have them. The theorem is in
--- proofs/UniqueBelow.antt. `nyr_find` and `nyr_receive_in` are exceptions, as what they are made of (`WhereIDsRise`).
+-- proofs/UniqueBelow.antt. `look_up`, `lent_tables::find` and `receive_in` are exceptions, as what they are made of
+-- (`WhereIDsRise`).
 use denote.Ref.{now}
 use Rattle.promises.specs.Unique.{Same, Answer, Lent}
 use Rattle.channels.proofs.is_good.Reads.{Post as channels-is-good}
@@ -17,7 +18,10 @@ use Rattle.message.proofs.address_refusal.Reads.{Post as message-address-refusa
 use Rattle.message.proofs.contents_refusal.Reads.{Post as message-contents-refusal}
 use Rattle.message.proofs.behind_header.Reads.{Post as message-behind-header}
 use Rattle.message.proofs.put_header.Reads.{Post as message-put-header}
-use Rattle.platform.proofs.put_reply.Reads.{Post as platform-put-reply}
+use Rattle.reactions.proofs.reaction_to.Reads.{Post as reactions-reaction-to}
+use Rattle.reactions.proofs.length_of.Reads.{Post as reactions-length-of}
+use Rattle.reactions.proofs.lay.Reads.{Post as reactions-lay}
+use Rattle.reactions.proofs.put_reply.Reads.{Post as reactions-put-reply}
 use Rattle.table.proofs.layout.read.Reads.{Post as table-layout-read}
 use Rattle.walk.proofs.meet.Reads.{Post as walk-meet}
 use Rattle.walk.proofs.look.Reads.{Post as walk-look}
@@ -78,8 +82,11 @@ pub record MessageUnique : Type 0 where
   pub behind-header : Same message-behind-header (λ k z e. now z)
   pub put-header-out : Lent message-put-header (λ k e. now (e .0))
 
-pub record PlatformUnique : Type 0 where
-  pub put-reply-out : Lent platform-put-reply (λ k e. now (e .1 .1 .0))
+pub record ReactionsUnique : Type 0 where
+  pub reaction-to : Answer reactions-reaction-to
+  pub length-of : Answer reactions-length-of
+  pub lay-out : Lent reactions-lay (λ k e. now (e .1 .1 .0))
+  pub put-reply-out : Lent reactions-put-reply (λ k e. now (e .1 .1 .0))
 
 pub record TableUnique : Type 0 where
   pub read : Answer table-layout-read
@@ -181,7 +188,7 @@ pub record UniqueBelow : Type 0 where
   pub channels : ChannelsUnique
   pub joiner : JoinerUnique
   pub message : MessageUnique
-  pub platform : PlatformUnique
+  pub reactions : ReactionsUnique
   pub table : TableUnique
   pub walk : WalkUnique
   pub unpacking : UnpackingUnique
