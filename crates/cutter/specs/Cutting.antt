@@ -9,10 +9,10 @@ use Rattle.binding.specs.Header.{senders, counters, largestPiece, headerOf, hea
 use Rattle.binding.specs.declared.MessagePart.{MessagePart}
 use Rattle.binding.specs.declared.MessagePart.the-variants.{Begin, Middle, End, Whole}
 use Rattle.binding.specs.declared.BindingHeader.{BindingHeader}
-use Rattle.cutting.specs.declared.Counted.{Counted}
-use Rattle.cutting.specs.declared.Counted.the-variants.{Refused as NotCounted, Pieces}
-use Rattle.cutting.specs.declared.Made.{Made}
-use Rattle.cutting.specs.declared.Made.the-variants.{Refused, Datagram}
+use Rattle.cutter.specs.declared.Counted.{Counted}
+use Rattle.cutter.specs.declared.Counted.the-variants.{Refused as NotCounted, Pieces}
+use Rattle.cutter.specs.declared.Made.{Made}
+use Rattle.cutter.specs.declared.Made.the-variants.{Refused, Datagram}
 
 -- a message of m bytes at piece size s gives m/s pieces, rounded up
 abbrev pub pieceCount : ℕ → ℕ → ℕ

@@ -17,12 +17,12 @@ use Rattle.wire.proofs.Runs.{written-in, written-out, written-behind, part-in}
 use Rattle.binding.specs.declared.MessagePart.{MessagePart}
 use Rattle.binding.specs.declared.MessagePart.the-variants.{Begin, Middle, End, Whole}
 use Rattle.binding.specs.declared.BindingHeader.{BindingHeader}
-use Rattle.cutting.specs.declared.Counted.the-variants.{Refused as NotCounted, Pieces}
-use Rattle.cutting.specs.declared.Made.{Made}
-use Rattle.cutting.specs.declared.Made.the-variants.{Refused, Datagram}
+use Rattle.cutter.specs.declared.Counted.the-variants.{Refused as NotCounted, Pieces}
+use Rattle.cutter.specs.declared.Made.{Made}
+use Rattle.cutter.specs.declared.Made.the-variants.{Refused, Datagram}
 use Rattle.binding.specs.Header.{senders, counters, largestPiece, codeOf, headerOf, headerBytes}
-use Rattle.cutting.specs.Cutting.{pieceCount, countedOf, partOfPiece, bytesFrom, behind, datagramOf, canCut, canHead, cannotCut, noSuchPiece, outputTooShort, madeIn, madeOf, outAfter, cutInto}
-use Rattle.cutting.proofs.Cutting.{cuttable, headable, starts-in, count-most}
+use Rattle.cutter.specs.Cutting.{pieceCount, countedOf, partOfPiece, bytesFrom, behind, datagramOf, canCut, canHead, cannotCut, noSuchPiece, outputTooShort, madeIn, madeOf, outAfter, cutInto}
+use Rattle.cutter.proofs.Cutting.{cuttable, headable, starts-in, count-most}
 
 -- which part piece i of n is
 module _ (n i : ℕ) where

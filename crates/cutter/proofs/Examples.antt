@@ -4,7 +4,7 @@ use Prim.Native.Nat.{ℕ}
 use mathlib.Core.Path.{_≡_, refl}
 use mathlib.Core.List.{List, [], _∷_, map}
 use Rattle.binding.specs.Header.{largestPiece}
-use Rattle.cutting.specs.Cutting.{pieceCount}
+use Rattle.cutter.specs.Cutting.{pieceCount}
 
 -- messages of 10,000, 100,000 and 150,000 bytes
 abbrev counts : List ℕ

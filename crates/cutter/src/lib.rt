@@ -5,7 +5,7 @@ ghost use Prim.Native.Nat.{min, _<_, _≤_};
 ghost use lib.ListN.{length};
 ghost use Rattle.wire.specs.Bytes.{over, written};
 ghost use Rattle.binding.specs.Header.{headerLength, senders, largestPiece, codeOf, headerBytes};
-ghost use Rattle.cutting.specs.Cutting.{canCut, canHead, pieceCount, partOfPiece, countedOf, behind, madeIn, madeOf, cutInto};
+ghost use Rattle.cutter.specs.Cutting.{canCut, canHead, pieceCount, partOfPiece, countedOf, behind, madeIn, madeOf, cutInto};
 use binding::BindingHeader;
 use binding::MessagePart;
 
