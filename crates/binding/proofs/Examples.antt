@@ -1,13 +1,11 @@
--- The worked examples of 000, annex A.3.3, computed over the definitions: each header's bytes, and how many pieces
--- the three messages make.
+-- The worked examples of 000, annex A.3.3, computed over the definitions: each header's bytes.
 -- Assumes nothing.
 use Prim.Native.Nat.{ℕ, _+_, _*_}
 use mathlib.Core.Path.{_≡_, refl}
-use mathlib.Core.List.{List, [], _∷_, map}
+use mathlib.Core.List.{List, [], _∷_}
 use Rattle.binding.specs.declared.MessagePart.{MessagePart}
 use Rattle.binding.specs.declared.MessagePart.the-variants.{Begin, Middle, End, Whole}
 use Rattle.binding.specs.Header.{largestPiece, headerOf, headerBytes}
-use Rattle.binding.specs.Cutting.{pieceCount}
 
 -- platform 1, channel 2 in each
 abbrev from : MessagePart → ℕ → List ℕ
@@ -20,10 +18,3 @@ headers = from Whole 5 ∷ from Begin 8 ∷ from End 9 ∷ from Begin 302 ∷ fr
 pub header-bytes :
     headers ≡ (0x31 ∷ 2 ∷ 0 ∷ 5 ∷ []) ∷ (0x01 ∷ 2 ∷ 0 ∷ 8 ∷ []) ∷ (0x21 ∷ 2 ∷ 0 ∷ 9 ∷ []) ∷ (0x01 ∷ 2 ∷ 1 ∷ 0x2e ∷ []) ∷ (0x11 ∷ 2 ∷ 1 ∷ 0x2f ∷ []) ∷ (0x21 ∷ 2 ∷ 1 ∷ 0x30 ∷ []) ∷ []
 header-bytes = refl
-
--- messages of 10,000, 100,000 and 150,000 bytes
-abbrev counts : List ℕ
-counts = map (λ (m : ℕ). pieceCount m largestPiece) (10000 ∷ 100000 ∷ 150000 ∷ [])
-
-pub piece-counts : counts ≡ 1 ∷ 2 ∷ 3 ∷ []
-piece-counts = refl

@@ -1,5 +1,3 @@
 pub mod Headers
-pub mod Cutting
 mod Reading
-mod Cuts
 mod Examples

@@ -1,12 +1,6 @@
-// The UDP binding header of 000, annex A, and cutting: a message to send becomes datagrams, one call for each. Joining
-// them again is the joiner's.
+// The UDP binding header of 000, annex A: what stands before each piece of a message, and how it is read.
 ghost use mathlib.Core.Path.{_≡_};
-ghost use mathlib.Core.Bool.{true};
-ghost use Prim.Native.Nat.{min, _<_, _≤_};
-ghost use lib.ListN.{length};
-ghost use Rattle.wire.specs.Bytes.{over, written};
-ghost use Rattle.binding.specs.Header.{headerLength, senders, largestPiece, codeOf, partOfCode, headerOf, heardIn, headerBytes};
-ghost use Rattle.binding.specs.Cutting.{canCut, canHead, pieceCount, partOfPiece, countedOf, behind, madeIn, madeOf, cutInto};
+ghost use Rattle.binding.specs.Header.{partOfCode, headerOf, heardIn};
 
 // Which part of its message a datagram carries (000, Table 9). `Whole` is the table's "begin and end".
 pub enum MessagePart {
@@ -29,32 +23,10 @@ pub enum Heard {
     Piece(BindingHeader),
 }
 
-// How many pieces there are, or the number of the refusal.
-pub enum Counted {
-    Refused(u32),
-    Pieces(usize),
-}
-
-// What cutting a piece out gives: the number of a refusal, or the length of the datagram that was written.
-pub enum Made {
-    Refused(u32),
-    Datagram(usize),
-}
-
 // 01's numbers: a datagram's length, or a header field's value, that is not allowed.
 pub const WRONG_LENGTH: u32 = 21;
 
 pub const WRONG_FIELD: u32 = 22;
-
-// 01's numbers: what cannot be cut, a piece that does not exist, an output that is too short.
-pub const CANNOT_CUT: u32 = 50;
-
-pub const NO_SUCH_PIECE: u32 = 51;
-
-pub const OUTPUT_TOO_SHORT: u32 = 52;
-
-// The longest message that is cut.
-pub const LARGEST_MESSAGE: usize = 65560;
 
 impl BindingHeader {
     pub const LENGTH: usize = 4;
@@ -104,47 +76,6 @@ impl BindingHeader {
     }
 }
 
-// How many pieces a message of `total` bytes is cut into: 50, or the number.
-pub fn pieces(total: usize, size: usize) -> Counted
-    ensures { λ r. ⌜ r ≡ countedOf total size ⌝ }
-{
-    if can_cut(total, size) {
-        Counted::Pieces(piece_count(total, size))
-    } else {
-        Counted::Refused(CANNOT_CUT)
-    }
-}
-
-// Writes the datagram of one piece, header included, at the start of `out`. `sender` and `first` are wider than
-// their fields, so that one out of range is seen. All is decided before anything is written.
-pub fn cut(
-    message: &[u8],
-    size: usize,
-    sender: usize,
-    first: usize,
-    piece: usize,
-    out: &mut [u8],
-) -> Made
-    ensures answer { λ r. ⌜ r ≡ madeOf (now (message .entry)) size sender first piece (length (now (out .entry))) ⌝ }
-    ensures output { λ _. ⌜ now (out .exit) ≡ cutInto (now (message .entry)) size sender first piece (now (out .entry)) ⌝ }
-{
-    let total = message.len();
-    if can_cut(total, size) & can_head(sender, first) {
-        let count = piece_count(total, size);
-        // Tested before anything is multiplied: a piece number may be any.
-        if piece < count {
-            let part = part_of_piece(count, piece);
-            let counter = ((first + piece) % BindingHeader::COUNTERS) as u16;
-            let header = BindingHeader::new(part, sender as u16, counter);
-            put_datagram(header, message, piece * size, size, out)
-        } else {
-            Made::Refused(NO_SUCH_PIECE)
-        }
-    } else {
-        Made::Refused(CANNOT_CUT)
-    }
-}
-
 fn part_of_code(code: u8) -> MessagePart
     ensures { λ r. ⌜ r ≡ partOfCode code ⌝ }
 {
@@ -154,103 +85,4 @@ fn part_of_code(code: u8) -> MessagePart
         2 => MessagePart::End,
         _ => MessagePart::Whole,
     }
-}
-
-fn can_cut(total: usize, size: usize) -> bool
-    ensures { λ r. ⌜ r ≡ canCut total size ⌝ }
-{
-    (1 <= total) & (total <= LARGEST_MESSAGE) & (1 <= size) & (size <= BindingHeader::LARGEST_PIECE)
-}
-
-fn can_head(sender: usize, first: usize) -> bool
-    ensures { λ r. ⌜ r ≡ canHead sender first ⌝ }
-{
-    (sender < BindingHeader::SENDERS) & (first < BindingHeader::COUNTERS)
-}
-
-fn piece_count(total: usize, size: usize) -> usize
-    requires { ⌜ canCut total size ≡ true ⌝ }
-    ensures { λ r. ⌜ r ≡ pieceCount total size ⌝ }
-{
-    (total + (size - 1)) / size
-}
-
-fn part_of_piece(count: usize, piece: usize) -> MessagePart
-    requires { ⌜ piece < count ⌝ }
-    ensures { λ r. ⌜ r ≡ partOfPiece count piece ⌝ }
-{
-    if count == 1 {
-        return MessagePart::Whole;
-    }
-    if piece == 0 {
-        return MessagePart::Begin;
-    }
-    if piece + 1 == count {
-        MessagePart::End
-    } else {
-        MessagePart::Middle
-    }
-}
-
-// The header, and behind it the bytes of `message` from `start` on, up to `size` of them.
-fn put_datagram(
-    header: BindingHeader,
-    message: &[u8],
-    start: usize,
-    size: usize,
-    out: &mut [u8],
-) -> Made
-    requires { ⌜ header .sender < senders ⌝ }
-    requires { ⌜ start ≤ length (now message) ⌝ }
-    requires { ⌜ size ≤ largestPiece ⌝ }
-    ensures answer { λ r. ⌜ r ≡ madeIn (behind header (now (message .entry)) start size) (length (now (out .entry))) ⌝ }
-    ensures output { λ _. ⌜ now (out .exit) ≡ written (now (out .entry)) 0 (behind header (now (message .entry)) start size) ⌝ }
-{
-    let count = least(size, message.len() - start);
-    let whole = BindingHeader::LENGTH + count;
-    if whole <= out.len() {
-        put_header(header, out);
-        wire::put_run(
-            out,
-            BindingHeader::LENGTH,
-            wire::part(message, start, count),
-        );
-        Made::Datagram(whole)
-    } else {
-        Made::Refused(OUTPUT_TOO_SHORT)
-    }
-}
-
-fn put_header(header: BindingHeader, out: &mut [u8])
-    requires { ⌜ header .sender < senders ⌝ }
-    requires { ⌜ headerLength ≤ length (now out) ⌝ }
-    ensures { λ _. ⌜ now (out .exit) ≡ over (now (out .entry)) 0 (headerBytes header) ⌝ }
-{
-    let part = header.part;
-    let sender = header.sender;
-    wire::put_u8(
-        out,
-        0,
-        BindingHeader::VERSION * 64 + code_of(part) * 16 + (sender / 256) as u8,
-    );
-    wire::put_u8(out, 1, (sender % 256) as u8);
-    wire::put_u16(out, 2, header.counter);
-}
-
-fn code_of(part: MessagePart) -> u8
-    ensures code { λ r. ⌜ r ≡ codeOf part ⌝ }
-    ensures small { λ r. ⌜ r < 4 ⌝ }
-{
-    match part {
-        MessagePart::Begin => 0,
-        MessagePart::Middle => 1,
-        MessagePart::End => 2,
-        MessagePart::Whole => 3,
-    }
-}
-
-fn least(a: usize, b: usize) -> usize
-    ensures { λ r. ⌜ r ≡ min a b ⌝ }
-{
-    if a <= b { a } else { b }
 }

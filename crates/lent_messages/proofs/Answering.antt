@@ -4,11 +4,11 @@ use Prim.Native.Nat.{ℕ}
 use mathlib.Core.Path.{_≡_, sym, ap, _∙_}
 use mathlib.Core.List.{List, [], _∷_}
 use Rattle.wire.specs.Bytes.{written}
-use Rattle.binding.specs.Cutting.{countRefusal, cutRefusal}
-use Rattle.binding.specs.declared.Counted.{Counted}
-use Rattle.binding.specs.declared.Counted.the-variants as counted
-use Rattle.binding.specs.declared.Made.{Made}
-use Rattle.binding.specs.declared.Made.the-variants as made
+use Rattle.cutter.specs.Cutting.{countRefusal, cutRefusal}
+use Rattle.cutter.specs.declared.Counted.{Counted}
+use Rattle.cutter.specs.declared.Counted.the-variants as counted
+use Rattle.cutter.specs.declared.Made.{Made}
+use Rattle.cutter.specs.declared.Made.the-variants as made
 use Rattle.message.specs.Reading as reading
 use Rattle.message.specs.Writing as writing
 use Rattle.message.specs.declared.Header.{Header}

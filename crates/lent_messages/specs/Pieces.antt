@@ -5,11 +5,11 @@ use mathlib.Core.Bool.{cond}
 use mathlib.Core.List.{List, [], _∷_}
 use lib.ListN.{length}
 use Rattle.wire.specs.Bytes.{written}
-use Rattle.binding.specs.Cutting.{countedOf, countRefusal, madeOf, cutRefusal, cutInto}
-use Rattle.binding.specs.declared.Counted.{Counted}
-use Rattle.binding.specs.declared.Counted.the-variants as counted
-use Rattle.binding.specs.declared.Made.{Made}
-use Rattle.binding.specs.declared.Made.the-variants as made
+use Rattle.cutter.specs.Cutting.{countedOf, countRefusal, madeOf, cutRefusal, cutInto}
+use Rattle.cutter.specs.declared.Counted.{Counted}
+use Rattle.cutter.specs.declared.Counted.the-variants as counted
+use Rattle.cutter.specs.declared.Made.{Made}
+use Rattle.cutter.specs.declared.Made.the-variants as made
 use Rattle.lent.specs.Words.{outputTooShort, tooFew}
 
 abbrev pub countWords : Counted → List ℕ

@@ -4,12 +4,12 @@ mod reading;
 pub use reading::read;
 ghost use mathlib.Core.Path.{_≡_};
 ghost use lib.ListN.{length};
-ghost use Rattle.binding.specs.Cutting.{madeOf};
+ghost use Rattle.cutter.specs.Cutting.{madeOf};
 ghost use Rattle.message.specs.Writing.{writeOf};
 ghost use Rattle.lent_messages.specs.Pieces.{piecesNumber, piecesAnswer, cutNumber, cutAnswer, cutOutput};
 ghost use Rattle.lent_messages.specs.Messages.{writeNumber, writeAnswer, writeOutput};
-use binding::Counted;
-use binding::Made;
+use cutter::Counted;
+use cutter::Made;
 use message::Own;
 use message::Writing;
 
@@ -21,7 +21,7 @@ pub fn pieces(total: usize, size: usize, answer: &mut [u64]) -> u32
     if answer.len() < 1 {
         return lent::OUTPUT_TOO_SHORT;
     }
-    match binding::pieces(total, size) {
+    match cutter::pieces(total, size) {
         Counted::Refused(number) => number,
         Counted::Pieces(count) => {
             lent::put_count(answer, count);
@@ -47,7 +47,7 @@ pub fn cut(
     if answer.len() < 1 {
         return lent::OUTPUT_TOO_SHORT;
     }
-    match binding::cut(message, size, sender, first, piece, out) {
+    match cutter::cut(message, size, sender, first, piece, out) {
         Made::Refused(number) => number,
         Made::Datagram(length) => {
             lent::put_count(answer, length);

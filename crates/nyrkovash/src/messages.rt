@@ -1,7 +1,7 @@
 // Cutting, and messages read and written. An answer is one word, and of a message that was read six (`lent_messages`).
 ghost use mathlib.Core.Path.{_≡_};
 ghost use lib.ListN.{length};
-ghost use Rattle.binding.specs.Cutting.{madeOf};
+ghost use Rattle.cutter.specs.Cutting.{madeOf};
 ghost use Rattle.message.specs.Writing.{writeOf};
 ghost use Rattle.lent_messages.specs.Pieces.{piecesNumber, piecesAnswer, cutNumber, cutAnswer, cutOutput};
 ghost use Rattle.lent_messages.specs.Messages.{readNumber, readAnswer, writeNumber, writeAnswer, writeOutput};

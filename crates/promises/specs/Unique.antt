@@ -34,8 +34,8 @@ use Rattle.message.proofs.payload.Reads.{Post as message-payload}
 use Rattle.message.proofs.write.Reads.{Post as message-write}
 use Rattle.binding.proofs.BindingHeader.new.Reads.{Post as binding-BindingHeader-new}
 use Rattle.binding.proofs.BindingHeader.read.Reads.{Post as binding-BindingHeader-read}
-use Rattle.binding.proofs.pieces.Reads.{Post as binding-pieces}
-use Rattle.binding.proofs.cut.Reads.{Post as binding-cut}
+use Rattle.cutter.proofs.pieces.Reads.{Post as cutter-pieces}
+use Rattle.cutter.proofs.cut.Reads.{Post as cutter-cut}
 use Rattle.channels.proofs.setup.Reads.{Post as channels-setup}
 use Rattle.joiner.proofs.take.Reads.{Post as joiner-take}
 use Rattle.joiner.proofs.message.Reads.{Post as joiner-message}
@@ -113,9 +113,9 @@ pub record MessageUnique : Type 0 where
 pub record BindingUnique : Type 0 where
   pub new : Answer binding-BindingHeader-new
   pub read : Answer binding-BindingHeader-read
-  pub pieces : Answer binding-pieces
-  pub cut : Answer binding-cut
-  pub cut-out : Lent binding-cut (λ k e. now (e .1 .1 .1 .1 .1 .0))
+  pub pieces : Answer cutter-pieces
+  pub cut : Answer cutter-cut
+  pub cut-out : Lent cutter-cut (λ k e. now (e .1 .1 .1 .1 .1 .0))
 
 pub record JoinerUnique : Type 0 where
   pub setup : Answer channels-setup

@@ -1,9 +1,9 @@
--- `binding::cut` meets its contract: 50, then 51, then the datagram or 52.
+-- `cutter::cut` meets its contract: 50, then 51, then the datagram or 52.
 -- Assumes nothing.
 use borrow.Author.Needs.{needs}
-use Rattle.binding.proofs.Cuts.{cut-in, header-in, sender-fits, size-in, start-in, start-fits, counter-fits, answer-50, output-50, answer-51, output-51, answer-made, output-made}
-use Rattle.binding.proofs.cut.Statement.{statement}
-use Rattle.binding.proofs.cut.Tie as tie
+use Rattle.cutter.proofs.Cuts.{cut-in, header-in, sender-fits, size-in, start-in, start-fits, counter-fits, answer-50, output-50, answer-51, output-51, answer-made, output-made}
+use Rattle.cutter.proofs.cut.Statement.{statement}
+use Rattle.cutter.proofs.cut.Tie as tie
 
 pub cut-spec : {M : Type 1} → statement M
 cut-spec =

@@ -1,8 +1,8 @@
--- `binding::least` meets its contract: the smaller one.
+-- `cutter::least` meets its contract: the smaller one.
 -- Assumes nothing.
 use borrow.Author.Needs.{needs}
-use Rattle.binding.proofs.least.Statement.{statement}
-use Rattle.binding.proofs.least.Tie as tie
+use Rattle.cutter.proofs.least.Statement.{statement}
+use Rattle.cutter.proofs.least.Tie as tie
 
 pub least-spec : {M : Type 1} → statement M
 least-spec =

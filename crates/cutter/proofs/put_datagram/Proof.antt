@@ -1,9 +1,9 @@
--- `binding::put_datagram` meets its contract: the header and the bytes behind it, or 52 and nothing written.
+-- `cutter::put_datagram` meets its contract: the header and the bytes behind it, or 52 and nothing written.
 -- Assumes nothing.
 use borrow.Author.Needs.{needs}
-use Rattle.binding.proofs.Cuts.{made-one, wrote-one, made-none, wrote-none}
-use Rattle.binding.proofs.put_datagram.Statement.{statement}
-use Rattle.binding.proofs.put_datagram.Tie as tie
+use Rattle.cutter.proofs.Cuts.{made-one, wrote-one, made-none, wrote-none}
+use Rattle.cutter.proofs.put_datagram.Statement.{statement}
+use Rattle.cutter.proofs.put_datagram.Tie as tie
 
 pub put-datagram-spec : {M : Type 1} → statement M
 put-datagram-spec =

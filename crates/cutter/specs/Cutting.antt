@@ -5,14 +5,14 @@ use mathlib.Core.Bool.{Bool, true, false, _&&_, cond}
 use lib.Dec.{ltb, leb, eqb}
 use lib.ListN.{length, take, drop}
 use Rattle.wire.specs.Bytes.{over}
 use Rattle.binding.specs.Header.{senders, counters, largestPiece, headerOf, headerBytes}
 use Rattle.binding.specs.declared.MessagePart.{MessagePart}
 use Rattle.binding.specs.declared.MessagePart.the-variants.{Begin, Middle, End, Whole}
 use Rattle.binding.specs.declared.BindingHeader.{BindingHeader}
-use Rattle.binding.specs.declared.Counted.{Counted}
-use Rattle.binding.specs.declared.Counted.the-variants.{Refused as NotCounted, Pieces}
-use Rattle.binding.specs.declared.Made.{Made}
-use Rattle.binding.specs.declared.Made.the-variants.{Refused, Datagram}
+use Rattle.cutter.specs.declared.Counted.{Counted}
+use Rattle.cutter.specs.declared.Counted.the-variants.{Refused as NotCounted, Pieces}
+use Rattle.cutter.specs.declared.Made.{Made}
+use Rattle.cutter.specs.declared.Made.the-variants.{Refused, Datagram}
 
 -- a message of m bytes at piece size s gives m/s pieces, rounded up
 abbrev pub pieceCount : ℕ → ℕ → ℕ

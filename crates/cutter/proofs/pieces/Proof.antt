@@ -1,9 +1,9 @@
--- `binding::pieces` meets its contract: 50, or the number of pieces.
+-- `cutter::pieces` meets its contract: 50, or the number of pieces.
 -- Assumes nothing.
 use borrow.Author.Needs.{needs}
-use Rattle.binding.proofs.Cuts.{counted, not-counted, said}
-use Rattle.binding.proofs.pieces.Statement.{statement}
-use Rattle.binding.proofs.pieces.Tie as tie
+use Rattle.cutter.proofs.Cuts.{counted, not-counted, said}
+use Rattle.cutter.proofs.pieces.Statement.{statement}
+use Rattle.cutter.proofs.pieces.Tie as tie
 
 pub pieces-spec : {M : Type 1} → statement M
 pieces-spec =

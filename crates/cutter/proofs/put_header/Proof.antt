@@ -1,9 +1,9 @@
--- `binding::put_header` meets its contract: the header's four bytes, one behind another.
+-- `cutter::put_header` meets its contract: the header's four bytes, one behind another.
 -- Assumes nothing.
 use borrow.Author.Needs.{needs}
-use Rattle.binding.proofs.Cuts.{the-header}
-use Rattle.binding.proofs.put_header.Statement.{statement}
-use Rattle.binding.proofs.put_header.Tie as tie
+use Rattle.cutter.proofs.Cuts.{the-header}
+use Rattle.cutter.proofs.put_header.Statement.{statement}
+use Rattle.cutter.proofs.put_header.Tie as tie
 
 pub put-header-spec : {M : Type 1} → statement M
 put-header-spec =

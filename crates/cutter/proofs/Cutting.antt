@@ -12,12 +12,12 @@ use borrow.Author.Tests.{le-leb, leb-true, lt-ltb, ltb-true}
 use lib.Dec.{ltb, leb}
 use lib.ListN.{length, take, drop, length-take, length-drop}
 use lib.Seq.{take-all, take-add, take-at, drop-at}
 use Rattle.binding.specs.declared.Heard.the-variants.{Piece}
-use Rattle.binding.specs.declared.Counted.the-variants.{Refused as NotCounted, Pieces}
-use Rattle.binding.specs.declared.Made.the-variants.{Refused, Datagram}
+use Rattle.cutter.specs.declared.Counted.the-variants.{Refused as NotCounted, Pieces}
+use Rattle.cutter.specs.declared.Made.the-variants.{Refused, Datagram}
 use Rattle.binding.specs.Header.{headerLength, senders, counters, largestPiece, heardIn, pieceIn}
-use Rattle.binding.specs.Cutting.{pieceCount, countedOf, pieceAt, counterOf, headerOfPiece, datagramOf, largestMessage, canCut, canHead, madeOf, cutInto, together, outputTooShort, noSuchPiece, cannotCut}
+use Rattle.cutter.specs.Cutting.{pieceCount, countedOf, pieceAt, counterOf, headerOfPiece, datagramOf, largestMessage, canCut, canHead, madeOf, cutInto, together, outputTooShort, noSuchPiece, cannotCut}
 use Rattle.binding.proofs.Headers.{header-back, piece-back}
 
 -- what 50 leaves: a message of m bytes, cut at s
 pub record Cuttable (m s : ℕ) : Type 0 where

@@ -1,10 +1,10 @@
--- `binding::piece_count` meets its contract: what may be cut has a piece size above 0 and bounds that no sum exceeds.
+-- `cutter::piece_count` meets its contract: what may be cut has a piece size above 0 and bounds that no sum exceeds.
 -- Assumes nothing.
 use borrow.Author.Needs.{needs}
 use native.Mathlib.Omega.{arith}
-use Rattle.binding.proofs.Cutting.{cuttable}
-use Rattle.binding.proofs.piece_count.Statement.{statement}
-use Rattle.binding.proofs.piece_count.Tie as tie
+use Rattle.cutter.proofs.Cutting.{cuttable}
+use Rattle.cutter.proofs.piece_count.Statement.{statement}
+use Rattle.cutter.proofs.piece_count.Tie as tie
 
 pub piece-count-spec : {M : Type 1} → statement M
 piece-count-spec =

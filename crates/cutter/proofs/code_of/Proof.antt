@@ -1,8 +1,8 @@
--- `binding::code_of` meets its contract: Table 9's code of each part.
+-- `cutter::code_of` meets its contract: Table 9's code of each part.
 -- Assumes nothing.
 use borrow.Author.Needs.{needs}
-use Rattle.binding.proofs.code_of.Statement.{statement}
-use Rattle.binding.proofs.code_of.Tie as tie
+use Rattle.cutter.proofs.code_of.Statement.{statement}
+use Rattle.cutter.proofs.code_of.Tie as tie
 
 pub code-of-spec : {M : Type 1} → statement M
 code-of-spec =
