@@ -8,7 +8,6 @@ mod records;
 
 pub use records::has_good_sizes;
 pub use records::is_good;
-pub use records::is_good_channel;
 pub use records::look;
 pub use records::room_start;
 

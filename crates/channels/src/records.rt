@@ -86,7 +86,7 @@ pub fn room_start(size: u32, number: u32) -> usize
     number as usize * size as usize
 }
 
-pub fn is_good_channel(channel: Channel, room: u32) -> bool
+fn is_good_channel(channel: Channel, room: u32) -> bool
     ensures { λ r. ⌜ r ≡ goodChannel room channel ⌝ }
 {
     ((channel.sender as usize) < BindingHeader::SENDERS)

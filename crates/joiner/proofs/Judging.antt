@@ -78,30 +78,37 @@ room-within R n k h =
     let m : (k + 1) * R ≤ n * R = mul-le-mul-right R (omega arith) in
     omega arith
 
--- `can_move`
-pub can-move : {t : Bool} (k R : ℕ) (ch : Channel) (n : ℕ) → t ≡ goodChannel R ch → ((ltb k channelLimit && leb R largestRoom) && (t && (leb headerLength n && leb n largestDatagram))) ≡ canMove k R ch n
-can-move k R ch n e = rw e
-
 -- `moved`
 pub record CanMove (k R : ℕ) (ch : Channel) (n : ℕ) : Type 0 where
   pub few : k < channelLimit
   pub narrow : R ≤ largestRoom
-  pub channel : goodChannel R ch ≡ true
+  pub held : ch .held ≤ R
+  pub last : ch .last < counters
   pub long : headerLength ≤ n
   pub short : n ≤ largestDatagram
 
 can-say : (k R : ℕ) (ch : Channel) (n : ℕ) → canMove k R ch n ≡ true → CanMove k R ch n
 can-say k R ch n e =
-    let p : (ltb k channelLimit && leb R largestRoom) ≡ true = and-left (ltb k channelLimit && leb R largestRoom) (goodChannel R ch && (leb headerLength n && leb n largestDatagram)) e in
-    let q : (goodChannel R ch && (leb headerLength n && leb n largestDatagram)) ≡ true = and-right (ltb k channelLimit && leb R largestRoom) (goodChannel R ch && (leb headerLength n && leb n largestDatagram)) e in
-    let r : (leb headerLength n && leb n largestDatagram) ≡ true = and-right (goodChannel R ch) (leb headerLength n && leb n largestDatagram) q in
     record {
-      few = ltb-true k channelLimit (and-left (ltb k channelLimit) (leb R largestRoom) p);
-      narrow = leb-true R largestRoom (and-right (ltb k channelLimit) (leb R largestRoom) p);
-      channel = and-left (goodChannel R ch) (leb headerLength n && leb n largestDatagram) q;
-      long = leb-true headerLength n (and-left (leb headerLength n) (leb n largestDatagram) r);
-      short = leb-true n largestDatagram (and-right (leb headerLength n) (leb n largestDatagram) r);
+      few = ltb-true k channelLimit (and-left (ltb k channelLimit) (leb R largestRoom) place);
+      narrow = leb-true R largestRoom (and-right (ltb k channelLimit) (leb R largestRoom) place);
+      held = leb-true (ch .held) R (and-left (leb (ch .held) R) (ltb (ch .last) counters) kept);
+      last = ltb-true (ch .last) counters (and-right (leb (ch .held) R) (ltb (ch .last) counters) kept);
+      long = leb-true headerLength n (and-left (leb headerLength n) (leb n largestDatagram) length-is);
+      short = leb-true n largestDatagram (and-right (leb headerLength n) (leb n largestDatagram) length-is);
     }
+  where
+    place : (ltb k channelLimit && leb R largestRoom) ≡ true
+    place = and-left (ltb k channelLimit && leb R largestRoom) ((leb (ch .held) R && ltb (ch .last) counters) && (leb headerLength n && leb n largestDatagram)) e
+
+    rest : ((leb (ch .held) R && ltb (ch .last) counters) && (leb headerLength n && leb n largestDatagram)) ≡ true
+    rest = and-right (ltb k channelLimit && leb R largestRoom) ((leb (ch .held) R && ltb (ch .last) counters) && (leb headerLength n && leb n largestDatagram)) e
+
+    kept : (leb (ch .held) R && ltb (ch .last) counters) ≡ true
+    kept = and-left (leb (ch .held) R && ltb (ch .last) counters) (leb headerLength n && leb n largestDatagram) rest
+
+    length-is : (leb headerLength n && leb n largestDatagram) ≡ true
+    length-is = and-right (leb (ch .held) R && ltb (ch .last) counters) (leb headerLength n && leb n largestDatagram) rest
 
 module _ {t : Bool} (k R : ℕ) (ch : Channel) (n : ℕ) (e : t ≡ canMove k R ch n) where
   pub not-moved : (h : BindingHeader) → t ≡ false → Refusal badSetup ≡ movedOf k R ch h n
@@ -122,13 +129,12 @@ module _ {t : Bool} (k R : ℕ) (ch : Channel) (n : ℕ) (e : t ≡ canMove k R 
     length-fits = record { fits = omega (arith, says .short) }
 
     pub steppable : {s : ℕ} → s ≡ roomStart R k → Steppable (record { start = s; size = R }) ch (n - headerLength)
-    steppable {s} es =
-        let x : Sound R ch = channel-says R ch (says .channel) in
+    steppable es =
         record {
           size = says .narrow;
           ends = omega (arith, room-within R channelLimit k (says .few), says .narrow);
-          last = x .last;
-          held = x .held;
+          last = says .last;
+          held = says .held;
           piece = omega (arith, says .short);
         }
 
@@ -200,11 +206,11 @@ module _ (j : Joiner) (b : ℕ) (d : List ℕ) {r : Heard} (er : r ≡ heardIn d
     found-moves k ch w q =
         let y : Borne j b (h .sender) k ch = found-somebody j b (h .sender) e k ch q in
         let g : Good j b = good-says j b w (y .well) in
-        let x : goodChannel (j .room) ch ≡ true = ap (goodChannel (j .room)) (y .channel) ∙ g .each k (y .known) in
+        let x : Sound (j .room) ch = rw (y .channel) (channel-says (j .room) (channelAt j k) (g .each k (y .known))) in
         let v : Headed d h = heard-headed d h (sym er ∙ m) in
         let few : k < channelLimit = omega (arith, y .known, g .sizes .few) in
         let long : headerLength ≤ length d = omega (arith, v .long) in
-        rw (lt-ltb k channelLimit few, le-leb (j .room) largestRoom (g .sizes .narrow), x, le-leb headerLength (length d) long, le-leb (length d) largestDatagram (v .short))
+        rw (lt-ltb k channelLimit few, le-leb (j .room) largestRoom (g .sizes .narrow), le-leb (ch .held) (j .room) (x .held), lt-ltb (ch .last) counters (x .last), le-leb headerLength (length d) long, le-leb (length d) largestDatagram (v .short))
 
 pub judged-by : {f : Found} {r : Heard} {s : ℕ} {x : Judged} (j : Joiner) (b : ℕ) (d : List ℕ) → length (j .channels) ≡ channelLimit → r ≡ heardIn d → s ≡ senderBy r → f ≡ foundOf j b s → x ≡ judgedBy f (j .room) r (length d) → x ≡ judgedOf j b d
 unfolding judgedBy movedOf heardBy

@@ -6,12 +6,12 @@ use mathlib.Core.List.{List, []}
 use lib.Dec.{leb, ltb}
 use lib.ListN.{length, getD, set}
 use Rattle.wire.specs.Bytes.{written, part}
-use Rattle.binding.specs.Header.{headerLength, theVersion, smallestDatagram, largestDatagram, versionIn, senderIn, heardIn, pieceIn}
+use Rattle.binding.specs.Header.{headerLength, counters, theVersion, smallestDatagram, largestDatagram, versionIn, senderIn, heardIn, pieceIn}
 use Rattle.binding.specs.declared.BindingHeader.{BindingHeader}
 use Rattle.binding.specs.declared.Heard.{Heard}
 use Rattle.binding.specs.declared.Heard.the-variants as heard
 use Rattle.joiner.specs.Channel.{roomOf, steppedOf}
-use Rattle.channels.specs.Setup.{badSetup, channelLimit, largestRoom, channelAt, sendersOf, placeOf, goodChannel, good}
+use Rattle.channels.specs.Setup.{badSetup, channelLimit, largestRoom, channelAt, sendersOf, placeOf, good}
 use Rattle.channels.specs.declared.Channel.{Channel}
 use Rattle.channels.specs.declared.Joiner.{Joiner}
 use Rattle.channels.specs.declared.Found.{Found}
@@ -56,7 +56,7 @@ refusalBy (heard.Piece h) = notSetUp
 
 -- what holds of every record that is found in a good joiner, and of every datagram whose header is read
 abbrev pub canMove : ℕ → ℕ → Channel → ℕ → Bool
-canMove k R ch n = (ltb k channelLimit && leb R largestRoom) && (goodChannel R ch && (leb headerLength n && leb n largestDatagram))
+canMove k R ch n = (ltb k channelLimit && leb R largestRoom) && ((leb (ch .held) R && ltb (ch .last) counters) && (leb headerLength n && leb n largestDatagram))
 
 unfoldable pub movedOf : ℕ → ℕ → Channel → BindingHeader → ℕ → Judged
 movedOf k R ch h n = cond (canMove k R ch n) (Move k (steppedOf (roomOf R k) ch (h .part) (h .counter) (n - headerLength))) (Refusal badSetup)

@@ -158,7 +158,7 @@ fn can_move(at: usize, size: u32, channel: Channel, length: usize) -> bool
     ensures { λ r. ⌜ r ≡ canMove at size channel length ⌝ }
 {
     ((at < CHANNELS) & (size <= LARGEST_ROOM))
-        & (channels::is_good_channel(channel, size)
+        & (((channel.held <= size) & (channel.last < steps::COUNTERS))
             & ((BindingHeader::LENGTH <= length) & (length <= BindingHeader::LARGEST_DATAGRAM)))
 }
 

@@ -45,7 +45,9 @@ rise-spec =
     (λ c. record { fits = omega (arith, c .before .before .before .before .shared-slice-known3 .given (recordAt (c .before .before .before .before .before .before .loop .i))) })
     (λ c. search needs)
     (λ c. search needs)
-    (λ c. (search needs, search needs, search needs, search needs, search risen-more))
+    (λ c.
+    let inv = c .before .before .before .before .before .before .loop .inv in
+    (search needs, search needs, search needs, search needs, risen-more _ _ _ _ _ (inv .3) (inv .4) (c .if1 .taken)))
     (λ c. never-so _)
     (λ c. search needs)
     (λ c t. search risen-all))
