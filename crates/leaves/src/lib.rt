@@ -51,7 +51,7 @@ pub fn takes(table: &[u8], s: Sections, e: Entry, word: u64) -> bool
     ensures { λ r. ⌜ r ≡ takes (now (table .entry)) s e word ⌝ }
 {
     if table::leaf::allowed(e.of, word) {
-        if e.kind == 1 {
+        if e.kind == table::ENUM {
             among(table, s, e, word)
         } else {
             true
