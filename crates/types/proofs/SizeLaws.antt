@@ -2,13 +2,13 @@
 -- Assumes nothing.
 use Prim.Native.Nat.{ℕ, zero, suc, _+_, _*_, _^_, _≤_, _<_}
 use mathlib.Core.Path.{_≡_, refl, sym, ap, subst, _∙_}
-use mathlib.Core.Bool.{Bool, true, false, _&&_}
+use mathlib.Core.Bool.{Bool, true, false, _&&_, _||_}
 use mathlib.Core.List.{List, [], _∷_, _++_}
 use mathlib.Core.Logic.{⊎-elim}
 use native.Mathlib.Nat.{mul-le-mul, eq-or-lt-of-le}
 use native.Mathlib.Numerals.{add-one}
 use native.Mathlib.Omega.{arith}
-use borrow.Author.Tests.{le-leb, lt-leb, eq-eqb, ne-eqb, ltb-true}
+use borrow.Author.Tests.{le-leb, lt-leb, eq-eqb, ne-eqb, ltb-true, ltb-false}
 use mir.Syntax.{w16, w32, w64}
 use mir.Val.{Fits}
 use lib.Dec.{ltb}
@@ -21,6 +21,7 @@ use Rattle.types.specs.declared.Largest.the-variants.{Bytes, Unknown}
 use Rattle.table.specs.All.{allBelow}
 use Rattle.table.specs.Leaf.{width}
 use Rattle.table.specs.Entries.{typeAt, memberAt, isType}
+use Rattle.types.specs.Kept.{Smaller}
 use Rattle.types.specs.Sizes.{mostBytes, sumOf, sumFrom, sizeOf, sizes, largest, sizeFits, bytesUpTo, largestBelow, largestOf}
 use Rattle.wire.proofs.Cond.{and-right}
 use Rattle.table.proofs.AllBelow.{next-below, stop-below}
@@ -50,8 +51,16 @@ pub over-it : (z : ℕ) → mostBytes < z → Unknown ≡ bytesUpTo z
 unfolding bytesUpTo
 over-it z h = rw (lt-leb z mostBytes h) refl
 
-pub not-known : (l : List ℕ) (i : ℕ) → length l ≤ i → 0 ≡ getD l i 0
-not-known l i h = sym (List·getD-eq-default l 0 h)
+pub is-there : (b : Bool) (n i : ℕ) → (b || ltb i n) ≡ true → (b ≡ true → i < n) → i < n
+is-there true n i h k = k refl
+is-there false n i h k = ltb-true i n h
+
+pub not-known : (b : Bool) (l : List ℕ) (i : ℕ) → (b || ltb i (length l)) ≡ false → 0 ≡ getD l i 0
+not-known true l i h = unknown (0 ≡ getD l i 0) (sym h)
+not-known false l i h = sym (List·getD-eq-default l 0 (ltb-false i (length l) h))
+
+pub known-member : (t : List ℕ) (s : Sections) (n first count k m : ℕ) → Smaller t s n first count → k < count → m ≡ memberAt t s (first + k) → m < n
+known-member t s n first count k m p h e = omega (arith, p .smaller k h)
 
 -- the sum over a record's members, member by member
 module _ (t : List ℕ) (s : Sections) (known : List ℕ) (first : ℕ) where

@@ -5,7 +5,7 @@ use mathlib.Core.Path.{_≡_, refl, sym, ap, _∙_}
 use mathlib.Core.Bool.{Bool, true, false, _&&_, cond}
 use mathlib.Core.List.{List}
 use native.Mathlib.Omega.{arith}
-use borrow.Author.Tests.{eq-eqb, ne-eqb, eqb-true}
+use borrow.Author.Tests.{eq-eqb, ne-eqb, eqb-true, ltb-true}
 use lib.Dec.{eqb}
 use lib.ListN.{length, getD}
 use mir.Syntax.{w8}
@@ -14,18 +14,18 @@ use Rattle.wire.specs.Bytes.{Octets}
 use Rattle.table.specs.declared.Sections.{Sections}
 use Rattle.table.specs.declared.Entry.{Entry}
 use Rattle.table.specs.All.{allBelow}
-use Rattle.table.specs.Entries.{typeAt}
+use Rattle.table.specs.Entries.{typeAt, memberAt}
 use Rattle.types.specs.Values.{valueOk, distinct, valuesOk}
-use Rattle.types.specs.Rules.{fieldsOk, membersOk, pointedOk, typeOk}
+use Rattle.types.specs.Rules.{fieldsOk, memberOk, membersOk, pointedOk, typeOk}
 use Rattle.types.specs.Inside.{Lying}
-use Rattle.types.specs.Kept.{Kept}
+use Rattle.types.specs.Kept.{Kept, Smaller}
 use Rattle.types.specs.Operations.{operationOk}
 use Rattle.types.specs.Table.{entriesOk}
 use Rattle.types.specs.Passes.{inOrder, quickOk, enumOk, looseOk, enumDistinct}
 use Rattle.wire.proofs.Cond.{and-left, and-right}
 use Rattle.table.proofs.AllBelow.{at-below, next-below, stop-below, done-below}
 use Rattle.types.proofs.ValueRules.{order-ok}
-use Rattle.types.proofs.TypeRules.{enum-code, enum-inside, record-inside}
+use Rattle.types.proofs.TypeRules.{enum-code, enum-inside, record-inside, points-to-members}
 
 -- one type, as `quick_ok` and `enum_ok` see it
 module _ (t : List ℕ) (s : Sections) (i : ℕ) (e : Entry) (is : e ≡ typeAt t s i) (f : Bool) (p : f ≡ fieldsOk s i e) where
@@ -131,12 +131,18 @@ module _ (t : List ℕ) (s : Sections) (i : ℕ) where
   loose-room room e is h k l = omega (arith, loose-inside e is h k)
 
 -- types that keep their rules, as the sizes want them
-pub kept-record : (t : List ℕ) (s : Sections) (n i : ℕ) (e : Entry) → Kept t s n → i < n → e ≡ typeAt t s i → e .kind ≡ 2 → e .first + e .count ≤ s .members .count
-unfolding typeOk
-kept-record t s n i e k l is h =
-    record-inside s i e true
-    (sym (ap (fieldsOk s i) is ∙ and-left (fieldsOk s i (typeAt t s i)) (pointedOk t s i (typeAt t s i)) (at-below (typeOk t s) n i (k .keep) l)))
-    refl h
+pub kept-record : (t : List ℕ) (s : Sections) (n i m : ℕ) (e : Entry) → Kept t s n → i < n → e ≡ typeAt t s i → m ≡ i → e .kind ≡ 2 → Smaller t s m (e .first) (e .count)
+unfolding typeOk membersOk memberOk
+kept-record t s n i m e k l is g h =
+    let a : typeOk t s i ≡ true = at-below (typeOk t s) n i (k .keep) l in
+    let f : fieldsOk s i e ≡ true = ap (fieldsOk s i) is ∙ and-left (fieldsOk s i (typeAt t s i)) (pointedOk t s i (typeAt t s i)) a in
+    let p : pointedOk t s i e ≡ true = ap (pointedOk t s i) is ∙ and-right (fieldsOk s i (typeAt t s i)) (pointedOk t s i (typeAt t s i)) a in
+    let b : membersOk t s i e ≡ true = points-to-members t s i e (membersOk t s i e) h refl ∙ p in
+    record {
+      lie = k .lie;
+      there = record-inside s i e true (sym f) refl h;
+      smaller = λ j c. omega (arith, ltb-true (memberAt t s (e .first + j)) i (at-below (memberOk t s i e) (e .count) j b c));
+    }
 
 pub entries-kept : (t : List ℕ) (s : Sections) (a : Bool) → Lying t s → a ≡ entriesOk t s → a ≡ true → Kept t s (s .types .count)
 unfolding entriesOk

@@ -15,7 +15,7 @@ ghost use Rattle.table.specs.Entries.{typeAt, memberAt};
 ghost use Rattle.types.specs.Inside.{Lying};
 ghost use Rattle.types.specs.Sizes.{sizeOf, sumFrom, sizes, sizeFits, bytesUpTo, largestBelow, largestOf};
 ghost use Rattle.types.specs.Table.{sizesOk};
-ghost use Rattle.types.specs.Kept.{Kept};
+ghost use Rattle.types.specs.Kept.{Kept, Smaller};
 
 // The largest size of one type.
 pub fn largest(table: &[u8], s: Sections, i: u16) -> Largest
@@ -86,7 +86,7 @@ fn fill(table: &[u8], s: Sections, room: &mut [u32], n: usize, kept: bool) -> bo
 
 // The largest size of an entry, from the sizes of the types before it. In 64 bits it cannot wrap.
 fn size_of(table: &[u8], s: Sections, known: &[u32], e: Entry, kept: bool) -> u64
-    requires { ⌜ (kept ≡ true → Lying (now table) s × (e .kind ≡ 2 → e .first + e .count ≤ s .members .count)) ⌝ }
+    requires { ⌜ (kept ≡ true → e .kind ≡ 2 → Smaller (now table) s (length (now known)) (e .first) (e .count)) ⌝ }
     ensures { λ r. ⌜ r ≡ sizeOf (now (table .entry)) s (now (known .entry)) e ⌝ }
 {
     let kind = e.kind;
@@ -94,22 +94,22 @@ fn size_of(table: &[u8], s: Sections, known: &[u32], e: Entry, kept: bool) -> u6
         0 => leaf::width(e.of) as u64,
         1 => leaf::width(e.of) as u64,
         2 => sum(table, s, known, e.first, e.count, kept),
-        3 => times(e.count, known_at(known, e.of)),
-        4 => times(e.count, known_at(known, e.of)) + 4,
+        3 => times(e.count, known_at(known, e.of, false)),
+        4 => times(e.count, known_at(known, e.of, false)) + 4,
         _ => 0,
     }
 }
 
 // The sum over a record's members. Not of the entry: an entry that is passed on twice is copied through memory.
 fn sum(table: &[u8], s: Sections, known: &[u32], first: u16, count: u16, kept: bool) -> u64
-    requires { ⌜ (kept ≡ true → Lying (now table) s × (first + count ≤ s .members .count)) ⌝ }
+    requires { ⌜ (kept ≡ true → Smaller (now table) s (length (now known)) first count) ⌝ }
     ensures { λ r. ⌜ r ≡ sumFrom (now (table .entry)) s (now (known .entry)) first count ⌝ }
 {
     let mut total: u64 = 0;
     let mut k: u16 = 0;
     while k < count {
         let member = member_of(table, s, first as u32 + k as u32, kept);
-        total += known_at(known, member) as u64;
+        total += known_at(known, member, kept) as u64;
         k += 1;
     }
     total
@@ -138,11 +138,16 @@ fn member_of(table: &[u8], s: Sections, i: u32, kept: bool) -> u16
 }
 
 // The largest size of a type, as far as it is known.
-fn known_at(known: &[u32], i: u16) -> u32
+fn known_at(known: &[u32], i: u16, kept: bool) -> u32
+    requires { ⌜ (kept ≡ true → i < length (now known)) ⌝ }
     ensures { λ r. ⌜ r ≡ getD (now (known .entry)) i 0 ⌝ }
 {
     let at = i as usize;
-    if at < known.len() { known[at] } else { 0 }
+    if kept | (at < known.len()) {
+        known[at]
+    } else {
+        0
+    }
 }
 
 fn times(count: u16, size: u32) -> u64

@@ -34,7 +34,7 @@ fill-spec =
     (λ c. sym (length-take-le _ _ (omega arith)))
     (λ c κs h.
     let p = c .before .before .before .before .before .before .pre .1 h in
-    (p .lie, kept-record _ _ _ _ _ p (c .before .before .loop-test .taken) (c .before .type-of .ensures)))
+    kept-record _ _ _ _ _ _ p (c .before .before .loop-test .taken) (c .before .type-of .ensures) (length-take-le _ _ (omega arith)))
     (λ c. search needs)
     (λ c. (search fits-no-more, λ (x : false ≡ true). absurd (let z : _≡_ {A = ℕ} 0 1 = cc in omega arith)))
     (λ c. search needs)

@@ -1,7 +1,7 @@
 -- `types::sizes::size_of` meets its contract: the arms are the kinds.
 -- Assumes nothing.
 use borrow.Author.Needs.{needs}
-use Rattle.types.proofs.SizeLaws.{base-size, enum-size, record-size, fixed-size, array-size, no-size}
+use Rattle.types.proofs.SizeLaws.{unknown, base-size, enum-size, record-size, fixed-size, array-size, no-size}
 use Rattle.types.proofs.sizes.size_of.Statement.{statement}
 use Rattle.types.proofs.sizes.size_of.Tie as tie
 
@@ -11,10 +11,10 @@ size-of-spec =
     (tie.spec
     (λ c κs. search needs)
     (λ c κs. search needs)
-    (λ c κs h. let p = c .before .before .before .pre h in (p .0, p .1 (search needs)))
+    (λ c κs h. c .before .before .before .pre h (search needs))
+    (λ c κs h. unknown _ h)
     (λ c κs. search needs)
-    (λ c κs. search needs)
-    (λ c κs. search needs)
+    (λ c κs h. unknown _ h)
     (λ c κs. search needs)
     (λ c. search needs)
     (λ c. search base-size)

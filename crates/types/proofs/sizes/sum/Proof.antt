@@ -5,7 +5,7 @@ use Prim.Native.Nat.{_-_, _*_, _≤_}
 use mathlib.Core.Path.{_≡_}
 use native.Mathlib.Omega.{arith}
 use Rattle.types.specs.Sizes.{sumFrom}
-use Rattle.types.proofs.SizeLaws.{sum-none, sum-more, sum-done}
+use Rattle.types.proofs.SizeLaws.{known-member, sum-none, sum-more, sum-done}
 use Rattle.types.proofs.sizes.sum.Statement.{statement}
 use Rattle.types.proofs.sizes.sum.Tie as tie
 
@@ -24,8 +24,8 @@ sum-spec =
     (λ c. (search needs, search sum-none, search needs))
     (λ c. search needs)
     (λ c. search needs)
-    (λ c κs h. let p = c .before .before .before .before .pre h in (p .0, omega (arith, p .1)))
-    (λ c κs. search needs)
+    (λ c κs h. let p = c .before .before .before .before .pre h in (p .lie, omega (arith, p .there)))
+    (λ c κs h. known-member _ _ _ _ _ _ _ (c .before .before .before .before .before .pre h) (c .before .loop-test .taken) (c .member-of .ensures))
     (λ c. search needs)
     (λ c. search needs)
     (λ c. search needs)
