@@ -220,7 +220,7 @@ in-blocks (writes ∷ ds) s st h o =
     written-lines u t = refl
 in-blocks (reads more ∷ ds) s st h o =
     let a : ℕ = st .run .at in
-    let g : Sound (drop a s ++ more) (atFront st) = record { place = omega arith; room = h .room } in
+    let g : Sound (drop a s ++ more) (atFront st) = record { place = omega arith; room = omega (arith, h .room) } in
     let e : drop a s ++ more ++ come ds ≡ drop a (s ++ (more ++ come ds)) = append-assoc (drop a s) more (come ds) ∙ sym (drop-append-le a s (more ++ come ds) (h .place)) in
     let l : a ≤ length (s ++ (more ++ come ds)) = omega (arith, length-append s (more ++ come ds), h .place) in
     in-blocks ds (drop a s ++ more) (atFront st) g o
