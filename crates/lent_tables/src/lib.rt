@@ -19,9 +19,6 @@ pub const FOUND_WORDS: usize = 3;
 // Where an operation was found.
 pub const FOUND: u64 = 1;
 
-// 01's number: sections that do not lie in the table.
-pub const CUT_SHORT: u32 = 30;
-
 // One more than the largest number of a section.
 const WORD_LIMIT: u64 = 65536;
 
@@ -81,7 +78,7 @@ pub fn find(table: &[u8], sections: &[u64], id: u32, answer: &mut [u64]) -> u32
             }
         }
     } else {
-        CUT_SHORT
+        table::CUT_SHORT
     }
 }
 
