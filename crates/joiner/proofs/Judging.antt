@@ -142,20 +142,7 @@ module _ {t : Bool} (k R : ℕ) (ch : Channel) (n : ℕ) (e : t ≡ canMove k R 
     unfolding movedOf
     is-moved h es ex = rw (sym e ∙ g, ex, es)
 
--- `judge`, `sender_of` and `refusal`
-module _ {x : Heard} where
-  pub sought-any : (n : ℕ) → x ≡ heard.Refused n → 0 ≡ senderBy x
-  sought-any n e = rw e
-
-  pub sought-own : (h : BindingHeader) → x ≡ heard.Piece h → h .sender ≡ senderBy x
-  sought-own h e = rw e
-
-  pub refused-own : (n : ℕ) → x ≡ heard.Refused n → n ≡ refusalBy x
-  refused-own n e = rw e
-
-  pub refused-unknown : (h : BindingHeader) → x ≡ heard.Piece h → notSetUp ≡ refusalBy x
-  refused-unknown h e = rw e
-
+-- `judge`
 module _ {f : Found} (R n : ℕ) (x : Heard) where
   pub judged-bad : f ≡ Bad → Refusal badSetup ≡ judgedBy f R x n
   unfolding judgedBy
