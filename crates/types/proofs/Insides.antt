@@ -1,10 +1,8 @@
 -- What stands in the entries of sections that lie within the bytes, at the returns.
 -- Assumes nothing.
-use Prim.Native.Nat.{ℕ, _+_, _*_, _≤_}
-use mathlib.Core.Path.{_≡_, refl, sym, ap, _∙_}
+use Prim.Native.Nat.{ℕ, _+_, _*_}
+use mathlib.Core.Path.{_≡_, refl, sym, _∙_}
 use mathlib.Core.List.{List}
-use native.Mathlib.Nat.{add-assoc}
-use native.Mathlib.Omega.{arith}
 use Rattle.wire.specs.Bytes.{number}
 use Rattle.table.specs.declared.Sections.{Sections}
 use Rattle.table.specs.declared.Entry.{Entry}
@@ -16,10 +14,6 @@ use Rattle.table.specs.Entries.{typeAt, memberAt, valueAt, operationAt}
 use Rattle.types.specs.Inside.{Lying}
 use Rattle.table.proofs.Chain.{Chain, chain}
 use Rattle.table.proofs.Lookups.{type-read, operation-read, member-read}
-
--- four bytes, each by its weight, are two halves
-pub four-bytes : {a b c d : ℕ} (t : List ℕ) (p : ℕ) → a ≡ number 0 t p → b ≡ number 0 t (p + 1) → c ≡ number 0 t (p + 2) → d ≡ number 0 t (p + 3) → a * 16777216 + b * 65536 + c * 256 + d ≡ number 2 t p
-four-bytes t p a b c d = omega (arith, ap (number 0 t) (add-assoc p 2 1))
 
 module _ (t : List ℕ) (s : Sections) (i : ℕ) where
   pub type-inside : {k o f n : ℕ} → k ≡ number 1 t (typePlace s i) → o ≡ number 1 t (typePlace s i + 2) → f ≡ number 1 t (typePlace s i + 4) → n ≡ number 1 t (typePlace s i + 6) → _≡_ {A = Entry} (record { kind = k; of = o; first = f; count = n }) (typeAt t s i)

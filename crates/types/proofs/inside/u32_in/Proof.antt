@@ -1,7 +1,7 @@
 -- `types::inside::u32_in` meets its contract: its four bytes, each by its weight.
 -- Assumes nothing.
 use borrow.Author.Needs.{needs}
-use Rattle.types.proofs.Insides.{four-bytes}
+use Rattle.wire.proofs.Numbers.{four-bytes}
 use Rattle.types.proofs.inside.u32_in.Statement.{statement}
 use Rattle.types.proofs.inside.u32_in.Tie as tie
 
