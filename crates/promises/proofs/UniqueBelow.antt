@@ -10,7 +10,6 @@ channels =
       look = λ k a z z′ e e′ p q. p ∙ sym q;
       room-start = λ k a z z′ e e′ p q. p ∙ sym q;
       has-good-sizes = λ k a z z′ e e′ p q. p ∙ sym q;
-      is-good-channel = λ k a z z′ e e′ p q. p ∙ sym q;
     }
 
 joiner : JoinerUnique

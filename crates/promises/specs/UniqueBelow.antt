@@ -8,7 +8,6 @@ use Rattle.channels.proofs.is_good.Reads.{Post as channels-is-good}
 use Rattle.channels.proofs.look.Reads.{Post as channels-look}
 use Rattle.channels.proofs.room_start.Reads.{Post as channels-room-start}
 use Rattle.channels.proofs.has_good_sizes.Reads.{Post as channels-has-good-sizes}
-use Rattle.channels.proofs.is_good_channel.Reads.{Post as channels-is-good-channel}
 use Rattle.joiner.proofs.sender_of.Reads.{Post as joiner-sender-of}
 use Rattle.joiner.proofs.judge.Reads.{Post as joiner-judge}
 use Rattle.joiner.proofs.write_piece.Reads.{Post as joiner-write-piece}
@@ -67,7 +66,6 @@ pub record ChannelsUnique : Type 0 where
   pub look : Answer channels-look
   pub room-start : Answer channels-room-start
   pub has-good-sizes : Answer channels-has-good-sizes
-  pub is-good-channel : Answer channels-is-good-channel
 
 pub record JoinerUnique : Type 0 where
   pub sender-of : Answer joiner-sender-of
