@@ -1,13 +1,16 @@
 -- What a search by halving finds.
 -- Assumes nothing.
-use Prim.Native.Nat.{ℕ, _+_, _-_, _/_, _≤_, _<_}
-use mathlib.Core.Path.{_≡_, sym, _∙_}
-use mathlib.Core.Bool.{true}
+use Prim.Native.Nat.{ℕ, _+_, _/_, _≤_, _<_}
+use mathlib.Core.Path.{_≡_, sym, ap, _∙_}
+use mathlib.Core.Bool.{Bool, true}
 use mathlib.Core.List.{List}
 use native.Mathlib.Nat.{lt-of-not-le}
 use native.Mathlib.Omega.{arith}
+use lib.Dec.{leb}
+use Rattle.wire.proofs.Runs.{held}
 use Rattle.table.specs.declared.Sections.{Sections}
 use Rattle.table.specs.declared.Found.the-variants.{At, Nothing}
+use Rattle.table.specs.Layout.{operationPlace}
 use Rattle.table.specs.Entries.{idAt}
 use Rattle.table.specs.Operations.{idsRise, Answers}
 use Rattle.table.proofs.Rising.{rising-up-to}
@@ -17,8 +20,16 @@ abbrev pub Between : List ℕ → Sections → ℕ → ℕ → ℕ → Type 0
 Between t s id low high = idsRise t s ≡ true → (k : ℕ) → k < s .operations .count → idAt t s k ≡ id → (low ≤ k) × (k < high)
 
 -- the middle of what is left is an entry
-pub middle-in : (low high n : ℕ) → low < high → high ≤ n → low + (high - low) / 2 < n
+pub middle-in : (low high n : ℕ) → low < high → high ≤ n → (low + high) / 2 < n
 middle-in low high n a b = omega arith
+
+-- the section lies within the bytes, or not
+pub whole-is : (len : ℕ) (s : Sections) (e : ℕ) → e ≡ operationPlace s (s .operations .count) → leb e len ≡ leb (operationPlace s (s .operations .count)) len
+whole-is len s e is = ap (λ (n : ℕ). leb n len) is
+
+-- the ID of an entry of a section that lies within the bytes
+pub id-within : (len : ℕ) (s : Sections) (i : ℕ) (whole : Bool) → i < s .operations .count → whole ≡ leb (operationPlace s (s .operations .count)) len → whole ≡ true → operationPlace s i + 4 ≤ len
+id-within len s i whole h e t = omega (arith, held (operationPlace s (s .operations .count)) len e t)
 
 module _ (t : List ℕ) (s : Sections) (id : ℕ) where
   pub anywhere : Between t s id 0 (s .operations .count)

@@ -7,15 +7,16 @@ use crate::layout;
 ghost use mathlib.Core.Path.{_≡_};
 ghost use Rattle.table.specs.Entries.{typeAt, memberAt, valueAt, idAt, operationAt, isType};
 
+// Four 16-bit numbers that are read as one: one test of the bytes in place of four.
 pub fn type_at(table: &[u8], s: Sections, i: u16) -> Entry
     ensures { λ r. ⌜ r ≡ typeAt (now (table .entry)) s i ⌝ }
 {
-    let at = layout::type_place(s, i as u32);
+    let word = wire::u64_at(table, layout::type_place(s, i as u32));
     Entry {
-        kind: wire::u16_at(table, at),
-        of: wire::u16_at(table, at + 2),
-        first: wire::u16_at(table, at + 4),
-        count: wire::u16_at(table, at + 6),
+        kind: (word / 281474976710656) as u16,
+        of: (word / 4294967296 % 65536) as u16,
+        first: (word / 65536 % 65536) as u16,
+        count: (word % 65536) as u16,
     }
 }
 

@@ -1,7 +1,7 @@
--- `table::entries::type_at` meets its contract: each field stands at its place.
+-- `table::entries::type_at` meets its contract: the four numbers that stand at its place, read as one.
 -- Assumes nothing.
 use borrow.Author.Needs.{needs}
-use Rattle.table.proofs.Lookups.{type-read}
+use Rattle.table.proofs.Lookups.{type-word}
 use Rattle.table.proofs.entries.type_at.Statement.{statement}
 use Rattle.table.proofs.entries.type_at.Tie as tie
 
@@ -12,9 +12,7 @@ type-at-spec =
     (λ c κs. search needs)
     (λ c κs. search needs)
     (λ c. search needs)
-    (λ c κs. search needs)
     (λ c. search needs)
-    (λ c κs. search needs)
     (λ c. search needs)
-    (λ c κs. search needs)
-    (λ c. search type-read))
+    (λ c. search needs)
+    (λ c. let known = c .before .before .shared-slice-known .given in search (type-word, known)))
