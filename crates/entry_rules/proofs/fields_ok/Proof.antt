@@ -1,9 +1,9 @@
--- `types::rules::fields_ok` meets its contract: the arms are the kinds.
+-- `entry_rules::fields_ok` meets its contract: the arms are the kinds.
 -- Assumes nothing.
 use borrow.Author.Needs.{needs}
-use Rattle.types.proofs.TypeRules.{base-entry, enum-entry, record-entry, fixed-entry, array-entry, no-entry}
-use Rattle.types.proofs.rules.fields_ok.Statement.{statement}
-use Rattle.types.proofs.rules.fields_ok.Tie as tie
+use Rattle.entry_rules.proofs.Fields.{base-entry, enum-entry, record-entry, fixed-entry, array-entry, no-entry}
+use Rattle.entry_rules.proofs.fields_ok.Statement.{statement}
+use Rattle.entry_rules.proofs.fields_ok.Tie as tie
 
 pub fields-ok-spec : {M : Type 1} → statement M
 fields-ok-spec =
