@@ -19,8 +19,9 @@ use Rattle.platform.specs.Receiving.{refused, numberGiven, outcomeOf, outputOf,
 use Rattle.platform.proofs.Unique.{operation-looked}
 use Rattle.lent.specs.Words.{outputTooShort}
 use Rattle.lent.proofs.Answers.{none-written}
-use Rattle.lent_platform.specs.Words.{standingIn}
-use Rattle.lent_platform.specs.Calls.{answerWords, notedWords, noWords, receiveNumber, receiveWords, receiveAnswer, receiveOutput, ReceivedIn}
+use Rattle.lent_states.specs.Words.{standingIn}
+use Rattle.lent_heard.specs.Words.{answerWords, notedWords}
+use Rattle.lent_platform.specs.Calls.{noWords, receiveNumber, receiveWords, receiveAnswer, receiveOutput, ReceivedIn}
 
 -- too few words, or enough
 module _ {A : Type 0} {b : Bool} (ws answer : List ℕ) (e : b ≡ noWords ws answer) where

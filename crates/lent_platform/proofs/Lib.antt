@@ -1,4 +1,2 @@
-pub mod Storing
-mod Telling
 mod Calling
 mod Straight

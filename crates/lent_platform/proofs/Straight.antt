@@ -43,8 +43,9 @@ use Rattle.reactions.proofs.ReplyLaws.{length-reply}
 use Rattle.platform.proofs.Unique.{operation-looked}
 use Rattle.lent.specs.Words.{outputTooShort}
 use Rattle.lent.proofs.Answers.{none-written}
-use Rattle.lent_platform.specs.Words.{statesIn, standingIn, standingWords}
-use Rattle.lent_platform.specs.Calls.{heardWords, answerWords, notedWords, noWords, ReceivedIn}
+use Rattle.lent_states.specs.Words.{statesIn, standingIn, standingWords}
+use Rattle.lent_heard.specs.Words.{heardWords, answerWords, notedWords}
+use Rattle.lent_platform.specs.Calls.{noWords, ReceivedIn}
 use Rattle.lent_platform.specs.Told.{outcomeTold, Told}
 use Rattle.lent_platform.proofs.Calling.{enough, outcome-number, outcome-standing, outcome-answer}
 

@@ -1,55 +1,19 @@
--- What the platform calls answer in lent words. Too few words for the answer or for the platform come before anything else.
+-- What the call for one message answers in lent words. Too few words for the answer or for the platform come before anything else.
 use Prim.Native.Nat.{ℕ}
 use mathlib.Core.Bool.{Bool, cond, _||_}
 use mathlib.Core.Path.{_≡_}
-use mathlib.Core.List.{List, [], _∷_}
+use mathlib.Core.List.{List}
 use lib.ListN.{length}
 use Rattle.wire.specs.Bytes.{written}
 use Rattle.table.specs.declared.Sections.{Sections}
 use Rattle.table.specs.declared.Found.{Found}
-use Rattle.message.specs.declared.Header.{Header}
-use Rattle.message.specs.Platform.{statusValue}
 use Rattle.message.specs.Reading.{readOf}
-use Rattle.reactions.specs.declared.Standing.{Standing}
-use Rattle.reactions.specs.declared.Heard.{Heard}
-use Rattle.reactions.specs.declared.Heard.the-variants as heard
-use Rattle.platform.specs.declared.Answer.{Answer}
-use Rattle.platform.specs.declared.Answer.the-variants.{Refused, Noted}
 use Rattle.platform.specs.declared.Outcome.{Outcome}
 use Rattle.reactions.specs.Reaction.{Looked}
-use Rattle.platform.specs.Receiving.{freshStanding, numberGiven, sectionsOutcome, sectionsOutput}
+use Rattle.platform.specs.Receiving.{numberGiven, sectionsOutcome, sectionsOutput}
 use Rattle.lent.specs.Words.{outputTooShort, tooFew}
-use Rattle.lent_platform.specs.Words.{platformWords, standingIn, standingWords}
-
-abbrev pub freshNumber : List ℕ → ℕ
-freshNumber ws = cond (tooFew platformWords ws) outputTooShort 0
-
-abbrev pub freshWords : ℕ → List ℕ → List ℕ
-freshWords own ws = cond (tooFew platformWords ws) ws (written ws 0 (standingWords (freshStanding own)))
-
--- what was heard is seven words: which, its value, the sender, the operation's entry, where its payload starts and how long it
--- is, and how many reply bytes were written
-abbrev pub heardLength : ℕ
-heardLength = 7
-
-abbrev pub heardWords : Header → ℕ → Heard → List ℕ
-heardWords h n (heard.Status x) = 1 ∷ statusValue x ∷ h .platform ∷ 0 ∷ 0 ∷ 0 ∷ n ∷ []
-heardWords h n heard.Request = 2 ∷ 0 ∷ h .platform ∷ 0 ∷ 0 ∷ 0 ∷ n ∷ []
-heardWords h n (heard.UnknownOperation id) = 3 ∷ id ∷ h .platform ∷ 0 ∷ 0 ∷ 0 ∷ n ∷ []
-heardWords h n heard.PullOfAll = 4 ∷ 0 ∷ h .platform ∷ 0 ∷ 0 ∷ 0 ∷ n ∷ []
-heardWords h n (heard.PullOfOne id i) = 5 ∷ id ∷ h .platform ∷ i ∷ 0 ∷ 0 ∷ n ∷ []
-heardWords h n (heard.NotVersionedData id) = 6 ∷ id ∷ h .platform ∷ 0 ∷ 0 ∷ 0 ∷ n ∷ []
-heardWords h n (heard.Operation i start len) = 7 ∷ h .id ∷ h .platform ∷ i ∷ start ∷ len ∷ n ∷ []
-heardWords h n (heard.NotInTable id) = 8 ∷ id ∷ h .platform ∷ 0 ∷ 0 ∷ 0 ∷ n ∷ []
-
-abbrev pub answerWords : Answer → List ℕ
-answerWords (Refused k) = []
-answerWords (Noted h x n) = heardWords h n x
-
--- a refusal leaves the platform's words as they are
-abbrev pub notedWords : Answer → Standing → List ℕ
-notedWords (Refused k) p = []
-notedWords (Noted h x n) p = standingWords p
+use Rattle.lent_states.specs.Words.{platformWords, standingIn}
+use Rattle.lent_heard.specs.Words.{heardLength, answerWords, notedWords}
 
 abbrev pub noWords : List ℕ → List ℕ → Bool
 noWords ws answer = tooFew heardLength answer || tooFew platformWords ws

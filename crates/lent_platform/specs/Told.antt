@@ -8,8 +8,8 @@ use Rattle.message.specs.declared.Header.{Header}
 use Rattle.platform.specs.declared.Outcome.{Outcome}
 use Rattle.reactions.specs.declared.Reaction.{Reaction}
 use Rattle.platform.specs.Receiving.{numberGiven, answered, laidOut}
-use Rattle.lent_platform.specs.Words.{standingIn}
-use Rattle.lent_platform.specs.Calls.{answerWords, notedWords}
+use Rattle.lent_states.specs.Words.{standingIn}
+use Rattle.lent_heard.specs.Words.{answerWords, notedWords}
 
 abbrev pub outcomeTold : Header → Reaction → List ℕ → List ℕ → Outcome
 outcomeTold h x ws out = answered (standingIn ws) h x (length out)

@@ -1,7 +1,5 @@
 // One message on sections that lie in the table. What comes often goes straight from the bytes into the words: a refusal, an
 // operation of the table, a status that tells nothing new, a request. The rest is told of what `platform` answers.
-use crate::stored;
-use crate::told;
 use message::Header;
 use message::Message;
 use message::Own;
@@ -20,7 +18,7 @@ ghost use Rattle.message.specs.Refusal.{readRefusal};
 ghost use Rattle.reactions.specs.declared.Heard.the-variants.{Request};
 ghost use Rattle.reactions.specs.declared.Reply.the-variants.{StatusUp};
 ghost use Rattle.reactions.specs.Reaction.{replied};
-ghost use Rattle.lent_platform.specs.Words.{standingIn, standingWords};
+ghost use Rattle.lent_states.specs.Words.{standingIn, standingWords};
 ghost use Rattle.lent_platform.specs.Calls.{noWords, ReceivedIn};
 ghost use Rattle.lent_platform.specs.Told.{Told};
 
@@ -69,10 +67,10 @@ fn on_operation(
         Found::At(entry) => {
             let sender = wire::u32_at(message, Header::PLATFORM_AT);
             let length = wire::u32_at(message, Header::PAYLOAD_SIZE_AT) as usize;
-            stored::keep(platform);
-            told::put_entry(
+            lent_states::keep(platform);
+            lent_heard::put_entry(
                 answer,
-                told::OPERATION,
+                lent_heard::OPERATION,
                 id,
                 sender,
                 entry,
@@ -126,8 +124,8 @@ fn on_request(
     let sender = wire::u32_at(message, Header::PLATFORM_AT);
     let sequence = wire::u32_at(message, Header::SEQUENCE_AT);
     reactions::put_reply(own, Reply::StatusUp(sequence), out);
-    stored::keep(platform);
-    told::put_value(answer, told::REQUEST, 0, sender, REPLY_LENGTH);
+    lent_states::keep(platform);
+    lent_heard::put_value(answer, lent_heard::REQUEST, 0, sender, REPLY_LENGTH);
     0
 }
 
@@ -149,7 +147,7 @@ fn on_status(
 {
     let sender = wire::u32_at(message, Header::PLATFORM_AT);
     let field = wire::u32_at(message, Header::LENGTH);
-    let states = stored::states_in(platform);
+    let states = lent_states::states_in(platform);
     if states::is_up(own, states, sender) {
         if field == 0 {
             answered(own, platform, table, s, message, out, answer)
@@ -171,8 +169,8 @@ fn unchanged(platform: &mut [u64], answer: &mut [u64], status: u32, sender: u32)
     ensures { λ _. ⌜ now (platform .exit) ≡ written (now (platform .entry)) 0 (standingWords (standingIn (now (platform .entry)))) ⌝ }
     ensures { λ _. ⌜ now (answer .exit) ≡ written (now (answer .entry)) 0 (1 ∷ status ∷ sender ∷ 0 ∷ 0 ∷ 0 ∷ 0 ∷ []) ⌝ }
 {
-    stored::keep(platform);
-    told::put_value(answer, told::STATUS, status, sender, 0);
+    lent_states::keep(platform);
+    lent_heard::put_value(answer, lent_heard::STATUS, status, sender, 0);
     0
 }
 
@@ -188,7 +186,7 @@ fn answered(
     requires { ⌜ noWords (now platform) (now answer) ≡ false ⌝ }
     ensures { λ r. ⌜ ReceivedIn (own .platform) (now (table .entry)) s (now (platform .entry)) (now (message .entry)) (now (out .entry)) (now (answer .entry)) r (now (platform .exit)) (now (out .exit)) (now (answer .exit)) ⌝ }
 {
-    let standing = stored::standing_in(platform);
+    let standing = lent_states::standing_in(platform);
     let outcome = platform::receive_checked(own, table, s, standing, message, out);
-    told::tell(outcome, platform, answer)
+    lent_heard::tell(outcome, platform, answer)
 }

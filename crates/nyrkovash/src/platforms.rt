@@ -1,12 +1,13 @@
-// The platform calls. A platform is five words, an answer seven (`lent_platform`).
+// The platform calls. A platform is five words (`lent_states`), an answer seven (`lent_platform`).
 ghost use mathlib.Core.Path.{_≡_};
 ghost use mathlib.Core.Bool.{cond};
 ghost use lib.ListN.{length};
 ghost use Rattle.states.specs.States.{isUp, howManyUp};
 ghost use Rattle.platform.specs.Receiving.{receivedOf, leftOf};
 ghost use Rattle.lent_tables.specs.Words.{sectionsIn};
-ghost use Rattle.lent_platform.specs.Words.{statesIn, standingIn};
-ghost use Rattle.lent_platform.specs.Calls.{freshNumber, freshWords, receiveNumber, receiveWords, receiveAnswer, receiveOutput, ReceivedIn};
+ghost use Rattle.lent_states.specs.Words.{statesIn, standingIn};
+ghost use Rattle.lent_states.specs.Calls.{freshNumber, freshWords};
+ghost use Rattle.lent_platform.specs.Calls.{receiveNumber, receiveWords, receiveAnswer, receiveOutput, ReceivedIn};
 
 // A fresh platform: 10 for too few words.
 #[no_mangle]
@@ -14,7 +15,7 @@ pub extern "C" fn nyr_platform(own: u8, platform: &mut [u64]) -> u32
     ensures { λ r. ⌜ r ≡ freshNumber (now (platform .entry)) ⌝ }
     ensures { λ _. ⌜ now (platform .exit) ≡ freshWords own (now (platform .entry)) ⌝ }
 {
-    lent_platform::fresh(own, platform)
+    lent_states::fresh(own, platform)
 }
 
 // Reads a message, notes the state that it tells, and writes the owed replies at the output's start: 10 for too few words, then
@@ -57,7 +58,7 @@ pub extern "C" fn nyr_receive_in(
 pub extern "C" fn nyr_is_up(own: u8, platform: &[u64], number: u8) -> u32
     ensures { λ r. ⌜ r ≡ cond (isUp own (statesIn (now (platform .entry))) number) 1 0 ⌝ }
 {
-    lent_platform::is_up(own, platform, number)
+    lent_states::is_up(own, platform, number)
 }
 
 // How many of the 256 are UP, this one counted.
@@ -65,5 +66,5 @@ pub extern "C" fn nyr_is_up(own: u8, platform: &[u64], number: u8) -> u32
 pub extern "C" fn nyr_how_many_up(own: u8, platform: &[u64]) -> u32
     ensures { λ r. ⌜ r ≡ howManyUp own (statesIn (now (platform .entry))) ⌝ }
 {
-    lent_platform::how_many_up(own, platform)
+    lent_states::how_many_up(own, platform)
 }

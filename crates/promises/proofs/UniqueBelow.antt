@@ -1,7 +1,7 @@
 -- Two outcomes that one promise allows are equal: each contract is an equation with a definition.
 -- Assumes nothing.
 use mathlib.Core.Path.{_≡_, sym, _∙_}
-use Rattle.promises.specs.UniqueBelow.{WireUnique, ChannelsUnique, JoinerUnique, MessageUnique, ReactionsUnique, TableUnique, WalkUnique, UnpackingUnique, PackingUnique, StatesUnique, TextUnique, CallsUnique, LentUnique, LentChannelsUnique, LentJoinerUnique, LentMessagesUnique, LentTablesUnique, LentPayloadsUnique, LentPlatformUnique, UniqueBelow}
+use Rattle.promises.specs.UniqueBelow.{WireUnique, ChannelsUnique, JoinerUnique, MessageUnique, ReactionsUnique, TableUnique, WalkUnique, UnpackingUnique, PackingUnique, StatesUnique, TextUnique, CallsUnique, LentUnique, LentChannelsUnique, LentJoinerUnique, LentMessagesUnique, LentTablesUnique, LentPayloadsUnique, LentPlatformUnique, LentStatesUnique, LentHeardUnique, UniqueBelow}
 
 wire : WireUnique
 wire =
@@ -170,18 +170,37 @@ lent-payloads =
       pack-in-answer = λ k a z z′ e e′ p q. p .1 .1 ∙ sym (q .1 .1);
     }
 
-lent-platform : LentPlatformUnique
-lent-platform =
+lent-states : LentStatesUnique
+lent-states =
     record {
       fresh = λ k a z z′ e e′ p q. p .0 ∙ sym (q .0);
       fresh-platform = λ k a z z′ e e′ p q. p .1 ∙ sym (q .1);
+      is-up = λ k a z z′ e e′ p q. p ∙ sym q;
+      how-many-up = λ k a z z′ e e′ p q. p ∙ sym q;
+      states-in = λ k a z z′ e e′ p q. p ∙ sym q;
+      standing-in = λ k a z z′ e e′ p q. p ∙ sym q;
+      put-standing-words = λ k a z z′ e e′ p q. p ∙ sym q;
+      keep-words = λ k a z z′ e e′ p q. p ∙ sym q;
+    }
+
+lent-heard : LentHeardUnique
+lent-heard =
+    record {
+      tell = λ k a z z′ e e′ p q. p .0 ∙ sym (q .0);
+      tell-platform = λ k a z z′ e e′ p q. p .1 .0 ∙ sym (q .1 .0);
+      tell-answer = λ k a z z′ e e′ p q. p .1 .1 ∙ sym (q .1 .1);
+      put-value-answer = λ k a z z′ e e′ p q. p ∙ sym q;
+      put-entry-answer = λ k a z z′ e e′ p q. p ∙ sym q;
+    }
+
+lent-platform : LentPlatformUnique
+lent-platform =
+    record {
       receive = λ k a z z′ e e′ p q. p .0 ∙ sym (q .0);
       receive-platform = λ k a z z′ e e′ p q. p .1 .0 ∙ sym (q .1 .0);
       receive-out = λ k a z z′ e e′ p q. p .1 .1 .0 ∙ sym (q .1 .1 .0);
       receive-answer = λ k a z z′ e e′ p q. p .1 .1 .1 ∙ sym (q .1 .1 .1);
-      is-up = λ k a z z′ e e′ p q. p ∙ sym q;
-      how-many-up = λ k a z z′ e e′ p q. p ∙ sym q;
     }
 
 pub unique-below : UniqueBelow
-unique-below = record { wire = wire; channels = channels; joiner = joiner; message = message; reactions = reactions; table = table; walk = walk; unpacking = unpacking; packing = packing; states = states; text = text; calls = calls; lent = lent; lent-channels = lent-channels; lent-joiner = lent-joiner; lent-messages = lent-messages; lent-tables = lent-tables; lent-payloads = lent-payloads; lent-platform = lent-platform }
+unique-below = record { wire = wire; channels = channels; joiner = joiner; message = message; reactions = reactions; table = table; walk = walk; unpacking = unpacking; packing = packing; states = states; text = text; calls = calls; lent = lent; lent-channels = lent-channels; lent-joiner = lent-joiner; lent-messages = lent-messages; lent-tables = lent-tables; lent-payloads = lent-payloads; lent-platform = lent-platform; lent-states = lent-states; lent-heard = lent-heard }

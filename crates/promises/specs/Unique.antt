@@ -49,7 +49,7 @@ use Rattle.table.proofs.entries.id_at.Reads.{Post as table-entries-id-at}
 use Rattle.table.proofs.layout.within.Reads.{Post as table-layout-within}
 use Rattle.table.proofs.leaf.width.Reads.{Post as table-leaf-width}
 use Rattle.table.proofs.leaf.allowed.Reads.{Post as table-leaf-allowed}
-use Rattle.types.proofs.rules.fields_ok.Reads.{Post as types-rules-fields-ok}
+use Rattle.entry_rules.proofs.fields_ok.Reads.{Post as entry-rules-fields-ok}
 use Rattle.types.proofs.sizes.largest.Reads.{Post as types-sizes-largest}
 use Rattle.leaves.proofs.word_at.Reads.{Post as leaves-word-at}
 use Rattle.leaves.proofs.put.Reads.{Post as leaves-put}
@@ -134,7 +134,7 @@ pub record TypesUnique : Type 0 where
   pub within : Answer table-layout-within
   pub width : Answer table-leaf-width
   pub allowed : Answer table-leaf-allowed
-  pub fields-ok : Answer types-rules-fields-ok
+  pub fields-ok : Answer entry-rules-fields-ok
   pub largest : Answer types-sizes-largest
 
 pub record LeavesUnique : Type 0 where

@@ -59,10 +59,17 @@ use Rattle.lent_payloads.proofs.unpack.Reads.{Post as lent-payloads-unpack}
 use Rattle.lent_payloads.proofs.unpack_in.Reads.{Post as lent-payloads-unpack-in}
 use Rattle.lent_payloads.proofs.pack.Reads.{Post as lent-payloads-pack}
 use Rattle.lent_payloads.proofs.pack_in.Reads.{Post as lent-payloads-pack-in}
-use Rattle.lent_platform.proofs.fresh.Reads.{Post as lent-platform-fresh}
+use Rattle.lent_states.proofs.fresh.Reads.{Post as lent-states-fresh}
+use Rattle.lent_states.proofs.is_up.Reads.{Post as lent-states-is-up}
+use Rattle.lent_states.proofs.how_many_up.Reads.{Post as lent-states-how-many-up}
+use Rattle.lent_states.proofs.states_in.Reads.{Post as lent-states-states-in}
+use Rattle.lent_states.proofs.standing_in.Reads.{Post as lent-states-standing-in}
+use Rattle.lent_states.proofs.put_standing.Reads.{Post as lent-states-put-standing}
+use Rattle.lent_states.proofs.keep.Reads.{Post as lent-states-keep}
+use Rattle.lent_heard.proofs.tell.Reads.{Post as lent-heard-tell}
+use Rattle.lent_heard.proofs.put_value.Reads.{Post as lent-heard-put-value}
+use Rattle.lent_heard.proofs.put_entry.Reads.{Post as lent-heard-put-entry}
 use Rattle.lent_platform.proofs.receive.Reads.{Post as lent-platform-receive}
-use Rattle.lent_platform.proofs.is_up.Reads.{Post as lent-platform-is-up}
-use Rattle.lent_platform.proofs.how_many_up.Reads.{Post as lent-platform-how-many-up}
 
 pub record WireUnique : Type 0 where
   pub whole-u16 : Answer wire-whole-u16
@@ -180,15 +187,28 @@ pub record LentPayloadsUnique : Type 0 where
   pub pack-in-out : Lent lent-payloads-pack-in (λ k e. now (e .1 .1 .1 .1 .0))
   pub pack-in-answer : Lent lent-payloads-pack-in (λ k e. now (e .1 .1 .1 .1 .1 .0))
 
+pub record LentStatesUnique : Type 0 where
+  pub fresh : Answer lent-states-fresh
+  pub fresh-platform : Lent lent-states-fresh (λ k e. now (e .1 .0))
+  pub is-up : Answer lent-states-is-up
+  pub how-many-up : Answer lent-states-how-many-up
+  pub states-in : Answer lent-states-states-in
+  pub standing-in : Answer lent-states-standing-in
+  pub put-standing-words : Lent lent-states-put-standing (λ k e. now (e .0))
+  pub keep-words : Lent lent-states-keep (λ k e. now (e .0))
+
+pub record LentHeardUnique : Type 0 where
+  pub tell : Answer lent-heard-tell
+  pub tell-platform : Lent lent-heard-tell (λ k e. now (e .1 .0))
+  pub tell-answer : Lent lent-heard-tell (λ k e. now (e .1 .1 .0))
+  pub put-value-answer : Lent lent-heard-put-value (λ k e. now (e .0))
+  pub put-entry-answer : Lent lent-heard-put-entry (λ k e. now (e .0))
+
 pub record LentPlatformUnique : Type 0 where
-  pub fresh : Answer lent-platform-fresh
-  pub fresh-platform : Lent lent-platform-fresh (λ k e. now (e .1 .0))
   pub receive : Answer lent-platform-receive
   pub receive-platform : Lent lent-platform-receive (λ k e. now (e .1 .0))
   pub receive-out : Lent lent-platform-receive (λ k e. now (e .1 .1 .1 .1 .0))
   pub receive-answer : Lent lent-platform-receive (λ k e. now (e .1 .1 .1 .1 .1 .0))
-  pub is-up : Answer lent-platform-is-up
-  pub how-many-up : Answer lent-platform-how-many-up
 
 pub record UniqueBelow : Type 0 where
   pub wire : WireUnique
@@ -209,4 +229,6 @@ pub record UniqueBelow : Type 0 where
   pub lent-messages : LentMessagesUnique
   pub lent-tables : LentTablesUnique
   pub lent-payloads : LentPayloadsUnique
+  pub lent-states : LentStatesUnique
+  pub lent-heard : LentHeardUnique
   pub lent-platform : LentPlatformUnique

@@ -16,7 +16,8 @@ use Rattle.table.specs.declared.Entry.{Entry}
 use Rattle.table.specs.All.{allBelow}
 use Rattle.table.specs.Entries.{typeAt, memberAt}
 use Rattle.types.specs.Values.{valueOk, distinct, valuesOk}
-use Rattle.types.specs.Rules.{fieldsOk, memberOk, membersOk, pointedOk, typeOk}
+use Rattle.types.specs.Rules.{memberOk, membersOk, pointedOk, typeOk}
+use Rattle.entry_rules.specs.Fields.{fieldsOk}
 use Rattle.types.specs.Inside.{Lying}
 use Rattle.types.specs.Kept.{Kept, Smaller}
 use Rattle.types.specs.Operations.{operationOk}
@@ -25,7 +26,8 @@ use Rattle.types.specs.Passes.{inOrder, quickOk, enumOk, looseOk, enumDi
 use Rattle.wire.proofs.Cond.{and-left, and-right}
 use Rattle.table.proofs.AllBelow.{at-below, next-below, stop-below, done-below}
 use Rattle.types.proofs.ValueRules.{order-ok}
-use Rattle.types.proofs.TypeRules.{enum-code, enum-inside, record-inside, points-to-members}
+use Rattle.entry_rules.proofs.Fields.{enum-code, enum-inside, record-inside}
+use Rattle.types.proofs.TypeRules.{points-to-members}
 
 -- one type, as `quick_ok` and `enum_ok` see it
 module _ (t : List ℕ) (s : Sections) (i : ℕ) (e : Entry) (is : e ≡ typeAt t s i) (f : Bool) (p : f ≡ fieldsOk s i e) where

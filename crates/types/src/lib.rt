@@ -4,7 +4,7 @@
 mod alike;
 mod inside;
 mod operations;
-pub mod rules;
+mod rules;
 pub mod sizes;
 mod values;
 

@@ -9,28 +9,8 @@ ghost use mathlib.Core.Path.{_≡_};
 ghost use Prim.Native.Nat.{_+_, _≤_, _<_};
 ghost use Rattle.table.specs.All.{allBelow};
 ghost use Rattle.types.specs.Inside.{Lying};
-ghost use Rattle.types.specs.Rules.{typeOk, fieldsOk, membersOk};
+ghost use Rattle.types.specs.Rules.{typeOk, membersOk};
 ghost use Rattle.types.specs.Passes.{quickOk, enumOk};
-
-// The fields of type i's entry, in constant time: what it points to is not looked at. Of the base codes an enum has int8, and
-// int16 to uint64.
-pub fn fields_ok(s: Sections, i: u16, e: Entry) -> bool
-    ensures { λ r. ⌜ r ≡ fieldsOk s i e ⌝ }
-{
-    let kind = e.kind;
-    match kind {
-        0 => (e.of <= 12) & (e.first == 0) & (e.count == 0),
-        1 => ((e.of == 1) | ((3 <= e.of) & (e.of <= 10)))
-            & (1 <= e.count)
-            & (e.first as u32 + e.count as u32 <= s.values.count as u32),
-        2 => (e.of == 0)
-            & (1 <= e.count)
-            & (e.first as u32 + e.count as u32 <= s.members.count as u32),
-        3 => (e.of < i) & (e.first == 0) & (1 <= e.count),
-        4 => (e.of < i) & (e.first == 0) & (1 <= e.count),
-        _ => false,
-    }
-}
 
 // Every type of the table keeps its rule. The values of most enums rise, and then they are distinct; where some do not, all are
 // compared at the end.
@@ -64,7 +44,7 @@ fn quick_ok(table: &[u8], s: Sections, i: u16) -> bool
     ensures { λ r. ⌜ r ≡ quickOk (now (table .entry)) s i ⌝ }
 {
     let e = inside::type_in(table, s, i);
-    if fields_ok(s, i, e) {
+    if entry_rules::fields_ok(s, i, e) {
         let kind = e.kind;
         match kind {
             1 => values::in_order(table, s, e),
@@ -82,7 +62,7 @@ fn enum_ok(table: &[u8], s: Sections, i: u16) -> bool
     ensures { λ r. ⌜ r ≡ enumOk (now (table .entry)) s i ⌝ }
 {
     let e = inside::type_in(table, s, i);
-    if fields_ok(s, i, e) & (e.kind == 1) {
+    if entry_rules::fields_ok(s, i, e) & (e.kind == 1) {
         values::values_allowed(table, s, e)
     } else {
         false

@@ -54,7 +54,7 @@ pub fn look(table: &[u8], s: Sections, i: u16) -> Met
     ensures { λ r. ⌜ r ≡ look (now (table .entry)) s i ⌝ }
 {
     let e = table::entries::type_at(table, s, i);
-    if types::rules::fields_ok(s, i, e) {
+    if entry_rules::fields_ok(s, i, e) {
         by_kind(e)
     } else {
         Met::Broken

@@ -1,0 +1,44 @@
+-- A platform in its words: what reading and writing show, and that the words of a platform read back as that platform.
+-- Assumes nothing.
+use Prim.Native.Nat.{ℕ, _%_, _^_, _<_}
+use mathlib.Core.Path.{_≡_, ap, _∙_}
+use mathlib.Core.Bool.{Bool, true, false, cond}
+use mathlib.Core.List.{List, _++_}
+use native.Mathlib.Nat.{mod-eq-of-lt}
+use lib.ListN.{getD}
+use Rattle.wire.specs.Bytes.{written}
+use Rattle.states.specs.declared.States.{States}
+use Rattle.reactions.specs.declared.Standing.{Standing}
+use Rattle.states.specs.States.{isUp, howManyUp}
+use Rattle.platform.specs.Receiving.{freshStanding}
+use Rattle.lent_states.specs.Words.{statesIn, standingIn, standingWords}
+
+module _ (ws : List ℕ) where
+  pub states-in : {a b c d : ℕ} → a ≡ getD ws 0 0 → b ≡ getD ws 1 0 → c ≡ getD ws 2 0 → d ≡ getD ws 3 0 → record { w0 = a; w1 = b; w2 = c; w3 = d } ≡ statesIn ws
+  states-in ea eb ec ed = rw (ea, eb, ec, ed)
+
+  pub standing-in : {s : States} {n : ℕ} → s ≡ statesIn ws → n ≡ getD ws 4 0 → record { states = s; next = n % 2 ^ 32 } ≡ standingIn ws
+  standing-in es en = rw (es, en)
+
+  -- the states that are asked
+  module _ {s : States} (own : ℕ) (es : s ≡ statesIn ws) where
+    pub up-states : {r : ℕ} → r ≡ howManyUp own s → r ≡ howManyUp own (statesIn ws)
+    up-states e = e ∙ ap (howManyUp own) es
+
+    pub is-up : {t : Bool} (k : ℕ) → t ≡ isUp own s k → t ≡ true → _≡_ {A = ℕ} 1 (cond (isUp own (statesIn ws) k) 1 0)
+    is-up k e f = rw (← es, ← e, f)
+
+    pub is-down : {t : Bool} (k : ℕ) → t ≡ isUp own s k → t ≡ false → _≡_ {A = ℕ} 0 (cond (isUp own (statesIn ws) k) 1 0)
+    is-down k e f = rw (← es, ← e, f)
+
+  -- a fresh one
+  pub fresh-words : {x : List ℕ} {p : Standing} (own : ℕ) → p ≡ freshStanding own → x ≡ written ws 0 (standingWords p) → x ≡ written ws 0 (standingWords (freshStanding own))
+  fresh-words own e f = f ∙ ap (λ (q : Standing). written ws 0 (standingWords q)) e
+
+  -- one that stays as it is
+  pub kept : {x : List ℕ} {p : Standing} → p ≡ standingIn ws → x ≡ written ws 0 (standingWords p) → x ≡ written ws 0 (standingWords (standingIn ws))
+  kept e f = f ∙ ap (λ (q : Standing). written ws 0 (standingWords q)) e
+
+-- the words of a platform, whatever stands behind them, read back as that platform
+pub read-back : (p : Standing) (ws : List ℕ) → p .next < 2 ^ 32 → standingIn (standingWords p ++ ws) ≡ p
+read-back p ws h = rw (mod-eq-of-lt h)

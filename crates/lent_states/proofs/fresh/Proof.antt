@@ -1,0 +1,17 @@
+-- `lent_states::fresh` meets its contract.
+-- Assumes nothing.
+use borrow.Author.Needs.{needs}
+use Rattle.lent.proofs.Answers.{short, long}
+use Rattle.lent_states.proofs.Storing.{fresh-words}
+use Rattle.lent_states.proofs.fresh.Statement.{statement}
+use Rattle.lent_states.proofs.fresh.Tie as tie
+
+pub fresh-spec : {M : Type 1} → statement M
+fresh-spec =
+    tie.close
+    (tie.spec
+    (λ c. (search short, search short))
+    (λ c κs. search needs)
+    (λ c κs. search needs)
+    (λ c. search needs)
+    (λ c. (search long, search (long, fresh-words))))

@@ -1,0 +1,14 @@
+-- `lent_states::how_many_up` meets its contract.
+-- Assumes nothing.
+use borrow.Author.Needs.{needs}
+use Rattle.lent_states.proofs.Storing.{up-states}
+use Rattle.lent_states.proofs.how_many_up.Statement.{statement}
+use Rattle.lent_states.proofs.how_many_up.Tie as tie
+
+pub how-many-up-spec : {M : Type 1} → statement M
+how-many-up-spec =
+    tie.close
+    (tie.spec
+    (λ c κs. search needs)
+    (λ c κs. search needs)
+    (λ c. search up-states))
