@@ -29,9 +29,9 @@ use Rattle.wire.proofs.part.Reads.{Post as wire-part}
 use Rattle.wire.proofs.has_room.Reads.{Post as wire-has-room}
 use Rattle.message.proofs.Header.new.Reads.{Post as message-Header-new}
 use Rattle.message.proofs.Header.of_bytes.Reads.{Post as message-Header-of-bytes}
-use Rattle.message.proofs.read.Reads.{Post as message-read}
-use Rattle.message.proofs.payload.Reads.{Post as message-payload}
-use Rattle.message.proofs.write.Reads.{Post as message-write}
+use Rattle.reader.proofs.read.Reads.{Post as reader-read}
+use Rattle.reader.proofs.payload.Reads.{Post as reader-payload}
+use Rattle.writer.proofs.write.Reads.{Post as writer-write}
 use Rattle.binding.proofs.BindingHeader.new.Reads.{Post as binding-BindingHeader-new}
 use Rattle.binding.proofs.BindingHeader.read.Reads.{Post as binding-BindingHeader-read}
 use Rattle.cutter.proofs.pieces.Reads.{Post as cutter-pieces}
@@ -105,10 +105,10 @@ pub record WireUnique : Type 0 where
 pub record MessageUnique : Type 0 where
   pub new : Answer message-Header-new
   pub of-bytes : Answer message-Header-of-bytes
-  pub read : Answer message-read
-  pub payload : Same message-payload (λ k z e. now z)
-  pub write : Answer message-write
-  pub write-out : Lent message-write (λ k e. now (e .1 .1 .1 .1 .1 .0))
+  pub read : Answer reader-read
+  pub payload : Same reader-payload (λ k z e. now z)
+  pub write : Answer writer-write
+  pub write-out : Lent writer-write (λ k e. now (e .1 .1 .1 .1 .1 .0))
 
 pub record BindingUnique : Type 0 where
   pub new : Answer binding-BindingHeader-new

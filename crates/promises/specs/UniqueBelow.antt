@@ -16,7 +16,7 @@ use Rattle.message.proofs.frame_refusal.Reads.{Post as message-frame-refusal}
 use Rattle.message.proofs.address_refusal.Reads.{Post as message-address-refusal}
 use Rattle.message.proofs.contents_refusal.Reads.{Post as message-contents-refusal}
 use Rattle.message.proofs.behind_header.Reads.{Post as message-behind-header}
-use Rattle.message.proofs.put_header.Reads.{Post as message-put-header}
+use Rattle.writer.proofs.put_header.Reads.{Post as writer-put-header}
 use Rattle.reactions.proofs.reaction_to.Reads.{Post as reactions-reaction-to}
 use Rattle.reactions.proofs.length_of.Reads.{Post as reactions-length-of}
 use Rattle.reactions.proofs.lay.Reads.{Post as reactions-lay}
@@ -78,7 +78,7 @@ pub record MessageUnique : Type 0 where
   pub address-refusal : Answer message-address-refusal
   pub contents-refusal : Answer message-contents-refusal
   pub behind-header : Same message-behind-header (λ k z e. now z)
-  pub put-header-out : Lent message-put-header (λ k e. now (e .0))
+  pub put-header-out : Lent writer-put-header (λ k e. now (e .0))
 
 pub record ReactionsUnique : Type 0 where
   pub reaction-to : Answer reactions-reaction-to

@@ -1,10 +1,10 @@
--- `message::put_header` meets its contract: its seven fields, one behind the other, or nothing.
+-- `writer::put_header` meets its contract: its seven fields, one behind the other, or nothing.
 -- Assumes nothing.
 use borrow.Author.Needs.{needs}
 use denote.Ref.{now}
-use Rattle.message.proofs.Answers.{header-laid, header-too-long}
-use Rattle.message.proofs.put_header.Statement.{statement}
-use Rattle.message.proofs.put_header.Tie as tie
+use Rattle.writer.proofs.Answers.{header-laid, header-too-long}
+use Rattle.writer.proofs.put_header.Statement.{statement}
+use Rattle.writer.proofs.put_header.Tie as tie
 
 pub put-header-spec : {M : Type 1} → statement M
 put-header-spec =

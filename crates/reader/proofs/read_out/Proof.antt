@@ -1,9 +1,9 @@
--- `message::read_out` meets its contract: header, kind and place are those of the bytes.
+-- `reader::read_out` meets its contract: header, kind and place are those of the bytes.
 -- Assumes nothing.
 use borrow.Author.Needs.{needs}
-use Rattle.message.proofs.Answers.{read-out}
-use Rattle.message.proofs.read_out.Statement.{statement}
-use Rattle.message.proofs.read_out.Tie as tie
+use Rattle.reader.proofs.Answers.{read-out}
+use Rattle.reader.proofs.read_out.Statement.{statement}
+use Rattle.reader.proofs.read_out.Tie as tie
 
 pub read-out-spec : {M : Type 1} → statement M
 read-out-spec =

@@ -1,12 +1,12 @@
 -- Which message each return of the functions in `kind` stands for.
 -- Assumes nothing.
 use Prim.Native.Nat.{ℕ}
-use mathlib.Core.Path.{_≡_, refl, sym, ap, _∙_}
+use mathlib.Core.Path.{_≡_, sym, ap, _∙_}
 use Rattle.message.specs.declared.Status.{Status}
 use Rattle.message.specs.declared.Message.{Message}
 use Rattle.message.specs.declared.Message.the-variants.{PlatformStatus, PlatformStatusRequest, UnknownOperation, VersionedDataPull, Operation}
 use Rattle.message.specs.Header.{platformDomain}
 use Rattle.message.specs.Platform.{platformStatus, platformStatusRequest, unknownOperation, statusOf, platformMessage, messageOf}
 use Rattle.wire.proofs.Cond.{yes-eq, no-eq}
 
 module _ (id field : ℕ) where

@@ -1,8 +1,8 @@
--- `message::kind::status_of` meets its contract: 0 is DOWN.
+-- `reader::kind::status_of` meets its contract: 0 is DOWN.
 -- Assumes nothing.
 use borrow.Author.Tests.{eq-eqb, ne-eqb}
-use Rattle.message.proofs.kind.status_of.Statement.{statement}
-use Rattle.message.proofs.kind.status_of.Tie as tie
+use Rattle.reader.proofs.kind.status_of.Statement.{statement}
+use Rattle.reader.proofs.kind.status_of.Tie as tie
 
 pub status-of-spec : {M : Type 1} → statement M
 status-of-spec =

@@ -1,9 +1,9 @@
--- `message::kind::platform_message` meets its contract: by the ID.
+-- `reader::kind::platform_message` meets its contract: by the ID.
 -- Assumes nothing.
 use borrow.Author.Needs.{needs}
-use Rattle.message.proofs.Messages.{is-status, is-request, is-unknown, is-pull}
-use Rattle.message.proofs.kind.platform_message.Statement.{statement}
-use Rattle.message.proofs.kind.platform_message.Tie as tie
+use Rattle.reader.proofs.Messages.{is-status, is-request, is-unknown, is-pull}
+use Rattle.reader.proofs.kind.platform_message.Statement.{statement}
+use Rattle.reader.proofs.kind.platform_message.Tie as tie
 
 pub platform-message-spec : {M : Type 1} → statement M
 platform-message-spec =

@@ -1,9 +1,9 @@
--- `message::read` meets its contract: the refusal, or what the bytes say.
+-- `reader::read` meets its contract: the refusal, or what the bytes say.
 -- Assumes nothing.
 use borrow.Author.Needs.{needs}
-use Rattle.message.proofs.Answers.{read-in, read-not}
-use Rattle.message.proofs.read.Statement.{statement}
-use Rattle.message.proofs.read.Tie as tie
+use Rattle.reader.proofs.Answers.{read-in, read-not}
+use Rattle.reader.proofs.read.Statement.{statement}
+use Rattle.reader.proofs.read.Tie as tie
 
 pub read-spec : {M : Type 1} → statement M
 read-spec =

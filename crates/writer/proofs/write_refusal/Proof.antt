@@ -1,9 +1,9 @@
--- `message::refusal::write_refusal` meets its contract: each return is the first number that applies.
+-- `writer::write_refusal` meets its contract: each return is the first number that applies.
 -- Assumes nothing.
 use borrow.Author.Needs.{needs}
-use Rattle.message.proofs.Refusals.{write-0, write-4, write-5, write-10, write-contents}
-use Rattle.message.proofs.refusal.write_refusal.Statement.{statement}
-use Rattle.message.proofs.refusal.write_refusal.Tie as tie
+use Rattle.writer.proofs.Refusals.{write-0, write-4, write-5, write-10, write-contents}
+use Rattle.writer.proofs.write_refusal.Statement.{statement}
+use Rattle.writer.proofs.write_refusal.Tie as tie
 
 pub write-refusal-spec : {M : Type 1} → statement M
 write-refusal-spec =

@@ -1,9 +1,9 @@
--- `message::write` meets its contract: the refusal and the output as it was, or the message at the output's start.
+-- `writer::write` meets its contract: the refusal and the output as it was, or the message at the output's start.
 -- Assumes nothing.
 use borrow.Author.Needs.{needs}
-use Rattle.message.proofs.Answers.{size-fits, answer-in, answer-not, output-in, output-not}
-use Rattle.message.proofs.write.Statement.{statement}
-use Rattle.message.proofs.write.Tie as tie
+use Rattle.writer.proofs.Answers.{size-fits, answer-in, answer-not, output-in, output-not}
+use Rattle.writer.proofs.write.Statement.{statement}
+use Rattle.writer.proofs.write.Tie as tie
 
 pub write-spec : {M : Type 1} → statement M
 write-spec =

@@ -1,9 +1,9 @@
 // What a message is: 000, Tables 3 and 4.
 ghost use mathlib.Core.Path.{_≡_};
 ghost use Rattle.message.specs.Platform.{messageOf, platformMessage, statusOf};
-use crate::Header;
-use crate::Message;
-use crate::Status;
+use message::Header;
+use message::Message;
+use message::Status;
 
 pub(crate) fn message_of(domain: u8, id: u32, field: u32) -> Message
     ensures { λ r. ⌜ r ≡ messageOf domain id field ⌝ }
