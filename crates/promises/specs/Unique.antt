@@ -37,8 +37,8 @@ use Rattle.binding.proofs.BindingHeader.read.Reads.{Post as binding-BindingHead
 use Rattle.cutter.proofs.pieces.Reads.{Post as cutter-pieces}
 use Rattle.cutter.proofs.cut.Reads.{Post as cutter-cut}
 use Rattle.channels.proofs.setup.Reads.{Post as channels-setup}
-use Rattle.joiner.proofs.take.Reads.{Post as joiner-take}
-use Rattle.joiner.proofs.message.Reads.{Post as joiner-message}
+use Rattle.taking.proofs.take.Reads.{Post as taking-take}
+use Rattle.taking.proofs.message.Reads.{Post as taking-message}
 use Rattle.types.proofs.check.Reads.{Post as types-check}
 use Rattle.table.proofs.entries.type_at.Reads.{Post as table-entries-type-at}
 use Rattle.table.proofs.entries.is_type.Reads.{Post as table-entries-is-type}
@@ -119,9 +119,9 @@ pub record BindingUnique : Type 0 where
 
 pub record JoinerUnique : Type 0 where
   pub setup : Answer channels-setup
-  pub take : Answer joiner-take
-  pub take-rooms : Lent joiner-take (λ k e. now (e .1 .0))
-  pub message : Same joiner-message (λ k z e. now z)
+  pub take : Answer taking-take
+  pub take-rooms : Lent taking-take (λ k e. now (e .1 .0))
+  pub message : Same taking-message (λ k z e. now z)
 
 pub record TypesUnique : Type 0 where
   pub check : Answer types-check

@@ -1,9 +1,9 @@
--- `joiner::message` meets its contract: the part that the place names, or none.
+-- `taking::message` meets its contract: the part that the place names, or none.
 -- Assumes nothing.
 use borrow.Author.Needs.{needs}
-use Rattle.joiner.proofs.Taking.{in-datagram, in-rooms, not-delivered}
-use Rattle.joiner.proofs.message.Statement.{statement}
-use Rattle.joiner.proofs.message.Tie as tie
+use Rattle.taking.proofs.Taking.{in-datagram, in-rooms, not-delivered}
+use Rattle.taking.proofs.message.Statement.{statement}
+use Rattle.taking.proofs.message.Tie as tie
 
 pub message-spec : {M : Type 1} → statement M
 message-spec =

@@ -1,9 +1,9 @@
--- `joiner::judge` meets its contract: the numbers in their order, then the step of the channel that was found.
+-- `taking::judge` meets its contract: the numbers in their order, then the step of the channel that was found.
 -- Assumes nothing.
 use borrow.Author.Needs.{needs}
 use Rattle.joiner.proofs.Judging.{judged-bad, judged-nobody, judged-refused, judged-somebody}
-use Rattle.joiner.proofs.judge.Statement.{statement}
-use Rattle.joiner.proofs.judge.Tie as tie
+use Rattle.taking.proofs.judge.Statement.{statement}
+use Rattle.taking.proofs.judge.Tie as tie
 
 pub judge-spec : {M : Type 1} → statement M
 judge-spec =

@@ -1,12 +1,12 @@
--- `joiner::take` meets its contract: what was judged, and only then written.
+-- `taking::take` meets its contract: what was judged, and only then written.
 -- Assumes nothing.
 use mathlib.Core.Path.{_≡_}
 use borrow.Author.Needs.{needs}
 use lib.ListN.{length, length-map}
 use Rattle.channels.specs.Setup.{channelLimit}
-use Rattle.joiner.proofs.Taking.{moved-known, moved-fits, refused-taken, refused-rooms, moved-taken, moved-rooms}
-use Rattle.joiner.proofs.take.Statement.{statement}
-use Rattle.joiner.proofs.take.Tie as tie
+use Rattle.taking.proofs.Taking.{moved-known, moved-fits, refused-taken, refused-rooms, moved-taken, moved-rooms}
+use Rattle.taking.proofs.take.Statement.{statement}
+use Rattle.taking.proofs.take.Tie as tie
 
 pub take-spec : {M : Type 1} → statement M
 take-spec =

@@ -1,9 +1,9 @@
--- `joiner::write_piece` meets its contract: nothing, or the bytes behind the header.
+-- `taking::write_piece` meets its contract: nothing, or the bytes behind the header.
 -- Assumes nothing.
 use borrow.Author.Needs.{needs}
-use Rattle.joiner.proofs.Taking.{put-nowhere, put-at, put-none}
-use Rattle.joiner.proofs.write_piece.Statement.{statement}
-use Rattle.joiner.proofs.write_piece.Tie as tie
+use Rattle.taking.proofs.Taking.{put-nowhere, put-at, put-none}
+use Rattle.taking.proofs.write_piece.Statement.{statement}
+use Rattle.taking.proofs.write_piece.Tie as tie
 
 pub write-piece-spec : {M : Type 1} → statement M
 write-piece-spec =
