@@ -63,7 +63,7 @@ use Rattle.platform.proofs.is_up.Reads.{Post as platform-is-up}
 use Rattle.platform.proofs.how_many_up.Reads.{Post as platform-how-many-up}
 use Rattle.platform.proofs.receive.Reads.{Post as platform-receive}
 use Rattle.platform.proofs.payload.Reads.{Post as platform-payload}
-use Rattle.recording.proofs.open.Reads.{Post as recording-open}
+use Rattle.opening.proofs.open.Reads.{Post as opening-open}
 use Rattle.recording.proofs.next.Reads.{Post as recording-next}
 use Rattle.recording.proofs.play.Reads.{Post as recording-play}
 use Rattle.blocks.proofs.keep.Reads.{Post as blocks-keep}
@@ -161,7 +161,7 @@ pub record PlatformUnique : Type 0 where
   pub payload : Same platform-payload (λ k z e. now z)
 
 pub record RecordingUnique : Type 0 where
-  pub opened : Answer recording-open
+  pub opened : Answer opening-open
   pub next : Answer recording-next
   pub play : Same recording-play (λ k z e. stateOf z (now (e .1 .0)) (now (e .1 .1 .1 .0)))
   pub keep : Answer blocks-keep

@@ -1,12 +1,10 @@
-// The start of a recording: its sizes, then its sender IDs.
+// The start of a recording: its sizes, then its sender IDs. It is read a block at a time: a call is handed what has come so far.
 ghost use mathlib.Core.Path.{_≡_};
 ghost use mathlib.Core.List.{[]};
 ghost use Prim.Native.Nat.{_≤_};
 ghost use lib.ListN.{length, take};
 ghost use Rattle.channels.specs.Setup.{channelLimit, freshOf};
-ghost use Rattle.recording.specs.Opening.{openedIn, goodStart, idsIn, readyIn, closed};
-use crate::Opened;
-use crate::Opening;
+ghost use Rattle.opening.specs.Opening.{openedIn, goodStart, idsIn, readyIn, closed};
 use channels::Answer;
 use channels::BAD_SETUP;
 use channels::Channel;
@@ -17,6 +15,20 @@ const SIZES: usize = 6;
 
 // All rooms together.
 const ROOMS: usize = 65536;
+
+// How a recording starts: more bytes are needed, it is refused, or its datagrams start at `start` and its rooms are
+// `rooms` bytes together.
+pub enum Opening {
+    Unfinished,
+    Refused(u32),
+    Open { start: usize, rooms: usize },
+}
+
+// An enum cannot hold an array, so the joiner stands beside it. It has no channels unless the recording is open.
+pub struct Opened {
+    pub opening: Opening,
+    pub joiner: Joiner,
+}
 
 // The start of a recording of which `input` is what has come so far.
 pub fn open(input: &[u8]) -> Opened

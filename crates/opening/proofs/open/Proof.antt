@@ -1,9 +1,9 @@
--- `recording::start::open` meets its contract: what each test says.
+-- `opening::open` meets its contract: what each test says.
 -- Assumes nothing.
 use borrow.Author.Needs.{needs}
-use Rattle.recording.proofs.Starting.{start-few, no-sizes, bad-start, no-ids, all-ids}
-use Rattle.recording.proofs.start.open.Statement.{statement}
-use Rattle.recording.proofs.start.open.Tie as tie
+use Rattle.opening.proofs.Starting.{start-few, no-sizes, bad-start, no-ids, all-ids}
+use Rattle.opening.proofs.open.Statement.{statement}
+use Rattle.opening.proofs.open.Tie as tie
 
 pub open-spec : {M : Type 1} → statement M
 open-spec =

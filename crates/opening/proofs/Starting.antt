@@ -20,10 +20,10 @@ use Rattle.channels.specs.declared.Joiner.{Joiner}
 use Rattle.channels.specs.declared.NewJoiner.{NewJoiner}
 use Rattle.channels.specs.declared.Answer.{Answer}
 use Rattle.channels.specs.declared.Answer.the-variants as answer
-use Rattle.recording.specs.Opening.{sizesLength, roomsLimit, countIn, roomIn, idPlace, idsIn, goodStart, closed, openedBy, setupIn, readyIn, openedIn}
-use Rattle.recording.specs.declared.Opening.{Opening}
-use Rattle.recording.specs.declared.Opening.the-variants.{Unfinished, Refused, Open}
-use Rattle.recording.specs.declared.Opened.{Opened}
+use Rattle.opening.specs.Opening.{sizesLength, roomsLimit, countIn, roomIn, idPlace, idsIn, goodStart, closed, openedBy, setupIn, readyIn, openedIn}
+use Rattle.opening.specs.declared.Opening.{Opening}
+use Rattle.opening.specs.declared.Opening.the-variants.{Unfinished, Refused, Open}
+use Rattle.opening.specs.declared.Opened.{Opened}
 
 pub no-channels : {ch : Channel} → ch ≡ newChannel 0 → record { channels = replicate channelLimit ch; count = 0; room = 0 } ≡ freshOf [] 0
 unfolding freshOf

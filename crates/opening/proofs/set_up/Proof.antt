@@ -1,9 +1,9 @@
--- `recording::start::set_up` meets its contract: what the joiner answers to the IDs.
+-- `opening::set_up` meets its contract: what the joiner answers to the IDs.
 -- Assumes nothing.
 use borrow.Author.Needs.{needs}
-use Rattle.recording.proofs.Starting.{ids-count, accepted, refused}
-use Rattle.recording.proofs.start.set_up.Statement.{statement}
-use Rattle.recording.proofs.start.set_up.Tie as tie
+use Rattle.opening.proofs.Starting.{ids-count, accepted, refused}
+use Rattle.opening.proofs.set_up.Statement.{statement}
+use Rattle.opening.proofs.set_up.Tie as tie
 
 pub set-up-spec : {M : Type 1} → statement M
 set-up-spec =

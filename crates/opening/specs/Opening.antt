@@ -11,9 +11,9 @@ use Rattle.channels.specs.declared.Joiner.{Joiner}
 use Rattle.channels.specs.declared.Answer.{Answer}
 use Rattle.channels.specs.declared.Answer.the-variants as answer
 use Rattle.channels.specs.declared.NewJoiner.{NewJoiner}
-use Rattle.recording.specs.declared.Opening.{Opening}
-use Rattle.recording.specs.declared.Opening.the-variants.{Unfinished, Refused, Open}
-use Rattle.recording.specs.declared.Opened.{Opened}
+use Rattle.opening.specs.declared.Opening.{Opening}
+use Rattle.opening.specs.declared.Opening.the-variants.{Unfinished, Refused, Open}
+use Rattle.opening.specs.declared.Opened.{Opened}
 
 -- the bytes of count and R
 abbrev pub sizesLength : ℕ

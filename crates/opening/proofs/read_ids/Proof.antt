@@ -1,14 +1,14 @@
--- `recording::start::read_ids` meets its contract. The loop's invariant: the first i IDs are read.
+-- `opening::read_ids` meets its contract. The loop's invariant: the first i IDs are read.
 -- Assumes nothing.
 use Prim.Native.Nat.{_-_, _≤_}
 use mathlib.Core.Path.{_≡_, refl}
 use borrow.Author.Needs.{needs}
 use lib.ListN.{length, take}
 use Rattle.channels.specs.Setup.{channelLimit}
-use Rattle.recording.specs.Opening.{idsIn}
-use Rattle.recording.proofs.Starting.{ids-more, ids-read}
-use Rattle.recording.proofs.start.read_ids.Statement.{statement}
-use Rattle.recording.proofs.start.read_ids.Tie as tie
+use Rattle.opening.specs.Opening.{idsIn}
+use Rattle.opening.proofs.Starting.{ids-more, ids-read}
+use Rattle.opening.proofs.read_ids.Statement.{statement}
+use Rattle.opening.proofs.read_ids.Tie as tie
 
 abbrev Inv-loop : tie.InvT-loop
 Inv-loop input count ids₀ i₀ ids i =
