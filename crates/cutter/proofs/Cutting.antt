@@ -90,6 +90,19 @@ pub together-all : (msg : List ℕ) (s : ℕ) → 1 ≤ s → together msg s (pi
 together-all msg s h =
     together-take msg s (pieceCount (length msg) s) ∙ take-all (pieceCount (length msg) s * s) msg (covered (length msg) s h)
 
+-- answers that differ
+not-made : {n k : ℕ} → Refused n ≡ Datagram k → ⊥
+not-made e = let z : _≡_ {A = ℕ} 0 1 = cc in omega arith
+
+same-size : {n k : ℕ} → Datagram n ≡ Datagram k → k ≡ n
+same-size e = cc
+
+not-counted : {n k : ℕ} → NotCounted n ≡ Pieces k → ⊥
+not-counted e = let z : _≡_ {A = ℕ} 0 1 = cc in omega arith
+
+same-count : {n k : ℕ} → Pieces n ≡ Pieces k → n ≡ k
+same-count e = cc
+
 -- a datagram cut reads back
 pub counter-lt : (first i : ℕ) → counterOf first i < counters
 counter-lt first i = omega arith
@@ -135,12 +148,12 @@ module _ (msg : List ℕ) (s sender first i : ℕ) where
             counts = k .1;
             piece = ltb-true i (pieceCount (length msg) s) ep;
             fits = leb-true (length d) room ef;
-            size = cc;
+            size = same-size q;
           }
-      go true true true false ea eb ep ef q = let z : _≡_ {A = ℕ} 0 1 = cc in absurd (omega arith)
-      go true true false f ea eb ep ef q = let z : _≡_ {A = ℕ} 0 1 = cc in absurd (omega arith)
-      go true false p f ea eb ep ef q = let z : _≡_ {A = ℕ} 0 1 = cc in absurd (omega arith)
-      go false b p f ea eb ep ef q = let z : _≡_ {A = ℕ} 0 1 = cc in absurd (omega arith)
+      go true true true false ea eb ep ef q = absurd (not-made q)
+      go true true false f ea eb ep ef q = absurd (not-made q)
+      go true false p f ea eb ep ef q = absurd (not-made q)
+      go false b p f ea eb ep ef q = absurd (not-made q)
 
   -- every piece that the count names can be cut, where there is room for it
   pub pieces-made : (room n : ℕ) → countedOf (length msg) s ≡ Pieces n → sender < senders → first < counters → i < n → headerLength + s ≤ room → madeOf msg s sender first i room ≡ Datagram (length (datagramOf msg s sender first i))
@@ -148,10 +161,10 @@ module _ (msg : List ℕ) (s sender first i : ℕ) where
     where
       go : (t : Bool) → canCut (length msg) s ≡ t → cond t (Pieces (pieceCount (length msg) s)) (NotCounted cannotCut) ≡ Pieces n → madeOf msg s sender first i room ≡ Datagram (length (datagramOf msg s sender first i))
       go true t q =
-          let c : pieceCount (length msg) s ≡ n = cc in
+          let c : pieceCount (length msg) s ≡ n = same-count q in
           makes-made room (length (datagramOf msg s sender first i))
           (record { cut = cuttable (length msg) s t; sends = k; counts = f; piece = omega arith; fits = omega (arith, datagram-most); size = refl })
-      go false t q = let z : _≡_ {A = ℕ} 0 1 = cc in absurd (omega arith)
+      go false t q = absurd (not-counted q)
 
   module _ (out : List ℕ) where
     -- a refusal leaves the output as it was

@@ -5,4 +5,3 @@ pub mod Addressing
 pub mod Views
 pub mod Setups
 mod Stepping
-mod Taking

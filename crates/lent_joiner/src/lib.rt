@@ -64,8 +64,8 @@ pub fn take(state: &mut [u32], rooms: &mut [u8], datagram: &[u8], answer: &mut [
     }
     let heard = BindingHeader::read(datagram);
     let size = lent::u32_at(state, 1);
-    let found = lent_channels::look(state, rooms.len(), joiner::sender_of(heard));
-    match joiner::judge(found, size, heard, datagram.len()) {
+    let found = lent_channels::look(state, rooms.len(), taking::sender_of(heard));
+    match taking::judge(found, size, heard, datagram.len()) {
         Judged::Refusal(number) => number,
         Judged::Move { at, step } => {
             let outcome = step.outcome;
@@ -73,7 +73,7 @@ pub fn take(state: &mut [u32], rooms: &mut [u8], datagram: &[u8], answer: &mut [
             let put = step.put;
             put_outcome(answer, outcome);
             stored::put_record(state, at, channel);
-            joiner::write_piece(rooms, put, datagram);
+            taking::write_piece(rooms, put, datagram);
             0
         }
     }

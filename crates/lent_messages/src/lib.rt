@@ -74,7 +74,7 @@ pub fn write(
     if answer.len() < 1 {
         return lent::OUTPUT_TOO_SHORT;
     }
-    match message::write(Own { platform: own }, domain, id, sequence, payload, out) {
+    match writer::write(Own { platform: own }, domain, id, sequence, payload, out) {
         Writing::Refused(number) => number,
         Writing::Written(length) => {
             lent::put_count(answer, length);

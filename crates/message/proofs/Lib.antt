@@ -1,5 +1,4 @@
 pub mod Accepted
 mod Answers
-mod Messages
 pub mod Refusals
 pub mod RoundTrip

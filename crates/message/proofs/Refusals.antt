@@ -1,19 +1,19 @@
 -- Which refusal each return of the functions in `refusal` stands for: the tests that led there say which case of the
 -- definition holds.
 -- Assumes nothing.
-use Prim.Native.Nat.{ℕ, zero, suc, _+_, _-_, _*_, _^_, _≤_, _<_}
-use mathlib.Core.Path.{_≡_, refl, sym, ap, _∙_}
+use Prim.Native.Nat.{ℕ, _+_, _-_, _*_, _≤_, _<_}
+use mathlib.Core.Path.{_≡_, refl, sym, _∙_}
 use mathlib.Core.Bool.{Bool, true, false, not, cond, _&&_, _||_}
 use mathlib.Core.List.{List, []}
 use native.Mathlib.Omega.{arith}
 use borrow.Author.Tests.{eq-eqb, ne-eqb, eqb-true, eqb-false, le-leb, lt-leb, not-true, not-false}
-use lib.Dec.{eqb, leb, ltb}
+use lib.Dec.{eqb, leb}
 use lib.ListN.{length, take, drop, length-drop, drop-of-length-le}
 use lib.Seq.{take-all}
 use Rattle.wire.specs.Bytes.{number, Octets}
 use Rattle.message.specs.Header.{headerLength, theMark, markIn, theVersion, versionIn, platformDomain, domainIn, reservedDomains, senderIn, idIn, payloadSizeIn, payloadIn}
 use Rattle.message.specs.Platform.{platformStatus, reservedID, payloadLength, reservedStates}
-use Rattle.message.specs.Refusal.{first, frameRefusal, platforms, addressRefusal, contentsRefusal, readRefusal, sizeLimit, writeRefusal}
+use Rattle.message.specs.Refusal.{first, frameRefusal, platforms, addressRefusal, contentsRefusal, readRefusal}
 use Rattle.message.proofs.Accepted.{first-none, first-some}
 use Rattle.wire.proofs.Cond.{yes-if, no-if, yes-lt, no-lt, yes-le, no-le, yes-ne, no-ne}
 
@@ -118,32 +118,6 @@ module _ (own : ℕ) (s : List ℕ) (frame : ℕ) (f : frame ≡ frameRefusal s)
     pub contents-last : {domain id contents : ℕ} {payload : List ℕ} → address ≡ 0 → domain ≡ domainIn s → id ≡ idIn s → payload ≡ payloadIn s → contents ≡ contentsRefusal domain id payload → contents ≡ readRefusal own s
     contents-last addressed d i p e =
         e ∙ (λ t. contentsRefusal (d t) (i t) (p t)) ∙ sym (past-frame ∙ first-none (addressRefusal own s) _ (sym a ∙ addressed))
-
-module _ (domain id : ℕ) (payload : List ℕ) (room : ℕ) where
-  pub write-4 : reservedDomains ≤ domain → 4 ≡ writeRefusal domain id payload room
-  write-4 h = sym (yes-le 4 _ reservedDomains domain h)
-
-  module _ (d : domain < reservedDomains) where
-    pub write-5 : sizeLimit ≤ length payload → 5 ≡ writeRefusal domain id payload room
-    write-5 h = sym (no-le 4 _ reservedDomains domain d ∙ yes-le 5 _ sizeLimit (length payload) h)
-
-    module _ (l : length payload < sizeLimit) (contents : ℕ) (c : contents ≡ contentsRefusal domain id payload) where
-      past-size-field : writeRefusal domain id payload room
-          ≡ first (contentsRefusal domain id payload) (cond (ltb room (headerLength + length payload)) 10 0)
-      past-size-field = no-le 4 _ reservedDomains domain d ∙ no-le 5 _ sizeLimit (length payload) l
-
-      pub write-contents : (contents ≡ 0 → ⊥) → contents ≡ writeRefusal domain id payload room
-      write-contents h = c ∙ sym (past-size-field ∙ first-some (contentsRefusal domain id payload) _ (λ e. h (c ∙ e)))
-
-      module _ (known : contents ≡ 0) where
-        past-contents : writeRefusal domain id payload room ≡ cond (ltb room (headerLength + length payload)) 10 0
-        past-contents = past-size-field ∙ first-none (contentsRefusal domain id payload) _ (sym c ∙ known)
-
-        pub write-10 : room < headerLength + length payload → 10 ≡ writeRefusal domain id payload room
-        write-10 h = sym (past-contents ∙ yes-lt 10 0 room (headerLength + length payload) h)
-
-        pub write-0 : headerLength + length payload ≤ room → 0 ≡ writeRefusal domain id payload room
-        write-0 h = sym (past-contents ∙ no-lt 10 0 room (headerLength + length payload) h)
 
 -- what stands behind the header
 pub behind : (s : List ℕ) → take (length s - headerLength) (drop headerLength s) ≡ payloadIn s

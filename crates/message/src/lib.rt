@@ -1,7 +1,5 @@
-// ELI messages read and written: the generic header of 000, Table 2, and the platform-level messages of Tables 3 and 4.
-// Reading answers header, kind and where the payload lies, or the number 1 to 9 that refuses the bytes; writing lays a
-// message into a lent output, or answers 4 to 10 and changes nothing.
-mod kind;
+// ELI messages: the generic header of 000, Table 2, the platform-level messages of Tables 3 and 4, and the numbers 1 to 9
+// that refuse bytes. `reader` reads a message and `writer` writes one: what both answer is declared here.
 mod refusal;
 
 pub use refusal::address_refusal;
@@ -10,11 +8,7 @@ pub use refusal::contents_refusal;
 pub use refusal::frame_refusal;
 pub use refusal::read_refusal;
 ghost use mathlib.Core.Path.{_≡_};
-ghost use lib.ListN.{length};
-ghost use Rattle.wire.specs.Bytes.{written};
-ghost use Rattle.message.specs.Header.{headerIn, headerBytes};
-ghost use Rattle.message.specs.Reading.{readOut, readOf, payloadOf};
-ghost use Rattle.message.specs.Writing.{writeOf, outputAfter};
+ghost use Rattle.message.specs.Header.{headerIn};
 
 // The caller's own values. 000, 6.3: a platform is one of 256 (docs/DECISIONS.md, 4).
 pub struct Own {
@@ -47,7 +41,7 @@ pub enum Message {
 
 pub enum Reading {
     Refused(u32),
-    // The payload is the `length` bytes from `start` on: `payload` hands them back.
+    // The payload is the `length` bytes from `start` on: `reader::payload` hands them back.
     Read {
         header: Header,
         message: Message,
@@ -94,8 +88,6 @@ impl Header {
     pub const OPERATION_DOMAIN: u8 = 1;
 
     pub const RESERVED_DOMAINS: u8 = 2;
-    // One more than the largest payload size.
-    pub const SIZE_LIMIT: usize = 4294967296;
     // The byte at which each field starts.
     pub const MARK_AT: usize = 0;
 
@@ -134,94 +126,5 @@ impl Header {
             wire::u32_at(message, Header::PAYLOAD_SIZE_AT),
             wire::u32_at(message, Header::SEQUENCE_AT),
         )
-    }
-}
-
-// Reads a message at this platform: numbers 1 to 9, the lowest that applies.
-pub fn read(own: Own, message: &[u8]) -> Reading
-    ensures { λ r. ⌜ r ≡ readOf (own .platform) (now (message .entry)) ⌝ }
-{
-    let number = refusal::read_refusal(own, message);
-    if number == 0 {
-        read_out(message)
-    } else {
-        Reading::Refused(number)
-    }
-}
-
-// The payload of a message that was read, as a part of the bytes it was read from; empty for one that was refused.
-pub fn payload(message: &[u8], reading: Reading) -> &[u8]
-    ensures { λ r. ⌜ now r ≡ payloadOf (now (message .entry)) reading ⌝ }
-{
-    match reading {
-        Reading::Read {
-            header: _,
-            message: _,
-            start,
-            length,
-        } => wire::part(message, start, length),
-        Reading::Refused(_) => &message[..0],
-    }
-}
-
-// Writes a message of this platform at the output's start: numbers 4, 5 and 7 to 10, the lowest that applies.
-pub fn write(
-    own: Own,
-    domain: u8,
-    id: u32,
-    sequence: u32,
-    payload: &[u8],
-    out: &mut [u8],
-) -> Writing
-    ensures answer { λ r. ⌜ r ≡ writeOf domain id (now (payload .entry)) (length (now (out .entry))) ⌝ }
-    ensures output { λ r. ⌜ now (out .exit) ≡ outputAfter (own .platform) domain id sequence (now (payload .entry)) (now (out .entry)) ⌝ }
-{
-    let number = refusal::write_refusal(domain, id, payload, out.len());
-    if number == 0 {
-        let header = Header::new(
-            domain,
-            own.platform as u32,
-            id,
-            payload.len() as u32,
-            sequence,
-        );
-        put_header(out, header);
-        wire::put_run(out, Header::LENGTH, payload);
-        Writing::Written(Header::LENGTH + payload.len())
-    } else {
-        Writing::Refused(number)
-    }
-}
-
-// Writes a header at the output's start; where it does not fit nothing changes.
-pub fn put_header(out: &mut [u8], header: Header)
-    ensures { λ _. ⌜ now (out .exit) ≡ written (now (out .entry)) 0 (headerBytes header) ⌝ }
-{
-    if Header::LENGTH <= out.len() {
-        wire::put_u16(out, Header::MARK_AT, Header::MARK);
-        wire::put_u8(out, Header::VERSION_AT, Header::VERSION);
-        wire::put_u8(out, Header::DOMAIN_AT, header.domain);
-        wire::put_u32(out, Header::PLATFORM_AT, header.platform);
-        wire::put_u32(out, Header::ID_AT, header.id);
-        wire::put_u32(out, Header::PAYLOAD_SIZE_AT, header.payload_size);
-        wire::put_u32(out, Header::SEQUENCE_AT, header.sequence);
-    }
-}
-
-fn read_out(message: &[u8]) -> Reading
-    ensures { λ r. ⌜ r ≡ readOut (now (message .entry)) ⌝ }
-{
-    let header = Header::of_bytes(message);
-    let domain = header.domain;
-    let size = header.payload_size;
-    Reading::Read {
-        header,
-        message: kind::message_of(
-            domain,
-            header.id,
-            wire::u32_at(refusal::behind_header(message), 0),
-        ),
-        start: Header::LENGTH,
-        length: size as usize,
     }
 }

@@ -1,4 +1,4 @@
-// When a message is refused: 01, "Numbers given back", 1 to 10.
+// When a message is refused: 01, "Numbers given back", 1 to 9.
 ghost use mathlib.Core.Path.{_≡_};
 ghost use mathlib.Core.Bool.{not, _||_};
 ghost use lib.Dec.{eqb, leb};
@@ -6,7 +6,7 @@ ghost use Prim.Native.Nat.{_-_};
 ghost use lib.ListN.{length};
 ghost use Rattle.message.specs.Header.{headerLength, senderIn, payloadIn};
 ghost use Rattle.message.specs.Platform.{reservedID, payloadLength};
-ghost use Rattle.message.specs.Refusal.{frameRefusal, platforms, addressRefusal, contentsRefusal, readRefusal, writeRefusal};
+ghost use Rattle.message.specs.Refusal.{frameRefusal, platforms, addressRefusal, contentsRefusal, readRefusal};
 use crate::Header;
 use crate::Message;
 use crate::Own;
@@ -30,8 +30,6 @@ const WRONG_LENGTH: u32 = 8;
 
 const RESERVED_VALUE: u32 = 9;
 
-const NO_ROOM: u32 = 10;
-
 // The number that refuses what is read, or 0.
 pub fn read_refusal(own: Own, message: &[u8]) -> u32
     ensures { λ r. ⌜ r ≡ readRefusal (own .platform) (now (message .entry)) ⌝ }
@@ -50,28 +48,6 @@ pub fn read_refusal(own: Own, message: &[u8]) -> u32
         }
     } else {
         frame
-    }
-}
-
-// The number that refuses what is to be written, or 0.
-pub(crate) fn write_refusal(domain: u8, id: u32, payload: &[u8], room: usize) -> u32
-    ensures { λ r. ⌜ r ≡ writeRefusal domain id (now (payload .entry)) room ⌝ }
-{
-    if Header::RESERVED_DOMAINS <= domain {
-        return RESERVED_DOMAIN;
-    }
-    if Header::SIZE_LIMIT <= payload.len() {
-        return WRONG_SIZE;
-    }
-    let contents = contents_refusal(domain, id, payload);
-    if contents == 0 {
-        if room < Header::LENGTH + payload.len() {
-            NO_ROOM
-        } else {
-            0
-        }
-    } else {
-        contents
     }
 }
 

@@ -119,7 +119,7 @@ fn received(
     requires { ⌜ within (now table) s ≡ true ⌝ }
     ensures { λ r. ⌜ Received (own .platform) (now (table .entry)) s standing (now (message .entry)) (now (out .entry)) r (now (out .exit)) ⌝ }
 {
-    let reading = message::read(own, message);
+    let reading = reader::read(own, message);
     let found = reactions::look_up(table, s, reading);
     settled(own, table, s, found, standing, reading, out)
 }

@@ -7,9 +7,9 @@ ghost use Rattle.player.specs.Bounds.{inputLength, roomsLength, RoomsFit
 ghost use Rattle.player.specs.Endings.{Says20, Refuses20, RefusalIs20, NextWithin};
 use files::Came;
 use lines::Ending;
+use opening::Opened;
+use opening::Opening;
 use recording::Found;
-use recording::Opened;
-use recording::Opening;
 use recording::Run;
 
 // Some four of the longest datagrams.
@@ -84,7 +84,7 @@ fn begin(fd: i32, input: &mut [u8]) -> Begun
 {
     let mut filled: usize = 0;
     loop {
-        let opened = recording::open(&input[..filled]);
+        let opened = opening::open(&input[..filled]);
         let opening = opened.opening;
         match opening {
             Opening::Unfinished => match files::fill(fd, input, filled) {

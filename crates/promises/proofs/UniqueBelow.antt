@@ -23,6 +23,7 @@ channels =
 joiner : JoinerUnique
 joiner =
     record {
+      moved = λ k a z z′ e e′ p q. p ∙ sym q;
       sender-of = λ k a z z′ e e′ p q. p ∙ sym q;
       judge = λ k a z z′ e e′ p q. p ∙ sym q;
       write-piece-rooms = λ k a z z′ e e′ p q. p ∙ sym q;

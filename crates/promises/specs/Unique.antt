@@ -29,16 +29,16 @@ use Rattle.wire.proofs.part.Reads.{Post as wire-part}
 use Rattle.wire.proofs.has_room.Reads.{Post as wire-has-room}
 use Rattle.message.proofs.Header.new.Reads.{Post as message-Header-new}
 use Rattle.message.proofs.Header.of_bytes.Reads.{Post as message-Header-of-bytes}
-use Rattle.message.proofs.read.Reads.{Post as message-read}
-use Rattle.message.proofs.payload.Reads.{Post as message-payload}
-use Rattle.message.proofs.write.Reads.{Post as message-write}
+use Rattle.reader.proofs.read.Reads.{Post as reader-read}
+use Rattle.reader.proofs.payload.Reads.{Post as reader-payload}
+use Rattle.writer.proofs.write.Reads.{Post as writer-write}
 use Rattle.binding.proofs.BindingHeader.new.Reads.{Post as binding-BindingHeader-new}
 use Rattle.binding.proofs.BindingHeader.read.Reads.{Post as binding-BindingHeader-read}
 use Rattle.cutter.proofs.pieces.Reads.{Post as cutter-pieces}
 use Rattle.cutter.proofs.cut.Reads.{Post as cutter-cut}
 use Rattle.channels.proofs.setup.Reads.{Post as channels-setup}
-use Rattle.joiner.proofs.take.Reads.{Post as joiner-take}
-use Rattle.joiner.proofs.message.Reads.{Post as joiner-message}
+use Rattle.taking.proofs.take.Reads.{Post as taking-take}
+use Rattle.taking.proofs.message.Reads.{Post as taking-message}
 use Rattle.types.proofs.check.Reads.{Post as types-check}
 use Rattle.table.proofs.entries.type_at.Reads.{Post as table-entries-type-at}
 use Rattle.table.proofs.entries.is_type.Reads.{Post as table-entries-is-type}
@@ -63,7 +63,7 @@ use Rattle.platform.proofs.is_up.Reads.{Post as platform-is-up}
 use Rattle.platform.proofs.how_many_up.Reads.{Post as platform-how-many-up}
 use Rattle.platform.proofs.receive.Reads.{Post as platform-receive}
 use Rattle.platform.proofs.payload.Reads.{Post as platform-payload}
-use Rattle.recording.proofs.open.Reads.{Post as recording-open}
+use Rattle.opening.proofs.open.Reads.{Post as opening-open}
 use Rattle.recording.proofs.next.Reads.{Post as recording-next}
 use Rattle.recording.proofs.play.Reads.{Post as recording-play}
 use Rattle.blocks.proofs.keep.Reads.{Post as blocks-keep}
@@ -105,10 +105,10 @@ pub record WireUnique : Type 0 where
 pub record MessageUnique : Type 0 where
   pub new : Answer message-Header-new
   pub of-bytes : Answer message-Header-of-bytes
-  pub read : Answer message-read
-  pub payload : Same message-payload (λ k z e. now z)
-  pub write : Answer message-write
-  pub write-out : Lent message-write (λ k e. now (e .1 .1 .1 .1 .1 .0))
+  pub read : Answer reader-read
+  pub payload : Same reader-payload (λ k z e. now z)
+  pub write : Answer writer-write
+  pub write-out : Lent writer-write (λ k e. now (e .1 .1 .1 .1 .1 .0))
 
 pub record BindingUnique : Type 0 where
   pub new : Answer binding-BindingHeader-new
@@ -119,9 +119,9 @@ pub record BindingUnique : Type 0 where
 
 pub record JoinerUnique : Type 0 where
   pub setup : Answer channels-setup
-  pub take : Answer joiner-take
-  pub take-rooms : Lent joiner-take (λ k e. now (e .1 .0))
-  pub message : Same joiner-message (λ k z e. now z)
+  pub take : Answer taking-take
+  pub take-rooms : Lent taking-take (λ k e. now (e .1 .0))
+  pub message : Same taking-message (λ k z e. now z)
 
 pub record TypesUnique : Type 0 where
   pub check : Answer types-check
@@ -161,7 +161,7 @@ pub record PlatformUnique : Type 0 where
   pub payload : Same platform-payload (λ k z e. now z)
 
 pub record RecordingUnique : Type 0 where
-  pub opened : Answer recording-open
+  pub opened : Answer opening-open
   pub next : Answer recording-next
   pub play : Same recording-play (λ k z e. stateOf z (now (e .1 .0)) (now (e .1 .1 .1 .0)))
   pub keep : Answer blocks-keep

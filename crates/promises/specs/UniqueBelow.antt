@@ -11,15 +11,16 @@ use Rattle.channels.proofs.is_good.Reads.{Post as channels-is-good}
 use Rattle.channels.proofs.look.Reads.{Post as channels-look}
 use Rattle.channels.proofs.room_start.Reads.{Post as channels-room-start}
 use Rattle.channels.proofs.has_good_sizes.Reads.{Post as channels-has-good-sizes}
-use Rattle.joiner.proofs.sender_of.Reads.{Post as joiner-sender-of}
-use Rattle.joiner.proofs.judge.Reads.{Post as joiner-judge}
-use Rattle.joiner.proofs.write_piece.Reads.{Post as joiner-write-piece}
+use Rattle.joiner.proofs.moved.Reads.{Post as joiner-moved}
+use Rattle.taking.proofs.sender_of.Reads.{Post as taking-sender-of}
+use Rattle.taking.proofs.judge.Reads.{Post as taking-judge}
+use Rattle.taking.proofs.write_piece.Reads.{Post as taking-write-piece}
 use Rattle.message.proofs.read_refusal.Reads.{Post as message-read-refusal}
 use Rattle.message.proofs.frame_refusal.Reads.{Post as message-frame-refusal}
 use Rattle.message.proofs.address_refusal.Reads.{Post as message-address-refusal}
 use Rattle.message.proofs.contents_refusal.Reads.{Post as message-contents-refusal}
 use Rattle.message.proofs.behind_header.Reads.{Post as message-behind-header}
-use Rattle.message.proofs.put_header.Reads.{Post as message-put-header}
+use Rattle.writer.proofs.put_header.Reads.{Post as writer-put-header}
 use Rattle.reactions.proofs.reaction_to.Reads.{Post as reactions-reaction-to}
 use Rattle.reactions.proofs.length_of.Reads.{Post as reactions-length-of}
 use Rattle.reactions.proofs.lay.Reads.{Post as reactions-lay}
@@ -83,9 +84,10 @@ pub record ChannelsUnique : Type 0 where
   pub has-good-sizes : Answer channels-has-good-sizes
 
 pub record JoinerUnique : Type 0 where
-  pub sender-of : Answer joiner-sender-of
-  pub judge : Answer joiner-judge
-  pub write-piece-rooms : Lent joiner-write-piece (λ k e. now (e .0))
+  pub moved : Answer joiner-moved
+  pub sender-of : Answer taking-sender-of
+  pub judge : Answer taking-judge
+  pub write-piece-rooms : Lent taking-write-piece (λ k e. now (e .0))
 
 pub record MessageUnique : Type 0 where
   pub read-refusal : Answer message-read-refusal
@@ -93,7 +95,7 @@ pub record MessageUnique : Type 0 where
   pub address-refusal : Answer message-address-refusal
   pub contents-refusal : Answer message-contents-refusal
   pub behind-header : Same message-behind-header (λ k z e. now z)
-  pub put-header-out : Lent message-put-header (λ k e. now (e .0))
+  pub put-header-out : Lent writer-put-header (λ k e. now (e .0))
 
 pub record ReactionsUnique : Type 0 where
   pub reaction-to : Answer reactions-reaction-to

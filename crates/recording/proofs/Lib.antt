@@ -1,5 +1,4 @@
 pub mod Finding
 pub mod More
 pub mod Playing
-pub mod Starting
 pub mod Whole

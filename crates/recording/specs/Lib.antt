@@ -1,4 +1,3 @@
-pub mod Opening
 pub mod Datagrams
 pub mod Play
 pub mod Whole

@@ -1,28 +1,10 @@
-// A recording: how it starts, where its datagrams stand, and how they are played, one after the other. It is read a block
-// at a time: each call is handed what has come so far and says what it needs more of.
+// A recording: where its datagrams stand, and how they are played, one after the other. It is read a block at a time: each call
+// is handed what has come so far and says what it needs more of. How it starts is `opening`'s.
 ghost use mathlib.Core.Path.{_≡_};
 ghost use Rattle.recording.specs.Datagrams.{nextIn};
 ghost use Rattle.recording.specs.Play.{stateOf, played, steppedOf};
 use channels::Joiner;
 use lines::LINE_LIMIT;
-
-mod start;
-
-pub use start::open;
-
-// How a recording starts: more bytes are needed, it is refused, or its datagrams start at `start` and its rooms are
-// `rooms` bytes together.
-pub enum Opening {
-    Unfinished,
-    Refused(u32),
-    Open { start: usize, rooms: usize },
-}
-
-// An enum cannot hold an array, so the joiner stands beside it. It has no channels unless the recording is open.
-pub struct Opened {
-    pub opening: Opening,
-    pub joiner: Joiner,
-}
 
 // What stands at a place of the recording: a datagram that is all there, part of one, or nothing.
 pub enum Found {
@@ -89,7 +71,7 @@ pub fn play(run: Run, rooms: &mut [u8], input: &[u8], output: &mut [u8]) -> Run
 fn play_one(run: Run, rooms: &mut [u8], datagram: &[u8], end: usize, output: &mut [u8]) -> Run
     ensures { λ r. ⌜ stateOf r (now (rooms .exit)) (now (output .exit)) ≡ steppedOf (stateOf run (now (rooms .entry)) (now (output .entry))) (now (datagram .entry)) end ⌝ }
 {
-    let taken = joiner::take(run.joiner, rooms, datagram);
+    let taken = taking::take(run.joiner, rooms, datagram);
     let outcome = taken.outcome;
     let joiner = taken.joiner;
     let made = lines::put_line(output, run.made, run.number, outcome);

@@ -59,7 +59,7 @@ fn second(messages: &[u8]) -> &[u8] {
 
 // PLATFORM_STATUS, UP: broadcast at the start. It draws no own number.
 fn announce(own: Own, number: u8, out: &mut [u8]) {
-    message::write(
+    writer::write(
         own,
         Header::PLATFORM_DOMAIN,
         Message::PLATFORM_STATUS,

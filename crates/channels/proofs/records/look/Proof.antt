@@ -52,7 +52,8 @@ look-spec =
     (λ c. search needs)
     (λ c.
     let inv = c .before .before .before .before .before .before .before .before .loop .inv in
-    (search needs, search needs, search needs, search needs, below-more _ _ (inv .4) (cc), rising-more _ _ _ _ (inv .5), sought-more _ _ _ _ (search needs) (inv .6) (c .earlier .ensures)))
+    let then = c .before .before .before .before in
+    (search needs, inv .1, inv .2, inv .3, below-more _ _ (inv .4) (sym (then .before .is-good-channel .ensures) ∙ then .if2 .taken), rising-more _ _ _ _ (inv .5), sought-more _ _ _ _ (search needs) (inv .6) (c .earlier .ensures)))
     (λ c. search bad-channel)
     (λ c κs. search needs)
     (λ c. search needs)
