@@ -1,5 +1,16 @@
 //! Time for each call: rounds of many calls, the programs by turns, and of each the median round.
 
+use std::cell::RefCell;
+use std::rc::Rc;
+
+/// A buffer that the programs, which run by turns, write into alike. What they read is one buffer too: how fast a copy is hangs
+/// on where it begins and ends.
+pub type Shared<T> = Rc<RefCell<Vec<T>>>;
+
+pub fn shared<T>(buffer: Vec<T>) -> Shared<T> {
+    Rc::new(RefCell::new(buffer))
+}
+
 /// So many calls.
 pub type Calls = Box<dyn FnMut(usize)>;
 

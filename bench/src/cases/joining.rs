@@ -1,11 +1,12 @@
 //! Joining and cutting.
 
-use crate::measure::{opaque, Calls, Case};
+use crate::measure::{opaque, shared, Calls, Case, Shared};
 use crate::ours;
 use crate::pair::{joiner_words, take_words};
 use crate::tables::{put_binding_header, Random};
 use bench::plain::binding;
 use bench::plain::joiner::{Joiner, Outcome};
+use std::rc::Rc;
 
 type Take = fn(&mut Joiner, &mut [u8], &[u8]) -> Result<Outcome, u32>;
 type Cut = fn(&[u8], usize, usize, usize, usize, &mut [u8]) -> Result<usize, u32>;
@@ -14,7 +15,7 @@ type Cut = fn(&[u8], usize, usize, usize, usize, &mut [u8]) -> Result<usize, u32
 #[derive(Clone)]
 struct Stream {
     ids: Vec<u16>,
-    datagram: Vec<u8>,
+    datagram: Shared<u8>,
     parts: &'static [u8],
     at: usize,
 }
@@ -23,17 +24,17 @@ impl Stream {
     fn new(channels: u16, piece: usize) -> Stream {
         Stream {
             ids: (0..channels).map(|k| 0x100 + 3 * k).collect(),
-            datagram: Random(7).bytes(4 + piece),
+            datagram: shared(Random(7).bytes(4 + piece)),
             parts: if piece > 30_000 { &[0] } else { &[0, 1, 1, 2] },
             at: 0,
         }
     }
 
-    fn next(&mut self) -> usize {
+    fn next(&mut self, datagram: &mut [u8]) -> usize {
         let channel = self.at % self.ids.len();
         let step = self.at / self.ids.len();
         let part = self.parts[step % self.parts.len()];
-        put_binding_header(&mut self.datagram, part, self.ids[channel], step as u16);
+        put_binding_header(datagram, part, self.ids[channel], step as u16);
         self.at += 1;
         channel
     }
@@ -51,40 +52,49 @@ pub fn joining(channels: u16, piece: usize) -> Case {
     let mut joiner = Joiner::new(&stream.ids, room as u32, length).unwrap();
     assert_eq!(state, joiner_words(&joiner));
     for _ in 0..40 * channels {
-        stream.next();
+        let datagram = Rc::clone(&stream.datagram);
+        let mut datagram = datagram.borrow_mut();
+        stream.next(&mut datagram);
         assert_eq!(
-            ours::take(&mut state, &mut rooms, &stream.datagram, &mut answer),
+            ours::take(&mut state, &mut rooms, &datagram, &mut answer),
             0
         );
-        let outcome = joiner.take(&mut plain_rooms, &stream.datagram).unwrap();
+        let outcome = joiner.take(&mut plain_rooms, &datagram).unwrap();
         assert_eq!(answer, take_words(outcome));
         assert_eq!(state, joiner_words(&joiner));
     }
     assert!(rooms == plain_rooms);
-    let (mut plain_stream, mut bare_stream, mut bare_rooms) =
-        (stream.clone(), stream.clone(), rooms.clone());
+    let (mut plain_stream, mut bare_stream) = (stream.clone(), stream.clone());
+    let rooms = shared(rooms);
+    let (plain_rooms, bare_rooms) = (Rc::clone(&rooms), Rc::clone(&rooms));
     let bare: Calls = Box::new(move |count| {
+        let (datagram, mut rooms) = (Rc::clone(&bare_stream.datagram), bare_rooms.borrow_mut());
+        let mut datagram = datagram.borrow_mut();
         for _ in 0..count {
-            let channel = bare_stream.next();
-            opaque(&mut bare_rooms[channel * room..][..piece])
-                .copy_from_slice(&bare_stream.datagram[4..]);
+            let channel = bare_stream.next(&mut datagram);
+            opaque(&mut rooms[channel * room..][..piece]).copy_from_slice(&datagram[4..]);
         }
     });
     Case {
         ours: Box::new(move |count| {
+            let (datagram, mut rooms) = (Rc::clone(&stream.datagram), rooms.borrow_mut());
+            let mut datagram = datagram.borrow_mut();
             for _ in 0..count {
-                stream.next();
+                stream.next(&mut datagram);
                 assert_eq!(
-                    ours::take(&mut state, &mut rooms, &stream.datagram, &mut answer),
+                    ours::take(&mut state, &mut rooms, &datagram, &mut answer),
                     0
                 );
             }
         }),
         plain: Box::new(move |count| {
             let take = opaque(Joiner::take as Take);
+            let (datagram, mut rooms) =
+                (Rc::clone(&plain_stream.datagram), plain_rooms.borrow_mut());
+            let mut datagram = datagram.borrow_mut();
             for _ in 0..count {
-                plain_stream.next();
-                assert!(take(&mut joiner, &mut plain_rooms, &plain_stream.datagram).is_ok());
+                plain_stream.next(&mut datagram);
+                assert!(take(&mut joiner, &mut rooms, &datagram).is_ok());
             }
         }),
         bare: (piece > 30_000).then(|| bare),
@@ -106,9 +116,12 @@ pub fn cutting(piece: usize) -> Case {
         assert_eq!(answer[0], length as u64);
         assert!(out == plain_out);
     }
-    let (plain_bytes, mut at, mut plain_at) = (bytes.clone(), 0, 0);
+    let (mut at, mut plain_at) = (0, 0);
+    let (bytes, out) = (Rc::new(bytes), shared(out));
+    let (plain_bytes, plain_out) = (Rc::clone(&bytes), Rc::clone(&out));
     Case {
         ours: Box::new(move |calls| {
+            let mut out = out.borrow_mut();
             for _ in 0..calls {
                 assert_eq!(
                     ours::cut(&bytes, piece, 0x102, 65_530, at, &mut out, &mut answer),
@@ -119,8 +132,9 @@ pub fn cutting(piece: usize) -> Case {
         }),
         plain: Box::new(move |calls| {
             let cut = opaque(binding::cut as Cut);
+            let mut out = plain_out.borrow_mut();
             for _ in 0..calls {
-                assert!(cut(&plain_bytes, piece, 0x102, 65_530, plain_at, &mut plain_out).is_ok());
+                assert!(cut(&plain_bytes, piece, 0x102, 65_530, plain_at, &mut out).is_ok());
                 plain_at = if plain_at + 1 == count {
                     0
                 } else {

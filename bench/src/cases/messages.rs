@@ -7,6 +7,7 @@ use crate::pair::{platform_words, read_words, receive_words, OWN};
 use bench::plain::message::{self, Message};
 use bench::plain::platform::{Answer, Platform};
 use bench::plain::types::Sections;
+use std::rc::Rc;
 
 type Read = for<'m> fn(u8, &'m [u8]) -> Result<Message<'m>, u32>;
 type Receive =
@@ -16,7 +17,8 @@ pub fn reading(bytes: &[u8]) -> Case {
     let mut answer = [0; 6];
     assert_eq!(ours::read(OWN, bytes, &mut answer), 0);
     assert_eq!(answer, read_words(&message::read(OWN, bytes).unwrap()));
-    let (bytes, plain_bytes) = (bytes.to_vec(), bytes.to_vec());
+    let bytes = Rc::new(bytes.to_vec());
+    let plain_bytes = Rc::clone(&bytes);
     Case {
         ours: Box::new(move |count| {
             for _ in 0..count {
@@ -48,8 +50,8 @@ pub fn receiving(table: &[u8], bytes: &[u8]) -> Case {
     assert_eq!(answer, receive_words(&heard));
     assert_eq!(out, plain_out);
     assert_eq!(state.to_vec(), platform_words(&platform));
-    let (table, bytes) = (table.to_vec(), bytes.to_vec());
-    let (plain_table, plain_bytes) = (table.clone(), bytes.clone());
+    let (table, bytes) = (Rc::new(table.to_vec()), Rc::new(bytes.to_vec()));
+    let (plain_table, plain_bytes) = (Rc::clone(&table), Rc::clone(&bytes));
     Case {
         ours: Box::new(move |count| {
             for _ in 0..count {

@@ -1,10 +1,11 @@
 //! Tables checked, payloads unpacked and packed.
 
-use crate::measure::{opaque, Case};
+use crate::measure::{opaque, shared, Case};
 use crate::ours;
 use crate::pair::sections_words;
 use bench::plain::payload;
 use bench::plain::types::{self, Sections};
+use std::rc::Rc;
 
 type Unpack = fn(&[u8], &Sections, u16, &[u8], &mut [u64]) -> Result<usize, u32>;
 type Pack = fn(&[u8], &Sections, u16, &[u64], &mut [u8]) -> Result<usize, u32>;
@@ -65,9 +66,12 @@ pub fn unpacking((table, number, words): (Vec<u8>, u16, Vec<u64>)) -> Case {
         (answer[0], &out, &plain_out),
         (words.len() as u64, &words, &words)
     );
-    let (plain_table, plain_bytes) = (table.clone(), bytes.clone());
+    let (table, bytes, out) = (Rc::new(table), Rc::new(bytes), shared(out));
+    let (plain_table, plain_bytes) = (Rc::clone(&table), Rc::clone(&bytes));
+    let plain_out = Rc::clone(&out);
     Case {
         ours: Box::new(move |count| {
+            let mut out = out.borrow_mut();
             for _ in 0..count {
                 assert_eq!(
                     ours::unpack_in(
@@ -84,15 +88,9 @@ pub fn unpacking((table, number, words): (Vec<u8>, u16, Vec<u64>)) -> Case {
         }),
         plain: Box::new(move |count| {
             let unpack = opaque(payload::unpack_in as Unpack);
+            let mut out = plain_out.borrow_mut();
             for _ in 0..count {
-                assert!(unpack(
-                    &plain_table,
-                    &sections,
-                    number,
-                    &plain_bytes,
-                    &mut plain_out
-                )
-                .is_ok());
+                assert!(unpack(&plain_table, &sections, number, &plain_bytes, &mut out).is_ok());
             }
         }),
         bare: None,
@@ -100,11 +98,14 @@ pub fn unpacking((table, number, words): (Vec<u8>, u16, Vec<u64>)) -> Case {
 }
 
 pub fn packing((table, number, words): (Vec<u8>, u16, Vec<u64>)) -> Case {
-    let (section_words, sections, mut out) = packed(&table, number, &words);
-    let (plain_table, plain_words, mut plain_out) = (table.clone(), words.clone(), out.clone());
+    let (section_words, sections, out) = packed(&table, number, &words);
+    let (table, words, out) = (Rc::new(table), Rc::new(words), shared(out));
+    let (plain_table, plain_words) = (Rc::clone(&table), Rc::clone(&words));
+    let plain_out = Rc::clone(&out);
     let mut answer = [0];
     Case {
         ours: Box::new(move |count| {
+            let mut out = out.borrow_mut();
             for _ in 0..count {
                 assert_eq!(
                     ours::pack_in(
@@ -121,15 +122,9 @@ pub fn packing((table, number, words): (Vec<u8>, u16, Vec<u64>)) -> Case {
         }),
         plain: Box::new(move |count| {
             let pack = opaque(payload::pack_in as Pack);
+            let mut out = plain_out.borrow_mut();
             for _ in 0..count {
-                assert!(pack(
-                    &plain_table,
-                    &sections,
-                    number,
-                    &plain_words,
-                    &mut plain_out
-                )
-                .is_ok());
+                assert!(pack(&plain_table, &sections, number, &plain_words, &mut out).is_ok());
             }
         }),
         bare: None,
@@ -138,7 +133,8 @@ pub fn packing((table, number, words): (Vec<u8>, u16, Vec<u64>)) -> Case {
 
 pub fn checking(table: Vec<u8>) -> Case {
     checked(&table);
-    let plain_table = table.clone();
+    let table = Rc::new(table);
+    let plain_table = Rc::clone(&table);
     let mut sections = [0; 8];
     Case {
         ours: Box::new(move |count| {
