@@ -183,6 +183,10 @@ lent-heard =
       tell-answer = λ k a z z′ e e′ p q. p .1 .1 ∙ sym (q .1 .1);
       put-value-answer = λ k a z z′ e e′ p q. p ∙ sym q;
       put-entry-answer = λ k a z z′ e e′ p q. p ∙ sym q;
+      on-request = λ k a z z′ e e′ p q. p .numbered ∙ sym (q .numbered);
+      on-request-platform = λ k a z z′ e e′ p q. p .noted ∙ sym (q .noted);
+      on-request-out = λ k a z z′ e e′ p q. p .laid ∙ sym (q .laid);
+      on-request-answer = λ k a z z′ e e′ p q. p .told ∙ sym (q .told);
     }
 
 lent-platform : LentPlatformUnique
@@ -192,6 +196,7 @@ lent-platform =
       receive-platform = λ k a z z′ e e′ p q. p .1 .0 ∙ sym (q .1 .0);
       receive-out = λ k a z z′ e e′ p q. p .1 .1 .0 ∙ sym (q .1 .1 .0);
       receive-answer = λ k a z z′ e e′ p q. p .1 .1 .1 ∙ sym (q .1 .1 .1);
+      no-words = λ k a z z′ e e′ p q. p ∙ sym q;
     }
 
 pub unique-below : UniqueBelow

@@ -66,7 +66,9 @@ use Rattle.lent_states.proofs.keep.Reads.{Post as lent-states-keep}
 use Rattle.lent_heard.proofs.tell.Reads.{Post as lent-heard-tell}
 use Rattle.lent_heard.proofs.put_value.Reads.{Post as lent-heard-put-value}
 use Rattle.lent_heard.proofs.put_entry.Reads.{Post as lent-heard-put-entry}
+use Rattle.lent_heard.proofs.on_request.Reads.{Post as lent-heard-on-request}
 use Rattle.lent_platform.proofs.receive.Reads.{Post as lent-platform-receive}
+use Rattle.lent_platform.proofs.no_words.Reads.{Post as lent-platform-no-words}
 
 pub record ChannelsUnique : Type 0 where
   pub is-good : Answer channels-is-good
@@ -195,12 +197,17 @@ pub record LentHeardUnique : Type 0 where
   pub tell-answer : Lent lent-heard-tell (λ k e. now (e .1 .1 .0))
   pub put-value-answer : Lent lent-heard-put-value (λ k e. now (e .0))
   pub put-entry-answer : Lent lent-heard-put-entry (λ k e. now (e .0))
+  pub on-request : Answer lent-heard-on-request
+  pub on-request-platform : Lent lent-heard-on-request (λ k e. now (e .1 .0))
+  pub on-request-out : Lent lent-heard-on-request (λ k e. now (e .1 .1 .1 .0))
+  pub on-request-answer : Lent lent-heard-on-request (λ k e. now (e .1 .1 .1 .1 .0))
 
 pub record LentPlatformUnique : Type 0 where
   pub receive : Answer lent-platform-receive
   pub receive-platform : Lent lent-platform-receive (λ k e. now (e .1 .0))
   pub receive-out : Lent lent-platform-receive (λ k e. now (e .1 .1 .1 .1 .0))
   pub receive-answer : Lent lent-platform-receive (λ k e. now (e .1 .1 .1 .1 .1 .0))
+  pub no-words : Answer lent-platform-no-words
 
 pub record UniqueBelow : Type 0 where
   pub channels : ChannelsUnique

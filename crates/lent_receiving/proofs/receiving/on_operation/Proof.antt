@@ -1,9 +1,9 @@
--- `lent_platform::receiving::on_operation` meets its contract: an operation of the table, or what is answered.
+-- `lent_receiving::receiving::on_operation` meets its contract: an operation of the table, or what is answered.
 -- Assumes nothing.
 use borrow.Author.Needs.{needs}
-use Rattle.lent_platform.proofs.Straight.{operation-in}
-use Rattle.lent_platform.proofs.receiving.on_operation.Statement.{statement}
-use Rattle.lent_platform.proofs.receiving.on_operation.Tie as tie
+use Rattle.lent_receiving.proofs.Straight.{operation-in}
+use Rattle.lent_receiving.proofs.receiving.on_operation.Statement.{statement}
+use Rattle.lent_receiving.proofs.receiving.on_operation.Tie as tie
 
 pub on-operation-spec : {M : Type 1} → statement M
 on-operation-spec =

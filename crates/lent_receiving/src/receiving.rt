@@ -3,8 +3,6 @@
 use message::Header;
 use message::Message;
 use message::Own;
-use reactions::REPLY_LENGTH;
-use reactions::Reply;
 use table::Found;
 use table::Sections;
 ghost use mathlib.Core.Path.{_≡_};
@@ -12,15 +10,12 @@ ghost use mathlib.Core.Bool.{true, false};
 ghost use mathlib.Core.List.{[], _∷_};
 ghost use Rattle.wire.specs.Bytes.{written};
 ghost use Rattle.table.specs.Layout.{within};
-ghost use Rattle.message.specs.Header.{platformDomain, domainIn, sequenceIn, idIn, headerIn};
+ghost use Rattle.message.specs.Header.{platformDomain, domainIn, idIn};
 ghost use Rattle.message.specs.Platform.{platformStatus};
 ghost use Rattle.message.specs.Refusal.{readRefusal};
-ghost use Rattle.reactions.specs.declared.Heard.the-variants.{Request};
-ghost use Rattle.reactions.specs.declared.Reply.the-variants.{StatusUp};
-ghost use Rattle.reactions.specs.Reaction.{replied};
 ghost use Rattle.lent_states.specs.Words.{standingIn, standingWords};
-ghost use Rattle.lent_platform.specs.Calls.{noWords, ReceivedIn};
-ghost use Rattle.lent_platform.specs.Told.{Told};
+ghost use Rattle.lent_platform.specs.Calls.{noWords};
+ghost use Rattle.lent_receiving.specs.Calls.{ReceivedIn};
 
 pub(crate) fn received(
     own: Own,
@@ -101,32 +96,12 @@ fn on_platform_message(
 {
     let id = wire::u32_at(message, Header::ID_AT);
     if id == Message::PLATFORM_STATUS_REQUEST {
-        return on_request(own, platform, message, out, answer);
+        return lent_heard::on_request(own, platform, message, out, answer);
     }
     if id == Message::PLATFORM_STATUS {
         return on_status(own, platform, table, s, message, out, answer);
     }
     answered(own, platform, table, s, message, out, answer)
-}
-
-fn on_request(
-    own: Own,
-    platform: &mut [u64],
-    message: &[u8],
-    out: &mut [u8],
-    answer: &mut [u64],
-) -> u32
-    ensures { λ r. ⌜ Told (own .platform) (headerIn (now (message .entry))) (replied (standingIn (now (platform .entry))) Request (StatusUp (sequenceIn (now (message .entry))))) (now (platform .entry)) (now (out .entry)) (now (answer .entry)) r (now (platform .exit)) (now (out .exit)) (now (answer .exit)) ⌝ }
-{
-    if out.len() < REPLY_LENGTH {
-        return lent::OUTPUT_TOO_SHORT;
-    }
-    let sender = wire::u32_at(message, Header::PLATFORM_AT);
-    let sequence = wire::u32_at(message, Header::SEQUENCE_AT);
-    reactions::put_reply(own, Reply::StatusUp(sequence), out);
-    lent_states::keep(platform);
-    lent_heard::put_value(answer, lent_heard::REQUEST, 0, sender, REPLY_LENGTH);
-    0
 }
 
 fn on_status(

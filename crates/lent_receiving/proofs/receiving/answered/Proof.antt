@@ -1,9 +1,9 @@
--- `lent_platform::receiving::answered` meets its contract: what is answered is told.
+-- `lent_receiving::receiving::answered` meets its contract: what is answered is told.
 -- Assumes nothing.
 use borrow.Author.Needs.{needs}
-use Rattle.lent_platform.proofs.Calling.{received-in}
-use Rattle.lent_platform.proofs.receiving.answered.Statement.{statement}
-use Rattle.lent_platform.proofs.receiving.answered.Tie as tie
+use Rattle.lent_receiving.proofs.OnSections.{received-in}
+use Rattle.lent_receiving.proofs.receiving.answered.Statement.{statement}
+use Rattle.lent_receiving.proofs.receiving.answered.Tie as tie
 
 pub answered-spec : {M : Type 1} → statement M
 answered-spec =

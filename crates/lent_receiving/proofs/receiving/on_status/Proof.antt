@@ -1,9 +1,9 @@
--- `lent_platform::receiving::on_status` meets its contract: nothing new, or what is answered.
+-- `lent_receiving::receiving::on_status` meets its contract: nothing new, or what is answered.
 -- Assumes nothing.
 use borrow.Author.Needs.{needs}
-use Rattle.lent_platform.proofs.Straight.{still-up, still-down}
-use Rattle.lent_platform.proofs.receiving.on_status.Statement.{statement}
-use Rattle.lent_platform.proofs.receiving.on_status.Tie as tie
+use Rattle.lent_receiving.proofs.Straight.{still-up, still-down}
+use Rattle.lent_receiving.proofs.receiving.on_status.Statement.{statement}
+use Rattle.lent_receiving.proofs.receiving.on_status.Tie as tie
 
 pub on-status-spec : {M : Type 1} → statement M
 on-status-spec =

@@ -1,9 +1,9 @@
--- `lent_platform::receiving::on_request` meets its contract: the reply fits, or 10.
+-- `lent_heard::on_request` meets its contract: the reply fits, or 10.
 -- Assumes nothing.
 use borrow.Author.Needs.{needs}
-use Rattle.lent_platform.proofs.Straight.{request-unanswered, request-answered}
-use Rattle.lent_platform.proofs.receiving.on_request.Statement.{statement}
-use Rattle.lent_platform.proofs.receiving.on_request.Tie as tie
+use Rattle.lent_heard.proofs.Fitting.{request-unanswered, request-answered}
+use Rattle.lent_heard.proofs.on_request.Statement.{statement}
+use Rattle.lent_heard.proofs.on_request.Tie as tie
 
 pub on-request-spec : {M : Type 1} → statement M
 on-request-spec =

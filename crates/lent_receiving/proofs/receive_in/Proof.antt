@@ -1,9 +1,9 @@
--- `lent_platform::receive_in` meets its contract.
+-- `lent_receiving::receive_in` meets its contract.
 -- Assumes nothing.
 use borrow.Author.Needs.{needs}
-use Rattle.lent_platform.proofs.Calling.{no-words-in, on-sections, outside, inside, enough-words}
-use Rattle.lent_platform.proofs.receive_in.Statement.{statement}
-use Rattle.lent_platform.proofs.receive_in.Tie as tie
+use Rattle.lent_receiving.proofs.OnSections.{no-words-in, on-sections, outside, inside, enough-words}
+use Rattle.lent_receiving.proofs.receive_in.Statement.{statement}
+use Rattle.lent_receiving.proofs.receive_in.Tie as tie
 
 pub receive-in-spec : {M : Type 1} → statement M
 receive-in-spec =

@@ -1,9 +1,9 @@
--- `lent_platform::receiving::on_platform_message` meets its contract: by the ID.
+-- `lent_receiving::receiving::on_platform_message` meets its contract: by the ID.
 -- Assumes nothing.
 use borrow.Author.Needs.{needs}
-use Rattle.lent_platform.proofs.Straight.{request-in, its-id}
-use Rattle.lent_platform.proofs.receiving.on_platform_message.Statement.{statement}
-use Rattle.lent_platform.proofs.receiving.on_platform_message.Tie as tie
+use Rattle.lent_receiving.proofs.Straight.{request-in, its-id}
+use Rattle.lent_receiving.proofs.receiving.on_platform_message.Statement.{statement}
+use Rattle.lent_receiving.proofs.receiving.on_platform_message.Tie as tie
 
 pub on-platform-message-spec : {M : Type 1} → statement M
 on-platform-message-spec =

@@ -1,9 +1,9 @@
--- `lent_platform::receiving::received` meets its contract: refused, or by the domain.
+-- `lent_receiving::receiving::received` meets its contract: refused, or by the domain.
 -- Assumes nothing.
 use borrow.Author.Needs.{needs}
-use Rattle.lent_platform.proofs.Straight.{refused-in, nothing-refuses, its-domain, other-domain}
-use Rattle.lent_platform.proofs.receiving.received.Statement.{statement}
-use Rattle.lent_platform.proofs.receiving.received.Tie as tie
+use Rattle.lent_receiving.proofs.Straight.{refused-in, nothing-refuses, its-domain, other-domain}
+use Rattle.lent_receiving.proofs.receiving.received.Statement.{statement}
+use Rattle.lent_receiving.proofs.receiving.received.Tie as tie
 
 pub received-spec : {M : Type 1} → statement M
 received-spec =

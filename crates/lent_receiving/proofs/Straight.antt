@@ -1,16 +1,16 @@
 -- A message told straight from its bytes: what the functions of `receiving` come to at their returns.
 -- Assumes nothing.
-use Prim.Native.Nat.{ℕ, zero, suc, _≤_, _<_}
+use Prim.Native.Nat.{ℕ, zero, suc}
 use mathlib.Core.Path.{_≡_, refl, sym, ap, ap₂, _∙_}
 use mathlib.Core.Bool.{Bool, true, false}
 use mathlib.Core.List.{List, [], _∷_}
 use native.Mathlib.Omega.{arith}
 use borrow.Author.Tests.{eq-eqb, ne-eqb}
 use lib.ListN.{length}
-use Rattle.wire.specs.Bytes.{number, over, written}
-use Rattle.wire.proofs.Cond.{yes-if, no-if, yes-lt, no-lt, yes-eq, no-eq}
+use Rattle.wire.specs.Bytes.{number, written}
+use Rattle.wire.proofs.Cond.{yes-if, yes-eq, no-eq}
 use Rattle.wire.proofs.Numbers.{number-drop}
-use Rattle.wire.proofs.Runs.{written-in, over-none}
+use Rattle.wire.proofs.Runs.{over-none}
 use Rattle.table.specs.declared.Sections.{Sections}
 use Rattle.table.specs.declared.Found.{Found}
 use Rattle.table.specs.declared.Found.the-variants as found
@@ -25,7 +25,7 @@ use Rattle.message.specs.declared.Reading.{Reading}
 use Rattle.message.specs.declared.Reading.the-variants as reading
 use Rattle.message.specs.Header.{headerLength, platformDomain, domainIn, senderIn, idIn, payloadSizeIn, sequenceIn, payloadIn, headerIn}
 use Rattle.message.specs.Platform.{platformStatus, platformStatusRequest, statusOf, platformMessage, messageOf}
-use Rattle.message.specs.Refusal.{noRoom, readRefusal}
+use Rattle.message.specs.Refusal.{readRefusal}
 use Rattle.message.specs.Reading as read
 use Rattle.message.specs.Reading.{readOut, readOf}
 use Rattle.states.specs.declared.States.{States}
@@ -33,47 +33,21 @@ use Rattle.states.specs.States.{isUp}
 use Rattle.reactions.specs.declared.Standing.{Standing}
 use Rattle.reactions.specs.declared.Heard.the-variants as heard
 use Rattle.platform.specs.declared.Outcome.{Outcome}
-use Rattle.reactions.specs.declared.Reply.{Reply}
 use Rattle.reactions.specs.declared.Reply.the-variants.{StatusUp}
 use Rattle.reactions.specs.declared.Reaction.{Reaction}
-use Rattle.reactions.specs.Replies.{replyBytes, replyLength, owedBytes, owedLength}
+use Rattle.reactions.specs.Replies.{owedBytes}
 use Rattle.reactions.specs.Reaction.{Looked, LookedFor, operationIn, silent, replied, onStatus, onOperation, reactionTo}
-use Rattle.platform.specs.Receiving.{refused, taken, answered, laidOut, numberGiven, outcomeOf, outputOf, sectionsOutcome, sectionsOutput}
-use Rattle.reactions.proofs.ReplyLaws.{length-reply}
+use Rattle.platform.specs.Receiving.{refused, laidOut, numberGiven, outcomeOf, outputOf, sectionsOutcome, sectionsOutput}
 use Rattle.platform.proofs.Unique.{operation-looked}
 use Rattle.lent.specs.Words.{outputTooShort}
 use Rattle.lent.proofs.Answers.{none-written}
 use Rattle.lent_states.specs.Words.{statesIn, standingIn, standingWords}
-use Rattle.lent_heard.specs.Words.{heardWords, answerWords, notedWords}
-use Rattle.lent_platform.specs.Calls.{noWords, ReceivedIn}
-use Rattle.lent_platform.specs.Told.{outcomeTold, Told}
+use Rattle.lent_heard.specs.Words.{answerWords, notedWords}
+use Rattle.lent_heard.specs.Told.{outcomeTold, Told}
+use Rattle.lent_heard.proofs.Fitting.{fitting}
+use Rattle.lent_platform.specs.Calls.{noWords}
+use Rattle.lent_receiving.specs.Calls.{ReceivedIn}
 use Rattle.lent_platform.proofs.Calling.{enough, outcome-number, outcome-standing, outcome-answer}
-
--- a reaction told: its replies fit, or 10
-module _ (own : ℕ) (h : Header) (x : Reaction) (ws out answer : List ℕ) where
-  pub fitting : {words left after : List ℕ} → owedLength (x .owed) ≤ length out → words ≡ written ws 0 (standingWords (x .standing)) → left ≡ over out 0 (owedBytes own (x .owed)) → after ≡ written answer 0 (heardWords h (owedLength (x .owed)) (x .heard)) → Told own h x ws out answer 0 words left after
-  unfolding answered laidOut
-  fitting l ew el ea =
-      let n : ℕ = owedLength (x .owed) in
-      let e : taken h x n ≡ outcomeTold h x ws out = sym (no-lt {A = Outcome} (refused (standingIn ws) noRoom) (taken h x n) (length out) n l) in
-      record {
-        numbered = ap (λ (o : Outcome). numberGiven (o .answer)) e;
-        noted = ew ∙ ap (λ (o : Outcome). written ws 0 (notedWords (o .answer) (o .standing))) e;
-        laid = el ∙ sym (no-lt out (over out 0 (owedBytes own (x .owed))) (length out) n l);
-        told = ea ∙ ap (λ (o : Outcome). written answer 0 (answerWords (o .answer))) e;
-      }
-
-  pub too-long : length out < owedLength (x .owed) → Told own h x ws out answer noRoom ws out answer
-  unfolding answered laidOut
-  too-long l =
-      let n : ℕ = owedLength (x .owed) in
-      let e : refused (standingIn ws) noRoom ≡ outcomeTold h x ws out = sym (yes-lt {A = Outcome} (refused (standingIn ws) noRoom) (taken h x n) (length out) n l) in
-      record {
-        numbered = ap (λ (o : Outcome). numberGiven (o .answer)) e;
-        noted = none-written ws ∙ ap (λ (o : Outcome). written ws 0 (notedWords (o .answer) (o .standing))) e;
-        laid = sym (yes-lt out (over out 0 (owedBytes own (x .owed))) (length out) n l);
-        told = none-written answer ∙ ap (λ (o : Outcome). written answer 0 (answerWords (o .answer))) e;
-      }
 
 was-refused : (n : ℕ) (r : Reading) → (n ≡ 0 → ⊥) → read.answered n r ≡ reading.Refused n
 was-refused zero r h = absurd (h refl)
@@ -174,17 +148,3 @@ other-domain m e q k = q (e ∙ k)
 
 pub nothing-refuses : {n : ℕ} (own : ℕ) (m : List ℕ) → n ≡ readRefusal own m → n ≡ 0 → readRefusal own m ≡ 0
 nothing-refuses own m e z = sym e ∙ z
-
--- `on_request`
-module _ (own : ℕ) (m ws out answer : List ℕ) where
-  pub request-unanswered : length out < replyLength → Told own (headerIn m) (replied (standingIn ws) heard.Request (StatusUp (sequenceIn m))) ws out answer noRoom ws out answer
-  request-unanswered l = too-long own (headerIn m) (replied (standingIn ws) heard.Request (StatusUp (sequenceIn m))) ws out answer l
-
-  pub request-answered : {sender seq : ℕ} {words left after : List ℕ} → replyLength ≤ length out → sender ≡ senderIn m → seq ≡ sequenceIn m → left ≡ written out 0 (replyBytes own (StatusUp seq)) → words ≡ written ws 0 (standingWords (standingIn ws)) → after ≡ written answer 0 (2 ∷ 0 ∷ sender ∷ 0 ∷ 0 ∷ 0 ∷ replyLength ∷ []) → Told own (headerIn m) (replied (standingIn ws) heard.Request (StatusUp (sequenceIn m))) ws out answer 0 words left after
-  unfolding owedBytes
-  request-answered {sender} {seq} l es eq el ew ea =
-      let r : Reply = StatusUp (sequenceIn m) in
-      let n : length (replyBytes own r) ≡ replyLength = length-reply own r in
-      fitting own (headerIn m) (replied (standingIn ws) heard.Request r) ws out answer l ew
-      (el ∙ ap (λ (k : ℕ). written out 0 (replyBytes own (StatusUp k))) eq ∙ written-in out 0 (replyBytes own r) (omega arith))
-      (rw es at ea)
