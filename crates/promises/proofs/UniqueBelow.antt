@@ -1,7 +1,7 @@
 -- Two outcomes that one promise allows are equal: each contract is an equation with a definition.
 -- Assumes nothing.
 use mathlib.Core.Path.{_≡_, sym, _∙_}
-use Rattle.promises.specs.UniqueBelow.{ChannelsUnique, JoinerUnique, MessageUnique, ReactionsUnique, TableUnique, WalkUnique, UnpackingUnique, PackingUnique, StatesUnique, TextUnique, CallsUnique, LentUnique, LentChannelsUnique, LentJoinerUnique, LentMessagesUnique, LentTablesUnique, LentPayloadsUnique, LentStatesUnique, LentHeardUnique, LentPlatformUnique, UniqueBelow}
+use Rattle.promises.specs.UniqueBelow.{ChannelsUnique, JoinerUnique, MessageUnique, ReactionsUnique, TableUnique, EnumsUnique, WalkUnique, UnpackingUnique, PackingUnique, StatesUnique, TextUnique, CallsUnique, LentUnique, LentChannelsUnique, LentJoinerUnique, LentMessagesUnique, LentTablesUnique, LentPayloadsUnique, LentStatesUnique, LentHeardUnique, LentPlatformUnique, UniqueBelow}
 
 channels : ChannelsUnique
 channels =
@@ -44,6 +44,13 @@ table : TableUnique
 table =
     record {
       read = λ k a z z′ e e′ p q. p ∙ sym q;
+    }
+
+enums : EnumsUnique
+enums =
+    record {
+      values-allowed = λ k a z z′ e e′ p q. p ∙ sym q;
+      all-distinct = λ k a z z′ e e′ p q. p ∙ sym q;
     }
 
 walk : WalkUnique
@@ -200,4 +207,4 @@ lent-platform =
     }
 
 pub unique-below : UniqueBelow
-unique-below = record { channels = channels; joiner = joiner; message = message; reactions = reactions; table = table; walk = walk; unpacking = unpacking; packing = packing; states = states; text = text; calls = calls; lent = lent; lent-channels = lent-channels; lent-joiner = lent-joiner; lent-messages = lent-messages; lent-tables = lent-tables; lent-payloads = lent-payloads; lent-states = lent-states; lent-heard = lent-heard; lent-platform = lent-platform }
+unique-below = record { channels = channels; joiner = joiner; message = message; reactions = reactions; table = table; enums = enums; walk = walk; unpacking = unpacking; packing = packing; states = states; text = text; calls = calls; lent = lent; lent-channels = lent-channels; lent-joiner = lent-joiner; lent-messages = lent-messages; lent-tables = lent-tables; lent-payloads = lent-payloads; lent-states = lent-states; lent-heard = lent-heard; lent-platform = lent-platform }

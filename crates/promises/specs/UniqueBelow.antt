@@ -22,6 +22,8 @@ use Rattle.reactions.proofs.length_of.Reads.{Post as reactions-length-of}
 use Rattle.reactions.proofs.lay.Reads.{Post as reactions-lay}
 use Rattle.reactions.proofs.put_reply.Reads.{Post as reactions-put-reply}
 use Rattle.table.proofs.layout.read.Reads.{Post as table-layout-read}
+use Rattle.enums.proofs.values_allowed.Reads.{Post as enums-values-allowed}
+use Rattle.enums.proofs.all_distinct.Reads.{Post as enums-all-distinct}
 use Rattle.walk.proofs.meet.Reads.{Post as walk-meet}
 use Rattle.walk.proofs.look.Reads.{Post as walk-look}
 use Rattle.walk.proofs.base_at.Reads.{Post as walk-base-at}
@@ -97,6 +99,10 @@ pub record ReactionsUnique : Type 0 where
 
 pub record TableUnique : Type 0 where
   pub read : Answer table-layout-read
+
+pub record EnumsUnique : Type 0 where
+  pub values-allowed : Answer enums-values-allowed
+  pub all-distinct : Answer enums-all-distinct
 
 pub record WalkUnique : Type 0 where
   pub meet : Answer walk-meet
@@ -215,6 +221,7 @@ pub record UniqueBelow : Type 0 where
   pub message : MessageUnique
   pub reactions : ReactionsUnique
   pub table : TableUnique
+  pub enums : EnumsUnique
   pub walk : WalkUnique
   pub unpacking : UnpackingUnique
   pub packing : PackingUnique

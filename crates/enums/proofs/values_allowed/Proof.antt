@@ -1,14 +1,14 @@
--- `types::values::values_allowed` meets its contract: the first k values have passed.
+-- `enums::values_allowed` meets its contract: the first k values have passed.
 -- Assumes nothing.
 use borrow.Author.Needs.{needs}
 use Prim.Native.Nat.{_-_, _≤_}
 use mathlib.Core.Path.{_≡_}
 use mathlib.Core.Bool.{true}
 use Rattle.table.specs.All.{allBelow}
-use Rattle.types.specs.Values.{valueOk}
+use Rattle.enums.specs.Values.{valueOk}
 use Rattle.table.proofs.AllBelow.{none-below, next-below, stop-below, done-below}
-use Rattle.types.proofs.values.values_allowed.Statement.{statement}
-use Rattle.types.proofs.values.values_allowed.Tie as tie
+use Rattle.enums.proofs.values_allowed.Statement.{statement}
+use Rattle.enums.proofs.values_allowed.Tie as tie
 
 abbrev Inv-loop : tie.InvT-loop
 Inv-loop table s e count k₀ k = (k ≤ e .count) × (allBelow (valueOk table s e) k ≡ true)

@@ -1,19 +1,31 @@
 // Whether the values of each enum are distinct, in any order. Each value of the table is compared with those before it once,
 // however many enums share it; an enum's values are distinct if for none the last one alike is the enum's too.
-use crate::inside;
 use table::Sections;
+use table::entries;
 ghost use mathlib.Core.Path.{_≡_};
-ghost use mathlib.Core.Bool.{true};
-ghost use Prim.Native.Nat.{_+_, _≤_, _<_};
+ghost use Prim.Native.Nat.{_+_, _≤_};
 ghost use lib.ListN.{length};
 ghost use Rattle.table.specs.All.{allBelow};
-ghost use Rattle.types.specs.Inside.{Lying};
-ghost use Rattle.types.specs.Passes.{looseOk, enumDistinct};
-ghost use Rattle.types.specs.Alike.{lastAlike, Alikes, unlikeIn};
+ghost use Rattle.table.specs.Layout.{mostValues};
+ghost use Rattle.enums.specs.Alike.{lastAlike, Alikes, unlikeIn, enumApart, allApart};
 
-pub(crate) fn all_distinct(table: &[u8], s: Sections) -> bool
-    requires { ⌜ Lying (now table) s × (allBelow (looseOk (now table) s) (s .types .count) ≡ true) ⌝ }
-    ensures { λ r. ⌜ r ≡ allBelow (enumDistinct (now (table .entry)) s) (s .types .count) ⌝ }
+// How many values a table has at most.
+const MOST_VALUES: u16 = 1024;
+
+// Whether the values of each enum lie in their section, which is no longer than it may be, and are distinct.
+pub fn all_distinct(table: &[u8], s: Sections) -> bool
+    ensures { λ r. ⌜ r ≡ allApart (now (table .entry)) s ⌝ }
+{
+    if s.values.count <= MOST_VALUES {
+        all_apart(table, s)
+    } else {
+        false
+    }
+}
+
+fn all_apart(table: &[u8], s: Sections) -> bool
+    requires { ⌜ s .values .count ≤ mostValues ⌝ }
+    ensures { λ r. ⌜ r ≡ allBelow (enumApart (now (table .entry)) s) (s .types .count) ⌝ }
 {
     let mut room = [0u16; 1024];
     fill(table, s, &mut room);
@@ -21,7 +33,7 @@ pub(crate) fn all_distinct(table: &[u8], s: Sections) -> bool
 }
 
 fn fill(table: &[u8], s: Sections, room: &mut [u16])
-    requires { ⌜ Lying (now table) s × (s .values .count ≤ length (now room)) ⌝ }
+    requires { ⌜ s .values .count ≤ length (now room) ⌝ }
     ensures { λ _. ⌜ Alikes (now (table .entry)) s (s .values .count) (now (room .exit)) ⌝ }
 {
     let count = s.values.count;
@@ -34,13 +46,12 @@ fn fill(table: &[u8], s: Sections, room: &mut [u16])
 
 // The number behind that of the last value before the k-th that is like it, or 0.
 fn last_alike(table: &[u8], s: Sections, k: u16) -> u16
-    requires { ⌜ Lying (now table) s × (k < s .values .count) ⌝ }
     ensures { λ r. ⌜ r ≡ lastAlike (now (table .entry)) s k ⌝ }
 {
-    let word = inside::value_in(table, s, k as u32);
+    let word = entries::value_at(table, s, k as u32);
     let mut j = k;
     while 0 < j {
-        if inside::value_in(table, s, j as u32 - 1) == word {
+        if entries::value_at(table, s, j as u32 - 1) == word {
             return j;
         }
         j -= 1;
@@ -49,9 +60,8 @@ fn last_alike(table: &[u8], s: Sections, k: u16) -> u16
 }
 
 fn enums_distinct(table: &[u8], s: Sections, room: &[u16]) -> bool
-    requires { ⌜ Lying (now table) s × (allBelow (looseOk (now table) s) (s .types .count) ≡ true) ⌝ }
     requires { ⌜ (s .values .count ≤ length (now room)) × Alikes (now table) s (s .values .count) (now room) ⌝ }
-    ensures { λ r. ⌜ r ≡ allBelow (enumDistinct (now (table .entry)) s) (s .types .count) ⌝ }
+    ensures { λ r. ⌜ r ≡ allBelow (enumApart (now (table .entry)) s) (s .types .count) ⌝ }
 {
     let count = s.types.count;
     let mut i: u16 = 0;
@@ -66,13 +76,16 @@ fn enums_distinct(table: &[u8], s: Sections, room: &[u16]) -> bool
 }
 
 fn enum_distinct(table: &[u8], s: Sections, room: &[u16], i: u16) -> bool
-    requires { ⌜ Lying (now table) s × (i < s .types .count) × (looseOk (now table) s i ≡ true) ⌝ }
     requires { ⌜ (s .values .count ≤ length (now room)) × Alikes (now table) s (s .values .count) (now room) ⌝ }
-    ensures { λ r. ⌜ r ≡ enumDistinct (now (table .entry)) s i ⌝ }
+    ensures { λ r. ⌜ r ≡ enumApart (now (table .entry)) s i ⌝ }
 {
-    let e = inside::type_in(table, s, i);
+    let e = entries::type_at(table, s, i);
     if e.kind == 1 {
-        unlike_in(room, e.first, e.count)
+        if e.first as u32 + e.count as u32 <= s.values.count as u32 {
+            unlike_in(room, e.first, e.count)
+        } else {
+            false
+        }
     } else {
         true
     }

@@ -15,10 +15,10 @@ use lib.Seq.{getD-set-same, getD-set-other}
 use Rattle.table.specs.declared.Sections.{Sections}
 use Rattle.table.specs.declared.Entry.{Entry}
 use Rattle.table.specs.All.{allBelow}
+use Rattle.table.specs.Layout.{mostValues}
 use Rattle.table.specs.Entries.{typeAt, valueAt}
-use Rattle.types.specs.Values.{valueOf, unlike, unlikeBefore, distinct}
-use Rattle.types.specs.Passes.{enumDistinct}
-use Rattle.types.specs.Alike.{lastEqual, lastAlike, Alikes, unlikeIn}
+use Rattle.enums.specs.Values.{valueOf, unlike, unlikeBefore, distinct}
+use Rattle.enums.specs.Alike.{lastEqual, lastAlike, Alikes, unlikeIn, valuesApart, enumApart, allApart}
 use Rattle.table.proofs.AllBelow.{next-below, stop-below}
 
 -- looking for the last one alike from behind
@@ -84,7 +84,7 @@ unlike-since f word first (suc k) =
     go false p false h = rw p h
 
 -- an enum's values, one after the other
-same-below : (f g : ℕ → Bool) (n : ℕ) → ((k : ℕ) → k < n → f k ≡ g k) → allBelow f n ≡ allBelow g n
+pub same-below : (f g : ℕ → Bool) (n : ℕ) → ((k : ℕ) → k < n → f k ≡ g k) → allBelow f n ≡ allBelow g n
 unfolding allBelow
 same-below f g zero h = refl
 same-below f g (suc n) h = rw (same-below f g n (λ k l. h k (omega arith)), h n (omega arith)) refl
@@ -96,13 +96,27 @@ room-distinct t s e room a h =
     (λ k l. ap (λ (n : ℕ). leb n (e .first)) (a (e .first + k) (omega arith)) ∙ sym (unlike-since (valueAt t s) (valueOf t s e k) (e .first) k))
 
 module _ (t : List ℕ) (s : Sections) (i : ℕ) (e : Entry) (is : e ≡ typeAt t s i) where
-  pub enum-compared : (room : List ℕ) (r : Bool) → e .kind ≡ 1 → e .first + e .count ≤ s .values .count → Alikes t s (s .values .count) room → r ≡ allBelow (unlikeIn room (e .first)) (e .count) → r ≡ enumDistinct t s i
-  unfolding enumDistinct
-  enum-compared room r k h a q = rw (← is, eq-eqb (e .kind) 1 k) (q ∙ room-distinct t s e room a h)
+  pub enum-compared : (room : List ℕ) (r : Bool) → e .kind ≡ 1 → e .first + e .count ≤ s .values .count → Alikes t s (s .values .count) room → r ≡ allBelow (unlikeIn room (e .first)) (e .count) → r ≡ enumApart t s i
+  unfolding enumApart valuesApart
+  enum-compared room r k h a q = rw (← is, eq-eqb (e .kind) 1 k, le-leb (e .first + e .count) (s .values .count) h) (q ∙ room-distinct t s e room a h)
 
-  pub no-enum : (e .kind ≡ 1 → ⊥) → true ≡ enumDistinct t s i
-  unfolding enumDistinct
+  pub enum-outside : e .kind ≡ 1 → s .values .count < e .first + e .count → false ≡ enumApart t s i
+  unfolding enumApart valuesApart
+  enum-outside k h = rw (← is, eq-eqb (e .kind) 1 k, lt-leb (e .first + e .count) (s .values .count) h) refl
+
+  pub no-enum : (e .kind ≡ 1 → ⊥) → true ≡ enumApart t s i
+  unfolding enumApart
   no-enum d = rw (← is, ne-eqb (e .kind) 1 d) refl
+
+-- a section that is no longer than it may be, or longer
+module _ (t : List ℕ) (s : Sections) where
+  pub few-values : {r : Bool} → s .values .count ≤ mostValues → r ≡ allBelow (enumApart t s) (s .types .count) → r ≡ allApart t s
+  unfolding allApart
+  few-values h q = rw (le-leb (s .values .count) mostValues h) q
+
+  pub many-values : mostValues < s .values .count → false ≡ allApart t s
+  unfolding allApart
+  many-values h = rw (lt-leb (s .values .count) mostValues h) refl
 
 -- the room's numbers, one after the other
 module _ (room : List ℕ) (first k v : ℕ) (is : v ≡ getD room (first + k) 0) where

@@ -1,18 +1,17 @@
--- `types::alike::enums_distinct` meets its contract: the first i types have passed.
+-- `enums::alike::enums_distinct` meets its contract: the first i types have passed.
 -- Assumes nothing.
 use borrow.Author.Needs.{needs}
 use Prim.Native.Nat.{_-_, _≤_}
 use mathlib.Core.Path.{_≡_}
 use mathlib.Core.Bool.{true}
 use Rattle.table.specs.All.{allBelow}
-use Rattle.types.specs.Passes.{looseOk, enumDistinct}
+use Rattle.enums.specs.Alike.{enumApart}
 use Rattle.table.proofs.AllBelow.{none-below, next-below, stop-below, done-below}
-use Rattle.types.proofs.TypePasses.{loose-at}
-use Rattle.types.proofs.alike.enums_distinct.Statement.{statement}
-use Rattle.types.proofs.alike.enums_distinct.Tie as tie
+use Rattle.enums.proofs.alike.enums_distinct.Statement.{statement}
+use Rattle.enums.proofs.alike.enums_distinct.Tie as tie
 
 abbrev Inv-loop : tie.InvT-loop
-Inv-loop table s room count i₀ i = (i ≤ s .types .count) × (allBelow (enumDistinct table s) i ≡ true)
+Inv-loop table s room count i₀ i = (i ≤ s .types .count) × (allBelow (enumApart table s) i ≡ true)
 
 abbrev μ-loop : tie.MeasureT-loop
 μ-loop table s room count i₀ i = s .types .count - i
@@ -24,7 +23,7 @@ enums-distinct-spec =
     Inv-loop
     μ-loop
     (λ c. (search needs, search none-below))
-    (λ c κs. search (needs, loose-at))
+    (λ c κs. search needs)
     (λ c. search needs)
     (λ c. search needs)
     (λ c. (search needs, search next-below))
