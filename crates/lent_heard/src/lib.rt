@@ -1,15 +1,24 @@
 // What was heard, in lent words.
 use message::Header;
+use message::Own;
 use message::Status;
 use platform::Answer;
 use platform::Outcome;
 use reactions::Heard;
+use reactions::REPLY_LENGTH;
+use reactions::Reply;
 ghost use mathlib.Core.Path.{_≡_};
 ghost use mathlib.Core.List.{[], _∷_};
 ghost use Rattle.wire.specs.Bytes.{written};
+ghost use Rattle.message.specs.Header.{sequenceIn, headerIn};
 ghost use Rattle.message.specs.Platform.{statusValue};
+ghost use Rattle.reactions.specs.declared.Heard.the-variants.{Request};
+ghost use Rattle.reactions.specs.declared.Reply.the-variants.{StatusUp};
+ghost use Rattle.reactions.specs.Reaction.{replied};
 ghost use Rattle.platform.specs.Receiving.{numberGiven};
+ghost use Rattle.lent_states.specs.Words.{standingIn};
 ghost use Rattle.lent_heard.specs.Words.{heardWords, answerWords, notedWords};
+ghost use Rattle.lent_heard.specs.Told.{Told};
 
 // What a message was.
 pub const STATUS: u64 = 1;
@@ -48,6 +57,27 @@ pub fn tell(outcome: Outcome, platform: &mut [u64], answer: &mut [u64]) -> u32
             0
         }
     }
+}
+
+// A request is answered with its own sequence number, and told straight from its bytes: 10 where the reply does not fit.
+pub fn on_request(
+    own: Own,
+    platform: &mut [u64],
+    message: &[u8],
+    out: &mut [u8],
+    answer: &mut [u64],
+) -> u32
+    ensures { λ r. ⌜ Told (own .platform) (headerIn (now (message .entry))) (replied (standingIn (now (platform .entry))) Request (StatusUp (sequenceIn (now (message .entry))))) (now (platform .entry)) (now (out .entry)) (now (answer .entry)) r (now (platform .exit)) (now (out .exit)) (now (answer .exit)) ⌝ }
+{
+    if out.len() < REPLY_LENGTH {
+        return lent::OUTPUT_TOO_SHORT;
+    }
+    let sender = wire::u32_at(message, Header::PLATFORM_AT);
+    let sequence = wire::u32_at(message, Header::SEQUENCE_AT);
+    reactions::put_reply(own, Reply::StatusUp(sequence), out);
+    lent_states::keep(platform);
+    put_value(answer, REQUEST, 0, sender, REPLY_LENGTH);
+    0
 }
 
 fn put_heard(answer: &mut [u64], header: Header, heard: Heard, replies: usize)

@@ -1,2 +1,1 @@
-mod Calling
-mod Straight
+pub mod Calling

@@ -1,17 +1,13 @@
 // The call for one message, with the platform and the answer in lent words: as the C interface has it.
-mod receiving;
-
 ghost use mathlib.Core.Path.{_≡_};
 ghost use mathlib.Core.Bool.{_||_};
 ghost use lib.Dec.{ltb};
 ghost use lib.ListN.{length};
 ghost use Rattle.platform.specs.Receiving.{receivedOf, leftOf};
-ghost use Rattle.lent_tables.specs.Words.{sectionsIn};
 ghost use Rattle.lent_states.specs.Words.{platformWords, standingIn};
 ghost use Rattle.lent_heard.specs.Words.{heardLength};
-ghost use Rattle.lent_platform.specs.Calls.{receiveNumber, receiveWords, receiveAnswer, receiveOutput, ReceivedIn};
+ghost use Rattle.lent_platform.specs.Calls.{receiveNumber, receiveWords, receiveAnswer, receiveOutput};
 use message::Own;
-use table::CUT_SHORT;
 
 // How many words an answer of `receive` is.
 pub const HEARD_WORDS: usize = 7;
@@ -39,38 +35,8 @@ pub fn receive(
     lent_heard::tell(outcome, platform, answer)
 }
 
-// The same by the sections that a check gave.
-pub fn receive_in(
-    own: u8,
-    platform: &mut [u64],
-    table: &[u8],
-    sections: &[u64],
-    message: &[u8],
-    out: &mut [u8],
-    answer: &mut [u64],
-) -> u32
-    ensures { λ r. ⌜ ReceivedIn own (now (table .entry)) (sectionsIn (now (sections .entry))) (now (platform .entry)) (now (message .entry)) (now (out .entry)) (now (answer .entry)) r (now (platform .exit)) (now (out .exit)) (now (answer .exit)) ⌝ }
-{
-    if no_words(platform.len(), answer.len()) {
-        return lent::OUTPUT_TOO_SHORT;
-    }
-    let s = lent_tables::sections_in(sections);
-    if table::layout::within(table, s) {
-        receiving::received(
-            Own { platform: own },
-            platform,
-            table,
-            s,
-            message,
-            out,
-            answer,
-        )
-    } else {
-        CUT_SHORT
-    }
-}
-
-fn no_words(platform: usize, answer: usize) -> bool
+// Whether too few words are lent, for the platform or for the answer.
+pub fn no_words(platform: usize, answer: usize) -> bool
     ensures { λ r. ⌜ r ≡ (ltb answer heardLength || ltb platform platformWords) ⌝ }
 {
     (answer < HEARD_WORDS) | (platform < lent_states::PLATFORM_WORDS)

@@ -7,7 +7,8 @@ ghost use Rattle.platform.specs.Receiving.{receivedOf, leftOf};
 ghost use Rattle.lent_tables.specs.Words.{sectionsIn};
 ghost use Rattle.lent_states.specs.Words.{statesIn, standingIn};
 ghost use Rattle.lent_states.specs.Calls.{freshNumber, freshWords};
-ghost use Rattle.lent_platform.specs.Calls.{receiveNumber, receiveWords, receiveAnswer, receiveOutput, ReceivedIn};
+ghost use Rattle.lent_platform.specs.Calls.{receiveNumber, receiveWords, receiveAnswer, receiveOutput};
+ghost use Rattle.lent_receiving.specs.Calls.{ReceivedIn};
 
 // A fresh platform: 10 for too few words.
 #[no_mangle]
@@ -50,7 +51,7 @@ pub extern "C" fn nyr_receive_in(
 ) -> u32
     ensures { λ r. ⌜ ReceivedIn own (now (table .entry)) (sectionsIn (now (sections .entry))) (now (platform .entry)) (now (message .entry)) (now (out .entry)) (now (answer .entry)) r (now (platform .exit)) (now (out .exit)) (now (answer .exit)) ⌝ }
 {
-    lent_platform::receive_in(own, platform, table, sections, message, out, answer)
+    lent_receiving::receive_in(own, platform, table, sections, message, out, answer)
 }
 
 // 1 where the platform of that number is UP, else 0.

@@ -1,7 +1,7 @@
 -- Two outcomes that one promise allows are equal: each contract is an equation with a definition.
 -- Assumes nothing.
 use mathlib.Core.Path.{_≡_, sym, _∙_}
-use Rattle.promises.specs.UniqueBelow.{WireUnique, ChannelsUnique, JoinerUnique, MessageUnique, ReactionsUnique, TableUnique, WalkUnique, UnpackingUnique, PackingUnique, StatesUnique, TextUnique, CallsUnique, LentUnique, LentChannelsUnique, LentJoinerUnique, LentMessagesUnique, LentTablesUnique, LentPayloadsUnique, LentPlatformUnique, LentStatesUnique, LentHeardUnique, UniqueBelow}
+use Rattle.promises.specs.UniqueBelow.{WireUnique, ChannelsUnique, JoinerUnique, MessageUnique, ReactionsUnique, TableUnique, WalkUnique, UnpackingUnique, PackingUnique, StatesUnique, TextUnique, CallsUnique, LentUnique, LentChannelsUnique, LentJoinerUnique, LentMessagesUnique, LentTablesUnique, LentPayloadsUnique, LentPlatformUnique, LentStatesUnique, LentHeardUnique, EnumsUnique, UniqueBelow}
 
 wire : WireUnique
 wire =
@@ -53,6 +53,13 @@ table : TableUnique
 table =
     record {
       read = λ k a z z′ e e′ p q. p ∙ sym q;
+    }
+
+enums : EnumsUnique
+enums =
+    record {
+      values-allowed = λ k a z z′ e e′ p q. p ∙ sym q;
+      all-distinct = λ k a z z′ e e′ p q. p ∙ sym q;
     }
 
 walk : WalkUnique
@@ -192,6 +199,10 @@ lent-heard =
       tell-answer = λ k a z z′ e e′ p q. p .1 .1 ∙ sym (q .1 .1);
       put-value-answer = λ k a z z′ e e′ p q. p ∙ sym q;
       put-entry-answer = λ k a z z′ e e′ p q. p ∙ sym q;
+      on-request = λ k a z z′ e e′ p q. p .numbered ∙ sym (q .numbered);
+      on-request-platform = λ k a z z′ e e′ p q. p .noted ∙ sym (q .noted);
+      on-request-out = λ k a z z′ e e′ p q. p .laid ∙ sym (q .laid);
+      on-request-answer = λ k a z z′ e e′ p q. p .told ∙ sym (q .told);
     }
 
 lent-platform : LentPlatformUnique
@@ -201,7 +212,8 @@ lent-platform =
       receive-platform = λ k a z z′ e e′ p q. p .1 .0 ∙ sym (q .1 .0);
       receive-out = λ k a z z′ e e′ p q. p .1 .1 .0 ∙ sym (q .1 .1 .0);
       receive-answer = λ k a z z′ e e′ p q. p .1 .1 .1 ∙ sym (q .1 .1 .1);
+      no-words = λ k a z z′ e e′ p q. p ∙ sym q;
     }
 
 pub unique-below : UniqueBelow
-unique-below = record { wire = wire; channels = channels; joiner = joiner; message = message; reactions = reactions; table = table; walk = walk; unpacking = unpacking; packing = packing; states = states; text = text; calls = calls; lent = lent; lent-channels = lent-channels; lent-joiner = lent-joiner; lent-messages = lent-messages; lent-tables = lent-tables; lent-payloads = lent-payloads; lent-platform = lent-platform; lent-states = lent-states; lent-heard = lent-heard }
+unique-below = record { wire = wire; channels = channels; joiner = joiner; message = message; reactions = reactions; table = table; walk = walk; unpacking = unpacking; packing = packing; states = states; text = text; calls = calls; lent = lent; lent-channels = lent-channels; lent-joiner = lent-joiner; lent-messages = lent-messages; lent-tables = lent-tables; lent-payloads = lent-payloads; lent-platform = lent-platform; lent-states = lent-states; lent-heard = lent-heard; enums = enums }

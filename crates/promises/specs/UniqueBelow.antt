@@ -26,6 +26,8 @@ use Rattle.reactions.proofs.length_of.Reads.{Post as reactions-length-of}
 use Rattle.reactions.proofs.lay.Reads.{Post as reactions-lay}
 use Rattle.reactions.proofs.put_reply.Reads.{Post as reactions-put-reply}
 use Rattle.table.proofs.layout.read.Reads.{Post as table-layout-read}
+use Rattle.enums.proofs.values_allowed.Reads.{Post as enums-values-allowed}
+use Rattle.enums.proofs.all_distinct.Reads.{Post as enums-all-distinct}
 use Rattle.walk.proofs.meet.Reads.{Post as walk-meet}
 use Rattle.walk.proofs.look.Reads.{Post as walk-look}
 use Rattle.walk.proofs.base_at.Reads.{Post as walk-base-at}
@@ -70,7 +72,9 @@ use Rattle.lent_states.proofs.keep.Reads.{Post as lent-states-keep}
 use Rattle.lent_heard.proofs.tell.Reads.{Post as lent-heard-tell}
 use Rattle.lent_heard.proofs.put_value.Reads.{Post as lent-heard-put-value}
 use Rattle.lent_heard.proofs.put_entry.Reads.{Post as lent-heard-put-entry}
+use Rattle.lent_heard.proofs.on_request.Reads.{Post as lent-heard-on-request}
 use Rattle.lent_platform.proofs.receive.Reads.{Post as lent-platform-receive}
+use Rattle.lent_platform.proofs.no_words.Reads.{Post as lent-platform-no-words}
 
 pub record WireUnique : Type 0 where
   pub whole-u16 : Answer wire-whole-u16
@@ -105,6 +109,10 @@ pub record ReactionsUnique : Type 0 where
 
 pub record TableUnique : Type 0 where
   pub read : Answer table-layout-read
+
+pub record EnumsUnique : Type 0 where
+  pub values-allowed : Answer enums-values-allowed
+  pub all-distinct : Answer enums-all-distinct
 
 pub record WalkUnique : Type 0 where
   pub meet : Answer walk-meet
@@ -205,12 +213,17 @@ pub record LentHeardUnique : Type 0 where
   pub tell-answer : Lent lent-heard-tell (λ k e. now (e .1 .1 .0))
   pub put-value-answer : Lent lent-heard-put-value (λ k e. now (e .0))
   pub put-entry-answer : Lent lent-heard-put-entry (λ k e. now (e .0))
+  pub on-request : Answer lent-heard-on-request
+  pub on-request-platform : Lent lent-heard-on-request (λ k e. now (e .1 .0))
+  pub on-request-out : Lent lent-heard-on-request (λ k e. now (e .1 .1 .1 .0))
+  pub on-request-answer : Lent lent-heard-on-request (λ k e. now (e .1 .1 .1 .1 .0))
 
 pub record LentPlatformUnique : Type 0 where
   pub receive : Answer lent-platform-receive
   pub receive-platform : Lent lent-platform-receive (λ k e. now (e .1 .0))
   pub receive-out : Lent lent-platform-receive (λ k e. now (e .1 .1 .1 .1 .0))
   pub receive-answer : Lent lent-platform-receive (λ k e. now (e .1 .1 .1 .1 .1 .0))
+  pub no-words : Answer lent-platform-no-words
 
 pub record UniqueBelow : Type 0 where
   pub wire : WireUnique
@@ -219,6 +232,7 @@ pub record UniqueBelow : Type 0 where
   pub message : MessageUnique
   pub reactions : ReactionsUnique
   pub table : TableUnique
+  pub enums : EnumsUnique
   pub walk : WalkUnique
   pub unpacking : UnpackingUnique
   pub packing : PackingUnique

@@ -5,8 +5,8 @@ use mathlib.Core.Path.{_≡_, refl, sym, ap, _∙_}
 use mathlib.Core.Bool.{Bool, true, false, _&&_, cond}
 use mathlib.Core.List.{List}
 use native.Mathlib.Omega.{arith}
-use borrow.Author.Tests.{eq-eqb, ne-eqb, eqb-true, ltb-true}
-use lib.Dec.{eqb}
+use borrow.Author.Tests.{eq-eqb, ne-eqb, eqb-true, ltb-true, le-leb}
+use lib.Dec.{leb, eqb}
 use lib.ListN.{length, getD}
 use mir.Syntax.{w8}
 use mir.Val.{Fits}
@@ -14,8 +14,11 @@ use Rattle.wire.specs.Bytes.{Octets}
 use Rattle.table.specs.declared.Sections.{Sections}
 use Rattle.table.specs.declared.Entry.{Entry}
 use Rattle.table.specs.All.{allBelow}
+use Rattle.table.specs.Layout.{mostValues}
 use Rattle.table.specs.Entries.{typeAt, memberAt}
-use Rattle.types.specs.Values.{valueOk, distinct, valuesOk}
+use Rattle.enums.specs.Values.{valueOk, distinct, valuesOk}
+use Rattle.enums.specs.Alike.{valuesApart, enumApart, allApart}
+use Rattle.enums.proofs.Distinctness.{same-below}
 use Rattle.types.specs.Rules.{memberOk, membersOk, pointedOk, typeOk}
 use Rattle.entry_rules.specs.Fields.{fieldsOk}
 use Rattle.types.specs.Inside.{Lying}
@@ -129,8 +132,14 @@ module _ (t : List ℕ) (s : Sections) (i : ℕ) where
   loose-inside e is h k =
       enum-inside s i e true (sym (ap (fieldsOk s i) is ∙ and-left (fieldsOk s i (typeAt t s i)) (cond (eqb (typeAt t s i .kind) 1) (allBelow (valueOk t s (typeAt t s i)) (typeAt t s i .count)) rest) h)) refl k
 
-  pub loose-room : (room : List ℕ) (e : Entry) → e ≡ typeAt t s i → looseOk t s i ≡ true → e .kind ≡ 1 → s .values .count ≤ length room → e .first + e .count ≤ length room
-  loose-room room e is h k l = omega (arith, loose-inside e is h k)
+  -- and so being distinct is all that is left to see of an enum
+  apart-loose : looseOk t s i ≡ true → enumApart t s i ≡ enumDistinct t s i
+  unfolding enumApart valuesApart enumDistinct
+  apart-loose h = go (eqb (typeAt t s i .kind) 1) refl
+    where
+      go : (b : Bool) → eqb (typeAt t s i .kind) 1 ≡ b → cond b (leb (typeAt t s i .first + typeAt t s i .count) (s .values .count) && distinct t s (typeAt t s i)) true ≡ cond b (distinct t s (typeAt t s i)) true
+      go true p = rw (le-leb (typeAt t s i .first + typeAt t s i .count) (s .values .count) (loose-inside (typeAt t s i) refl h (eqb-true (typeAt t s i .kind) 1 p))) refl
+      go false p = refl
 
 -- types that keep their rules, as the sizes want them
 pub kept-record : (t : List ℕ) (s : Sections) (n i m : ℕ) (e : Entry) → Kept t s n → i < n → e ≡ typeAt t s i → m ≡ i → e .kind ≡ 2 → Smaller t s m (e .first) (e .count)
@@ -167,8 +176,14 @@ module _ (t : List ℕ) (s : Sections) (i n : ℕ) (a : allBelow (looseOk t s) i
   pub loose-all : allBelow (looseOk t s) n ≡ true
   loose-all = sym (done-below (looseOk t s) n i a h l)
 
-  pub types-compared : (r : Bool) → r ≡ allBelow (enumDistinct t s) n → r ≡ allBelow (typeOk t s) n
-  types-compared r q = q ∙ both-passes t s n loose-all
+pub types-compared : (t : List ℕ) (s : Sections) (i : ℕ) (r : Bool) → Lying t s → allBelow (looseOk t s) i ≡ true → i ≤ s .types .count → s .types .count ≤ i → r ≡ allApart t s → r ≡ allBelow (typeOk t s) (s .types .count)
+unfolding allApart
+types-compared t s i r l a h g q =
+    let n : ℕ = s .types .count in
+    let b : allBelow (looseOk t s) n ≡ true = loose-all t s i n a h g in
+    (rw (le-leb (s .values .count) mostValues (l .few-values)) at q)
+    ∙ same-below (enumApart t s) (enumDistinct t s) n (λ k j. apart-loose t s k (loose-at t s k n b j))
+    ∙ both-passes t s n b
 
 pub not-risen : (t : List ℕ) (s : Sections) (n : ℕ) → false ≡ true → allBelow (typeOk t s) n ≡ true
 not-risen t s n h = absurd (let z : _≡_ {A = ℕ} 0 1 = cc in omega arith)

@@ -14,17 +14,12 @@ use Rattle.table.specs.Leaf.{isEnumBase, base, inSigned, isValue, allowed}
 use Rattle.wire.specs.Bytes.{Octets}
 use Rattle.table.specs.Layout.{valuePlace}
 use Rattle.table.specs.Entries.{valueAt}
-use Rattle.types.specs.Values.{valueOf, valueOk, unlike, unlikeBefore, distinct, valuesOk}
+use Rattle.enums.specs.Values.{valueOf, valueOk, unlike, unlikeBefore, distinct, valuesOk}
 use Rattle.types.specs.Passes.{offset, top, rank, next, inOrder}
 use Rattle.wire.proofs.Cond.{and-left, and-right}
 use Rattle.wire.proofs.Numbers.{number-lt}
 use Rattle.table.proofs.AllBelow.{all-below, at-below, next-below, stop-below, done-below}
 use Rattle.table.proofs.Rising.{Carried, carried-next, carried-test, rising-apart}
-
--- the value as it is read
-pub judged-value : (t : List ℕ) (s : Sections) (e : Entry) (k v : ℕ) (r : Bool) → v ≡ valueOf t s e k → r ≡ allowed (e .of) v → r ≡ valueOk t s e k
-unfolding valueOk
-judged-value t s e k v r a b = b ∙ ap (allowed (e .of)) a
 
 -- one value after the other, the last of them carried along
 module _ (t : List ℕ) (s : Sections) (e : Entry) (k last v n z m : ℕ) (carried : Carried (rank t s e) k last) (is : v ≡ valueAt t s (e .first + k)) (zero : z ≡ offset (e .of)) (most : m ≡ top (e .of)) (ranked : n ≡ (v + z) % 2 ^ 64) where

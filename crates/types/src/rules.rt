@@ -1,6 +1,5 @@
 // The rules of a type's entry and of what it points to: number 32. Members and values that no type points to are not
 // looked at.
-use crate::alike;
 use crate::inside;
 use crate::values;
 use table::Entry;
@@ -34,7 +33,7 @@ pub(crate) fn types_ok(table: &[u8], s: Sections) -> bool
     if rise {
         true
     } else {
-        alike::all_distinct(table, s)
+        enums::all_distinct(table, s)
     }
 }
 
@@ -63,7 +62,7 @@ fn enum_ok(table: &[u8], s: Sections, i: u16) -> bool
 {
     let e = inside::type_in(table, s, i);
     if entry_rules::fields_ok(s, i, e) & (e.kind == 1) {
-        values::values_allowed(table, s, e)
+        enums::values_allowed(table, s, e)
     } else {
         false
     }

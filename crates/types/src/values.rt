@@ -1,14 +1,10 @@
-// The values of an enum: each is allowed in its base, and no two are alike. Number 32.
+// The values of an enum in order: then each is allowed in its base, and no two are alike. Number 32.
 use crate::inside;
 use table::Entry;
 use table::Sections;
-use table::entries;
-use table::leaf;
 ghost use mathlib.Core.Path.{_≡_};
 ghost use Prim.Native.Nat.{_+_, _≤_};
-ghost use Rattle.table.specs.All.{allBelow};
 ghost use Rattle.types.specs.Inside.{Lying};
-ghost use Rattle.types.specs.Values.{valueOf, valueOk};
 ghost use Rattle.types.specs.Passes.{offset, top, inOrder};
 
 // Whether all are allowed and rise, as those of most enums do: then they are distinct, after one pass.
@@ -60,32 +56,4 @@ fn top(code: u16) -> u64
         9 => 4294967295,
         _ => 18446744073709551615,
     }
-}
-
-pub(crate) fn values_allowed(table: &[u8], s: Sections, e: Entry) -> bool
-    ensures { λ r. ⌜ r ≡ allBelow (valueOk (now (table .entry)) s e) (e .count) ⌝ }
-{
-    let count = e.count;
-    let mut k: u16 = 0;
-    while k < count {
-        if value_ok(table, s, e, k) {
-            k += 1;
-        } else {
-            return false;
-        }
-    }
-    true
-}
-
-fn value_ok(table: &[u8], s: Sections, e: Entry, k: u16) -> bool
-    ensures { λ r. ⌜ r ≡ valueOk (now (table .entry)) s e k ⌝ }
-{
-    leaf::allowed(e.of, value_of(table, s, e, k))
-}
-
-// The k-th value of an enum.
-fn value_of(table: &[u8], s: Sections, e: Entry, k: u16) -> u64
-    ensures { λ r. ⌜ r ≡ valueOf (now (table .entry)) s e k ⌝ }
-{
-    entries::value_at(table, s, e.first as u32 + k as u32)
 }

@@ -8,7 +8,7 @@ use Rattle.table.specs.All.{allBelow}
 use Rattle.types.specs.Rules.{typeOk}
 use Rattle.types.specs.Passes.{looseOk}
 use Rattle.table.proofs.AllBelow.{none-below}
-use Rattle.types.proofs.TypePasses.{quick-loose, quick-next, loose-next, not-risen, types-end, types-rise, loose-all, types-compared}
+use Rattle.types.proofs.TypePasses.{quick-loose, quick-next, loose-next, not-risen, types-end, types-rise, types-compared}
 use Rattle.types.proofs.rules.types_ok.Statement.{statement}
 use Rattle.types.proofs.rules.types_ok.Tie as tie
 
@@ -34,6 +34,6 @@ types-ok-spec =
     (λ c. search needs)
     (λ c. (search needs, loose-next _ _ _ _ (c .before .enum-ok .ensures) (c .if2 .taken) (c .before .before .before .before .before .loop .inv .1), λ h. search not-risen))
     (λ c. search types-end)
-    (λ c κs. (search needs, search loose-all))
+    (λ c κs. search needs)
     (λ c. search types-rise)
     (λ c. search types-compared))

@@ -1,0 +1,2 @@
+mod OnSections
+mod Straight

@@ -1,0 +1,21 @@
+-- `lent_receiving::receive_in` meets its contract.
+-- Assumes nothing.
+use borrow.Author.Needs.{needs}
+use Rattle.lent_receiving.proofs.OnSections.{no-words-in, on-sections, outside, inside, enough-words}
+use Rattle.lent_receiving.proofs.receive_in.Statement.{statement}
+use Rattle.lent_receiving.proofs.receive_in.Tie as tie
+
+pub receive-in-spec : {M : Type 1} → statement M
+receive-in-spec =
+    tie.close
+    (tie.spec
+    (λ c κs. search needs)
+    (λ c. search no-words-in)
+    (λ c κs. search needs)
+    (λ c κs. search needs)
+    (λ c κs. search (inside, enough-words))
+    (λ c. search needs)
+    (λ c. search needs)
+    (λ c. search needs)
+    (λ c. search on-sections)
+    (λ c. search outside))
