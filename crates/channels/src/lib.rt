@@ -1,9 +1,4 @@
-// A joiner's channels: set up, judged and looked up. The joiner itself, which takes datagrams, is `joiner`.
-ghost use mathlib.Core.Path.{_≡_};
-ghost use Prim.Native.Nat.{_≤_};
-ghost use lib.ListN.{length};
-ghost use Rattle.channels.specs.Setup.{channelLimit, newChannel, freshOf, refusedSetup, setupOf};
-
+// A joiner's channels: judged and looked up. `setups` sets them up, and the joiner itself, which takes datagrams, is `joiner`.
 mod records;
 
 pub use records::has_good_sizes;
@@ -54,62 +49,4 @@ pub enum Found {
     Bad,
     Nobody,
     Somebody { at: usize, channel: Channel },
-}
-
-// A fresh joiner for these sender IDs, over a buffer of `buffer` bytes with `room` bytes for each channel; or 20.
-pub fn setup(ids: &[u16], room: u32, buffer: usize) -> NewJoiner
-    ensures { λ r. ⌜ r ≡ setupOf (now (ids .entry)) room buffer ⌝ }
-{
-    if ids.len() <= CHANNELS {
-        let joiner = fresh(ids, room);
-        if is_good(joiner, buffer) {
-            return NewJoiner {
-                answer: Answer::Accepted,
-                joiner,
-            };
-        }
-        return refused_setup();
-    }
-    refused_setup()
-}
-
-fn refused_setup() -> NewJoiner
-    ensures { λ r. ⌜ r ≡ refusedSetup ⌝ }
-{
-    NewJoiner {
-        answer: Answer::Refused(BAD_SETUP),
-        joiner: Joiner {
-            channels: [new_channel(0); CHANNELS],
-            count: 0,
-            room: 0,
-        },
-    }
-}
-
-fn fresh(ids: &[u16], room: u32) -> Joiner
-    requires { ⌜ length (now ids) ≤ channelLimit ⌝ }
-    ensures { λ r. ⌜ r ≡ freshOf (now (ids .entry)) room ⌝ }
-{
-    let mut channels = [new_channel(0); CHANNELS];
-    let mut i = 0;
-    while i < ids.len() {
-        channels[i] = new_channel(ids[i]);
-        i += 1;
-    }
-    Joiner {
-        channels,
-        count: ids.len(),
-        room,
-    }
-}
-
-fn new_channel(sender: u16) -> Channel
-    ensures { λ r. ⌜ r ≡ newChannel sender ⌝ }
-{
-    Channel {
-        sender,
-        seen: false,
-        last: 0,
-        held: 0,
-    }
 }

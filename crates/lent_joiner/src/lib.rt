@@ -39,7 +39,7 @@ pub fn setup(ids: &[u16], room: u32, rooms: usize, state: &mut [u32]) -> u32
     if state.len() < JOINER_WORDS {
         return lent::OUTPUT_TOO_SHORT;
     }
-    let made = channels::setup(ids, room, rooms);
+    let made = setups::setup(ids, room, rooms);
     let answer = made.answer;
     let joiner = made.joiner;
     match answer {

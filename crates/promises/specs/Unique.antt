@@ -36,7 +36,7 @@ use Rattle.binding.proofs.BindingHeader.new.Reads.{Post as binding-BindingHeade
 use Rattle.binding.proofs.BindingHeader.read.Reads.{Post as binding-BindingHeader-read}
 use Rattle.cutter.proofs.pieces.Reads.{Post as cutter-pieces}
 use Rattle.cutter.proofs.cut.Reads.{Post as cutter-cut}
-use Rattle.channels.proofs.setup.Reads.{Post as channels-setup}
+use Rattle.setups.proofs.setup.Reads.{Post as setups-setup}
 use Rattle.taking.proofs.take.Reads.{Post as taking-take}
 use Rattle.taking.proofs.message.Reads.{Post as taking-message}
 use Rattle.types.proofs.check.Reads.{Post as types-check}
@@ -118,7 +118,7 @@ pub record BindingUnique : Type 0 where
   pub cut-out : Lent cutter-cut (λ k e. now (e .1 .1 .1 .1 .1 .0))
 
 pub record JoinerUnique : Type 0 where
-  pub setup : Answer channels-setup
+  pub setup : Answer setups-setup
   pub take : Answer taking-take
   pub take-rooms : Lent taking-take (λ k e. now (e .1 .0))
   pub message : Same taking-message (λ k z e. now z)

@@ -1,14 +1,14 @@
--- `channels::fresh` meets its contract. The loop's invariant: the first i records are those of the first i IDs, and the
+-- `setups::fresh` meets its contract. The loop's invariant: the first i records are those of the first i IDs, and the
 -- others are as they were made.
 -- Assumes nothing.
 use Prim.Native.Nat.{_-_, _≤_}
 use mathlib.Core.Path.{_≡_}
 use borrow.Author.Needs.{needs}
 use lib.ListN.{length}
 use Rattle.channels.specs.Setup.{channelLimit}
-use Rattle.channels.proofs.Making.{madeOf, made-none, made-more, made-all}
-use Rattle.channels.proofs.fresh.Statement.{statement}
-use Rattle.channels.proofs.fresh.Tie as tie
+use Rattle.setups.proofs.Making.{madeOf, made-none, made-more, made-all}
+use Rattle.setups.proofs.fresh.Statement.{statement}
+use Rattle.setups.proofs.fresh.Tie as tie
 
 abbrev Inv-loop : tie.InvT-loop
 Inv-loop ids room channels₀ i₀ channels i = (i ≤ length ids) × (length ids ≤ channelLimit) × (channels ≡ madeOf ids i)

@@ -1,9 +1,9 @@
--- `channels::setup` meets its contract: a fresh joiner that was judged as any is, or the refusal.
+-- `setups::setup` meets its contract: a fresh joiner that was judged as any is, or the refusal.
 -- Assumes nothing.
 use borrow.Author.Needs.{needs}
-use Rattle.channels.proofs.Making.{set-up, not-good, too-many}
-use Rattle.channels.proofs.setup.Statement.{statement}
-use Rattle.channels.proofs.setup.Tie as tie
+use Rattle.setups.proofs.Making.{set-up, not-good, too-many}
+use Rattle.setups.proofs.setup.Statement.{statement}
+use Rattle.setups.proofs.setup.Tie as tie
 
 pub setup-spec : {M : Type 1} → statement M
 setup-spec =
