@@ -2,3 +2,4 @@ pub mod Trees
 pub mod Walks
 pub mod Returns
 pub mod Bases
+pub mod Codes
