@@ -1,7 +1,7 @@
 -- Laws of the base codes that are read at once: how many lead, what they are, and what a caller knows of each.
 -- Assumes nothing.
 use Prim.Native.Nat.{ℕ, zero, suc, _+_, _-_, _*_, _/_, _%_, _≤_, _<_}
-use mathlib.Core.Path.{_≡_, refl, sym, ap, ap₂, _∙_}
+use mathlib.Core.Path.{_≡_, refl, sym, ap, _∙_}
 use mathlib.Core.Bool.{Bool, true, false, _&&_, cond}
 use mathlib.Core.Logic.{⊎-elim}
 use mathlib.Core.List.{List, [], _∷_, _++_}
@@ -55,20 +55,20 @@ module _ (f : ℕ → ℕ) where
   pub leading-most : (n : ℕ) → leading f n ≤ n
   unfolding leading
   leading-most zero = omega arith
-  leading-most (suc n) = go (allBases f (suc n)) refl
+  leading-most (suc n) = go (allBases f (suc n)) refl (leading-most n)
     where
-      go : (b : Bool) → allBases f (suc n) ≡ b → leading f (suc n) ≤ suc n
-      go true a = omega (arith, yes-if (suc n) (leading f n) a)
-      go false a = omega (arith, no-if (suc n) (leading f n) a, leading-most n)
+      go : (b : Bool) → allBases f (suc n) ≡ b → leading f n ≤ n → leading f (suc n) ≤ suc n
+      go true a l = omega (arith, yes-if (suc n) (leading f n) a)
+      go false a l = omega (arith, no-if (suc n) (leading f n) a)
 
   pub leading-base : (n j : ℕ) → j < leading f n → f j < 13
   unfolding leading allBases
   leading-base zero j h = absurd (omega arith)
-  leading-base (suc n) j h = go (allBases f (suc n)) refl
+  leading-base (suc n) j h = go (allBases f (suc n)) refl (leading-base n j)
     where
-      go : (b : Bool) → allBases f (suc n) ≡ b → f j < 13
-      go true a = ltb-true (f j) 13 (at-below (λ k. ltb (f k) noBase) (suc n) j a (omega (arith, yes-if (suc n) (leading f n) a)))
-      go false a = leading-base n j (omega (arith, no-if (suc n) (leading f n) a))
+      go : (b : Bool) → allBases f (suc n) ≡ b → (j < leading f n → f j < 13) → f j < 13
+      go true a r = ltb-true (f j) 13 (at-below (λ k. ltb (f k) noBase) (suc n) j a (omega (arith, yes-if (suc n) (leading f n) a)))
+      go false a r = r (omega (arith, no-if (suc n) (leading f n) a))
 
   -- the first n, one by one
   pub length-firsts : (n : ℕ) → length (firsts f n) ≡ n
@@ -112,12 +112,13 @@ module _ (f : ℕ → ℕ) (s : List ℕ) where
   pub one-stored : {u : List ℕ} (k x : ℕ) → u ≡ over s 0 (firsts f k) → k < length s → x ≡ f k → set u k x ≡ over s 0 (firsts f (k + 1))
   unfolding firsts
   one-stored {u} k x e h g =
-      let b : List ℕ = firsts f k in
       let l : length (firsts f k) ≡ k = length-firsts f k in
       let m : length u ≡ length s = ap length e ∙ length-over s 0 (firsts f k) (omega arith) in
       let n : length (firsts f k ++ (x ∷ [])) ≡ length (firsts f k) + 1 = length-append (firsts f k) (x ∷ []) in
+      let q : k ≡ 0 + length (firsts f k) = omega arith in
       set-over u k x (omega arith)
-      ∙ ap₂ (λ (v : List ℕ) (j : ℕ). over v j (x ∷ [])) e (omega arith)
+      ∙ ap (λ (v : List ℕ). over v k (x ∷ [])) e
+      ∙ ap (λ (j : ℕ). over (over s 0 (firsts f k)) j (x ∷ [])) q
       ∙ over-over s 0 (firsts f k) (x ∷ []) (omega arith)
       ∙ ap (λ (y : ℕ). over s 0 (firsts f k ++ (y ∷ []))) g
       ∙ ap (λ (j : ℕ). over s 0 (firsts f j)) (sym (add-one k))

@@ -3,3 +3,4 @@ pub mod Walks
 pub mod Returns
 pub mod Bases
 pub mod Codes
+pub mod Parts

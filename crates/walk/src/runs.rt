@@ -38,11 +38,11 @@ fn codes_in(types: &[u8], members: &[u8], i: u16, n: usize, codes: &mut [u8]) ->
 {
     let mut k: usize = 0;
     while k < n {
-        let child = wire::u16_at(members, 2 * k);
+        let child = wire::whole_u16(members, 2 * k);
         if i <= child {
             return k;
         }
-        let entry = wire::u64_at(types, 8 * (child as usize));
+        let entry = wire::whole_u64(types, 8 * (child as usize));
         let code = entry % 4294967296 * 4294967296 + entry / 4294967296;
         if NO_BASE as u64 <= code {
             return k;
