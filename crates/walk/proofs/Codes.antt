@@ -1,16 +1,16 @@
 -- Laws of the base codes that are read at once: how many lead, what they are, and what a caller knows of each.
 -- Assumes nothing.
-use Prim.Native.Nat.{ℕ, zero, suc, _+_, _-_, _*_, _/_, _%_, _≤_, _<_}
+use Prim.Native.Nat.{ℕ, zero, suc, _+_, _-_, _≤_, _<_}
 use mathlib.Core.Path.{_≡_, refl, sym, ap, _∙_}
-use mathlib.Core.Bool.{Bool, true, false, _&&_, cond}
+use mathlib.Core.Bool.{Bool, true, false}
 use mathlib.Core.Logic.{⊎-elim}
 use mathlib.Core.List.{List, [], _∷_, _++_}
 use native.Mathlib.Nat.{eq-or-lt-of-le}
 use native.Mathlib.Numerals.{add-one}
 use native.Mathlib.Omega.{arith}
-use borrow.Author.Tests.{ltb-true, ltb-false, lt-ltb, le-ltb, leb-true, leb-false}
-use lib.Dec.{ltb, leb, eqb}
-use lib.ListN.{length, getD, set, take, drop, length-append, List·getD-append}
+use borrow.Author.Tests.{ltb-true, lt-ltb, le-ltb, leb-true, leb-false}
+use lib.Dec.{ltb, leb}
+use lib.ListN.{length, getD, set, drop, length-append, List·getD-append}
 use lib.Seq.{getD-at}
 use Rattle.wire.specs.Bytes.{over}
 use Rattle.wire.proofs.Cond.{yes-if, no-if, yes-le, no-le}
@@ -19,6 +19,7 @@ use Rattle.table.specs.declared.Sections.{Sections}
 use Rattle.table.specs.declared.Entry.{Entry}
 use Rattle.table.specs.All.{allBelow}
 use Rattle.table.proofs.AllBelow.{none-below, next-below, at-below, stop-below}
+use Rattle.table.specs.Layout.{typePlace, memberPlace}
 use Rattle.table.specs.Entries.{memberAt}
 use Rattle.walk.specs.Tree.{noBase, baseAt}
 use Rattle.walk.specs.Codes.{allBases, leading, firsts, codeAt, areThere, smaller, mostCodes, codeCount, codesOf}
@@ -45,8 +46,8 @@ module _ (f : ℕ → ℕ) where
       ⊎-elim
       (λ (g : k ≡ suc n). g ∙ sym (all-lead (suc n) (ap (allBases f) (sym g) ∙ a)))
       (λ (g : k < suc n).
-        up-to n k a e (omega arith)
-        ∙ sym (no-if (suc n) (leading f n) (sym (stop-below (λ j. ltb (f j) noBase) (suc n) k (ltb (f k) noBase) refl (le-ltb (f k) 13 (omega arith)) g))))
+      up-to n k a e (omega arith)
+      ∙ sym (no-if (suc n) (leading f n) (sym (stop-below (λ j. ltb (f j) noBase) (suc n) k (ltb (f k) noBase) refl (le-ltb (f k) 13 (omega arith)) g))))
       (eq-or-lt-of-le l)
 
   pub all-of : (n k : ℕ) → allBases f k ≡ true → k ≤ n → n ≤ k → k ≡ leading f n
@@ -109,12 +110,12 @@ module _ (f : ℕ → ℕ) (s : List ℕ) where
   unfolding firsts
   none-stored = refl
 
-  pub one-stored : {u : List ℕ} (k x : ℕ) → u ≡ over s 0 (firsts f k) → k < length s → x ≡ f k → set u k x ≡ over s 0 (firsts f (k + 1))
+  pub one-stored : {u : List ℕ} (k n x : ℕ) → u ≡ over s 0 (firsts f k) → k < n → n ≤ length s → x ≡ f k → set u k x ≡ over s 0 (firsts f (k + 1))
   unfolding firsts
-  one-stored {u} k x e h g =
+  one-stored {u} k n x e h r g =
       let l : length (firsts f k) ≡ k = length-firsts f k in
       let m : length u ≡ length s = ap length e ∙ length-over s 0 (firsts f k) (omega arith) in
-      let n : length (firsts f k ++ (x ∷ [])) ≡ length (firsts f k) + 1 = length-append (firsts f k) (x ∷ []) in
+      let a : length (firsts f k ++ (x ∷ [])) ≡ length (firsts f k) + 1 = length-append (firsts f k) (x ∷ []) in
       let q : k ≡ 0 + length (firsts f k) = omega arith in
       set-over u k x (omega arith)
       ∙ ap (λ (v : List ℕ). over v k (x ∷ [])) e
@@ -125,3 +126,82 @@ module _ (f : ℕ → ℕ) (s : List ℕ) where
 
   pub so-many : {u : List ℕ} (k n : ℕ) → u ≡ over s 0 (firsts f k) → k ≡ leading f n → u ≡ over s 0 (firsts f (leading f n))
   so-many k n e g = e ∙ ap (λ (j : ℕ). over s 0 (firsts f j)) g
+
+-- the smaller of two
+pub is-left : (a b : ℕ) → a ≤ b → a ≡ smaller a b
+is-left a b h = sym (yes-le a b a b h)
+
+pub is-right : (a b : ℕ) → b < a → b ≡ smaller a b
+is-right a b h = sym (no-le a b a b h)
+
+pub smaller-left : (a b : ℕ) → smaller a b ≤ a
+smaller-left a b = go (leb a b) refl
+  where
+    go : (t : Bool) → leb a b ≡ t → smaller a b ≤ a
+    go true h = omega (arith, yes-if a b h)
+    go false h = omega (arith, no-if a b h, leb-false a b h)
+
+pub smaller-right : (a b : ℕ) → smaller a b ≤ b
+smaller-right a b = go (leb a b) refl
+  where
+    go : (t : Bool) → leb a b ≡ t → smaller a b ≤ b
+    go true h = omega (arith, yes-if a b h, leb-true a b h)
+    go false h = omega (arith, no-if a b h)
+
+-- what a caller knows of the codes that were stored
+module _ (t : List ℕ) (s : Sections) (i : ℕ) (e : Entry) (m room : ℕ) where
+  pub few-codes : codeCount t s i e m room ≤ mostCodes e m room
+  unfolding codeCount
+  few-codes = go (areThere (length t) (typePlace s 0) (memberPlace s (e .first + m)) i (mostCodes e m room)) refl
+    where
+      go : (b : Bool) → areThere (length t) (typePlace s 0) (memberPlace s (e .first + m)) i (mostCodes e m room) ≡ b → codeCount t s i e m room ≤ mostCodes e m room
+      go true h = omega (arith, yes-if (leading (codeAt t s i e m) (mostCodes e m room)) 0 h, leading-most (codeAt t s i e m) (mostCodes e m room))
+      go false h = omega (arith, no-if (leading (codeAt t s i e m) (mostCodes e m room)) 0 h)
+
+  each-base : (j : ℕ) → j < codeCount t s i e m room → codeAt t s i e m j < 13
+  unfolding codeCount
+  each-base j l = go (areThere (length t) (typePlace s 0) (memberPlace s (e .first + m)) i (mostCodes e m room)) refl
+    where
+      go : (b : Bool) → areThere (length t) (typePlace s 0) (memberPlace s (e .first + m)) i (mostCodes e m room) ≡ b → codeAt t s i e m j < 13
+      go true h = leading-base (codeAt t s i e m) (mostCodes e m room) j (omega (arith, yes-if (leading (codeAt t s i e m) (mostCodes e m room)) 0 h))
+      go false h = absurd (omega (arith, no-if (leading (codeAt t s i e m) (mostCodes e m room)) 0 h))
+
+  pub length-codes : length (codesOf t s i e m room) ≡ codeCount t s i e m room
+  unfolding codesOf
+  length-codes = length-firsts (codeAt t s i e m) (codeCount t s i e m room)
+
+  each-code : (j : ℕ) → j < codeCount t s i e m room → getD (codesOf t s i e m room) j 0 ≡ codeAt t s i e m j
+  unfolding codesOf
+  each-code j l = first-at (codeAt t s i e m) (codeCount t s i e m room) j l
+
+module _ (t : List ℕ) (s : Sections) (i : ℕ) (e : Entry) (m r : ℕ) (u : List ℕ) (counts : r ≡ codeCount t s i e m (length u)) where
+  pub codes-fit : r ≤ length u
+  codes-fit = omega (arith, few-codes t s i e m (length u), smaller-left (length u) (e .count - m))
+
+  -- each is of a member
+  pub code-member : (j : ℕ) → j < r → m + j < e .count
+  code-member j h = omega (arith, few-codes t s i e m (length u), smaller-right (length u) (e .count - m))
+
+  module _ (v : List ℕ) (stored : v ≡ over u 0 (codesOf t s i e m (length u))) where
+    pub codes-as-long : length v ≡ length u
+    codes-as-long = ap length stored ∙ length-over u 0 (codesOf t s i e m (length u)) (omega (arith, length-codes t s i e m (length u), codes-fit))
+
+    pub code-there : (j : ℕ) → j < r → j < length v
+    code-there j h = omega (arith, codes-as-long, codes-fit)
+
+    module _ (j code : ℕ) (one : j < r) (read : code ≡ getD v j 0) where
+      is-code : code ≡ codeAt t s i e m j
+      is-code =
+          let l : length (codesOf t s i e m (length u)) ≡ r = length-codes t s i e m (length u) ∙ sym counts in
+          read
+          ∙ ap (λ (w : List ℕ). getD w j 0) stored
+          ∙ List·getD-append (codesOf t s i e m (length u)) (drop (0 + length (codesOf t s i e m (length u))) u) 0 j (omega arith)
+          ∙ each-code t s i e m (length u) j (omega arith)
+
+      -- the base that a walk meets there
+      pub code-is : code ≡ baseAt t s i (memberAt t s (e .first + (m + j)))
+      unfolding codeAt
+      code-is = is-code
+
+      pub code-base : code < 13
+      code-base = omega (arith, is-code, each-base t s i e m (length u) j (omega arith))

@@ -5,11 +5,10 @@ use mathlib.Core.Bool.{Bool, _&&_, cond}
 use mathlib.Core.List.{List, [], _∷_, _++_}
 use lib.Dec.{ltb, leb}
 use lib.ListN.{length}
-use Rattle.table.specs.declared.Section.{Section}
 use Rattle.table.specs.declared.Sections.{Sections}
 use Rattle.table.specs.declared.Entry.{Entry}
 use Rattle.table.specs.All.{allBelow}
-use Rattle.table.specs.Layout.{typePlace, memberPlace}
+use Rattle.table.specs.Layout.{typeWidth, memberWidth, typePlace, memberPlace}
 use Rattle.table.specs.Entries.{memberAt}
 use Rattle.walk.specs.Tree.{noBase, baseAt}
 
@@ -30,9 +29,9 @@ firsts f (suc n) = firsts f n ++ (f n ∷ [])
 unfoldable pub codeAt : List ℕ → Sections → ℕ → Entry → ℕ → ℕ → ℕ
 codeAt t s i e m k = baseAt t s i (memberAt t s (e .first + (m + k)))
 
--- the entries of the types below i, and n members from the m-th on, lie within the table
-unfoldable pub areThere : List ℕ → Sections → ℕ → Entry → ℕ → ℕ → Bool
-areThere t s i e m n = leb (typePlace s i) (length t) && leb (memberPlace s (e .first + (m + n))) (length t)
+-- i types from a on, and n members from b on, lie within so many bytes
+unfoldable pub areThere : ℕ → ℕ → ℕ → ℕ → ℕ → Bool
+areThere len a b i n = leb (a + typeWidth * i) len && leb (b + memberWidth * n) len
 
 abbrev pub smaller : ℕ → ℕ → ℕ
 smaller a b = cond (leb a b) a b
@@ -42,23 +41,45 @@ abbrev pub mostCodes : Entry → ℕ → ℕ → ℕ
 mostCodes e m room = smaller room (e .count - m)
 
 unfoldable pub codeCount : List ℕ → Sections → ℕ → Entry → ℕ → ℕ → ℕ
-codeCount t s i e m room = cond (areThere t s i e m (mostCodes e m room)) (leading (codeAt t s i e m) (mostCodes e m room)) 0
+codeCount t s i e m room =
+    cond (areThere (length t) (typePlace s 0) (memberPlace s (e .first + m)) i (mostCodes e m room))
+    (leading (codeAt t s i e m) (mostCodes e m room))
+    0
 
 unfoldable pub codesOf : List ℕ → Sections → ℕ → Entry → ℕ → ℕ → List ℕ
 codesOf t s i e m room = firsts (codeAt t s i e m) (codeCount t s i e m room)
 
--- the same in two parts of a table, one of nothing but types, and one of nothing but members
-abbrev pub alone : Sections
-alone =
+-- the same by places: types from a on, and members from b on
+abbrev pub placed : ℕ → ℕ → Sections
+placed a b =
     record {
-      types = record { at = 0; count = 0 };
-      members = record { at = 0; count = 0 };
+      types = record { at = a; count = 0 };
+      members = record { at = b; count = 0 };
       values = record { at = 0; count = 0 };
       operations = record { at = 0; count = 0 };
     }
 
+unfoldable pub placedCode : List ℕ → ℕ → ℕ → ℕ → ℕ → ℕ
+placedCode t a b i k = baseAt t (placed a b) i (memberAt t (placed a b) k)
+
+unfoldable pub placedCount : List ℕ → ℕ → ℕ → ℕ → ℕ → ℕ
+placedCount t a b i n = cond (areThere (length t) a b i n) (leading (placedCode t a b i) n) 0
+
+unfoldable pub placedCodes : List ℕ → ℕ → ℕ → ℕ → ℕ → List ℕ
+placedCodes t a b i n = firsts (placedCode t a b i) (placedCount t a b i n)
+
+-- and in two parts of a table, one of nothing but types, and one of nothing but members
+abbrev pub alone : Sections
+alone = placed 0 0
+
 unfoldable pub partCode : List ℕ → List ℕ → ℕ → ℕ → ℕ
 partCode types members i k = baseAt types alone i (memberAt members alone k)
+
+-- places that sections can have, and as many members as a record can
+pub record Places (a b n : ℕ) : Type 0 where
+  pub types-near : a ≤ 65535
+  pub members-near : b ≤ 327675
+  pub few : n ≤ 65535
 
 -- the parts are of i types and n members, for which there is room
 pub record Parts (types members : List ℕ) (i n : ℕ) (codes : List ℕ) : Type 0 where
