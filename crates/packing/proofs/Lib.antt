@@ -1,2 +1,5 @@
 mod WriteReturns
 mod WriteBases
+mod Measures
+mod OneCode
+mod Laid
