@@ -1,21 +1,28 @@
 -- A leaf that is written into a part of the bytes as long as it is.
 -- Assumes nothing.
-use Prim.Native.Nat.{ℕ, _+_, _-_, _%_, _^_, _≤_}
+use Prim.Native.Nat.{ℕ, _+_, _-_, _%_, _^_, _≤_, _<_}
 use mathlib.Core.Path.{_≡_, refl, sym, ap, ap₂, subst, _∙_}
+use mathlib.Core.Bool.{Bool, true, false}
 use mathlib.Core.List.{List, [], _∷_, _++_, append-nil}
 use native.Mathlib.Nat.{add-sub-cancel-left}
 use native.Mathlib.Omega.{arith}
 use borrow.Rule.Slice.PartMut.{putMid}
 use mir.Syntax.{w64}
 use mir.Val.{Fits}
+use lib.Dec.{leb}
 use lib.ListN.{length, set, take, drop, length-drop}
 use lib.Seq.{length-take-le, drop-length, drop-drop}
 use Rattle.wire.specs.Bytes.{span, bytes, over, written}
 use Rattle.wire.proofs.Numbers.{length-bytes}
-use Rattle.wire.proofs.Runs.{written-in, set-over}
-use Rattle.table.specs.Leaf.{width}
+use Rattle.wire.proofs.Runs.{written-in, written-out, over-none, set-over}
+use Rattle.table.specs.Leaf.{base, width}
 use Rattle.leaves.specs.Forms.{formOf}
+use Rattle.leaves.proofs.Leaves.{length-form}
 use Rattle.leaves.proofs.Returns.{put-form, put-whole}
+
+pub length-of : (code w : ℕ) → length (formOf code w) ≡ width code
+unfolding formOf width
+length-of code w = length-form (base code) w
 
 laid : {last : List ℕ} (out : List ℕ) (p n : ℕ) (b : List ℕ) → length b ≡ n → p + n ≤ length out → last ≡ written (take (p + n - p) (drop p out)) 0 b → putMid p (p + n - p) out last ≡ written out p b
 laid {last} out p n b e h w =
@@ -42,3 +49,15 @@ set-form k out p x w n is room q e =
 
 pub set-whole : {last : List ℕ} (out : List ℕ) (p x w n : ℕ) → n ≡ width x → p + width x ≤ length out → n ≡ 8 → Fits w64 w → last ≡ written (take (p + 8 - p) (drop p out)) 0 (bytes 3 w) → putMid p (p + 8 - p) out last ≡ written out p (formOf x w)
 set-whole out p x w n is room q f e = put-whole out p x w n is q f (laid out p 8 (bytes 3 w) (length-bytes 3 w) (omega arith) e)
+
+-- no room for it
+pub put-behind : (s : List ℕ) (p : ℕ) (b : List ℕ) → length s ≤ p → s ≡ written s p b
+put-behind s p [] h = go (leb (p + 0) (length s)) refl
+  where
+    go : (t : Bool) → leb (p + 0) (length s) ≡ t → s ≡ written s p []
+    go true e = rw e (over-none s p [])
+    go false e = rw e refl
+put-behind s p (a ∷ b) h = sym (written-out s p (a ∷ b) (omega arith))
+
+pub put-short : (s : List ℕ) (p x w n : ℕ) → n ≡ width x → length s - p < n → s ≡ written s p (formOf x w)
+put-short s p x w n is h = sym (written-out s p (formOf x w) (omega (arith, length-of x w)))

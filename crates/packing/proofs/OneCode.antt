@@ -13,17 +13,13 @@ use lib.ListN.{length, getD}
 use Rattle.wire.specs.Bytes.{written}
 use Rattle.wire.proofs.Runs.{written-out, length-written}
 use Rattle.table.specs.Leaf.{Leaf, none, codes, base, bytesOf, width}
-use Rattle.leaves.specs.Forms.{form, formOf}
-use Rattle.leaves.proofs.Leaves.{length-form}
+use Rattle.leaves.specs.Forms.{formOf}
 use Rattle.walk.specs.declared.Place.{Place}
 use Rattle.walk.specs.Walk.{Step, on, next, through}
 use Rattle.walk.proofs.Walks.{few-bytes}
 use Rattle.packing.specs.Writing.{Writing, Writes, behind, stored}
 use Rattle.packing.specs.OneCode.{AllThere, behindAll, storedAll}
-
-length-of : (code w : ℕ) → length (formOf code w) ≡ width code
-unfolding formOf width
-length-of code w = length-form (base code) w
+use Rattle.packing.proofs.Laid.{length-of}
 
 -- a base code has a byte at least
 abbrev Wide : List Leaf → Type 0

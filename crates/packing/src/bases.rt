@@ -18,12 +18,16 @@ pub(crate) fn is_there(words: &[u64], from: usize, code: u16) -> bool
     }
 }
 
-// Stores the bytes of a word that is there, where there is room for them.
+// Stores the bytes of a word that is there, where there is room for them. In the first pass, over no room, the first test is all.
 pub(crate) fn put_base(words: &[u64], out: &mut [u8], code: u16, from: usize, to: usize)
     requires { ⌜ from < length (now words) ⌝ }
     ensures { λ _. ⌜ now (out .exit) ≡ written (now (out .entry)) to (formOf code (getD (now (words .entry)) from 0)) ⌝ }
 {
-    leaves::put(out, to, code, words[from]);
+    if to < out.len() {
+        if table::leaf::width(code) <= out.len() - to {
+            set(out, to, code, words[from]);
+        }
+    }
 }
 
 // Writes the bytes of a word for which there is room: each number into a part that is as long as it is, so that no test is left
