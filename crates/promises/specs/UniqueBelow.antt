@@ -4,6 +4,9 @@
 -- (`WhereIDsRise`).
 use denote.Ref.{now}
 use Rattle.promises.specs.Unique.{Same, Answer, Lent}
+use Rattle.wire.proofs.whole_u16.Reads.{Post as wire-whole-u16}
+use Rattle.wire.proofs.whole_u32.Reads.{Post as wire-whole-u32}
+use Rattle.wire.proofs.whole_u64.Reads.{Post as wire-whole-u64}
 use Rattle.channels.proofs.is_good.Reads.{Post as channels-is-good}
 use Rattle.channels.proofs.look.Reads.{Post as channels-look}
 use Rattle.channels.proofs.room_start.Reads.{Post as channels-room-start}
@@ -22,9 +25,12 @@ use Rattle.reactions.proofs.length_of.Reads.{Post as reactions-length-of}
 use Rattle.reactions.proofs.lay.Reads.{Post as reactions-lay}
 use Rattle.reactions.proofs.put_reply.Reads.{Post as reactions-put-reply}
 use Rattle.table.proofs.layout.read.Reads.{Post as table-layout-read}
+use Rattle.table.proofs.layout.type_place.Reads.{Post as table-layout-type-place}
+use Rattle.table.proofs.layout.member_place.Reads.{Post as table-layout-member-place}
 use Rattle.walk.proofs.meet.Reads.{Post as walk-meet}
 use Rattle.walk.proofs.look.Reads.{Post as walk-look}
 use Rattle.walk.proofs.base_at.Reads.{Post as walk-base-at}
+use Rattle.walk.proofs.runs.base_codes.Reads.{Post as walk-runs-base-codes}
 use Rattle.unpacking.proofs.read_type.Reads.{Post as unpacking-read-type}
 use Rattle.packing.proofs.write_type.Reads.{Post as packing-write-type}
 use Rattle.states.proofs.fresh.Reads.{Post as states-fresh}
@@ -61,6 +67,11 @@ use Rattle.lent_platform.proofs.receive.Reads.{Post as lent-platform-receive}
 use Rattle.lent_platform.proofs.is_up.Reads.{Post as lent-platform-is-up}
 use Rattle.lent_platform.proofs.how_many_up.Reads.{Post as lent-platform-how-many-up}
 
+pub record WireUnique : Type 0 where
+  pub whole-u16 : Answer wire-whole-u16
+  pub whole-u32 : Answer wire-whole-u32
+  pub whole-u64 : Answer wire-whole-u64
+
 pub record ChannelsUnique : Type 0 where
   pub is-good : Answer channels-is-good
   pub look : Answer channels-look
@@ -88,11 +99,15 @@ pub record ReactionsUnique : Type 0 where
 
 pub record TableUnique : Type 0 where
   pub read : Answer table-layout-read
+  pub type-place : Answer table-layout-type-place
+  pub member-place : Answer table-layout-member-place
 
 pub record WalkUnique : Type 0 where
   pub meet : Answer walk-meet
   pub look : Answer walk-look
   pub base-at : Answer walk-base-at
+  pub base-codes : Answer walk-runs-base-codes
+  pub base-codes-codes : Lent walk-runs-base-codes (λ k e. now (e .1 .1 .1 .1 .1 .0))
 
 pub record UnpackingUnique : Type 0 where
   pub read-type : Answer unpacking-read-type
@@ -183,6 +198,7 @@ pub record LentPlatformUnique : Type 0 where
   pub how-many-up : Answer lent-platform-how-many-up
 
 pub record UniqueBelow : Type 0 where
+  pub wire : WireUnique
   pub channels : ChannelsUnique
   pub joiner : JoinerUnique
   pub message : MessageUnique
