@@ -24,6 +24,9 @@ const COUNT_BYTES: usize = 4;
 
 const COUNT_WORDS: usize = 1;
 
+// How many members' codes are got at once.
+const CODES: usize = 64;
+
 // How far a run of leaves was written: up to which member or element, and where it ends.
 struct Run {
     upto: u64,
@@ -203,7 +206,8 @@ fn word_at(words: &[u64], at: usize) -> u64
     if at < words.len() { words[at] } else { 0 }
 }
 
-// Writes a record's members from the k-th on, up to one that is no base, or whose word is refused: most members are bases.
+// Writes a record's members from the k-th on, up to one that is no base, or whose word is refused: most members are bases. Their
+// codes are got first, so that the loop over the words reads nothing of the table.
 fn write_bases(
     table: &[u8],
     s: Sections,
@@ -219,24 +223,9 @@ fn write_bases(
     ensures { λ _. ⌜ length (now (out .exit)) ≡ length (now (out .entry)) ⌝ }
     ensures { λ r. ⌜ Goes (memberWritten (now (words .entry)) (now (table .entry)) s i e) from p (now (out .entry)) (r .upto) (r .at) (now (out .exit)) ⌝ }
 {
-    let count = e.count as u64;
-    let mut at = p;
-    let mut k = from;
-    while k < count {
-        let child = table::entries::member_at(table, s, e.first as u32 + k as u32);
-        let code = walk::base_at(table, s, i, child);
-        if bases::is_there(words, at.from, code) {
-            bases::put_base(words, out, code, at.from, at.to);
-            at = Place {
-                from: at.from + 1,
-                to: at.to + table::leaf::width(code),
-            };
-            k += 1;
-        } else {
-            return Run { upto: k, at };
-        }
-    }
-    Run { upto: k, at }
+    let mut codes = [0u8; CODES];
+    let n = walk::runs::base_codes(table, s, i, e, from as u32, &mut codes);
+    bases::write_codes(words, out, &codes[..n], from, p)
 }
 
 // Writes the elements of an array of one base code, where all their words are there and taken, and else none: then it is for the
