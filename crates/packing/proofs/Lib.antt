@@ -1,2 +1,5 @@
 mod WriteReturns
 mod WriteBases
+mod Laid
+mod Measures
+mod OneCode

@@ -1,5 +1,5 @@
 -- 01, "Payload and words": writing a payload.
-use Prim.Native.Nat.{ℕ, _+_, _*_, _≤_}
+use Prim.Native.Nat.{ℕ, _+_, _*_, _≤_, _<_}
 use mathlib.Core.Path.{_≡_}
 use mathlib.Core.Bool.{Bool, true, _&&_}
 use mathlib.Core.List.{List}
@@ -43,6 +43,10 @@ stored ws code p x = written x (p .to) (formOf code (getD ws (p .from) 0))
 -- each step of a walk writes a leaf of that code, where its word is there
 abbrev pub Writes : List ℕ → ℕ → (ℕ → Place → List ℕ → Step) → Type 0
 Writes ws code f = (k : ℕ) (q : Place) (y : List ℕ) → isThere ws code (q .from) ≡ true → f k q y ≡ on (behind code q) (stored ws code q y)
+
+-- each step from the m-th on writes a leaf of the next code
+abbrev pub WritesEach : List ℕ → List ℕ → ℕ → (ℕ → Place → List ℕ → Step) → Type 0
+WritesEach ws codes m f = (k : ℕ) (q : Place) (y : List ℕ) → k < length codes → isThere ws (getD codes k 0) (q .from) ≡ true → f (m + k) q y ≡ on (behind (getD codes k 0) q) (stored ws (getD codes k 0) q y)
 
 -- the step over a record's k-th member
 abbrev pub memberWritten : List ℕ → List ℕ → Sections → ℕ → Entry → ℕ → Place → List ℕ → Step

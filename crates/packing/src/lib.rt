@@ -1,6 +1,7 @@
 // Writing a payload: the writer of a record's members and the writer of an array's elements call each other, each by the kind
 // of what it meets, and the type number falls at each entry.
 mod bases;
+mod runs;
 
 use table::Entry;
 use table::Sections;
@@ -9,7 +10,7 @@ use walk::Place;
 use walk::Walked;
 ghost use mathlib.Core.Path.{_≡_};
 ghost use mathlib.Core.List.{List};
-ghost use Prim.Native.Nat.{ℕ, _≤_};
+ghost use Prim.Native.Nat.{ℕ, _≤_, _<_};
 ghost use lib.ListN.{length, getD};
 ghost use Rattle.walk.specs.declared.Place.{Place};
 ghost use Rattle.walk.specs.declared.Met.the-variants.{Members, Elements};
@@ -22,6 +23,9 @@ const COUNT_CODE: u16 = 9;
 const COUNT_BYTES: usize = 4;
 
 const COUNT_WORDS: usize = 1;
+
+// How many members' codes are got at once.
+const CODES: usize = 64;
 
 // How far a run of leaves was written: up to which member or element, and where it ends.
 struct Run {
@@ -202,7 +206,8 @@ fn word_at(words: &[u64], at: usize) -> u64
     if at < words.len() { words[at] } else { 0 }
 }
 
-// Writes a record's members from the k-th on, up to one that is no base, or whose word is refused: most members are bases.
+// Writes a record's members from the k-th on, up to one that is no base, or whose word is refused: most members are bases. Their
+// codes are got first, so that the loop over the words reads nothing of the table.
 fn write_bases(
     table: &[u8],
     s: Sections,
@@ -218,28 +223,13 @@ fn write_bases(
     ensures { λ _. ⌜ length (now (out .exit)) ≡ length (now (out .entry)) ⌝ }
     ensures { λ r. ⌜ Goes (memberWritten (now (words .entry)) (now (table .entry)) s i e) from p (now (out .entry)) (r .upto) (r .at) (now (out .exit)) ⌝ }
 {
-    let count = e.count as u64;
-    let mut at = p;
-    let mut k = from;
-    while k < count {
-        let child = table::entries::member_at(table, s, e.first as u32 + k as u32);
-        let code = walk::base_at(table, s, i, child);
-        if bases::is_there(words, at.from, code) {
-            bases::put_base(words, out, code, at.from, at.to);
-            at = Place {
-                from: at.from + 1,
-                to: at.to + table::leaf::width(code),
-            };
-            k += 1;
-        } else {
-            return Run { upto: k, at };
-        }
-    }
-    Run { upto: k, at }
+    let mut codes = [0u8; CODES];
+    let n = walk::runs::base_codes(table, s, i, e, from as u32, &mut codes);
+    bases::write_codes(words, out, &codes[..n], from, p)
 }
 
-// Writes elements of one base code, up to one whose word is refused. A call for each code, so that the compiler makes a loop for
-// each.
+// Writes the elements of an array of one base code, where all their words are there and taken, and else none: then it is for the
+// walk to say which is refused. A call for each code, so that the compiler makes its own loops of each.
 fn write_run(words: &[u64], out: &mut [u8], code: u16, count: u64, p: Place) -> Run
     requires { ⌜ Writing (now words) p ⌝ }
     ensures { λ r. ⌜ (r .upto ≤ count) × Writing (now (words .entry)) (r .at) ⌝ }
@@ -265,24 +255,27 @@ fn write_run(words: &[u64], out: &mut [u8], code: u16, count: u64, p: Place) -> 
 }
 
 fn write_each(words: &[u64], out: &mut [u8], code: u16, count: u64, p: Place) -> Run
-    requires { ⌜ Writing (now words) p ⌝ }
+    requires { ⌜ Writing (now words) p × (code < 13) ⌝ }
     ensures { λ r. ⌜ (r .upto ≤ count) × Writing (now (words .entry)) (r .at) ⌝ }
     ensures { λ _. ⌜ length (now (out .exit)) ≡ length (now (out .entry)) ⌝ }
     ensures { λ r. ⌜ ((f : ℕ → Place → List ℕ → Step) → Writes (now (words .entry)) code f → through (r .upto) f p (now (out .entry)) ≡ on (r .at) (now (out .exit))) ⌝ }
 {
-    let mut at = p;
-    let mut k: u64 = 0;
-    while k < count {
-        if bases::is_there(words, at.from, code) {
-            bases::put_base(words, out, code, at.from, at.to);
-            at = Place {
-                from: at.from + 1,
-                to: at.to + table::leaf::width(code),
-            };
-            k += 1;
-        } else {
-            return Run { upto: k, at };
-        }
+    let left = words.len() - p.from;
+    if (left as u64) < count {
+        return Run { upto: 0, at: p };
     }
-    Run { upto: k, at }
+    let whole = count as usize;
+    if runs::judged(words, p.from, code, whole) {
+        runs::store(words, out, code, whole, p);
+        let width = table::leaf::width(code);
+        Run {
+            upto: count,
+            at: Place {
+                from: p.from + whole,
+                to: p.to + whole * width,
+            },
+        }
+    } else {
+        Run { upto: 0, at: p }
+    }
 }

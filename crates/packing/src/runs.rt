@@ -1,0 +1,98 @@
+// A run of words of one base code, judged in one loop and stored in another: with no test inside, so that the compiler goes over
+// several words at once.
+use crate::bases;
+use walk::Place;
+ghost use mathlib.Core.Path.{_≡_};
+ghost use mathlib.Core.Bool.{true};
+ghost use Prim.Native.Nat.{_+_, _*_, _≤_, _<_};
+ghost use lib.ListN.{length};
+ghost use Rattle.table.specs.Leaf.{width, allowed};
+ghost use Rattle.packing.specs.OneCode.{AllThere, storedAll, limitOf};
+
+// Whether the code takes every word: where each measure is below the limit, which is a power of two, so are they put together.
+pub(crate) fn judged(words: &[u64], from: usize, code: u16, count: usize) -> bool
+    requires { ⌜ from + count ≤ length (now words) ⌝ }
+    ensures { λ r. ⌜ (r ≡ true → AllThere (now (words .entry)) code from count) ⌝ }
+{
+    let mut all: u64 = 0;
+    let mut k = 0;
+    while k < count {
+        all = all | measure(code, words[from + k]);
+        k += 1;
+    }
+    all < limit(code)
+}
+
+// A number that is below the code's limit only where the code takes the word. A signed word is moved up by half the code's
+// numbers; of a float the sign goes, and an exponent of all ones carries into its place.
+fn measure(code: u16, word: u64) -> u64
+    ensures { λ r. ⌜ (r < limitOf code → allowed code word ≡ true) ⌝ }
+{
+    match code {
+        0 => word,
+        1 => std::num::wrapping_add_u64(word, 128),
+        2 => word,
+        3 => std::num::wrapping_add_u64(word, 32768),
+        4 => std::num::wrapping_add_u64(word, 2147483648),
+        5 => 0,
+        6 => word,
+        7 => word,
+        8 => word,
+        9 => word,
+        10 => 0,
+        11 => word - word / 2147483648 % 2 * 2147483648 + 8388608,
+        12 => word % 9223372036854775808 + 4503599627370496,
+        _ => 18446744073709551615,
+    }
+}
+
+fn limit(code: u16) -> u64
+    ensures { λ r. ⌜ r ≤ limitOf code ⌝ }
+{
+    match code {
+        0 => 2,
+        1 => 256,
+        2 => 256,
+        3 => 65536,
+        4 => 4294967296,
+        5 => 1,
+        6 => 256,
+        7 => 256,
+        8 => 65536,
+        9 => 4294967296,
+        10 => 1,
+        11 => 2147483648,
+        12 => 9223372036854775808,
+        _ => 0,
+    }
+}
+
+// Stores as many leaves as there is room for.
+pub(crate) fn store(words: &[u64], out: &mut [u8], code: u16, count: usize, p: Place)
+    requires { ⌜ (code < 13) × (p .from + count ≤ length (now words)) ⌝ }
+    ensures { λ _. ⌜ now (out .exit) ≡ storedAll (now (words .entry)) code p count (now (out .entry)) ⌝ }
+{
+    if p.to < out.len() {
+        let room = (out.len() - p.to) / table::leaf::width(code);
+        store_each(words, out, code, least(room, count), p);
+    }
+}
+
+fn least(a: usize, b: usize) -> usize
+    ensures { λ r. ⌜ (r ≤ a) × (r ≤ b) × (r < b → r ≡ a) ⌝ }
+{
+    if a < b { a } else { b }
+}
+
+fn store_each(words: &[u64], out: &mut [u8], code: u16, count: usize, p: Place)
+    requires { ⌜ (p .from + count ≤ length (now words)) × (p .to + count * width code ≤ length (now out)) ⌝ }
+    ensures { λ _. ⌜ now (out .exit) ≡ storedAll (now (words .entry)) code p count (now (out .entry)) ⌝ }
+{
+    let width = table::leaf::width(code);
+    let mut k = 0;
+    while k < count {
+        let from = p.from + k;
+        bases::set(out, p.to + k * width, code, words[from]);
+        k += 1;
+    }
+}
