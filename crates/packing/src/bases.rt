@@ -11,7 +11,7 @@ pub(crate) fn is_there(words: &[u64], from: usize, code: u16) -> bool
     ensures { λ r. ⌜ r ≡ isThere (now (words .entry)) code from ⌝ }
 {
     if from < words.len() {
-        table::leaf::allowed(code, words[from])
+        codes::allowed(code, words[from])
     } else {
         false
     }

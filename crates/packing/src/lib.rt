@@ -181,7 +181,7 @@ fn write_leaf(
     if p.from < words.len() {
         let word = word_at(words, p.from);
         if leaves::takes(table, s, e, word) {
-            let width = table::leaf::width(e.of);
+            let width = codes::width(e.of);
             leaves::put(out, p.to, e.of, word);
             Walked::Went(Place {
                 from: p.from + 1,
@@ -228,7 +228,7 @@ fn write_bases(
             bases::put_base(words, out, code, at.from, at.to);
             at = Place {
                 from: at.from + 1,
-                to: at.to + table::leaf::width(code),
+                to: at.to + codes::width(code),
             };
             k += 1;
         } else {
@@ -277,7 +277,7 @@ fn write_each(words: &[u64], out: &mut [u8], code: u16, count: u64, p: Place) ->
             bases::put_base(words, out, code, at.from, at.to);
             at = Place {
                 from: at.from + 1,
-                to: at.to + table::leaf::width(code),
+                to: at.to + codes::width(code),
             };
             k += 1;
         } else {
