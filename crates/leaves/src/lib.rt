@@ -36,7 +36,7 @@ pub fn word_at(s: &[u8], at: usize, code: u16) -> u64
 pub fn put(s: &mut [u8], at: usize, code: u16, word: u64)
     ensures { λ _. ⌜ now (s .exit) ≡ written (now (s .entry)) at (formOf code word) ⌝ }
 {
-    let width = table::leaf::width(code);
+    let width = codes::width(code);
     match width {
         1 => wire::put_u8(s, at, (word % 256) as u8),
         2 => wire::put_u16(s, at, (word % 65536) as u16),
@@ -50,7 +50,7 @@ pub fn put(s: &mut [u8], at: usize, code: u16, word: u64)
 pub fn takes(table: &[u8], s: Sections, e: Entry, word: u64) -> bool
     ensures { λ r. ⌜ r ≡ takes (now (table .entry)) s e word ⌝ }
 {
-    if table::leaf::allowed(e.of, word) {
+    if codes::allowed(e.of, word) {
         if e.kind == table::ENUM {
             among(table, s, e, word)
         } else {

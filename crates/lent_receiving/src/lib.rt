@@ -23,7 +23,7 @@ pub fn receive_in(
         return lent::OUTPUT_TOO_SHORT;
     }
     let s = lent_tables::sections_in(sections);
-    if table::layout::within(table, s) {
+    if sections::within(table, s) {
         receiving::received(
             Own { platform: own },
             platform,

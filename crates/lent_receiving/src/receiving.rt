@@ -58,7 +58,7 @@ fn on_operation(
     ensures { λ r. ⌜ ReceivedIn (own .platform) (now (table .entry)) s (now (platform .entry)) (now (message .entry)) (now (out .entry)) (now (answer .entry)) r (now (platform .exit)) (now (out .exit)) (now (answer .exit)) ⌝ }
 {
     let id = wire::u32_at(message, Header::ID_AT);
-    match table::operations::find(table, s, id) {
+    match lookup::find(table, s, id) {
         Found::At(entry) => {
             let sender = wire::u32_at(message, Header::PLATFORM_AT);
             let length = wire::u32_at(message, Header::PAYLOAD_SIZE_AT) as usize;

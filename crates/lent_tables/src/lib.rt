@@ -63,8 +63,8 @@ pub fn find(table: &[u8], sections: &[u64], id: u32, answer: &mut [u64]) -> u32
         return lent::OUTPUT_TOO_SHORT;
     }
     let s = sections_in(sections);
-    if table::layout::within(table, s) {
-        match table::operations::find(table, s, id) {
+    if sections::within(table, s) {
+        match lookup::find(table, s, id) {
             Found::At(i) => {
                 let operation = table::entries::operation_at(table, s, i);
                 let words = [FOUND, operation.kind as u64, operation.carries as u64];

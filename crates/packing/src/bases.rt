@@ -27,7 +27,7 @@ pub(crate) fn write_codes(words: &[u64], out: &mut [u8], codes: &[u8], from: u64
             put_base(words, out, code, at.from, at.to);
             at = Place {
                 from: at.from + 1,
-                to: at.to + table::leaf::width(code),
+                to: at.to + codes::width(code),
             };
             k += 1;
         } else {
@@ -48,7 +48,7 @@ pub(crate) fn is_there(words: &[u64], from: usize, code: u16) -> bool
     ensures { λ r. ⌜ r ≡ isThere (now (words .entry)) code from ⌝ }
 {
     if from < words.len() {
-        table::leaf::allowed(code, words[from])
+        codes::allowed(code, words[from])
     } else {
         false
     }
@@ -60,7 +60,7 @@ pub(crate) fn put_base(words: &[u64], out: &mut [u8], code: u16, from: usize, to
     ensures { λ _. ⌜ now (out .exit) ≡ written (now (out .entry)) to (formOf code (getD (now (words .entry)) from 0)) ⌝ }
 {
     if to < out.len() {
-        if table::leaf::width(code) <= out.len() - to {
+        if codes::width(code) <= out.len() - to {
             set(out, to, code, words[from]);
         }
     }
@@ -72,7 +72,7 @@ pub(crate) fn set(out: &mut [u8], at: usize, code: u16, word: u64)
     requires { ⌜ at + width code ≤ length (now out) ⌝ }
     ensures { λ _. ⌜ now (out .exit) ≡ written (now (out .entry)) at (formOf code word) ⌝ }
 {
-    let width = table::leaf::width(code);
+    let width = codes::width(code);
     match width {
         1 => out[at] = (word % 256) as u8,
         2 => wire::put_u16(&mut out[at..at + 2], 0, (word % 65536) as u16),

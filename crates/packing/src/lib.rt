@@ -185,7 +185,7 @@ fn write_leaf(
     if p.from < words.len() {
         let word = word_at(words, p.from);
         if leaves::takes(table, s, e, word) {
-            let width = table::leaf::width(e.of);
+            let width = codes::width(e.of);
             leaves::put(out, p.to, e.of, word);
             Walked::Went(Place {
                 from: p.from + 1,
@@ -267,7 +267,7 @@ fn write_each(words: &[u64], out: &mut [u8], code: u16, count: u64, p: Place) ->
     let whole = count as usize;
     if runs::judged(words, p.from, code, whole) {
         runs::store(words, out, code, whole, p);
-        let width = table::leaf::width(code);
+        let width = codes::width(code);
         Run {
             upto: count,
             at: Place {

@@ -73,7 +73,7 @@ pub(crate) fn store(words: &[u64], out: &mut [u8], code: u16, count: usize, p: P
     ensures { λ _. ⌜ now (out .exit) ≡ storedAll (now (words .entry)) code p count (now (out .entry)) ⌝ }
 {
     if p.to < out.len() {
-        let room = (out.len() - p.to) / table::leaf::width(code);
+        let room = (out.len() - p.to) / codes::width(code);
         store_each(words, out, code, least(room, count), p);
     }
 }
@@ -88,7 +88,7 @@ fn store_each(words: &[u64], out: &mut [u8], code: u16, count: usize, p: Place)
     requires { ⌜ (p .from + count ≤ length (now words)) × (p .to + count * width code ≤ length (now out)) ⌝ }
     ensures { λ _. ⌜ now (out .exit) ≡ storedAll (now (words .entry)) code p count (now (out .entry)) ⌝ }
 {
-    let width = table::leaf::width(code);
+    let width = codes::width(code);
     let mut k = 0;
     while k < count {
         let from = p.from + k;

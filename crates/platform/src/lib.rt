@@ -87,7 +87,7 @@ pub fn receive_checked(
 ) -> Outcome
     ensures { λ r. ⌜ Received (own .platform) (now (table .entry)) s standing (now (message .entry)) (now (out .entry)) r (now (out .exit)) ⌝ }
 {
-    if table::layout::within(table, s) {
+    if sections::within(table, s) {
         received(own, table, s, standing, message, out)
     } else {
         refused(standing, CUT_SHORT)

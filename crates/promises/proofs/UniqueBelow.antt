@@ -52,6 +52,7 @@ reactions =
 table : TableUnique
 table =
     record {
+      end = λ k a z z′ e e′ p q. p ∙ sym q;
       read = λ k a z z′ e e′ p q. p ∙ sym q;
       type-place = λ k a z z′ e e′ p q. p ∙ sym q;
       member-place = λ k a z z′ e e′ p q. p ∙ sym q;

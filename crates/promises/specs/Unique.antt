@@ -46,9 +46,9 @@ use Rattle.table.proofs.entries.member_at.Reads.{Post as table-entries-member-a
 use Rattle.table.proofs.entries.value_at.Reads.{Post as table-entries-value-at}
 use Rattle.table.proofs.entries.operation_at.Reads.{Post as table-entries-operation-at}
 use Rattle.table.proofs.entries.id_at.Reads.{Post as table-entries-id-at}
-use Rattle.table.proofs.layout.within.Reads.{Post as table-layout-within}
-use Rattle.table.proofs.leaf.width.Reads.{Post as table-leaf-width}
-use Rattle.table.proofs.leaf.allowed.Reads.{Post as table-leaf-allowed}
+use Rattle.sections.proofs.within.Reads.{Post as sections-within}
+use Rattle.codes.proofs.width.Reads.{Post as codes-width}
+use Rattle.codes.proofs.allowed.Reads.{Post as codes-allowed}
 use Rattle.entry_rules.proofs.fields_ok.Reads.{Post as entry-rules-fields-ok}
 use Rattle.types.proofs.sizes.largest.Reads.{Post as types-sizes-largest}
 use Rattle.leaves.proofs.word_at.Reads.{Post as leaves-word-at}
@@ -70,7 +70,7 @@ use Rattle.blocks.proofs.keep.Reads.{Post as blocks-keep}
 use Rattle.lines.proofs.put_line.Reads.{Post as lines-put-line}
 use Rattle.lines.proofs.put_ending.Reads.{Post as lines-put-ending}
 use Rattle.recording.specs.Play.{stateOf}
-use Rattle.table.proofs.operations.find.Reads.{Post as table-operations-find}
+use Rattle.lookup.proofs.find.Reads.{Post as lookup-find}
 use Rattle.platform.proofs.receive_checked.Reads.{Post as platform-receive-checked}
 
 -- two outcomes for the same arguments agree on what is seen of them
@@ -131,9 +131,9 @@ pub record TypesUnique : Type 0 where
   pub value-at : Answer table-entries-value-at
   pub operation-at : Answer table-entries-operation-at
   pub id-at : Answer table-entries-id-at
-  pub within : Answer table-layout-within
-  pub width : Answer table-leaf-width
-  pub allowed : Answer table-leaf-allowed
+  pub within : Answer sections-within
+  pub width : Answer codes-width
+  pub allowed : Answer codes-allowed
   pub fields-ok : Answer entry-rules-fields-ok
   pub largest : Answer types-sizes-largest
 
@@ -175,7 +175,7 @@ pub record RecordingUnique : Type 0 where
 -- the ID. Where the IDs rise, as they do on a table that `check` accepts, there is one, and the call on sections answers and
 -- leaves what the call on the bytes does
 pub record WhereIDsRise : Type 0 where
-  pub find : SameWhere table-operations-find (λ k a. idsRise (now (a .0)) (a .1 .0) ≡ true) (λ k z e. z)
+  pub find : SameWhere lookup-find (λ k a. idsRise (now (a .0)) (a .1 .0) ≡ true) (λ k z e. z)
   pub receive-checked : SameWhere platform-receive-checked (λ k a. idsRise (now (a .1 .0)) (a .1 .1 .0) ≡ true) (λ k z e. z)
   pub receive-checked-out : SameWhere platform-receive-checked (λ k a. idsRise (now (a .1 .0)) (a .1 .1 .0) ≡ true) (λ k z e. now (e .1 .1 .1 .1 .1 .0))
   pub accepted-rise : (t : List ℕ) (s : Sections) → checked t ≡ Table s → idsRise t s ≡ true

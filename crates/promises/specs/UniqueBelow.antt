@@ -25,7 +25,8 @@ use Rattle.reactions.proofs.reaction_to.Reads.{Post as reactions-reaction-to}
 use Rattle.reactions.proofs.length_of.Reads.{Post as reactions-length-of}
 use Rattle.reactions.proofs.lay.Reads.{Post as reactions-lay}
 use Rattle.reactions.proofs.put_reply.Reads.{Post as reactions-put-reply}
-use Rattle.table.proofs.layout.read.Reads.{Post as table-layout-read}
+use Rattle.table.proofs.layout.end.Reads.{Post as table-layout-end}
+use Rattle.sections.proofs.read.Reads.{Post as sections-read}
 use Rattle.enums.proofs.values_allowed.Reads.{Post as enums-values-allowed}
 use Rattle.enums.proofs.all_distinct.Reads.{Post as enums-all-distinct}
 use Rattle.table.proofs.layout.type_place.Reads.{Post as table-layout-type-place}
@@ -111,7 +112,8 @@ pub record ReactionsUnique : Type 0 where
   pub put-reply-out : Lent reactions-put-reply (λ k e. now (e .1 .1 .0))
 
 pub record TableUnique : Type 0 where
-  pub read : Answer table-layout-read
+  pub end : Answer table-layout-end
+  pub read : Answer sections-read
   pub type-place : Answer table-layout-type-place
   pub member-place : Answer table-layout-member-place
 

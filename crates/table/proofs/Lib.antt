@@ -3,6 +3,5 @@ pub mod AllBelow
 pub mod Rising
 pub mod Places
 pub mod Lookups
-pub mod Halving
 pub mod Chain
 pub mod Unique

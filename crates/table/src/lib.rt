@@ -1,10 +1,8 @@
-// The bytes of a type table (01, "The type table"): where its four sections lie, what stands in each entry, what a base code
-// is, and an operation looked up by its ID. Nothing here judges an entry. Bytes that are no table's are refused: 30 cut short
-// or too long, 31 a count outside its limits.
+// The bytes of a type table (01, "The type table"): where the entries of its four sections stand, and what stands in each.
+// Nothing here judges an entry. All definitions of such bytes are here, and crates of their own have what is made of them:
+// `sections` reads where the sections lie, `codes` the base codes, `lookup` an operation by its ID.
 pub mod entries;
 pub mod layout;
-pub mod leaf;
-pub mod operations;
 
 // 01, Numbers given back.
 pub const CUT_SHORT: u32 = 30;
@@ -62,7 +60,7 @@ pub enum Found {
 }
 
 // What reading a section finds.
-enum Part {
+pub enum Part {
     Missing(u32),
     Found(Section),
 }

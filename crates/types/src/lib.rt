@@ -27,7 +27,7 @@ pub enum Largest {
 pub fn check(table: &[u8]) -> Checked
     ensures { λ r. ⌜ r ≡ checked (now (table .entry)) ⌝ }
 {
-    match table::layout::read(table) {
+    match sections::read(table) {
         Checked::Refused(n) => Checked::Refused(n),
         Checked::Table(s) => judged(table, s),
     }

@@ -70,7 +70,7 @@ fn answer_operations(table: &[u8], s: table::Sections) {
     io::write_all(STDOUT_FILENO, b", found");
     for i in 0..count {
         let id = table::entries::id_at(table, s, i);
-        answer_found(table::operations::find(table, s, id));
+        answer_found(lookup::find(table, s, id));
     }
 }
 

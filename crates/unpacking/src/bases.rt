@@ -16,13 +16,13 @@ pub(crate) fn is_there(payload: &[u8], from: usize, code: u16) -> bool
     requires { ⌜ from ≤ length (now payload) ⌝ }
     ensures { λ r. ⌜ r ≡ isThere (now (payload .entry)) code from ⌝ }
 {
-    if payload.len() - from < table::leaf::width(code) {
+    if payload.len() - from < codes::width(code) {
         return false;
     }
     if code < FLOAT32 {
         return true;
     }
-    table::leaf::allowed(code, word_in(payload, from, code))
+    codes::allowed(code, word_in(payload, from, code))
 }
 
 // Stores the word of a leaf that is there, where there is room for it.

@@ -177,7 +177,7 @@ fn read_leaf(
     ensures { λ r. ⌜ r ≡ answer (leafWalk (reader (now (payload .entry))) (now (table .entry)) s e p (now (words .entry))) ⌝ }
     ensures { λ _. ⌜ now (words .exit) ≡ left (leafWalk (reader (now (payload .entry))) (now (table .entry)) s e p (now (words .entry))) ⌝ }
 {
-    let width = table::leaf::width(e.of);
+    let width = codes::width(e.of);
     if wire::has_room(payload.len(), p.from, width) {
         let word = leaves::word_at(payload, p.from, e.of);
         if leaves::takes(table, s, e, word) {
@@ -228,7 +228,7 @@ fn read_bases(
         if bases::is_there(payload, at.from, code) {
             bases::put_base(payload, words, code, at.from, at.to);
             at = Place {
-                from: at.from + table::leaf::width(code),
+                from: at.from + codes::width(code),
                 to: at.to + 1,
             };
             k += 1;
@@ -272,7 +272,7 @@ fn read_each(payload: &[u8], words: &mut [u64], code: u16, count: u32, p: Place)
         if bases::is_there(payload, at.from, code) {
             bases::put_base(payload, words, code, at.from, at.to);
             at = Place {
-                from: at.from + table::leaf::width(code),
+                from: at.from + codes::width(code),
                 to: at.to + 1,
             };
             k += 1;
