@@ -1,18 +1,18 @@
--- What a recording says stays as it is when more bytes come, and wherever in a buffer its bytes lie: only what was
+-- What a recording says of its datagrams stays as it is when more bytes come, and wherever in a buffer its bytes lie: only what was
 -- unfinished, or nothing, can become something else. So it does not matter in which blocks a recording is read.
 -- Assumes nothing.
 use Prim.Native.Nat.{ℕ, zero, suc, _+_, _-_, _≤_, _<_}
 use mathlib.Core.Path.{_≡_, refl, sym, ap, _∙_}
 use mathlib.Core.Bool.{Bool, true, false}
-use mathlib.Core.List.{List, [], _∷_, _++_}
+use mathlib.Core.List.{List, _++_}
 use native.Mathlib.Omega.{arith}
-use borrow.Author.Tests.{leb-true, leb-false, ltb-true, ltb-false}
-use lib.Dec.{leb, ltb}
+use borrow.Author.Tests.{leb-true, leb-false}
+use lib.Dec.{leb}
 use lib.ListN.{length, take, drop, length-append, length-drop}
 use lib.Seq.{take-append-le, drop-append-le}
 use Rattle.wire.specs.Bytes.{number, part}
 use Rattle.wire.proofs.Cond.{yes-if, no-if}
-use Rattle.wire.proofs.Numbers.{number-front, number-drop}
+use Rattle.wire.proofs.Numbers.{number-drop}
 use Rattle.wire.proofs.Runs.{part-in}
 use Rattle.recording.specs.Datagrams.{nextIn}
 use Rattle.recording.specs.Play.{State, steppedOf, hasRoom, goingOn, playedFor, played}
