@@ -1,7 +1,7 @@
 -- A leaf that is written into a part of the bytes as long as it is.
 -- Assumes nothing.
 use Prim.Native.Nat.{ℕ, _+_, _-_, _%_, _^_, _≤_, _<_}
-use mathlib.Core.Path.{_≡_, refl, sym, ap, ap₂, subst, _∙_}
+use mathlib.Core.Path.{_≡_, refl, sym, ap, ap₂, _∙_}
 use mathlib.Core.Bool.{Bool, true, false}
 use mathlib.Core.List.{List, [], _∷_, _++_, append-nil}
 use native.Mathlib.Nat.{add-sub-cancel-left}
@@ -12,7 +12,7 @@ use mir.Val.{Fits}
 use lib.Dec.{leb}
 use lib.ListN.{length, set, take, drop, length-drop}
 use lib.Seq.{length-take-le, drop-length, drop-drop}
-use Rattle.wire.specs.Bytes.{span, bytes, over, written}
+use Rattle.wire.specs.Bytes.{span, bytes, written}
 use Rattle.wire.proofs.Numbers.{length-bytes}
 use Rattle.wire.proofs.Runs.{written-in, written-out, over-none, set-over}
 use Rattle.table.specs.Leaf.{base, width}

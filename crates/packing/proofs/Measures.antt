@@ -1,8 +1,8 @@
 -- The measures of words: where a measure is below its code's limit the code takes the word, and one test does for a run of them.
 -- Assumes nothing.
 use Prim.Native.Nat.{ℕ, zero, suc, _+_, _-_, _*_, _/_, _%_, _^_, _≤_, _<_}
-use mathlib.Core.Path.{_≡_, refl, sym, ap, _∙_}
-use mathlib.Core.Bool.{Bool, true, false, _&&_, _||_, not}
+use mathlib.Core.Path.{_≡_, refl, sym, _∙_}
+use mathlib.Core.Bool.{Bool, true, false}
 use mathlib.Core.List.{List, [], _∷_}
 use native.Mathlib.Omega.{arith}
 use borrow.Author.Count.{below-more}
@@ -10,7 +10,7 @@ use borrow.Author.Tests.{lt-ltb, ltb-true, ltb-false, le-leb, ne-eqb}
 use mir.Syntax.{w64}
 use mir.Val.{Fits}
 use lib.Bits.{bitOr, or-add-and, and-le-l, and-le-r}
-use lib.Dec.{ltb, leb, eqb}
+use lib.Dec.{ltb}
 use lib.ListN.{length, getD}
 use Rattle.table.specs.Leaf.{base, inSigned, finite, isValue, allowed}
 use Rattle.table.proofs.Leaves.{all-signed, all-unsigned}

@@ -3,7 +3,7 @@
 use Prim.Native.Nat.{ℕ, zero, suc, _+_, _-_, _*_, _/_, _%_, _^_, _≤_, _<_}
 use mathlib.Core.Path.{_≡_, refl, sym, ap, ap₂, _∙_}
 use mathlib.Core.Logic.{⊎-elim}
-use mathlib.Core.List.{List, [], _∷_, _++_, append-nil}
+use mathlib.Core.List.{List, [], _∷_}
 use native.Mathlib.Nat.{add-zero, zero-mul, suc-mul, mod-lt, mul-le-mul-left, mul-le-mul-right, eq-or-lt-of-le, div-add-mod'}
 use native.Mathlib.Numerals.{add-one}
 use native.Mathlib.Omega.{arith}
@@ -17,7 +17,7 @@ use Rattle.leaves.specs.Forms.{formOf}
 use Rattle.walk.specs.declared.Place.{Place}
 use Rattle.walk.specs.Walk.{Step, on, next, through}
 use Rattle.walk.proofs.Walks.{few-bytes}
-use Rattle.packing.specs.Writing.{Writing, Writes, behind, stored}
+use Rattle.packing.specs.Writing.{Writing, Writes}
 use Rattle.packing.specs.OneCode.{AllThere, behindAll, storedAll}
 use Rattle.packing.proofs.Laid.{length-of}
 
@@ -54,7 +54,7 @@ module _ (code w k n to len : ℕ) (is : w ≡ width code) (below : k < n) (room
   at-room e = omega (arith, far)
 
 module _ (ws : List ℕ) (code : ℕ) (p : Place) (x : List ℕ) where
-  pub length-all : (n : ℕ) → length (storedAll ws code p n x) ≡ length x
+  length-all : (n : ℕ) → length (storedAll ws code p n x) ≡ length x
   unfolding storedAll
   length-all zero = refl
   length-all (suc n) = length-written (storedAll ws code p n x) (p .to + n * width code) (formOf code (getD ws (p .from + n) 0)) ∙ length-all n

@@ -9,7 +9,8 @@ ghost use lib.ListN.{length};
 ghost use Rattle.table.specs.Leaf.{width, allowed};
 ghost use Rattle.packing.specs.OneCode.{AllThere, storedAll, limitOf};
 
-// Whether the code takes every word: where each measure is below the limit, which is a power of two, so are they put together.
+// Whether the code takes every word, by one test for all: no measure is above what they are put together to, and that is below
+// the limit where each is, since the limit is a power of two.
 pub(crate) fn judged(words: &[u64], from: usize, code: u16, count: usize) -> bool
     requires { ⌜ from + count ≤ length (now words) ⌝ }
     ensures { λ r. ⌜ (r ≡ true → AllThere (now (words .entry)) code from count) ⌝ }

@@ -8,7 +8,7 @@ use native.Mathlib.Omega.{arith}
 use lib.ListN.{length, getD}
 use Rattle.leaves.specs.Forms.{formOf}
 use Rattle.walk.specs.declared.Place.{Place}
-use Rattle.walk.specs.Walk.{Step, on, through}
+use Rattle.walk.specs.Walk.{Step}
 use Rattle.walk.proofs.Walks.{width-few}
 use Rattle.packing.specs.Writing.{Writing, WritesEach, Goes}
 use Rattle.packing.proofs.WriteReturns.{next-from, next-to}

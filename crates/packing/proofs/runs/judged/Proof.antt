@@ -3,7 +3,6 @@
 -- Assumes nothing.
 use Prim.Native.Nat.{_-_, _≤_}
 use borrow.Author.Needs.{needs}
-use native.Mathlib.Omega.{arith}
 use Rattle.packing.proofs.Measures.{Judged, none-judged, more-judged, all-judged}
 use Rattle.packing.proofs.runs.judged.Statement.{statement}
 use Rattle.packing.proofs.runs.judged.Tie as tie
