@@ -1,2 +1,3 @@
 mod ReadReturns
 mod ReadBases
+mod ReadRuns

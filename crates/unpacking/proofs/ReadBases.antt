@@ -54,7 +54,7 @@ module _ (s : List ℕ) (p : ℕ) (o : Octets s) where
   all-unsigned k = lt-ltb (number k s p) (span k) (number-lt k s p o)
 
   -- code by code, up to the floats
-  value-there : (code : ℕ) → code < 11 → allowed code (wordAt code s p) ≡ true
+  pub value-there : (code : ℕ) → code < 11 → allowed code (wordAt code s p) ≡ true
   unfolding allowed wordAt base wordOf isValue
   value-there zero l = lt-ltb (truth (number 0 s p)) 2 (truth-small (number 0 s p))
   value-there (suc zero) l = sign-in 128 (number 0 s p) (omega arith) (o p)
@@ -98,11 +98,6 @@ module _ (b : List ℕ) (code : ℕ) (p : Place) (n : ℕ) (is : n ≡ width cod
 
   pub reading-behind : Reading b p → Reading b (record { from = p .from + n; to = p .to + 1 })
   reading-behind h = (omega (arith, some, is, h .0), omega (arith, there-room b (p .from) code r there yes, is))
-
-  -- one more leaf of a run
-  module _ (f : ℕ → Place → List ℕ → Step) (reads : Reads b code f) (q : Place) (x : List ℕ) (k : ℕ) (y z : List ℕ) (so-far : through k f q x ≡ on p y) (put : z ≡ written y (p .to) (wordAt code b (p .from) ∷ [])) where
-    pub run-more : through (k + 1) f q x ≡ on (record { from = p .from + n; to = p .to + 1 }) z
-    run-more = through-more f q x k p y so-far ∙ reads k p y (sym there ∙ yes) ∙ rw (← is, ← put) refl
 
 -- the words stay as many
 pub as-many : (n : ℕ) (y z : List ℕ) (p w : ℕ) → length y ≡ n → z ≡ written y p (w ∷ []) → length z ≡ n

@@ -9,7 +9,7 @@ ghost use Rattle.leaves.specs.Forms.{wordAt};
 ghost use Rattle.unpacking.specs.Reading.{isThere};
 
 // float32 and, behind it, double64: the codes of which not every word is allowed.
-const FLOAT32: u16 = 11;
+pub(crate) const FLOAT32: u16 = 11;
 
 // Whether a leaf of the base code is there, and its word is allowed: of all but the floats every word is.
 pub(crate) fn is_there(payload: &[u8], from: usize, code: u16) -> bool
@@ -36,7 +36,7 @@ pub(crate) fn put_base(payload: &[u8], words: &mut [u64], code: u16, from: usize
 }
 
 // The word of a leaf that is there: with no test for the end between its bytes the compiler makes one load of them.
-fn word_in(s: &[u8], at: usize, code: u16) -> u64
+pub(crate) fn word_in(s: &[u8], at: usize, code: u16) -> u64
     requires { ⌜ at + width code ≤ length (now s) ⌝ }
     ensures { λ r. ⌜ r ≡ wordAt code (now (s .entry)) at ⌝ }
 {

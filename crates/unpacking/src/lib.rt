@@ -1,6 +1,7 @@
 // Reading a payload: the reader of a record's members and the reader of an array's elements call each other, each by the kind
 // of what it meets, and the type number falls at each entry.
 mod bases;
+mod runs;
 
 use table::Entry;
 use table::Sections;
@@ -8,14 +9,13 @@ use walk::Met;
 use walk::Place;
 use walk::Walked;
 ghost use mathlib.Core.Path.{_≡_};
-ghost use Prim.Native.Nat.{ℕ, _≤_};
+ghost use Prim.Native.Nat.{_≤_};
 ghost use lib.ListN.{length};
 ghost use Rattle.walk.specs.declared.Met.the-variants.{Members, Elements};
 ghost use Rattle.wire.specs.Bytes.{written};
-ghost use mathlib.Core.List.{List, [], _∷_};
-ghost use Rattle.walk.specs.declared.Place.{Place};
-ghost use Rattle.walk.specs.Walk.{Step, on, through, start, answer, left, begun, times, leafWalk, metWalk, typeWalk};
-ghost use Rattle.unpacking.specs.Reading.{reader, Reading, Reads, memberRead, Goes};
+ghost use mathlib.Core.List.{[], _∷_};
+ghost use Rattle.walk.specs.Walk.{start, answer, left, begun, times, leafWalk, metWalk, typeWalk};
+ghost use Rattle.unpacking.specs.Reading.{reader, Reading, memberRead, Goes};
 
 // An array's count: its bytes on the wire, and its words.
 const COUNT_BYTES: usize = 4;
@@ -105,7 +105,7 @@ fn read_elements(
         Walked::Stopped(n, q) => Walked::Stopped(n, q),
         Walked::Went(q) => {
             let code = walk::base_at(table, s, i, child);
-            let run = read_run(payload, words, code, count, q);
+            let run = runs::read_run(payload, words, code, count, q);
             let mut at = run.at;
             let mut k = run.upto;
             while k < count {
@@ -225,50 +225,6 @@ fn read_bases(
     while k < count {
         let child = table::entries::member_at(table, s, e.first as u32 + k);
         let code = walk::base_at(table, s, i, child);
-        if bases::is_there(payload, at.from, code) {
-            bases::put_base(payload, words, code, at.from, at.to);
-            at = Place {
-                from: at.from + table::leaf::width(code),
-                to: at.to + 1,
-            };
-            k += 1;
-        } else {
-            return Run { upto: k, at };
-        }
-    }
-    Run { upto: k, at }
-}
-
-// Reads elements of one base code, up to one whose leaf is refused. A call for each code, so that the compiler makes a loop for
-// each.
-fn read_run(payload: &[u8], words: &mut [u64], code: u16, count: u32, p: Place) -> Run
-    requires { ⌜ Reading (now payload) p ⌝ }
-    ensures { λ r. ⌜ (r .upto ≤ count) × Reading (now (payload .entry)) (r .at) ⌝ }
-    ensures { λ _. ⌜ length (now (words .exit)) ≡ length (now (words .entry)) ⌝ }
-    ensures { λ r. ⌜ ((f : ℕ → Place → List ℕ → Step) → Reads (now (payload .entry)) code f → through (r .upto) f p (now (words .entry)) ≡ on (r .at) (now (words .exit))) ⌝ }
-{
-    match code {
-        2 => read_each(payload, words, 2, count, p),
-        6 => read_each(payload, words, 6, count, p),
-        7 => read_each(payload, words, 7, count, p),
-        8 => read_each(payload, words, 8, count, p),
-        9 => read_each(payload, words, 9, count, p),
-        10 => read_each(payload, words, 10, count, p),
-        11 => read_each(payload, words, 11, count, p),
-        12 => read_each(payload, words, 12, count, p),
-        _ => read_each(payload, words, code, count, p),
-    }
-}
-
-fn read_each(payload: &[u8], words: &mut [u64], code: u16, count: u32, p: Place) -> Run
-    requires { ⌜ Reading (now payload) p ⌝ }
-    ensures { λ r. ⌜ (r .upto ≤ count) × Reading (now (payload .entry)) (r .at) ⌝ }
-    ensures { λ _. ⌜ length (now (words .exit)) ≡ length (now (words .entry)) ⌝ }
-    ensures { λ r. ⌜ ((f : ℕ → Place → List ℕ → Step) → Reads (now (payload .entry)) code f → through (r .upto) f p (now (words .entry)) ≡ on (r .at) (now (words .exit))) ⌝ }
-{
-    let mut at = p;
-    let mut k: u32 = 0;
-    while k < count {
         if bases::is_there(payload, at.from, code) {
             bases::put_base(payload, words, code, at.from, at.to);
             at = Place {
