@@ -4,6 +4,9 @@
 -- (`WhereIDsRise`).
 use denote.Ref.{now}
 use Rattle.promises.specs.Unique.{Same, Answer, Lent}
+use Rattle.wire.proofs.whole_u16.Reads.{Post as wire-whole-u16}
+use Rattle.wire.proofs.whole_u32.Reads.{Post as wire-whole-u32}
+use Rattle.wire.proofs.whole_u64.Reads.{Post as wire-whole-u64}
 use Rattle.channels.proofs.is_good.Reads.{Post as channels-is-good}
 use Rattle.channels.proofs.look.Reads.{Post as channels-look}
 use Rattle.channels.proofs.room_start.Reads.{Post as channels-room-start}
@@ -60,6 +63,11 @@ use Rattle.lent_platform.proofs.fresh.Reads.{Post as lent-platform-fresh}
 use Rattle.lent_platform.proofs.receive.Reads.{Post as lent-platform-receive}
 use Rattle.lent_platform.proofs.is_up.Reads.{Post as lent-platform-is-up}
 use Rattle.lent_platform.proofs.how_many_up.Reads.{Post as lent-platform-how-many-up}
+
+pub record WireUnique : Type 0 where
+  pub whole-u16 : Answer wire-whole-u16
+  pub whole-u32 : Answer wire-whole-u32
+  pub whole-u64 : Answer wire-whole-u64
 
 pub record ChannelsUnique : Type 0 where
   pub is-good : Answer channels-is-good
@@ -183,6 +191,7 @@ pub record LentPlatformUnique : Type 0 where
   pub how-many-up : Answer lent-platform-how-many-up
 
 pub record UniqueBelow : Type 0 where
+  pub wire : WireUnique
   pub channels : ChannelsUnique
   pub joiner : JoinerUnique
   pub message : MessageUnique

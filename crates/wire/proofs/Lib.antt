@@ -1,4 +1,5 @@
 pub mod Cond
 pub mod Numbers
 pub mod Runs
+mod Swaps
 mod Writes

@@ -10,19 +10,20 @@ use borrow.Author.Tests.{ltb-true, ltb-false}
 use lib.Dec.{ltb, leb}
 use lib.Arith.{digits-lt, digits-div, digits-mod}
 use lib.Pow.{pow-add}
-use lib.ListN.{length, getD, take, drop, length-append, length-take, List·getD-eq-default, List·getD-append}
+use lib.ListN.{length, getD, take, drop, length-append, length-take, length-drop, List·getD-eq-default, List·getD-append}
 use lib.Seq.{length-take-le, getD-append-add, getD-take, getD-drop, take-add, drop-drop, drop-cons}
-use Rattle.wire.specs.Bytes.{span, number, bytes, over, written, Octets}
-use Rattle.wire.proofs.Runs.{failed, written-in}
+use Rattle.wire.specs.Bytes.{span, number, whole, bytes, over, written, part, Octets}
+use Rattle.wire.proofs.Cond.{yes-le, no-le}
+use Rattle.wire.proofs.Runs.{held, failed, written-in, part-in}
 
 -- 2 ^ suc k bytes are twice 2 ^ k bytes
-twice : (k : ℕ) → 2 ^ suc k ≡ 2 ^ k + 2 ^ k
+pub twice : (k : ℕ) → 2 ^ suc k ≡ 2 ^ k + 2 ^ k
 twice k = omega arith
 
 pub span-suc : (k : ℕ) → span (suc k) ≡ span k * span k
 span-suc k = ap (λ (n : ℕ). 256 ^ n) (twice k) ∙ pow-add 256 (2 ^ k) (2 ^ k)
 
-span-pos : (k : ℕ) → 0 < span k
+pub span-pos : (k : ℕ) → 0 < span k
 span-pos k = one-le-pow (2 ^ k) 256 (zero-lt-suc 255)
 
 -- a part of a list of bytes is one
@@ -50,10 +51,6 @@ past k s p h = sym (past-end k s p h)
 pub first-byte : {r : Bool} {x : ℕ} (s : List ℕ) (p : ℕ) → r ≡ leb (p + 2) (length s) → r ≡ false → x ≡ number 0 s p → x * 256 ≡ number 1 s p
 first-byte s p e f b = omega (arith, past-end 0 s (p + 1) (omega (arith, failed (p + 2) (length s) e f)))
 
--- four bytes, each by its weight, are two halves
-pub four-bytes : {a b c d : ℕ} (s : List ℕ) (p : ℕ) → a ≡ number 0 s p → b ≡ number 0 s (p + 1) → c ≡ number 0 s (p + 2) → d ≡ number 0 s (p + 3) → a * 16777216 + b * 65536 + c * 256 + d ≡ number 2 s p
-four-bytes s p a b c d = omega (arith, ap (number 0 s) (add-assoc p 2 1))
-
 pub number-lt : (k : ℕ) (s : List ℕ) (p : ℕ) → Octets s → number k s p < span k
 number-lt zero s p o = o p
 number-lt (suc k) s p o = rw (span-suc k) (digits-lt (number-lt k s p o) (number-lt k s (p + 2 ^ k) o))
@@ -75,6 +72,29 @@ number-take (suc k) n s p h = rw (number-take k n s p (omega (arith, twice k)), 
 pub number-drop : (k n : ℕ) (s : List ℕ) (p : ℕ) → number k (drop n s) p ≡ number k s (n + p)
 number-drop zero n s p = getD-drop n s p 0
 number-drop (suc k) n s p = rw (number-drop k n s p, number-drop k n s (p + 2 ^ k), add-assoc n p (2 ^ k))
+
+-- a number that is whole, in a list or in a part of one
+pub whole-in : (k : ℕ) (s : List ℕ) (p : ℕ) → p + 2 ^ k ≤ length s → whole k s p ≡ number k s p
+whole-in k s p h = yes-le (number k s p) 0 (p + 2 ^ k) (length s) h
+
+pub whole-out : (k : ℕ) (s : List ℕ) (p : ℕ) → length s < p + 2 ^ k → whole k s p ≡ 0
+whole-out k s p h = no-le (number k s p) 0 (p + 2 ^ k) (length s) h
+
+pub number-part : (k : ℕ) (s : List ℕ) (p n q : ℕ) → p + n ≤ length s → q + 2 ^ k ≤ n → number k (part s p n) q ≡ number k s (p + q)
+number-part k s p n q h l = ap (λ (u : List ℕ). number k u q) (part-in s p n h) ∙ number-take k n (drop p s) q l ∙ number-drop k p s q
+
+pub length-part : (s : List ℕ) (p n : ℕ) → p + n ≤ length s → length (part s p n) ≡ n
+length-part s p n h = ap length (part-in s p n h) ∙ length-take-le n (drop p s) (omega (arith, length-drop p s))
+
+pub whole-part : (k : ℕ) (s : List ℕ) (p n q : ℕ) → p + n ≤ length s → q + 2 ^ k ≤ n → whole k (part s p n) q ≡ number k s (p + q)
+whole-part k s p n q h l = whole-in k (part s p n) q (omega (arith, length-part s p n h)) ∙ number-part k s p n q h l
+
+-- what a reader of a whole number found: all of it there, or not
+pub whole-read : (k : ℕ) {t : Bool} {r : ℕ} (s : List ℕ) (p : ℕ) → t ≡ leb (p + 2 ^ k) (length s) → t ≡ true → r ≡ number k s p → r ≡ whole k s p
+whole-read k s p e t r = r ∙ sym (whole-in k s p (held (p + 2 ^ k) (length s) e t))
+
+pub whole-none : (k : ℕ) {t : Bool} (s : List ℕ) (p : ℕ) → t ≡ leb (p + 2 ^ k) (length s) → t ≡ false → 0 ≡ whole k s p
+whole-none k s p e t = sym (whole-out k s p (failed (p + 2 ^ k) (length s) e t))
 
 -- the bytes of a number, and the number of its bytes
 pub length-bytes : (k x : ℕ) → length (bytes k x) ≡ 2 ^ k

@@ -14,6 +14,10 @@ abbrev pub number : ℕ → List ℕ → ℕ → ℕ
 number zero s p = getD s p 0
 number (suc k) s p = number k s p * span k + number k s (p + 2 ^ k)
 
+-- the same where all its bytes are there, and 0 where one is past the end
+abbrev pub whole : ℕ → List ℕ → ℕ → ℕ
+whole k s p = cond (leb (p + 2 ^ k) (length s)) (number k s p) 0
+
 -- the 2 ^ k bytes of the number x, most significant first
 abbrev pub bytes : ℕ → ℕ → List ℕ
 bytes zero x = x ∷ []

@@ -1,11 +1,13 @@
 // Big-endian numbers and runs of bytes in lent slices. Every call is total: a byte past the end reads as 0, and a write
 // or a copy that does not fit changes nothing.
 ghost use mathlib.Core.Path.{_≡_};
-ghost use Prim.Native.Nat.{_+_, _≤_, _<_};
+ghost use Prim.Native.Nat.{_+_, _≤_};
 ghost use lib.Dec.{leb};
 ghost use lib.ListN.{length};
-ghost use Rattle.wire.specs.Bytes.{number, bytes, over, written, part};
+ghost use Rattle.wire.specs.Bytes.{number, whole, bytes, over, written, part};
 ghost use Rattle.wire.specs.Blocks.{blockLength};
+
+mod order;
 
 // How many bytes are copied at once: more than a datagram has.
 const BLOCK: usize = 65536;
@@ -20,7 +22,7 @@ pub fn u16_at(s: &[u8], at: usize) -> u16
     ensures { λ r. ⌜ r ≡ number 1 (now (s .entry)) at ⌝ }
 {
     if has_room(s.len(), at, 2) {
-        whole_u16(s, at)
+        order::be16(s, at)
     } else {
         (u8_at(s, at) as u16) * 256
     }
@@ -30,7 +32,7 @@ pub fn u32_at(s: &[u8], at: usize) -> u32
     ensures { λ r. ⌜ r ≡ number 2 (now (s .entry)) at ⌝ }
 {
     if has_room(s.len(), at, 4) {
-        whole_u32(s, at)
+        order::be32(s, at)
     } else {
         split_u32(s, at)
     }
@@ -40,10 +42,33 @@ pub fn u64_at(s: &[u8], at: usize) -> u64
     ensures { λ r. ⌜ r ≡ number 3 (now (s .entry)) at ⌝ }
 {
     if has_room(s.len(), at, 8) {
-        whole_u64(s, at)
+        order::be64(s, at)
     } else {
         split_u64(s, at)
     }
+}
+
+// A number whose bytes are all there, and 0 where one is past the end: for loops that know that they are, and want one test
+// and one load.
+pub fn whole_u16(s: &[u8], at: usize) -> u16
+    ensures { λ r. ⌜ r ≡ whole 1 (now (s .entry)) at ⌝ }
+{
+    let is_whole = has_room(s.len(), at, 2);
+    if is_whole { order::be16(s, at) } else { 0 }
+}
+
+pub fn whole_u32(s: &[u8], at: usize) -> u32
+    ensures { λ r. ⌜ r ≡ whole 2 (now (s .entry)) at ⌝ }
+{
+    let is_whole = has_room(s.len(), at, 4);
+    if is_whole { order::be32(s, at) } else { 0 }
+}
+
+pub fn whole_u64(s: &[u8], at: usize) -> u64
+    ensures { λ r. ⌜ r ≡ whole 3 (now (s .entry)) at ⌝ }
+{
+    let is_whole = has_room(s.len(), at, 8);
+    if is_whole { order::be64(s, at) } else { 0 }
 }
 
 pub fn put_u8(s: &mut [u8], at: usize, x: u8)
@@ -58,7 +83,7 @@ pub fn put_u16(s: &mut [u8], at: usize, x: u16)
     ensures { λ _. ⌜ now (s .exit) ≡ written (now (s .entry)) at (bytes 1 x) ⌝ }
 {
     if has_room(s.len(), at, 2) {
-        set_u16(s, at, x);
+        order::set_be16(s, at, x);
     }
 }
 
@@ -66,7 +91,7 @@ pub fn put_u32(s: &mut [u8], at: usize, x: u32)
     ensures { λ _. ⌜ now (s .exit) ≡ written (now (s .entry)) at (bytes 2 x) ⌝ }
 {
     if has_room(s.len(), at, 4) {
-        set_u32(s, at, x);
+        order::set_be32(s, at, x);
     }
 }
 
@@ -74,7 +99,7 @@ pub fn put_u64(s: &mut [u8], at: usize, x: u64)
     ensures { λ _. ⌜ now (s .exit) ≡ written (now (s .entry)) at (bytes 3 x) ⌝ }
 {
     if has_room(s.len(), at, 8) {
-        set_u64(s, at, x);
+        order::set_be64(s, at, x);
     }
 }
 
@@ -113,36 +138,6 @@ pub fn has_room(len: usize, at: usize, count: usize) -> bool
     }
 }
 
-// A number whose bytes are all there: with no test between them the compiler makes one load of it.
-fn whole_u16(s: &[u8], at: usize) -> u16
-    requires { ⌜ at + 2 ≤ length (now s) ⌝ }
-    ensures { λ r. ⌜ r ≡ number 1 (now (s .entry)) at ⌝ }
-{
-    (byte(s, at) * 256 + byte(s, at + 1)) as u16
-}
-
-fn whole_u32(s: &[u8], at: usize) -> u32
-    requires { ⌜ at + 4 ≤ length (now s) ⌝ }
-    ensures { λ r. ⌜ r ≡ number 2 (now (s .entry)) at ⌝ }
-{
-    byte(s, at) * 16777216 + byte(s, at + 1) * 65536 + byte(s, at + 2) * 256 + byte(s, at + 3)
-}
-
-fn whole_u64(s: &[u8], at: usize) -> u64
-    requires { ⌜ at + 8 ≤ length (now s) ⌝ }
-    ensures { λ r. ⌜ r ≡ number 3 (now (s .entry)) at ⌝ }
-{
-    (whole_u32(s, at) as u64) * 4294967296 + (whole_u32(s, at + 4) as u64)
-}
-
-fn byte(s: &[u8], at: usize) -> u32
-    requires { ⌜ at < length (now s) ⌝ }
-    ensures value { λ r. ⌜ r ≡ number 0 (now (s .entry)) at ⌝ }
-    ensures small { λ r. ⌜ r < 256 ⌝ }
-{
-    s[at] as u32
-}
-
 // A number that may end past the end: by halves, each of which is there, or not, or in part.
 fn split_u32(s: &[u8], at: usize) -> u32
     ensures { λ r. ⌜ r ≡ number 2 (now (s .entry)) at ⌝ }
@@ -162,30 +157,6 @@ fn split_u64(s: &[u8], at: usize) -> u64
     } else {
         0
     }
-}
-
-fn set_u16(s: &mut [u8], at: usize, x: u16)
-    requires { ⌜ at + 2 ≤ length (now s) ⌝ }
-    ensures { λ _. ⌜ now (s .exit) ≡ over (now (s .entry)) at (bytes 1 x) ⌝ }
-{
-    s[at] = (x / 256) as u8;
-    s[at + 1] = (x % 256) as u8;
-}
-
-fn set_u32(s: &mut [u8], at: usize, x: u32)
-    requires { ⌜ at + 4 ≤ length (now s) ⌝ }
-    ensures { λ _. ⌜ now (s .exit) ≡ over (now (s .entry)) at (bytes 2 x) ⌝ }
-{
-    set_u16(s, at, (x / 65536) as u16);
-    set_u16(s, at + 2, (x % 65536) as u16);
-}
-
-fn set_u64(s: &mut [u8], at: usize, x: u64)
-    requires { ⌜ at + 8 ≤ length (now s) ⌝ }
-    ensures { λ _. ⌜ now (s .exit) ≡ over (now (s .entry)) at (bytes 3 x) ⌝ }
-{
-    set_u32(s, at, (x / 4294967296) as u32);
-    set_u32(s, at + 4, (x % 4294967296) as u32);
 }
 
 // A run of up to BLOCK bytes, by way of an array: no lent slice overlaps it, so the compiler makes one call of the C

@@ -2,7 +2,7 @@
 -- Assumes nothing.
 use borrow.Author.Needs.{needs}
 use Rattle.wire.proofs.Runs.{held}
-use Rattle.wire.proofs.Writes.{whole, none}
+use Rattle.wire.proofs.Writes.{wholly, none}
 use Rattle.wire.proofs.put_u64.Statement.{statement}
 use Rattle.wire.proofs.put_u64.Tie as tie
 
@@ -13,5 +13,5 @@ put-u64-spec =
     (λ c κs. search needs)
     (λ c κs. search held)
     (λ c. search needs)
-    (λ c. search (whole 3))
+    (λ c. search (wholly 3))
     (λ c. search (none 3)))

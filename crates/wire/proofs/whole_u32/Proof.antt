@@ -1,7 +1,8 @@
--- `wire::whole_u32` meets its contract: its four bytes, each by its weight.
+-- `wire::whole_u32` meets its contract: the whole number, or 0.
 -- Assumes nothing.
 use borrow.Author.Needs.{needs}
-use Rattle.wire.proofs.Numbers.{four-bytes}
+use Rattle.wire.proofs.Numbers.{whole-read, whole-none}
+use Rattle.wire.proofs.Runs.{held}
 use Rattle.wire.proofs.whole_u32.Statement.{statement}
 use Rattle.wire.proofs.whole_u32.Tie as tie
 
@@ -10,16 +11,6 @@ whole-u32-spec =
     tie.close
     (tie.spec
     (λ c κs. search needs)
-    (λ c. search needs)
-    (λ c. search needs)
-    (λ c κs. search needs)
-    (λ c. search needs)
-    (λ c. search needs)
-    (λ c. search needs)
-    (λ c κs. search needs)
-    (λ c. search needs)
-    (λ c. search needs)
-    (λ c. search needs)
-    (λ c κs. search needs)
-    (λ c. search needs)
-    (λ c. search four-bytes))
+    (λ c κs. search held)
+    (λ c. search (whole-read 2))
+    (λ c. search (whole-none 2)))

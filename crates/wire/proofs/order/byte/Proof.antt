@@ -1,9 +1,9 @@
--- `wire::byte` meets its contract: a byte of the slice is below 256.
+-- `wire::order::byte` meets its contract: a byte of the slice is below 256.
 -- Assumes nothing.
 use borrow.Author.Needs.{needs}
 use native.Mathlib.Omega.{arith}
-use Rattle.wire.proofs.byte.Statement.{statement}
-use Rattle.wire.proofs.byte.Tie as tie
+use Rattle.wire.proofs.order.byte.Statement.{statement}
+use Rattle.wire.proofs.order.byte.Tie as tie
 
 pub byte-spec : {M : Type 1} → statement M
 byte-spec =
