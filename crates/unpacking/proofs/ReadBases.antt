@@ -5,14 +5,15 @@ use mathlib.Core.Path.{_≡_, refl, sym, ap, subst, _∙_}
 use mathlib.Core.Bool.{Bool, true, false, _&&_, _||_, not, cond}
 use mathlib.Core.List.{List, [], _∷_}
 use mathlib.Core.Logic.{⊎-elim}
+use native.Mathlib.Nat.{add-zero, add-sub-cancel-left}
 use native.Mathlib.Omega.{arith}
 use borrow.Author.Tests.{le-leb, lt-leb, lt-ltb, le-ltb, ltb-true, ltb-false, leb-true, ne-eqb}
 use lib.Dec.{ltb, leb, eqb}
-use lib.ListN.{length, getD, set}
-use Rattle.wire.specs.Bytes.{span, number, written, Octets}
-use Rattle.wire.proofs.Numbers.{number-lt}
+use lib.ListN.{length, getD, set, take, drop}
+use Rattle.wire.specs.Bytes.{span, number, whole, written, Octets}
+use Rattle.wire.proofs.Numbers.{number-lt, whole-part}
 use Rattle.wire.proofs.Cond.{and-left, and-right, both}
-use Rattle.wire.proofs.Runs.{length-written}
+use Rattle.wire.proofs.Runs.{length-written, part-in}
 use Rattle.table.specs.declared.Sections.{Sections}
 use Rattle.table.specs.declared.Entry.{Entry}
 use Rattle.table.specs.Entries.{memberAt}
@@ -31,6 +32,15 @@ use Rattle.unpacking.specs.Reading.{reader, Reading, isThere, behind, st
 -- the room of the code that was met
 pub room-of : (n w : ℕ) → w ≡ width n → (p l code : ℕ) → code ≡ n → p + width code ≤ l → p + w ≤ l
 room-of n w e p l code h r = rw (e, ← h) r
+
+-- a number read from a part of just its length
+pub read-in : (k : ℕ) (s : List ℕ) (p r : ℕ) → p + 2 ^ k ≤ length s → r ≡ whole k (take (p + 2 ^ k - p) (drop p s)) 0 → r ≡ number k s p
+read-in k s p r h e =
+    e
+    ∙ ap (λ (n : ℕ). whole k (take n (drop p s)) 0) (add-sub-cancel-left p (2 ^ k))
+    ∙ ap (λ (u : List ℕ). whole k u 0) (sym (part-in s p (2 ^ k) h))
+    ∙ whole-part k s p (2 ^ k) 0 h (omega arith)
+    ∙ ap (number k s) (add-zero p)
 
 -- a store of the word that was read
 pub stored-word : (x : List ℕ) (p w : ℕ) (b : List ℕ) (from code : ℕ) → p < length x → w ≡ wordAt code b from → set x p w ≡ written x p (wordAt code b from ∷ [])
@@ -75,16 +85,16 @@ module _ (b : List ℕ) (from code n : ℕ) (in-payload : from ≤ length b) (is
   cut-off h = rw (lt-leb (from + width code) (length b) (omega (arith, is))) refl
 
   module _ (h : n ≤ length b - from) where
-    pub whole : from + width code ≤ length b
-    whole = omega (arith, is)
+    pub all-there : from + width code ≤ length b
+    all-there = omega (arith, is)
 
     pub surely : Octets b → code < 11 → true ≡ isThere b code from
     unfolding isThere
-    surely o l = rw (le-leb (from + width code) (length b) whole, value-there b from o code l) refl
+    surely o l = rw (le-leb (from + width code) (length b) all-there, value-there b from o code l) refl
 
     pub judged : (w : ℕ) (r : Bool) → w ≡ wordAt code b from → r ≡ allowed code w → r ≡ isThere b code from
     unfolding isThere
-    judged w r e g = rw (le-leb (from + width code) (length b) whole, ← e) g
+    judged w r e g = rw (le-leb (from + width code) (length b) all-there, ← e) g
 
 -- where it is there, its bytes are
 pub there-room : (b : List ℕ) (from code : ℕ) (r : Bool) → r ≡ isThere b code from → r ≡ true → from + width code ≤ length b
