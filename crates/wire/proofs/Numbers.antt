@@ -51,6 +51,10 @@ past k s p h = sym (past-end k s p h)
 pub first-byte : {r : Bool} {x : ℕ} (s : List ℕ) (p : ℕ) → r ≡ leb (p + 2) (length s) → r ≡ false → x ≡ number 0 s p → x * 256 ≡ number 1 s p
 first-byte s p e f b = omega (arith, past-end 0 s (p + 1) (omega (arith, failed (p + 2) (length s) e f)))
 
+-- four bytes, each by its weight, are two halves
+pub four-bytes : {a b c d : ℕ} (s : List ℕ) (p : ℕ) → a ≡ number 0 s p → b ≡ number 0 s (p + 1) → c ≡ number 0 s (p + 2) → d ≡ number 0 s (p + 3) → a * 16777216 + b * 65536 + c * 256 + d ≡ number 2 s p
+four-bytes s p a b c d = omega (arith, ap (number 0 s) (add-assoc p 2 1))
+
 pub number-lt : (k : ℕ) (s : List ℕ) (p : ℕ) → Octets s → number k s p < span k
 number-lt zero s p o = o p
 number-lt (suc k) s p o = rw (span-suc k) (digits-lt (number-lt k s p o) (number-lt k s (p + 2 ^ k) o))

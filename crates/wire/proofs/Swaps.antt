@@ -57,9 +57,9 @@ read-swapped k s p o l r = r ∙ ap (swapped k) l ∙ swapped-little k s p o
 pub wrote-swapped : (k : ℕ) {y : ℕ} {e : List ℕ} (s : List ℕ) (p x : ℕ) → x < span k → y ≡ swapped k x → e ≡ over s p (lowFirst k y) → e ≡ over s p (bytes k x)
 wrote-swapped k s p x h y e = e ∙ ap (λ (z : ℕ). over s p (lowFirst k z)) y ∙ ap (over s p) (low-swapped k x h)
 
--- four bytes, each by its weight, are two halves
-pub four-bytes : {a b c d : ℕ} (s : List ℕ) (p : ℕ) → a ≡ number 0 s p → b ≡ number 0 s (p + 1) → c ≡ number 0 s (p + 2) → d ≡ number 0 s (p + 3) → a + b * 256 + c * 65536 + d * 16777216 ≡ little 2 s p
-four-bytes s p a b c d = omega (arith, ap (number 0 s) (add-assoc p 2 1))
+-- four bytes, each by its weight, are two halves; so are those of a swapped number
+pub four-little : {a b c d : ℕ} (s : List ℕ) (p : ℕ) → a ≡ number 0 s p → b ≡ number 0 s (p + 1) → c ≡ number 0 s (p + 2) → d ≡ number 0 s (p + 3) → a + b * 256 + c * 65536 + d * 16777216 ≡ little 2 s p
+four-little s p a b c d = omega (arith, ap (number 0 s) (add-assoc p 2 1))
 
 -- the bytes of a number's two halves are the number's
 low-byte : (x : ℕ) → x % 65536 % 256 ≡ x % 256

@@ -1,7 +1,7 @@
 -- `wire::order::le32` meets its contract: its four bytes, each by its weight.
 -- Assumes nothing.
 use borrow.Author.Needs.{needs}
-use Rattle.wire.proofs.Swaps.{four-bytes}
+use Rattle.wire.proofs.Swaps.{four-little}
 use Rattle.wire.proofs.order.le32.Statement.{statement}
 use Rattle.wire.proofs.order.le32.Tie as tie
 
@@ -22,4 +22,4 @@ le32-spec =
     (λ c κs. search needs)
     (λ c. search needs)
     (λ c. search needs)
-    (λ c. search four-bytes))
+    (λ c. search four-little))
