@@ -61,6 +61,8 @@ table : TableUnique
 table =
     record {
       read = λ k a z z′ e e′ p q. p ∙ sym q;
+      type-place = λ k a z z′ e e′ p q. p ∙ sym q;
+      member-place = λ k a z z′ e e′ p q. p ∙ sym q;
     }
 
 walk : WalkUnique
@@ -69,6 +71,8 @@ walk =
       meet = λ k a z z′ e e′ p q. p ∙ sym q;
       look = λ k a z z′ e e′ p q. p ∙ sym q;
       base-at = λ k a z z′ e e′ p q. p ∙ sym q;
+      base-codes = λ k a z z′ e e′ p q. p .0 ∙ sym (q .0);
+      base-codes-codes = λ k a z z′ e e′ p q. p .1 ∙ sym (q .1);
     }
 
 unpacking : UnpackingUnique

@@ -29,9 +29,12 @@ use Rattle.reactions.proofs.length_of.Reads.{Post as reactions-length-of}
 use Rattle.reactions.proofs.lay.Reads.{Post as reactions-lay}
 use Rattle.reactions.proofs.put_reply.Reads.{Post as reactions-put-reply}
 use Rattle.table.proofs.layout.read.Reads.{Post as table-layout-read}
+use Rattle.table.proofs.layout.type_place.Reads.{Post as table-layout-type-place}
+use Rattle.table.proofs.layout.member_place.Reads.{Post as table-layout-member-place}
 use Rattle.walk.proofs.meet.Reads.{Post as walk-meet}
 use Rattle.walk.proofs.look.Reads.{Post as walk-look}
 use Rattle.walk.proofs.base_at.Reads.{Post as walk-base-at}
+use Rattle.walk.proofs.runs.base_codes.Reads.{Post as walk-runs-base-codes}
 use Rattle.unpacking.proofs.read_type.Reads.{Post as unpacking-read-type}
 use Rattle.packing.proofs.write_type.Reads.{Post as packing-write-type}
 use Rattle.states.proofs.fresh.Reads.{Post as states-fresh}
@@ -106,11 +109,15 @@ pub record ReactionsUnique : Type 0 where
 
 pub record TableUnique : Type 0 where
   pub read : Answer table-layout-read
+  pub type-place : Answer table-layout-type-place
+  pub member-place : Answer table-layout-member-place
 
 pub record WalkUnique : Type 0 where
   pub meet : Answer walk-meet
   pub look : Answer walk-look
   pub base-at : Answer walk-base-at
+  pub base-codes : Answer walk-runs-base-codes
+  pub base-codes-codes : Lent walk-runs-base-codes (λ k e. now (e .1 .1 .1 .1 .1 .0))
 
 pub record UnpackingUnique : Type 0 where
   pub read-type : Answer unpacking-read-type

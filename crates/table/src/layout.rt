@@ -55,14 +55,14 @@ pub fn read(table: &[u8]) -> Checked
 }
 
 // Where the i-th entry of each section stands.
-pub(crate) fn type_place(s: Sections, i: u32) -> usize
+pub fn type_place(s: Sections, i: u32) -> usize
     ensures { λ r. ⌜ r ≡ typePlace s i ⌝ }
 {
     let types = s.types;
     place(types, TYPE_WIDTH, i)
 }
 
-pub(crate) fn member_place(s: Sections, i: u32) -> usize
+pub fn member_place(s: Sections, i: u32) -> usize
     ensures { λ r. ⌜ r ≡ memberPlace s i ⌝ }
 {
     let members = s.members;

@@ -24,7 +24,7 @@ use Rattle.walk.proofs.Trees.{a-leaf, looked, met, child-met}
 use Rattle.walk.proofs.Returns.{item-on}
 
 -- by the entry's fields
-abbrev Plain : Entry → Bool
+abbrev pub Plain : Entry → Bool
 Plain e = eqb (e .kind) 0 && ltb (e .of) 13 && eqb (e .first) 0 && eqb (e .count) 0
 
 pub a-base : (e : Entry) → Plain e ≡ true → e .of ≡ baseOf e
@@ -35,13 +35,13 @@ pub no-base : (e : Entry) → Plain e ≡ false → 13 ≡ baseOf e
 unfolding baseOf
 no-base e h = sym (no-if (e .of) 13 h)
 
-record Fields (e : Entry) : Type 0 where
-  kind : e .kind ≡ 0
-  of : e .of < 13
-  first : e .first ≡ 0
-  count : e .count ≡ 0
+pub record Fields (e : Entry) : Type 0 where
+  pub kind : e .kind ≡ 0
+  pub of : e .of < 13
+  pub first : e .first ≡ 0
+  pub count : e .count ≡ 0
 
-fields : (e : Entry) → Plain e ≡ true → Fields e
+pub fields : (e : Entry) → Plain e ≡ true → Fields e
 fields e h =
     let a : ((eqb (e .kind) 0 && ltb (e .of) 13 && eqb (e .first) 0) ≡ true) × (eqb (e .count) 0 ≡ true) = both (eqb (e .kind) 0 && ltb (e .of) 13 && eqb (e .first) 0) (eqb (e .count) 0) h in
     let b : ((eqb (e .kind) 0 && ltb (e .of) 13) ≡ true) × (eqb (e .first) 0 ≡ true) = both (eqb (e .kind) 0 && ltb (e .of) 13) (eqb (e .first) 0) (a .0) in

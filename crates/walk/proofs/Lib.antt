@@ -2,3 +2,5 @@ pub mod Trees
 pub mod Walks
 pub mod Returns
 pub mod Bases
+pub mod Codes
+pub mod Parts
