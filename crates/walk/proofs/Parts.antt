@@ -21,13 +21,9 @@ use Rattle.table.specs.declared.Entry.{Entry}
 use Rattle.table.specs.Layout.{typePlace, memberPlace}
 use Rattle.table.specs.Entries.{typeAt, memberAt}
 use Rattle.walk.specs.Tree.{noBase, baseOf, baseAt}
-use Rattle.walk.specs.Codes.{Parts, allBases, leading, firsts, codeAt, areThere, smaller, codeCount, codesOf, placed, placedCode, placedCount, placedCodes, alone, partCode}
+use Rattle.walk.specs.Codes.{Parts, allBases, leading, firsts, codeAt, areThere, smaller, codeCount, codesOf, turned, placed, placedCode, placedCount, placedCodes, alone, partCode}
 use Rattle.walk.proofs.Bases.{Plain, Fields, fields, a-base, no-base, base-met, no-base-met}
 use Rattle.walk.proofs.Codes.{up-to, leading-most, leading-same, firsts-same, none-stored, smaller-right, few-codes}
-
--- the four numbers of an entry as one, with its halves exchanged
-abbrev pub turned : ℕ → ℕ
-turned w = w % 4294967296 * 4294967296 + w / 4294967296
 
 record Narrow (e : Entry) : Type 0 where
   kind : e .kind < 65536
@@ -38,13 +34,19 @@ record Narrow (e : Entry) : Type 0 where
 abbrev asOne : Entry → ℕ
 asOne e = (e .kind * 65536 + e .of) * 4294967296 + (e .first * 65536 + e .count)
 
-pub turned-fits : (w : ℕ) → Fits w64 w → Fits w64 (turned w)
+-- an entry as one number, and that with its halves exchanged
+pub turned-fits : (w : ℕ) → Fits w64 w → Fits w64 (w % 4294967296 * 4294967296 + w / 4294967296)
 turned-fits w f =
     let h : w / 4294967296 < 4294967296 = omega (arith, f .fits) in
     let l : w % 4294967296 < 4294967296 = omega arith in
     record { fits = digits-lt l h }
 
+pub turned-here : (w : ℕ) → w % 4294967296 * 4294967296 + w / 4294967296 ≡ turned w
+unfolding turned
+turned-here w = refl
+
 turned-is : (a b c d w : ℕ) → a < 65536 → b < 65536 → c < 65536 → d < 65536 → w ≡ (a * 65536 + b) * 4294967296 + (c * 65536 + d) → turned w ≡ (c * 65536 + d) * 4294967296 + (a * 65536 + b)
+unfolding turned
 turned-is a b c d w ha hb hc hd e =
     let h : w / 4294967296 ≡ a * 65536 + b = omega arith in
     let l : w % 4294967296 ≡ c * 65536 + d = omega arith in
@@ -107,7 +109,7 @@ module _ (types members : List ℕ) (i n k : ℕ) (child : ℕ) (there : length 
   own-part : i ≤ child → partCode types members i k ≡ 13
   own-part h = sym (no-base-met types alone i child h ∙ of-child)
 
-  module _ (w : ℕ) (known : (j : ℕ) → Fits w8 (getD types j 0)) (room : length types ≡ 8 * i) (h : child < i) (read : w ≡ whole 3 types (8 * child)) where
+  module _ (w : ℕ) (known : (j : ℕ) → Fits w8 (getD types j 0)) (room : length types ≡ 8 * i) (h : child < i) (read : w ≡ whole 3 types (8 * child)) (code : ℕ) (so : code ≡ turned w) where
     word-is : w ≡ asOne (typeAt types alone child)
     word-is =
         let z : 8 * child ≡ 0 + 8 * child = omega arith in
@@ -116,13 +118,17 @@ module _ (types members : List ℕ) (i n k : ℕ) (child : ℕ) (there : length 
     small : Narrow (typeAt types alone child)
     small = narrow types alone child (λ j. known j .fits)
 
-    pub base-part : turned w < 13 → turned w ≡ partCode types members i k
-    base-part g = base-met types alone i child (typeAt types alone child) (turned w) h refl (turned-base (typeAt types alone child) w small word-is g) ∙ of-child
+    pub base-part : code < 13 → code ≡ partCode types members i k
+    base-part g =
+        let l : turned w < 13 = subst (λ (x : ℕ). x < 13) so g in
+        so ∙ base-met types alone i child (typeAt types alone child) (turned w) h refl (turned-base (typeAt types alone child) w small word-is l) ∙ of-child
 
-    none-part : 13 ≤ turned w → partCode types members i k ≡ 13
-    none-part g = sym (base-met types alone i child (typeAt types alone child) 13 h refl (turned-none (typeAt types alone child) w small word-is g) ∙ of-child)
+    none-part : 13 ≤ code → partCode types members i k ≡ 13
+    none-part g =
+        let l : 13 ≤ turned w = subst (λ (x : ℕ). 13 ≤ x) so g in
+        sym (base-met types alone i child (typeAt types alone child) 13 h refl (turned-none (typeAt types alone child) w small word-is l) ∙ of-child)
 
-    pub other-stops : 13 ≤ turned w → allBases (partCode types members i) k ≡ true → k ≡ leading (partCode types members i) n
+    pub other-stops : 13 ≤ code → allBases (partCode types members i) k ≡ true → k ≡ leading (partCode types members i) n
     other-stops g a = up-to (partCode types members i) n k a (none-part g) (omega arith)
 
   pub own-stops : i ≤ child → allBases (partCode types members i) k ≡ true → k ≡ leading (partCode types members i) n

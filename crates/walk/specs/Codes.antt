@@ -1,10 +1,11 @@
 -- The base codes of a record's members, as many as come one behind another from a member on.
-use Prim.Native.Nat.{ℕ, zero, suc, _+_, _-_, _*_, _≤_}
+use Prim.Native.Nat.{ℕ, zero, suc, _+_, _-_, _*_, _/_, _%_, _≤_}
 use mathlib.Core.Path.{_≡_}
 use mathlib.Core.Bool.{Bool, _&&_, cond}
 use mathlib.Core.List.{List, [], _∷_, _++_}
 use lib.Dec.{ltb, leb}
 use lib.ListN.{length}
+use Rattle.wire.specs.Bytes.{span}
 use Rattle.table.specs.declared.Sections.{Sections}
 use Rattle.table.specs.declared.Entry.{Entry}
 use Rattle.table.specs.All.{allBelow}
@@ -74,6 +75,10 @@ alone = placed 0 0
 
 unfoldable pub partCode : List ℕ → List ℕ → ℕ → ℕ → ℕ
 partCode types members i k = baseAt types alone i (memberAt members alone k)
+
+-- the four numbers of an entry as one, with its halves exchanged: a base's is its code, and any other's is none
+unfoldable pub turned : ℕ → ℕ
+turned w = w % span 2 * span 2 + w / span 2
 
 -- places that sections can have, and as many members as a record can
 pub record Places (a b n : ℕ) : Type 0 where

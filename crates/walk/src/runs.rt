@@ -7,7 +7,7 @@ ghost use mathlib.Core.Path.{_≡_};
 ghost use Prim.Native.Nat.{_≤_};
 ghost use lib.ListN.{length};
 ghost use Rattle.wire.specs.Bytes.{over};
-ghost use Rattle.walk.specs.Codes.{Places, Parts, areThere, leading, firsts, partCode, smaller, codeCount, codesOf, placedCount, placedCodes};
+ghost use Rattle.walk.specs.Codes.{Places, Parts, areThere, leading, firsts, partCode, smaller, turned, codeCount, codesOf, placedCount, placedCodes};
 
 // The bytes of a type's entry and of a member's.
 const TYPE_BYTES: usize = 8;
@@ -61,8 +61,7 @@ fn are_there(len: usize, types: usize, members: usize, i: u16, n: usize) -> bool
 }
 
 // The same in parts of i types and of n members: the compiler knows the lengths of both, makes one load of each number and
-// drops the tests. The four numbers of a base's entry are 0 but for the second, the code: they are compared as one, whose
-// halves are exchanged.
+// drops the tests.
 fn codes_in(types: &[u8], members: &[u8], i: u16, n: usize, codes: &mut [u8]) -> usize
     requires { ⌜ Parts (now types) (now members) i n (now codes) ⌝ }
     ensures { λ r. ⌜ r ≡ leading (partCode (now (types .entry)) (now (members .entry)) i) n ⌝ }
@@ -75,7 +74,7 @@ fn codes_in(types: &[u8], members: &[u8], i: u16, n: usize, codes: &mut [u8]) ->
             return k;
         }
         let entry = wire::whole_u64(types, TYPE_BYTES * (child as usize));
-        let code = entry % HALF * HALF + entry / HALF;
+        let code = turned(entry);
         if NO_BASE as u64 <= code {
             return k;
         }
@@ -83,6 +82,14 @@ fn codes_in(types: &[u8], members: &[u8], i: u16, n: usize, codes: &mut [u8]) ->
         k += 1;
     }
     k
+}
+
+// The four numbers of an entry as one, with its halves exchanged. Those of a base are 0 but for the second, its code: so they
+// are compared at once, and this is the code.
+fn turned(entry: u64) -> u64
+    ensures { λ r. ⌜ r ≡ turned entry ⌝ }
+{
+    entry % HALF * HALF + entry / HALF
 }
 
 fn smaller(a: usize, b: usize) -> usize

@@ -8,7 +8,7 @@ use borrow.Author.Needs.{needs}
 use Rattle.wire.specs.Bytes.{over}
 use Rattle.walk.specs.Codes.{Parts, allBases, firsts, partCode}
 use Rattle.walk.proofs.Codes.{none-lead, one-leads, all-of, none-stored, one-stored, so-many}
-use Rattle.walk.proofs.Parts.{turned-fits, base-part, other-stops, own-stops}
+use Rattle.walk.proofs.Parts.{base-part, other-stops, own-stops}
 use Rattle.walk.proofs.runs.codes_in.Statement.{statement}
 use Rattle.walk.proofs.runs.codes_in.Tie as tie
 
@@ -37,8 +37,7 @@ codes-in-spec =
     (λ c. search needs)
     (λ c. search needs)
     (λ c κs. search needs)
-    (λ c. search needs)
-    (λ c. search (turned-fits, needs))
+    (λ c κs. search needs)
     (λ c. search needs)
     (λ c. search needs)
     (λ c. (search other-stops, search (so-many, other-stops)))
