@@ -1,10 +1,10 @@
 -- 01, "Payload and words": reading a payload.
-use Prim.Native.Nat.{ℕ, zero, suc, _+_, _*_, _≤_}
+use Prim.Native.Nat.{ℕ, zero, suc, _+_, _*_, _≤_, _<_}
 use mathlib.Core.Path.{_≡_}
 use mathlib.Core.Bool.{Bool, true, _&&_}
 use mathlib.Core.List.{List, [], _∷_}
 use lib.Dec.{leb}
-use lib.ListN.{length}
+use lib.ListN.{length, getD}
 use Rattle.wire.specs.Bytes.{written}
 use Rattle.table.specs.declared.Sections.{Sections}
 use Rattle.table.specs.declared.Entry.{Entry}
@@ -43,6 +43,10 @@ stored b code p x = written x (p .to) (wordAt code b (p .from) ∷ [])
 -- each step of a walk reads a leaf of that code, where it is there
 abbrev pub Reads : List ℕ → ℕ → (ℕ → Place → List ℕ → Step) → Type 0
 Reads b code f = (k : ℕ) (q : Place) (y : List ℕ) → isThere b code (q .from) ≡ true → f k q y ≡ on (behind code q) (stored b code q y)
+
+-- and of the codes of a list from the m-th step on
+abbrev pub ReadsCodes : List ℕ → List ℕ → ℕ → (ℕ → Place → List ℕ → Step) → Type 0
+ReadsCodes b codes m f = (j : ℕ) (q : Place) (y : List ℕ) → j < length codes → isThere b (getD codes j 0) (q .from) ≡ true → f (m + j) q y ≡ on (behind (getD codes j 0) q) (stored b (getD codes j 0) q y)
 
 -- the step over a record's k-th member
 abbrev pub memberRead : List ℕ → List ℕ → Sections → ℕ → Entry → ℕ → Place → List ℕ → Step
