@@ -12,7 +12,7 @@ use Rattle.unpacking.proofs.runs.judged.Statement.{statement}
 use Rattle.unpacking.proofs.runs.judged.Tie as tie
 
 abbrev Inv-loop : tie.InvT-loop
-Inv-loop payload from code count width bad₀ seen₀ bad seen = (seen ≤ count) × (bad ≤ seen) × (eqb bad 0 ≡ allBelow (isGood payload code from) seen)
+Inv-loop payload from code count width bad₀ seen₀ bad seen = (eqb bad 0 ≡ allBelow (isGood payload code from) seen) × (bad ≤ seen) × (seen ≤ count)
 
 abbrev μ-loop : tie.MeasureT-loop
 μ-loop payload from code count width bad₀ seen₀ bad seen = count - seen
@@ -25,7 +25,7 @@ judged-spec =
     μ-loop
     (λ c. all-good _ _ _ _ (λ k. omega (arith, c .before .shared-slice-known .given k)) (c .if1 .taken))
     (λ c κs. search needs)
-    (λ c. (search needs, search needs, search judged-none))
+    (λ c. (search judged-none, search needs, search needs))
     (λ c. search product-fits)
     (λ c. search place-fits)
     (λ c κs. search leaf-room)
@@ -33,5 +33,5 @@ judged-spec =
     (λ c. search needs)
     (λ c. search needs)
     (λ c. search needs)
-    (λ c. (search needs, search needs, search judged-more))
+    (λ c. (search judged-more, search needs, search needs))
     (λ c. search judged-all))

@@ -11,7 +11,7 @@ use Rattle.unpacking.proofs.runs.store.Statement.{statement}
 use Rattle.unpacking.proofs.runs.store.Tie as tie
 
 abbrev Inv-loop : tie.InvT-loop
-Inv-loop payload words₀ code count p width done₀ words done = (done ≤ count) × (length words ≡ length words₀) × (words ≡ filled payload code p done words₀)
+Inv-loop payload words₀ code count p width done₀ words done = (words ≡ filled payload code p done words₀) × (length words ≡ length words₀) × (done ≤ count)
 
 abbrev μ-loop : tie.MeasureT-loop
 μ-loop payload words₀ code count p width done₀ words done = count - done
@@ -23,7 +23,7 @@ store-spec =
     Inv-loop
     μ-loop
     (λ c κs. search needs)
-    (λ c. (search needs, refl, search filled-none))
+    (λ c. (search filled-none, refl, search needs))
     (λ c. search product-fits)
     (λ c. search place-fits)
     (λ c κs. search leaf-room)
@@ -32,6 +32,6 @@ store-spec =
     (λ c. search needs)
     (λ c. search needs)
     (λ c. search needs)
-    (λ c. (search needs, search needs, search filled-more))
+    (λ c. (search filled-more, search needs, search needs))
     (λ c. search same-many)
     (λ c. search filled-all))
