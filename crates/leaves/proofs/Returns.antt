@@ -4,7 +4,7 @@ use Prim.Native.Nat.{ℕ, _+_, _-_, _*_, _%_, _^_, _≤_, _<_}
 use mathlib.Core.Path.{_≡_, refl, sym, ap, subst, _∙_}
 use mathlib.Core.Bool.{Bool, true, false, not, cond}
 use mathlib.Core.List.{List, [], _∷_}
-use native.Mathlib.Nat.{mod-eq-of-lt}
+use native.Mathlib.Nat.{add-zero, mod-eq-of-lt}
 use native.Mathlib.Omega.{arith}
 use borrow.Author.Tests.{eq-eqb, ne-eqb}
 use mir.Syntax.{w64}
@@ -76,6 +76,15 @@ sign-clear x half h = sym (yes-lt x (x + (2 ^ 64 - 2 * half)) x half h)
 pub sign-set : (x half : ℕ) → half ≤ x → 1 ≤ half → half ≤ 2 ^ 63 → x + (18446744073709551615 - (half - 1) - half) ≡ extended half x
 unfolding extended
 sign-set x half h a b = ap (λ (n : ℕ). x + n) (omega arith) ∙ sym (no-lt x (x + (2 ^ 64 - 2 * half)) x half h)
+
+-- of 64 bits nothing is left to carry
+pub all-bits : (x : ℕ) → x ≡ extended 9223372036854775808 x
+unfolding extended
+all-bits x = go (ltb x 9223372036854775808) refl
+  where
+    go : (b : Bool) → ltb x 9223372036854775808 ≡ b → x ≡ extended 9223372036854775808 x
+    go true e = rw e refl
+    go false e = rw e (sym (add-zero x))
 
 pub is-false : (x : ℕ) → x ≡ 0 → 0 ≡ truth x
 unfolding truth

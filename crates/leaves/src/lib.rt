@@ -15,12 +15,12 @@ pub fn word_at(s: &[u8], at: usize, code: u16) -> u64
     ensures { λ r. ⌜ r ≡ wordAt code (now (s .entry)) at ⌝ }
 {
     match code {
-        0 => truth(wire::u8_at(s, at) as u64),
-        1 => extended(wire::u8_at(s, at) as u64, 128),
+        0 => truth(wire::u8_at(s, at)),
+        1 => signed8(wire::u8_at(s, at)),
         2 => wire::u8_at(s, at) as u64,
-        3 => extended(wire::u16_at(s, at) as u64, 32768),
-        4 => extended(wire::u32_at(s, at) as u64, 2147483648),
-        5 => extended(wire::u64_at(s, at), 9223372036854775808),
+        3 => signed16(wire::u16_at(s, at)),
+        4 => signed32(wire::u32_at(s, at)),
+        5 => wire::u64_at(s, at),
         6 => wire::u8_at(s, at) as u64,
         7 => wire::u8_at(s, at) as u64,
         8 => wire::u16_at(s, at) as u64,
@@ -62,13 +62,32 @@ pub fn takes(table: &[u8], s: Sections, e: Entry, word: u64) -> bool
 }
 
 // 0 is false and any other byte true.
-fn truth(x: u64) -> u64
+pub fn truth(x: u8) -> u64
     ensures { λ r. ⌜ r ≡ truth x ⌝ }
 {
     if x == 0 { 0 } else { 1 }
 }
 
-// A number of twice `half` in two's complement, with its sign carried up to 64 bits.
+// Numbers in two's complement, with their sign carried up to 64 bits. An int64 is its word as it stands.
+pub fn signed8(x: u8) -> u64
+    ensures { λ r. ⌜ r ≡ extended 128 x ⌝ }
+{
+    extended(x as u64, 128)
+}
+
+pub fn signed16(x: u16) -> u64
+    ensures { λ r. ⌜ r ≡ extended 32768 x ⌝ }
+{
+    extended(x as u64, 32768)
+}
+
+pub fn signed32(x: u32) -> u64
+    ensures { λ r. ⌜ r ≡ extended 2147483648 x ⌝ }
+{
+    extended(x as u64, 2147483648)
+}
+
+// A number below twice `half`.
 fn extended(x: u64, half: u64) -> u64
     requires { ⌜ (1 ≤ half) × (half ≤ 2 ^ 63) × (x < 2 * half) ⌝ }
     ensures { λ r. ⌜ r ≡ extended half x ⌝ }

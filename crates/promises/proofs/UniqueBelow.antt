@@ -1,7 +1,16 @@
 -- Two outcomes that one promise allows are equal: each contract is an equation with a definition.
 -- Assumes nothing.
 use mathlib.Core.Path.{_≡_, sym, _∙_}
-use Rattle.promises.specs.UniqueBelow.{WireUnique, ChannelsUnique, JoinerUnique, MessageUnique, ReactionsUnique, TableUnique, WalkUnique, UnpackingUnique, PackingUnique, StatesUnique, TextUnique, CallsUnique, LentUnique, LentChannelsUnique, LentJoinerUnique, LentMessagesUnique, LentTablesUnique, LentPayloadsUnique, LentPlatformUnique, LentStatesUnique, LentHeardUnique, EnumsUnique, UniqueBelow}
+use Rattle.promises.specs.UniqueBelow.{WireUnique, ChannelsUnique, JoinerUnique, MessageUnique, ReactionsUnique, TableUnique, WalkUnique, UnpackingUnique, PackingUnique, StatesUnique, TextUnique, CallsUnique, LentUnique, LentChannelsUnique, LentJoinerUnique, LentMessagesUnique, LentTablesUnique, LentPayloadsUnique, LentPlatformUnique, LentStatesUnique, LentHeardUnique, EnumsUnique, LeavesUnique, UniqueBelow}
+
+leaves : LeavesUnique
+leaves =
+    record {
+      truth = λ k a z z′ e e′ p q. p ∙ sym q;
+      signed8 = λ k a z z′ e e′ p q. p ∙ sym q;
+      signed16 = λ k a z z′ e e′ p q. p ∙ sym q;
+      signed32 = λ k a z z′ e e′ p q. p ∙ sym q;
+    }
 
 wire : WireUnique
 wire =
@@ -221,4 +230,4 @@ lent-platform =
     }
 
 pub unique-below : UniqueBelow
-unique-below = record { wire = wire; channels = channels; joiner = joiner; message = message; reactions = reactions; table = table; walk = walk; unpacking = unpacking; packing = packing; states = states; text = text; calls = calls; lent = lent; lent-channels = lent-channels; lent-joiner = lent-joiner; lent-messages = lent-messages; lent-tables = lent-tables; lent-payloads = lent-payloads; lent-platform = lent-platform; lent-states = lent-states; lent-heard = lent-heard; enums = enums }
+unique-below = record { wire = wire; channels = channels; joiner = joiner; message = message; reactions = reactions; table = table; walk = walk; unpacking = unpacking; packing = packing; states = states; text = text; calls = calls; lent = lent; lent-channels = lent-channels; lent-joiner = lent-joiner; lent-messages = lent-messages; lent-tables = lent-tables; lent-payloads = lent-payloads; lent-platform = lent-platform; lent-states = lent-states; lent-heard = lent-heard; enums = enums; leaves = leaves }

@@ -7,6 +7,10 @@ use Rattle.promises.specs.Unique.{Same, Answer, Lent}
 use Rattle.wire.proofs.whole_u16.Reads.{Post as wire-whole-u16}
 use Rattle.wire.proofs.whole_u32.Reads.{Post as wire-whole-u32}
 use Rattle.wire.proofs.whole_u64.Reads.{Post as wire-whole-u64}
+use Rattle.leaves.proofs.truth.Reads.{Post as leaves-truth}
+use Rattle.leaves.proofs.signed8.Reads.{Post as leaves-signed8}
+use Rattle.leaves.proofs.signed16.Reads.{Post as leaves-signed16}
+use Rattle.leaves.proofs.signed32.Reads.{Post as leaves-signed32}
 use Rattle.channels.proofs.is_good.Reads.{Post as channels-is-good}
 use Rattle.channels.proofs.look.Reads.{Post as channels-look}
 use Rattle.channels.proofs.room_start.Reads.{Post as channels-room-start}
@@ -84,6 +88,12 @@ pub record WireUnique : Type 0 where
   pub whole-u16 : Answer wire-whole-u16
   pub whole-u32 : Answer wire-whole-u32
   pub whole-u64 : Answer wire-whole-u64
+
+pub record LeavesUnique : Type 0 where
+  pub truth : Answer leaves-truth
+  pub signed8 : Answer leaves-signed8
+  pub signed16 : Answer leaves-signed16
+  pub signed32 : Answer leaves-signed32
 
 pub record ChannelsUnique : Type 0 where
   pub is-good : Answer channels-is-good
@@ -236,6 +246,7 @@ pub record LentPlatformUnique : Type 0 where
 
 pub record UniqueBelow : Type 0 where
   pub wire : WireUnique
+  pub leaves : LeavesUnique
   pub channels : ChannelsUnique
   pub joiner : JoinerUnique
   pub message : MessageUnique

@@ -1,2 +1,4 @@
 mod ReadReturns
 mod ReadBases
+mod ReadRuns
+mod ReadCodes

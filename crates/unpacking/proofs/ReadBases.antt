@@ -4,20 +4,17 @@ use Prim.Native.Nat.{ℕ, zero, suc, _+_, _-_, _*_, _/_, _%_, _^_, _≤_, _<_}
 use mathlib.Core.Path.{_≡_, refl, sym, ap, subst, _∙_}
 use mathlib.Core.Bool.{Bool, true, false, _&&_, _||_, not, cond}
 use mathlib.Core.List.{List, [], _∷_}
-use mathlib.Core.Logic.{⊎-elim}
+use native.Mathlib.Nat.{add-zero, add-assoc, add-sub-cancel-left}
 use native.Mathlib.Omega.{arith}
 use borrow.Author.Tests.{le-leb, lt-leb, lt-ltb, le-ltb, ltb-true, ltb-false, leb-true, ne-eqb}
 use lib.Dec.{ltb, leb, eqb}
-use lib.ListN.{length, getD, set}
-use Rattle.wire.specs.Bytes.{span, number, written, Octets}
-use Rattle.wire.proofs.Numbers.{number-lt}
+use lib.ListN.{length, getD, set, take, drop}
+use Rattle.wire.specs.Bytes.{span, number, whole, written, Octets}
+use Rattle.wire.proofs.Numbers.{number-lt, whole-part}
 use Rattle.wire.proofs.Cond.{and-left, and-right, both}
-use Rattle.wire.proofs.Runs.{length-written}
+use Rattle.wire.proofs.Runs.{length-written, part-in}
 use Rattle.table.specs.declared.Sections.{Sections}
-use Rattle.table.specs.declared.Entry.{Entry}
-use Rattle.table.specs.Entries.{memberAt}
 use Rattle.table.specs.Leaf.{Leaf, boolean, signed, unsigned, float, none, base, bytesOf, inSigned, finite, isValue, width, allowed}
-use Rattle.table.proofs.Leaves.{no-base}
 use Rattle.leaves.specs.Forms.{truth, extended, wordOf, wordAt}
 use Rattle.leaves.proofs.Leaves.{truth-small}
 use Rattle.walk.specs.declared.Place.{Place}
@@ -26,11 +23,20 @@ use Rattle.walk.specs.Walk.{Step, on, through, walk}
 use Rattle.walk.proofs.Walks.{some-bytes, through-more}
 use Rattle.walk.proofs.Bases.{base-on}
 use Rattle.walk.proofs.Returns.{stored as put-in}
-use Rattle.unpacking.specs.Reading.{reader, Reading, isThere, behind, stored, Reads, memberRead}
+use Rattle.unpacking.specs.Reading.{reader, Reading, isThere, behind, stored, Reads, ReadsCodes}
 
 -- the room of the code that was met
 pub room-of : (n w : ℕ) → w ≡ width n → (p l code : ℕ) → code ≡ n → p + width code ≤ l → p + w ≤ l
 room-of n w e p l code h r = rw (e, ← h) r
+
+-- a number read from a part of just its length
+pub read-in : (k : ℕ) (s : List ℕ) (p r : ℕ) → p + 2 ^ k ≤ length s → r ≡ whole k (take (p + 2 ^ k - p) (drop p s)) 0 → r ≡ number k s p
+read-in k s p r h e =
+    e
+    ∙ ap (λ (n : ℕ). whole k (take n (drop p s)) 0) (add-sub-cancel-left p (2 ^ k))
+    ∙ ap (λ (u : List ℕ). whole k u 0) (sym (part-in s p (2 ^ k) h))
+    ∙ whole-part k s p (2 ^ k) 0 h (omega arith)
+    ∙ ap (number k s) (add-zero p)
 
 -- a store of the word that was read
 pub stored-word : (x : List ℕ) (p w : ℕ) (b : List ℕ) (from code : ℕ) → p < length x → w ≡ wordAt code b from → set x p w ≡ written x p (wordAt code b from ∷ [])
@@ -54,7 +60,7 @@ module _ (s : List ℕ) (p : ℕ) (o : Octets s) where
   all-unsigned k = lt-ltb (number k s p) (span k) (number-lt k s p o)
 
   -- code by code, up to the floats
-  value-there : (code : ℕ) → code < 11 → allowed code (wordAt code s p) ≡ true
+  pub value-there : (code : ℕ) → code < 11 → allowed code (wordAt code s p) ≡ true
   unfolding allowed wordAt base wordOf isValue
   value-there zero l = lt-ltb (truth (number 0 s p)) 2 (truth-small (number 0 s p))
   value-there (suc zero) l = sign-in 128 (number 0 s p) (omega arith) (o p)
@@ -75,16 +81,16 @@ module _ (b : List ℕ) (from code n : ℕ) (in-payload : from ≤ length b) (is
   cut-off h = rw (lt-leb (from + width code) (length b) (omega (arith, is))) refl
 
   module _ (h : n ≤ length b - from) where
-    pub whole : from + width code ≤ length b
-    whole = omega (arith, is)
+    pub all-there : from + width code ≤ length b
+    all-there = omega (arith, is)
 
     pub surely : Octets b → code < 11 → true ≡ isThere b code from
     unfolding isThere
-    surely o l = rw (le-leb (from + width code) (length b) whole, value-there b from o code l) refl
+    surely o l = rw (le-leb (from + width code) (length b) all-there, value-there b from o code l) refl
 
     pub judged : (w : ℕ) (r : Bool) → w ≡ wordAt code b from → r ≡ allowed code w → r ≡ isThere b code from
     unfolding isThere
-    judged w r e g = rw (le-leb (from + width code) (length b) whole, ← e) g
+    judged w r e g = rw (le-leb (from + width code) (length b) all-there, ← e) g
 
 -- where it is there, its bytes are
 pub there-room : (b : List ℕ) (from code : ℕ) (r : Bool) → r ≡ isThere b code from → r ≡ true → from + width code ≤ length b
@@ -99,30 +105,26 @@ module _ (b : List ℕ) (code : ℕ) (p : Place) (n : ℕ) (is : n ≡ width cod
   pub reading-behind : Reading b p → Reading b (record { from = p .from + n; to = p .to + 1 })
   reading-behind h = (omega (arith, some, is, h .0), omega (arith, there-room b (p .from) code r there yes, is))
 
-  -- one more leaf of a run
-  module _ (f : ℕ → Place → List ℕ → Step) (reads : Reads b code f) (q : Place) (x : List ℕ) (k : ℕ) (y z : List ℕ) (so-far : through k f q x ≡ on p y) (put : z ≡ written y (p .to) (wordAt code b (p .from) ∷ [])) where
-    pub run-more : through (k + 1) f q x ≡ on (record { from = p .from + n; to = p .to + 1 }) z
-    run-more = through-more f q x k p y so-far ∙ reads k p y (sym there ∙ yes) ∙ rw (← is, ← put) refl
+  -- one more of the codes
+  module _ (codes : List ℕ) (m : ℕ) (f : ℕ → Place → List ℕ → Step) (reads : ReadsCodes b codes m f) (k : ℕ) (less : k < length codes) (one : code ≡ getD codes k 0) where
+    pub code-more : (q : Place) (x y z : List ℕ) → through (m + k) f q x ≡ on p y → z ≡ written y (p .to) (wordAt code b (p .from) ∷ []) → through (m + (k + 1)) f q x ≡ on (record { from = p .from + n; to = p .to + 1 }) z
+    code-more q x y z so-far put =
+        ap (λ (j : ℕ). through j f q x) (sym (add-assoc m k 1))
+        ∙ through-more f q x (m + k) p y so-far
+        ∙ reads k p y less (rw (← one) (sym there ∙ yes))
+        ∙ rw (← one, ← is, ← put) refl
 
 -- the words stay as many
 pub as-many : (n : ℕ) (y z : List ℕ) (p w : ℕ) → length y ≡ n → z ≡ written y p (w ∷ []) → length z ≡ n
 as-many n y z p w h e = ap length e ∙ length-written y p (w ∷ []) ∙ h
 
--- a base among a record's members, and as an array's element
+-- a base that is met, among a record's members or as an array's element
 module _ (b t : List ℕ) (s : Sections) (i c code : ℕ) (is : code ≡ baseAt t s i c) (p : Place) (x : List ℕ) (there : isThere b code (p .from) ≡ true) where
   pub base-reads : walk (reader b) (child t s i c) p x ≡ on (behind code p) (stored b code p x)
   unfolding isThere reader
   base-reads =
       let h : (leb (p .from + width code) (length b) ≡ true) × (allowed code (wordAt code b (p .from)) ≡ true) = both (leb (p .from + width code) (length b)) (allowed code (wordAt code b (p .from))) there in
       base-on t s i c (reader b) code p x is (h .0) (h .1)
-
-module _ (b t : List ℕ) (s : Sections) (i : ℕ) (e : Entry) (p : Place) (n : ℕ) (code : ℕ) (is : n ≡ width code) (r : Bool) (there : r ≡ isThere b code (p .from)) (yes : r ≡ true) (c k : ℕ) (member : c ≡ memberAt t s (e .first + k)) (met : code ≡ baseAt t s i c) where
-  pub member-more : (q : Place) (x y z : List ℕ) → through k (memberRead b t s i e) q x ≡ on p y → z ≡ written y (p .to) (wordAt code b (p .from) ∷ []) → through (k + 1) (memberRead b t s i e) q x ≡ on (record { from = p .from + n; to = p .to + 1 }) z
-  member-more q x y z so-far put =
-      through-more (memberRead b t s i e) q x k p y so-far
-      ∙ ap (λ (m : ℕ). walk (reader b) (child t s i m) p y) (sym member)
-      ∙ base-reads b t s i c code met p y (sym there ∙ yes)
-      ∙ rw (← is, ← put) refl
 
 pub element-reads : (b t : List ℕ) (s : Sections) (i c code : ℕ) → code ≡ baseAt t s i c → Reads b code (λ k q y. walk (reader b) (child t s i c) q y)
 element-reads b t s i c code is k q y there = base-reads b t s i c code is q y there

@@ -9,7 +9,7 @@ ghost use Rattle.leaves.specs.Forms.{wordAt};
 ghost use Rattle.unpacking.specs.Reading.{isThere};
 
 // float32 and, behind it, double64: the codes of which not every word is allowed.
-const FLOAT32: u16 = 11;
+pub(crate) const FLOAT32: u16 = 11;
 
 // Whether a leaf of the base code is there, and its word is allowed: of all but the floats every word is.
 pub(crate) fn is_there(payload: &[u8], from: usize, code: u16) -> bool
@@ -35,48 +35,54 @@ pub(crate) fn put_base(payload: &[u8], words: &mut [u64], code: u16, from: usize
     }
 }
 
-// The word of a leaf that is there: with no test for the end between its bytes the compiler makes one load of them.
-fn word_in(s: &[u8], at: usize, code: u16) -> u64
+// The word of a leaf that is there.
+pub(crate) fn word_in(s: &[u8], at: usize, code: u16) -> u64
     requires { ⌜ at + width code ≤ length (now s) ⌝ }
     ensures { λ r. ⌜ r ≡ wordAt code (now (s .entry)) at ⌝ }
 {
     match code {
-        2 => whole_u8(s, at) as u64,
-        6 => whole_u8(s, at) as u64,
-        7 => whole_u8(s, at) as u64,
-        8 => whole_u16(s, at) as u64,
-        9 => whole_u32(s, at) as u64,
-        10 => whole_u64(s, at),
-        11 => whole_u32(s, at) as u64,
-        12 => whole_u64(s, at),
-        _ => leaves::word_at(s, at, code),
+        0 => leaves::truth(u8_in(s, at)),
+        1 => leaves::signed8(u8_in(s, at)),
+        2 => u8_in(s, at) as u64,
+        3 => leaves::signed16(u16_in(s, at)),
+        4 => leaves::signed32(u32_in(s, at)),
+        5 => u64_in(s, at),
+        6 => u8_in(s, at) as u64,
+        7 => u8_in(s, at) as u64,
+        8 => u16_in(s, at) as u64,
+        9 => u32_in(s, at) as u64,
+        10 => u64_in(s, at),
+        11 => u32_in(s, at) as u64,
+        12 => u64_in(s, at),
+        _ => 0,
     }
 }
 
-fn whole_u8(s: &[u8], at: usize) -> u8
+fn u8_in(s: &[u8], at: usize) -> u8
     requires { ⌜ at + 1 ≤ length (now s) ⌝ }
     ensures { λ r. ⌜ r ≡ number 0 (now (s .entry)) at ⌝ }
 {
     s[at]
 }
 
-fn whole_u16(s: &[u8], at: usize) -> u16
+// Numbers that are there: in a part of just their length the compiler sees that they are, and makes one load of each.
+fn u16_in(s: &[u8], at: usize) -> u16
     requires { ⌜ at + 2 ≤ length (now s) ⌝ }
     ensures { λ r. ⌜ r ≡ number 1 (now (s .entry)) at ⌝ }
 {
-    (whole_u8(s, at) as u16) * 256 + (whole_u8(s, at + 1) as u16)
+    wire::whole_u16(&s[at..at + 2], 0)
 }
 
-fn whole_u32(s: &[u8], at: usize) -> u32
+fn u32_in(s: &[u8], at: usize) -> u32
     requires { ⌜ at + 4 ≤ length (now s) ⌝ }
     ensures { λ r. ⌜ r ≡ number 2 (now (s .entry)) at ⌝ }
 {
-    (whole_u16(s, at) as u32) * 65536 + (whole_u16(s, at + 2) as u32)
+    wire::whole_u32(&s[at..at + 4], 0)
 }
 
-fn whole_u64(s: &[u8], at: usize) -> u64
+fn u64_in(s: &[u8], at: usize) -> u64
     requires { ⌜ at + 8 ≤ length (now s) ⌝ }
     ensures { λ r. ⌜ r ≡ number 3 (now (s .entry)) at ⌝ }
 {
-    (whole_u32(s, at) as u64) * 4294967296 + (whole_u32(s, at + 4) as u64)
+    wire::whole_u64(&s[at..at + 8], 0)
 }

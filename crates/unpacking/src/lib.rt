@@ -1,6 +1,7 @@
 // Reading a payload: the reader of a record's members and the reader of an array's elements call each other, each by the kind
 // of what it meets, and the type number falls at each entry.
 mod bases;
+mod runs;
 
 use table::Entry;
 use table::Sections;
@@ -8,19 +9,22 @@ use walk::Met;
 use walk::Place;
 use walk::Walked;
 ghost use mathlib.Core.Path.{_≡_};
-ghost use Prim.Native.Nat.{ℕ, _≤_};
+ghost use Prim.Native.Nat.{ℕ, _+_, _≤_};
 ghost use lib.ListN.{length};
 ghost use Rattle.walk.specs.declared.Met.the-variants.{Members, Elements};
 ghost use Rattle.wire.specs.Bytes.{written};
 ghost use mathlib.Core.List.{List, [], _∷_};
 ghost use Rattle.walk.specs.declared.Place.{Place};
-ghost use Rattle.walk.specs.Walk.{Step, on, through, start, answer, left, begun, times, leafWalk, metWalk, typeWalk};
-ghost use Rattle.unpacking.specs.Reading.{reader, Reading, Reads, memberRead, Goes};
+ghost use Rattle.walk.specs.Walk.{Step, start, answer, left, begun, times, leafWalk, metWalk, typeWalk};
+ghost use Rattle.unpacking.specs.Reading.{reader, Reading, ReadsCodes, memberRead, Goes};
 
 // An array's count: its bytes on the wire, and its words.
 const COUNT_BYTES: usize = 4;
 
 const COUNT_WORDS: usize = 1;
+
+// How many base codes of a record's members are read at once.
+const MOST_CODES: usize = 64;
 
 // How far a run of leaves was read: up to which member or element, and where it ends.
 struct Run {
@@ -105,7 +109,7 @@ fn read_elements(
         Walked::Stopped(n, q) => Walked::Stopped(n, q),
         Walked::Went(q) => {
             let code = walk::base_at(table, s, i, child);
-            let run = read_run(payload, words, code, count, q);
+            let run = runs::read_run(payload, words, code, count, q);
             let mut at = run.at;
             let mut k = run.upto;
             while k < count {
@@ -203,7 +207,8 @@ fn put_word(words: &mut [u64], at: usize, word: u64)
     }
 }
 
-// Reads a record's members from the k-th on, up to one that is no base, or whose leaf is refused: most members are bases.
+// Reads a record's members from the k-th on, up to one that is no base, or whose leaf is refused, and no more at once than there
+// is room for their codes: most members are bases.
 fn read_bases(
     table: &[u8],
     s: Sections,
@@ -219,12 +224,22 @@ fn read_bases(
     ensures { λ _. ⌜ length (now (words .exit)) ≡ length (now (words .entry)) ⌝ }
     ensures { λ r. ⌜ Goes (memberRead (now (payload .entry)) (now (table .entry)) s i e) from p (now (words .entry)) (r .upto) (r .at) (now (words .exit)) ⌝ }
 {
-    let count = e.count as u32;
+    let mut codes = [0u8; MOST_CODES];
+    let n = walk::runs::base_codes(table, s, i, e, from, &mut codes);
+    read_codes(payload, words, &codes[..n], from, p)
+}
+
+// Reads leaves of these base codes, up to one that is refused: they are the codes of members from the k-th on.
+fn read_codes(payload: &[u8], words: &mut [u64], codes: &[u8], from: u32, p: Place) -> Run
+    requires { ⌜ Reading (now payload) p × (from + length (now codes) ≤ 65535) ⌝ }
+    ensures { λ r. ⌜ (from ≤ r .upto) × (r .upto ≤ from + length (now (codes .entry))) × Reading (now (payload .entry)) (r .at) ⌝ }
+    ensures { λ _. ⌜ length (now (words .exit)) ≡ length (now (words .entry)) ⌝ }
+    ensures { λ r. ⌜ ((f : ℕ → Place → List ℕ → Step) → ReadsCodes (now (payload .entry)) (now (codes .entry)) from f → Goes f from p (now (words .entry)) (r .upto) (r .at) (now (words .exit))) ⌝ }
+{
     let mut at = p;
-    let mut k = from;
-    while k < count {
-        let child = table::entries::member_at(table, s, e.first as u32 + k);
-        let code = walk::base_at(table, s, i, child);
+    let mut k: usize = 0;
+    while k < codes.len() {
+        let code = codes[k] as u16;
         if bases::is_there(payload, at.from, code) {
             bases::put_base(payload, words, code, at.from, at.to);
             at = Place {
@@ -233,52 +248,14 @@ fn read_bases(
             };
             k += 1;
         } else {
-            return Run { upto: k, at };
-        }
-    }
-    Run { upto: k, at }
-}
-
-// Reads elements of one base code, up to one whose leaf is refused. A call for each code, so that the compiler makes a loop for
-// each.
-fn read_run(payload: &[u8], words: &mut [u64], code: u16, count: u32, p: Place) -> Run
-    requires { ⌜ Reading (now payload) p ⌝ }
-    ensures { λ r. ⌜ (r .upto ≤ count) × Reading (now (payload .entry)) (r .at) ⌝ }
-    ensures { λ _. ⌜ length (now (words .exit)) ≡ length (now (words .entry)) ⌝ }
-    ensures { λ r. ⌜ ((f : ℕ → Place → List ℕ → Step) → Reads (now (payload .entry)) code f → through (r .upto) f p (now (words .entry)) ≡ on (r .at) (now (words .exit))) ⌝ }
-{
-    match code {
-        2 => read_each(payload, words, 2, count, p),
-        6 => read_each(payload, words, 6, count, p),
-        7 => read_each(payload, words, 7, count, p),
-        8 => read_each(payload, words, 8, count, p),
-        9 => read_each(payload, words, 9, count, p),
-        10 => read_each(payload, words, 10, count, p),
-        11 => read_each(payload, words, 11, count, p),
-        12 => read_each(payload, words, 12, count, p),
-        _ => read_each(payload, words, code, count, p),
-    }
-}
-
-fn read_each(payload: &[u8], words: &mut [u64], code: u16, count: u32, p: Place) -> Run
-    requires { ⌜ Reading (now payload) p ⌝ }
-    ensures { λ r. ⌜ (r .upto ≤ count) × Reading (now (payload .entry)) (r .at) ⌝ }
-    ensures { λ _. ⌜ length (now (words .exit)) ≡ length (now (words .entry)) ⌝ }
-    ensures { λ r. ⌜ ((f : ℕ → Place → List ℕ → Step) → Reads (now (payload .entry)) code f → through (r .upto) f p (now (words .entry)) ≡ on (r .at) (now (words .exit))) ⌝ }
-{
-    let mut at = p;
-    let mut k: u32 = 0;
-    while k < count {
-        if bases::is_there(payload, at.from, code) {
-            bases::put_base(payload, words, code, at.from, at.to);
-            at = Place {
-                from: at.from + codes::width(code),
-                to: at.to + 1,
+            return Run {
+                upto: from + k as u32,
+                at,
             };
-            k += 1;
-        } else {
-            return Run { upto: k, at };
         }
     }
-    Run { upto: k, at }
+    Run {
+        upto: from + k as u32,
+        at,
+    }
 }

@@ -2,9 +2,10 @@
 -- Assumes nothing.
 use borrow.Author.Needs.{needs}
 use mathlib.Core.Path.{refl}
+use Rattle.wire.specs.Bytes.{number}
 use Rattle.table.specs.Leaf.{base}
 use Rattle.leaves.specs.Forms.{wordAt, wordOf}
-use Rattle.leaves.proofs.Returns.{at-truth, at-extended, at-number, no-word}
+use Rattle.leaves.proofs.Returns.{at-truth, at-extended, at-number, all-bits, no-word}
 use Rattle.leaves.proofs.word_at.Statement.{statement}
 use Rattle.leaves.proofs.word_at.Tie as tie
 
@@ -14,18 +15,13 @@ word-at-spec =
     tie.close
     (tie.spec
     (λ c κs. search needs)
-    (λ c. search needs)
+    (λ c κs. search needs)
+    (λ c κs. search needs)
     (λ c κs. search needs)
     (λ c κs. search needs)
     (λ c. search needs)
     (λ c κs. search needs)
     (λ c κs. search needs)
-    (λ c. search needs)
-    (λ c κs. search needs)
-    (λ c. search needs)
-    (λ c κs. search needs)
-    (λ c κs. search needs)
-    (λ c. search needs)
     (λ c κs. search needs)
     (λ c κs. search needs)
     (λ c κs. search needs)
@@ -46,7 +42,7 @@ word-at-spec =
     (λ c. search (at-number 2 0 (λ s p. refl)))
     (λ c. search (at-extended 3 1 32768 (λ s p. refl)))
     (λ c. search (at-extended 4 2 2147483648 (λ s p. refl)))
-    (λ c. search (at-extended 5 3 9223372036854775808 (λ s p. refl)))
+    (λ c. search (at-number 5 3 (λ s p. all-bits (number 3 s p))))
     (λ c. search (at-number 6 0 (λ s p. refl)))
     (λ c. search (at-number 7 0 (λ s p. refl)))
     (λ c. search (at-number 8 1 (λ s p. refl)))

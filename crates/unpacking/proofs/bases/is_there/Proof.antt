@@ -2,7 +2,7 @@
 -- Assumes nothing.
 use borrow.Author.Needs.{needs}
 use native.Mathlib.Omega.{arith}
-use Rattle.unpacking.proofs.ReadBases.{cut-off, whole, surely, judged}
+use Rattle.unpacking.proofs.ReadBases.{cut-off, all-there, surely, judged}
 use Rattle.unpacking.proofs.bases.is_there.Statement.{statement}
 use Rattle.unpacking.proofs.bases.is_there.Tie as tie
 
@@ -14,6 +14,6 @@ is-there-spec =
     (λ c κs. search needs)
     (λ c. search cut-off)
     (λ c. surely _ _ _ _ (c .before .before .before .before .pre) (c .before .before .width .ensures) (c .before .if1 .left) (λ k. omega (arith, c .before .before .before .shared-slice-known .given k)) (c .if2 .taken))
-    (λ c κs. search whole)
+    (λ c κs. search all-there)
     (λ c κs. search needs)
     (λ c. search judged))
