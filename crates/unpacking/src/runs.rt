@@ -87,11 +87,7 @@ fn judged(payload: &[u8], from: usize, code: u16, count: usize) -> bool
 fn refused(code: u16, word: u64) -> u32
     ensures { λ r. ⌜ (r ≤ 1) × (r ≡ cond (allowed code word) 0 1) ⌝ }
 {
-    if codes::allowed(code, word) {
-        0
-    } else {
-        1
-    }
+    if codes::allowed(code, word) { 0 } else { 1 }
 }
 
 // Stores the words of so many leaves, as far as there is room for them.
