@@ -1,14 +1,14 @@
 -- Laws of the leaves: the width of each base code, what the tests of its words come to, and that every allowed word is a
 -- word of 64 bits.
 -- Assumes nothing.
-use Prim.Native.Nat.{ℕ, _+_, _-_, _^_, _≤_, _<_}
+use Prim.Native.Nat.{ℕ, _+_, _^_, _≤_}
 use mathlib.Core.Path.{_≡_, refl, sym, ap, _∙_}
-use mathlib.Core.Bool.{Bool, true, false, _&&_, _||_}
+use mathlib.Core.Bool.{Bool, true, false}
 use native.Mathlib.Omega.{arith}
-use borrow.Author.Tests.{lt-ltb, le-leb, lt-leb, ltb-true, ltb-false}
+use borrow.Author.Tests.{lt-ltb, le-leb, ltb-false}
 use mir.Syntax.{w64}
 use mir.Val.{Fits}
-use lib.Dec.{ltb, leb}
+use lib.Dec.{ltb}
 use lib.ListN.{getD, List·getD-eq-default}
 use Rattle.table.specs.Leaf.{Leaf, none, codes, base, bytesOf, inSigned, finite, isValue, width, allowed}
 
@@ -19,7 +19,7 @@ pub no-base : (code : ℕ) → 13 ≤ code → base code ≡ none
 unfolding base
 no-base code h = List·getD-eq-default codes none h
 
-above : (n x : ℕ) → n ≤ x → (x ≡ n → ⊥) → n + 1 ≤ x
+pub above : (n x : ℕ) → n ≤ x → (x ≡ n → ⊥) → n + 1 ≤ x
 above n x h d = omega arith
 
 -- a number that is none of the thirteen
@@ -33,10 +33,6 @@ module _ (x : ℕ) (d0 : x ≡ 0 → ⊥) (d1 : x ≡ 1 → ⊥) (d2 : x ≡ 2 �
   pub no-width : 0 ≡ width x
   unfolding width bytesOf
   no-width = sym (ap bytesOf none-of)
-
-  pub other : (w : ℕ) → false ≡ allowed x w
-  unfolding allowed isValue
-  other w = sym (ap (λ (l : Leaf). isValue l w) none-of)
 
 -- one arm for each code, and none for the rest
 pub at-code : (n w x : ℕ) (r : Bool) → r ≡ allowed n w → x ≡ n → r ≡ allowed x w
@@ -58,12 +54,3 @@ all-unsigned x w h l = rw (h, lt-ltb w (2 ^ 64) (omega arith)) refl
 pub double : (x w : ℕ) (r : Bool) → x ≡ 12 → Fits w64 w → r ≡ finite 11 52 w → r ≡ allowed x w
 unfolding allowed base isValue
 double x w r h l e = rw (h, lt-ltb w (2 ^ 64) (omega arith)) e
-
--- the words of a signed leaf, counted from the top
-pub signed-is : (half w : ℕ) → half < 2 ^ 64 → w < 2 ^ 64 → (ltb w half || ltb (18446744073709551615 - w) half) ≡ inSigned half w
-unfolding inSigned
-signed-is half w h l = ap (λ (t : Bool). ltb w half || t) (go (ltb (18446744073709551615 - w) half) refl)
-  where
-    go : (t : Bool) → ltb (18446744073709551615 - w) half ≡ t → ltb (18446744073709551615 - w) half ≡ (leb (2 ^ 64 - half) w && ltb w (2 ^ 64))
-    go true e = rw (e, le-leb (2 ^ 64 - half) w (omega (arith, ltb-true (18446744073709551615 - w) half e)), lt-ltb w (2 ^ 64) l)
-    go false e = rw (e, lt-leb (2 ^ 64 - half) w (omega (arith, ltb-false (18446744073709551615 - w) half e)))

@@ -2,14 +2,17 @@
 -- Assumes nothing.
 use Prim.Native.Nat.{ℕ, _+_, _*_, _/_, _%_, _<_}
 use mathlib.Core.Path.{_≡_, refl, ap, _∙_}
+use mathlib.Core.Bool.{Bool, true}
 use mathlib.Core.List.{List}
 use native.Mathlib.Nat.{add-assoc}
 use native.Mathlib.Omega.{arith}
-use lib.ListN.{getD}
+use lib.Dec.{leb}
+use lib.ListN.{length, getD}
 use mir.Syntax.{w8}
 use mir.Val.{Fits}
-use Rattle.wire.specs.Bytes.{number}
-use Rattle.wire.proofs.Numbers.{number-lt}
+use Rattle.wire.specs.Bytes.{number, whole}
+use Rattle.wire.proofs.Numbers.{number-lt, whole-in}
+use Rattle.wire.proofs.Runs.{held}
 use Rattle.table.specs.declared.Sections.{Sections}
 use Rattle.table.specs.declared.Entry.{Entry}
 use Rattle.table.specs.declared.Operation.{Operation}
@@ -48,3 +51,7 @@ module _ (t : List ℕ) (s : Sections) (i p r : ℕ) where
   pub id-read : p ≡ operationPlace s i → r ≡ number 2 t p → r ≡ idAt t s i
   unfolding idAt
   id-read a b = b ∙ ap (number 2 t) a
+
+-- a number that there is room for is whole
+pub word-whole : (t : List ℕ) (p r : ℕ) (b : Bool) → b ≡ leb (p + 8) (length t) → b ≡ true → r ≡ whole 3 t p → r ≡ number 3 t p
+word-whole t p r b e h g = g ∙ whole-in 3 t p (held (p + 8) (length t) e h)

@@ -5,8 +5,6 @@ use crate::Operation;
 use crate::Sections;
 use crate::layout;
 ghost use mathlib.Core.Path.{_≡_};
-ghost use Prim.Native.Nat.{_+_, _≤_, _<_};
-ghost use lib.ListN.{length};
 ghost use Rattle.wire.specs.Bytes.{number};
 ghost use Rattle.table.specs.Entries.{typeAt, memberAt, valueAt, idAt, operationAt, isType};
 
@@ -65,33 +63,8 @@ fn word_at(table: &[u8], at: usize) -> u64
     ensures { λ r. ⌜ r ≡ number 3 (now (table .entry)) at ⌝ }
 {
     if wire::has_room(table.len(), at, 8) {
-        whole_word(table, at)
+        wire::whole_u64(table, at)
     } else {
         wire::u64_at(table, at)
     }
-}
-
-fn whole_word(table: &[u8], at: usize) -> u64
-    requires { ⌜ at + 8 ≤ length (now table) ⌝ }
-    ensures { λ r. ⌜ r ≡ number 3 (now (table .entry)) at ⌝ }
-{
-    (whole_half(table, at) as u64) * 4294967296 + (whole_half(table, at + 4) as u64)
-}
-
-fn whole_half(table: &[u8], at: usize) -> u32
-    requires { ⌜ at + 4 ≤ length (now table) ⌝ }
-    ensures { λ r. ⌜ r ≡ number 2 (now (table .entry)) at ⌝ }
-{
-    byte(table, at) * 16777216
-        + byte(table, at + 1) * 65536
-        + byte(table, at + 2) * 256
-        + byte(table, at + 3)
-}
-
-fn byte(table: &[u8], at: usize) -> u32
-    requires { ⌜ at < length (now table) ⌝ }
-    ensures value { λ r. ⌜ r ≡ number 0 (now (table .entry)) at ⌝ }
-    ensures small { λ r. ⌜ r < 256 ⌝ }
-{
-    table[at] as u32
 }

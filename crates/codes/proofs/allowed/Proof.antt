@@ -1,8 +1,9 @@
--- `codes::allowed` meets its contract: each arm is the test of its code.
+-- `codes::allowed` meets its contract: an integer by its limits, a float by the arm of its code.
 -- Assumes nothing.
 use borrow.Author.Needs.{needs}
 use Rattle.table.specs.Leaf.{allowed, base, isValue, finite}
-use Rattle.table.proofs.Leaves.{at-code, all-signed, all-unsigned, double, other}
+use Rattle.table.proofs.Leaves.{at-code, double}
+use Rattle.codes.proofs.Limits.{in-range, other}
 use Rattle.codes.proofs.allowed.Statement.{statement}
 use Rattle.codes.proofs.allowed.Tie as tie
 
@@ -12,19 +13,7 @@ allowed-spec =
     tie.close
     (tie.spec
     (λ c κs. search needs)
-    (λ c κs. search needs)
-    (λ c κs. search needs)
-    (λ c. search (at-code 0))
-    (λ c. search (at-code 1))
-    (λ c. search (at-code 2))
-    (λ c. search (at-code 3))
-    (λ c. search (at-code 4))
-    (λ c. search all-signed)
-    (λ c. search (at-code 6))
-    (λ c. search (at-code 7))
-    (λ c. search (at-code 8))
-    (λ c. search (at-code 9))
-    (λ c. search all-unsigned)
+    (λ c. search in-range)
     (λ c. search (at-code 11))
     (λ c. search double)
     (λ c. search other))
