@@ -37,7 +37,7 @@ pub fn member_at(table: &[u8], s: Sections, i: u32) -> u16
 pub fn value_at(table: &[u8], s: Sections, i: u32) -> u64
     ensures { λ r. ⌜ r ≡ valueAt (now (table .entry)) s i ⌝ }
 {
-    wire::u64_at(table, layout::value_place(s, i))
+    word_at(table, layout::value_place(s, i))
 }
 
 pub fn operation_at(table: &[u8], s: Sections, i: u16) -> Operation
