@@ -57,16 +57,5 @@ fn whole_id(table: &[u8], at: usize) -> u32
     requires { ⌜ at + 4 ≤ length (now table) ⌝ }
     ensures { λ r. ⌜ r ≡ number 2 (now (table .entry)) at ⌝ }
 {
-    byte(table, at) * 16777216
-        + byte(table, at + 1) * 65536
-        + byte(table, at + 2) * 256
-        + byte(table, at + 3)
-}
-
-fn byte(table: &[u8], at: usize) -> u32
-    requires { ⌜ at < length (now table) ⌝ }
-    ensures value { λ r. ⌜ r ≡ number 0 (now (table .entry)) at ⌝ }
-    ensures small { λ r. ⌜ r < 256 ⌝ }
-{
-    table[at] as u32
+    wire::whole_u32(&table[at..at + 4], 0)
 }

@@ -1,6 +1,6 @@
 -- What stands in the entries of sections that lie within the bytes, at the returns.
 -- Assumes nothing.
-use Prim.Native.Nat.{ℕ, _+_, _*_}
+use Prim.Native.Nat.{ℕ, _+_}
 use mathlib.Core.Path.{_≡_, refl, sym, _∙_}
 use mathlib.Core.List.{List}
 use Rattle.wire.specs.Bytes.{number}
@@ -25,9 +25,9 @@ module _ (t : List ℕ) (s : Sections) (i : ℕ) where
   pub member-inside : {r : ℕ} → r ≡ number 1 t (memberPlace s i) → r ≡ memberAt t s i
   member-inside {r} a = member-read t s i (memberPlace s i) r refl a
 
-  pub value-inside : {a b : ℕ} → a ≡ number 2 t (valuePlace s i) → b ≡ number 2 t (valuePlace s i + 4) → a * 4294967296 + b ≡ valueAt t s i
+  pub value-inside : {r : ℕ} → r ≡ number 3 t (valuePlace s i) → r ≡ valueAt t s i
   unfolding valueAt
-  value-inside p q = rw (p, q) refl
+  value-inside a = a
 
 -- sections that were found lie within the bytes
 pub found-lie : (t : List ℕ) (s : Sections) (r : Checked) → r ≡ sectionsOf t → r ≡ Table s → Lying t s

@@ -37,7 +37,7 @@ pub(crate) fn value_in(table: &[u8], s: Sections, i: u32) -> u64
     ensures { λ r. ⌜ r ≡ valueAt (now (table .entry)) s i ⌝ }
 {
     let at = s.values.at as usize + (layout::VALUE_WIDTH as usize) * (i as usize);
-    (u32_in(table, at) as u64) * 4294967296 + (u32_in(table, at + 4) as u64)
+    u64_in(table, at)
 }
 
 pub(crate) fn operation_in(table: &[u8], s: Sections, i: u16) -> Operation
@@ -52,27 +52,24 @@ pub(crate) fn operation_in(table: &[u8], s: Sections, i: u16) -> Operation
     }
 }
 
+// Numbers that are there: in a part of just their length the compiler sees that they are, and makes one load of each.
 fn u16_in(table: &[u8], at: usize) -> u16
     requires { ⌜ at + 2 ≤ length (now table) ⌝ }
     ensures { λ r. ⌜ r ≡ number 1 (now (table .entry)) at ⌝ }
 {
-    (byte_in(table, at) * 256 + byte_in(table, at + 1)) as u16
+    wire::whole_u16(&table[at..at + 2], 0)
 }
 
 fn u32_in(table: &[u8], at: usize) -> u32
     requires { ⌜ at + 4 ≤ length (now table) ⌝ }
     ensures { λ r. ⌜ r ≡ number 2 (now (table .entry)) at ⌝ }
 {
-    byte_in(table, at) * 16777216
-        + byte_in(table, at + 1) * 65536
-        + byte_in(table, at + 2) * 256
-        + byte_in(table, at + 3)
+    wire::whole_u32(&table[at..at + 4], 0)
 }
 
-fn byte_in(table: &[u8], at: usize) -> u32
-    requires { ⌜ at < length (now table) ⌝ }
-    ensures value { λ r. ⌜ r ≡ number 0 (now (table .entry)) at ⌝ }
-    ensures small { λ r. ⌜ r < 256 ⌝ }
+fn u64_in(table: &[u8], at: usize) -> u64
+    requires { ⌜ at + 8 ≤ length (now table) ⌝ }
+    ensures { λ r. ⌜ r ≡ number 3 (now (table .entry)) at ⌝ }
 {
-    table[at] as u32
+    wire::whole_u64(&table[at..at + 8], 0)
 }

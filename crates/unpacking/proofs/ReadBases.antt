@@ -4,15 +4,15 @@ use Prim.Native.Nat.{ℕ, zero, suc, _+_, _-_, _*_, _/_, _%_, _^_, _≤_, _<_}
 use mathlib.Core.Path.{_≡_, refl, sym, ap, subst, _∙_}
 use mathlib.Core.Bool.{Bool, true, false, _&&_, _||_, not, cond}
 use mathlib.Core.List.{List, [], _∷_}
-use native.Mathlib.Nat.{add-zero, add-assoc, add-sub-cancel-left}
+use native.Mathlib.Nat.{add-assoc}
 use native.Mathlib.Omega.{arith}
 use borrow.Author.Tests.{le-leb, lt-leb, lt-ltb, le-ltb, ltb-true, ltb-false, leb-true, ne-eqb}
 use lib.Dec.{ltb, leb, eqb}
-use lib.ListN.{length, getD, set, take, drop}
-use Rattle.wire.specs.Bytes.{span, number, whole, written, Octets}
-use Rattle.wire.proofs.Numbers.{number-lt, whole-part}
+use lib.ListN.{length, getD, set}
+use Rattle.wire.specs.Bytes.{span, number, written, Octets}
+use Rattle.wire.proofs.Numbers.{number-lt}
 use Rattle.wire.proofs.Cond.{and-left, and-right, both}
-use Rattle.wire.proofs.Runs.{length-written, part-in}
+use Rattle.wire.proofs.Runs.{length-written}
 use Rattle.table.specs.declared.Sections.{Sections}
 use Rattle.table.specs.Leaf.{Leaf, boolean, signed, unsigned, float, none, base, bytesOf, inSigned, finite, isValue, width, allowed}
 use Rattle.leaves.specs.Forms.{truth, extended, wordOf, wordAt}
@@ -28,15 +28,6 @@ use Rattle.unpacking.specs.Reading.{reader, Reading, isThere, behind, st
 -- the room of the code that was met
 pub room-of : (n w : ℕ) → w ≡ width n → (p l code : ℕ) → code ≡ n → p + width code ≤ l → p + w ≤ l
 room-of n w e p l code h r = rw (e, ← h) r
-
--- a number read from a part of just its length
-pub read-in : (k : ℕ) (s : List ℕ) (p r : ℕ) → p + 2 ^ k ≤ length s → r ≡ whole k (take (p + 2 ^ k - p) (drop p s)) 0 → r ≡ number k s p
-read-in k s p r h e =
-    e
-    ∙ ap (λ (n : ℕ). whole k (take n (drop p s)) 0) (add-sub-cancel-left p (2 ^ k))
-    ∙ ap (λ (u : List ℕ). whole k u 0) (sym (part-in s p (2 ^ k) h))
-    ∙ whole-part k s p (2 ^ k) 0 h (omega arith)
-    ∙ ap (number k s) (add-zero p)
 
 -- a store of the word that was read
 pub stored-word : (x : List ℕ) (p w : ℕ) (b : List ℕ) (from code : ℕ) → p < length x → w ≡ wordAt code b from → set x p w ≡ written x p (wordAt code b from ∷ [])

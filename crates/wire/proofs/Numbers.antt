@@ -3,7 +3,7 @@
 use Prim.Native.Nat.{ℕ, zero, suc, _+_, _-_, _*_, _/_, _%_, _^_, _≤_, _<_}
 use mathlib.Core.Path.{_≡_, refl, sym, ap, subst, _∙_}
 use mathlib.Core.List.{List, [], _∷_, _++_, append-assoc}
-use native.Mathlib.Nat.{add-assoc, add-zero, zero-add, pow-suc, one-le-pow, zero-lt-suc, mod-lt, div-lt-iff-lt-mul, div-add-mod'}
+use native.Mathlib.Nat.{add-assoc, add-zero, zero-add, add-sub-cancel-left, pow-suc, one-le-pow, zero-lt-suc, mod-lt, div-lt-iff-lt-mul, div-add-mod'}
 use native.Mathlib.Omega.{arith}
 use mathlib.Core.Bool.{Bool, true, false}
 use borrow.Author.Tests.{ltb-true, ltb-false}
@@ -51,10 +51,6 @@ past k s p h = sym (past-end k s p h)
 pub first-byte : {r : Bool} {x : ℕ} (s : List ℕ) (p : ℕ) → r ≡ leb (p + 2) (length s) → r ≡ false → x ≡ number 0 s p → x * 256 ≡ number 1 s p
 first-byte s p e f b = omega (arith, past-end 0 s (p + 1) (omega (arith, failed (p + 2) (length s) e f)))
 
--- four bytes, each by its weight, are two halves
-pub four-bytes : {a b c d : ℕ} (s : List ℕ) (p : ℕ) → a ≡ number 0 s p → b ≡ number 0 s (p + 1) → c ≡ number 0 s (p + 2) → d ≡ number 0 s (p + 3) → a * 16777216 + b * 65536 + c * 256 + d ≡ number 2 s p
-four-bytes s p a b c d = omega (arith, ap (number 0 s) (add-assoc p 2 1))
-
 pub number-lt : (k : ℕ) (s : List ℕ) (p : ℕ) → Octets s → number k s p < span k
 number-lt zero s p o = o p
 number-lt (suc k) s p o = rw (span-suc k) (digits-lt (number-lt k s p o) (number-lt k s (p + 2 ^ k) o))
@@ -92,6 +88,15 @@ length-part s p n h = ap length (part-in s p n h) ∙ length-take-le n (drop p s
 
 pub whole-part : (k : ℕ) (s : List ℕ) (p n q : ℕ) → p + n ≤ length s → q + 2 ^ k ≤ n → whole k (part s p n) q ≡ number k s (p + q)
 whole-part k s p n q h l = whole-in k (part s p n) q (omega (arith, length-part s p n h)) ∙ number-part k s p n q h l
+
+-- a number read from a part of just its length
+pub read-in : (k : ℕ) (s : List ℕ) (p r : ℕ) → p + 2 ^ k ≤ length s → r ≡ whole k (take (p + 2 ^ k - p) (drop p s)) 0 → r ≡ number k s p
+read-in k s p r h e =
+    e
+    ∙ ap (λ (n : ℕ). whole k (take n (drop p s)) 0) (add-sub-cancel-left p (2 ^ k))
+    ∙ ap (λ (u : List ℕ). whole k u 0) (sym (part-in s p (2 ^ k) h))
+    ∙ whole-part k s p (2 ^ k) 0 h (omega arith)
+    ∙ ap (number k s) (add-zero p)
 
 -- what a reader of a whole number found: all of it there, or not
 pub whole-read : (k : ℕ) {t : Bool} {r : ℕ} (s : List ℕ) (p : ℕ) → t ≡ leb (p + 2 ^ k) (length s) → t ≡ true → r ≡ number k s p → r ≡ whole k s p

@@ -1,7 +1,7 @@
--- `lookup::whole_id` meets its contract: its four bytes, each by its weight.
+-- `lookup::whole_id` meets its contract.
 -- Assumes nothing.
 use borrow.Author.Needs.{needs}
-use Rattle.wire.proofs.Numbers.{four-bytes}
+use Rattle.wire.proofs.Numbers.{read-in}
 use Rattle.lookup.proofs.whole_id.Statement.{statement}
 use Rattle.lookup.proofs.whole_id.Tie as tie
 
@@ -9,17 +9,9 @@ pub whole-id-spec : {M : Type 1} → statement M
 whole-id-spec =
     tie.close
     (tie.spec
-    (λ c κs. search needs)
     (λ c. search needs)
-    (λ c. search needs)
-    (λ c κs. search needs)
     (λ c. search needs)
     (λ c. search needs)
     (λ c. search needs)
     (λ c κs. search needs)
-    (λ c. search needs)
-    (λ c. search needs)
-    (λ c. search needs)
-    (λ c κs. search needs)
-    (λ c. search needs)
-    (λ c. search four-bytes))
+    (λ c. search (read-in 2)))

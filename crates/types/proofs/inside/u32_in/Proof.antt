@@ -1,7 +1,7 @@
--- `types::inside::u32_in` meets its contract: its four bytes, each by its weight.
+-- `types::inside::u32_in` meets its contract.
 -- Assumes nothing.
 use borrow.Author.Needs.{needs}
-use Rattle.wire.proofs.Numbers.{four-bytes}
+use Rattle.wire.proofs.Numbers.{read-in}
 use Rattle.types.proofs.inside.u32_in.Statement.{statement}
 use Rattle.types.proofs.inside.u32_in.Tie as tie
 
@@ -9,17 +9,9 @@ pub u32-in-spec : {M : Type 1} → statement M
 u32-in-spec =
     tie.close
     (tie.spec
-    (λ c κs. search needs)
     (λ c. search needs)
-    (λ c. search needs)
-    (λ c κs. search needs)
     (λ c. search needs)
     (λ c. search needs)
     (λ c. search needs)
     (λ c κs. search needs)
-    (λ c. search needs)
-    (λ c. search needs)
-    (λ c. search needs)
-    (λ c κs. search needs)
-    (λ c. search needs)
-    (λ c. search four-bytes))
+    (λ c. search (read-in 2)))

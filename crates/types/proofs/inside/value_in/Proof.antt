@@ -1,4 +1,4 @@
--- `types::inside::value_in` meets its contract: the number at its place, by halves.
+-- `types::inside::value_in` meets its contract: the number at its place.
 -- Assumes nothing.
 use borrow.Author.Needs.{needs}
 use Rattle.types.proofs.Insides.{value-inside}
@@ -14,10 +14,4 @@ value-in-spec =
     (λ c. search needs)
     (λ c. search needs)
     (λ c κs. search needs)
-    (λ c. search needs)
-    (λ c. search needs)
-    (λ c. search needs)
-    (λ c κs. search needs)
-    (λ c. search needs)
-    (λ c. search needs)
     (λ c. search value-inside))

@@ -1,7 +1,7 @@
 -- `unpacking::bases::u32_in` meets its contract.
 -- Assumes nothing.
 use borrow.Author.Needs.{needs}
-use Rattle.unpacking.proofs.ReadBases.{read-in}
+use Rattle.wire.proofs.Numbers.{read-in}
 use Rattle.unpacking.proofs.bases.u32_in.Statement.{statement}
 use Rattle.unpacking.proofs.bases.u32_in.Tie as tie
 
