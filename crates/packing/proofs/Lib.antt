@@ -1,5 +1,4 @@
 mod WriteReturns
-mod WriteBases
-mod Laid
+pub mod WriteBases
 mod Measures
 mod OneCode

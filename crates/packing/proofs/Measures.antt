@@ -2,7 +2,7 @@
 -- Assumes nothing.
 use Prim.Native.Nat.{ℕ, zero, suc, _+_, _-_, _*_, _/_, _%_, _^_, _≤_, _<_}
 use mathlib.Core.Path.{_≡_, refl, sym, _∙_}
-use mathlib.Core.Bool.{Bool, true, false}
+use mathlib.Core.Bool.{Bool, true, false, true≢false}
 use mathlib.Core.List.{List, [], _∷_}
 use native.Mathlib.Omega.{arith}
 use borrow.Author.Count.{below-more}
@@ -14,9 +14,9 @@ use lib.Dec.{ltb}
 use lib.ListN.{length, getD}
 use Rattle.table.specs.Leaf.{base, inSigned, finite, isValue, allowed}
 use Rattle.table.proofs.Leaves.{all-signed, all-unsigned}
-use Rattle.packing.specs.Writing.{isThere}
+use Rattle.packing_leaves.specs.Stored.{isThere}
 use Rattle.packing.specs.OneCode.{AllThere, limits, limitOf}
-use Rattle.packing.proofs.WriteBases.{judged}
+use Rattle.packing_leaves.proofs.There.{judged}
 
 -- the arm of code n: numbers from 0 on, and from minus half on
 module _ (n : ℕ) where
@@ -93,3 +93,10 @@ module _ (ws : List ℕ) (code from : ℕ) where
 
   pub all-judged : (all k n l : ℕ) → Judged all k → k ≤ n → n ≤ k → l ≤ limitOf code → ltb all l ≡ true → AllThere ws code from n
   all-judged all k n l old a b d t j h = old (omega (arith, ltb-true all l t)) j (omega arith)
+
+-- by the arm of its code; and no other code takes a word
+pub by-code : (ws : List ℕ) (code from count n : ℕ) (r : Bool) → code ≡ n → (r ≡ true → AllThere ws n from count) → r ≡ true → AllThere ws code from count
+by-code ws code from count n r e h t = rw e (h t)
+
+pub none-by-code : (ws : List ℕ) (code from count : ℕ) → false ≡ true → AllThere ws code from count
+none-by-code ws code from count t = absurd (true≢false (sym t))

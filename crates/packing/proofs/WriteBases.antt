@@ -1,64 +1,30 @@
 -- A word that a leaf of a base code takes: what a run of such leaves comes to.
 -- Assumes nothing.
-use Prim.Native.Nat.{ℕ, zero, suc, _+_, _^_, _≤_, _<_}
+use Prim.Native.Nat.{ℕ, zero, suc, _+_, _-_, _*_, _^_, _≤_, _<_}
 use mathlib.Core.Path.{_≡_, refl, sym, ap, _∙_}
-use mathlib.Core.Bool.{Bool, true, false}
+use mathlib.Core.Bool.{true}
 use mathlib.Core.List.{List}
-use native.Mathlib.Nat.{add-assoc, add-zero}
 use native.Mathlib.Omega.{arith}
-use borrow.Author.Tests.{lt-ltb, le-ltb, ltb-true}
+use mir.Syntax.{w64}
+use mir.Val.{Fits}
 use lib.Dec.{ltb}
 use lib.ListN.{length, getD, take}
-use lib.Seq.{length-take-le, getD-take}
-use Rattle.wire.specs.Bytes.{over, written}
-use Rattle.wire.proofs.Cond.{and-left, both}
-use Rattle.wire.proofs.Runs.{length-written}
+use lib.Seq.{length-take-le, take-all, take-take, getD-take}
+use Rattle.wire.specs.Bytes.{over}
+use Rattle.wire.proofs.Cond.{both}
 use Rattle.table.specs.declared.Sections.{Sections}
 use Rattle.table.specs.declared.Entry.{Entry}
 use Rattle.table.specs.Entries.{memberAt}
-use Rattle.table.specs.Leaf.{width, allowed}
-use Rattle.leaves.specs.Forms.{formOf}
+use Rattle.table.specs.Leaf.{allowed}
 use Rattle.walk.specs.declared.Place.{Place}
 use Rattle.walk.specs.Tree.{child, baseAt}
-use Rattle.walk.specs.Walk.{Step, on, through, walk}
-use Rattle.walk.proofs.Walks.{few-bytes, through-more}
+use Rattle.walk.specs.Walk.{on, through, walk}
 use Rattle.walk.specs.Codes.{codeCount, codesOf}
 use Rattle.walk.proofs.Bases.{base-on}
 use Rattle.walk.proofs.Codes.{codes-fit, codes-as-long, code-member, code-is}
-use Rattle.packing.specs.Writing.{writer, Writing, isThere, behind, stored, Writes, WritesEach, memberWritten}
-
-module _ (ws : List ℕ) (from code : ℕ) where
-  pub judged : (r : Bool) → from < length ws → r ≡ allowed code (getD ws from 0) → r ≡ isThere ws code from
-  unfolding isThere
-  judged r h g = rw (lt-ltb from (length ws) h) g
-
-  pub no-more : length ws ≤ from → false ≡ isThere ws code from
-  unfolding isThere
-  no-more h = rw (le-ltb from (length ws) h) refl
-
-  pub there-word : (r : Bool) → r ≡ isThere ws code from → r ≡ true → from < length ws
-  unfolding isThere
-  there-word r h g = ltb-true from (length ws) (and-left (ltb from (length ws)) (allowed code (getD ws from 0)) (sym h ∙ g))
-
-module _ (ws : List ℕ) (code : ℕ) (p : Place) (n : ℕ) (is : n ≡ width code) (r : Bool) (there : r ≡ isThere ws code (p .from)) (yes : r ≡ true) where
-  pub writing-behind : Writing ws p → Writing ws (record { from = p .from + 1; to = p .to + n })
-  writing-behind h = (omega (arith, few-bytes code, is, h .0), omega (arith, there-word ws (p .from) code r there yes))
-
-  -- one more leaf of a run of codes
-  module _ (codes : List ℕ) (m k : ℕ) (inside : k < length codes) (f : ℕ → Place → List ℕ → Step) (writes : WritesEach ws codes m f) (read : code ≡ getD codes k 0) where
-    pub codes-more : (q : Place) (x y z : List ℕ) → through (m + k) f q x ≡ on p y → z ≡ written y (p .to) (formOf code (getD ws (p .from) 0)) → through (m + (k + 1)) f q x ≡ on (record { from = p .from + 1; to = p .to + n }) z
-    codes-more q x y z so-far put =
-        ap (λ (j : ℕ). through j f q x) (sym (add-assoc m k 1))
-        ∙ through-more f q x (m + k) p y so-far
-        ∙ writes k p y inside (ap (λ (c : ℕ). isThere ws c (p .from)) (sym read) ∙ sym there ∙ yes)
-        ∙ rw (← read, ← is, ← put) refl
-
-pub at-start : (f : ℕ → Place → List ℕ → Step) (m : ℕ) (q : Place) (x : List ℕ) (p : Place) (y : List ℕ) → through m f q x ≡ on p y → through (m + 0) f q x ≡ on p y
-at-start f m q x p y h = ap (λ (j : ℕ). through j f q x) (add-zero m) ∙ h
-
--- the bytes stay as many
-pub as-many : (n : ℕ) (y z : List ℕ) (p : ℕ) (b : List ℕ) → length y ≡ n → z ≡ written y p b → length z ≡ n
-as-many n y z p b h e = ap length e ∙ length-written y p b ∙ h
+use Rattle.packing_leaves.specs.Stored.{isThere, behind, stored, takenCount, ends, laid, WritesEach}
+use Rattle.packing_leaves.proofs.Behind.{ends-near, ends-from, laid-length, count-codes, count-words, count-taken, written-over, fewer-written}
+use Rattle.packing.specs.Writing.{writer, Writing, Writes, memberWritten, Goes}
 
 -- a base among a record's members, and as an array's element
 module _ (ws t : List ℕ) (s : Sections) (i c code : ℕ) (is : code ≡ baseAt t s i c) (p : Place) (x : List ℕ) (there : isThere ws code (p .from) ≡ true) where
@@ -76,20 +42,68 @@ module _ (ws t : List ℕ) (s : Sections) (i : ℕ) (e : Entry) (m r : ℕ) (u v
   so-many : length (take r v) ≡ r
   so-many = length-take-le r v codes-in
 
-  pub codes-end : (x : ℕ) → m ≤ e .count → x ≤ m + length (take r v) → x ≤ e .count
-  codes-end x h l = go r refl
+  pub codes-end : m ≤ e .count → m + r ≤ e .count
+  codes-end h = go r refl
     where
-      go : (k : ℕ) → r ≡ k → x ≤ e .count
-      go zero q = omega (arith, so-many)
-      go (suc k) q = omega (arith, so-many, code-member t s i e m r u counts k (omega arith))
-
-  pub codes-few : e .count < 2 ^ 16 → m ≤ e .count → m + length (take r v) < 2 ^ 32
-  codes-few h l = omega (arith, codes-end (m + length (take r v)) l (omega arith))
+      go : (k : ℕ) → r ≡ k → m + r ≤ e .count
+      go zero q = omega arith
+      go (suc k) q = omega (arith, code-member t s i e m r u counts k (omega arith))
 
   pub codes-written : WritesEach ws (take r v) m (memberWritten ws t s i e)
   codes-written k q y inside there =
       let l : k < r = omega (arith, so-many) in
       base-writes ws t s i (memberAt t s (e .first + (m + k))) (getD (take r v) k 0) (code-is t s i e m r u counts v got k (getD (take r v) k 0) l (getD-take r v k 0 l)) q y there
+
+  -- the first j of them take their words, and have b bytes
+  module _ (p : Place) (j b : ℕ) (many : j ≡ takenCount ws (take r v) (p .from)) (bytes : b ≡ ends (take (takenCount ws (take r v) (p .from)) (take r v)) 0) where
+    abbrev count : ℕ
+    count = takenCount ws (take r v) (p .from)
+
+    abbrev taken : List ℕ
+    taken = take count (take r v)
+
+    few : (j ≤ r) × (p .from ≤ length ws → p .from + j ≤ length ws)
+    few = (omega (arith, so-many, count-codes ws (take r v) (p .from)), λ h. omega (arith, count-words ws (take r v) (p .from)))
+
+    as-many : length taken ≡ j
+    as-many = length-take-le count (take r v) (count-codes ws (take r v) (p .from)) ∙ sym many
+
+    pub taken-in : j ≤ length v
+    taken-in = omega (arith, few .0, codes-in)
+
+    pub taken-end : m ≤ e .count → m + j ≤ e .count
+    taken-end h = omega (arith, few .0, codes-end h)
+
+    pub upto-fits : e .count < 2 ^ 16 → m ≤ e .count → Fits w64 (m + j)
+    upto-fits l h = record { fits = omega (arith, taken-end h) }
+
+    module _ (so-far : Writing ws p) where
+      pub writing-taken : Writing ws (record { from = p .from + j; to = p .to + b })
+      writing-taken = (omega (arith, so-far .0, ends-near taken 0, as-many), few .1 (so-far .1))
+
+      pub from-fits : length ws * 8 < 2 ^ 63 → Fits w64 (p .from + j)
+      from-fits l = record { fits = omega (arith, writing-taken .1) }
+
+      pub to-fits : length ws * 8 < 2 ^ 63 → Fits w64 (p .to + b)
+      to-fits l = record { fits = omega (arith, writing-taken .0, writing-taken .1) }
+
+    -- and they were stored
+    module _ (x y : List ℕ) (put : y ≡ laid ws (take (length ws - p .from) (take j v)) p x) where
+      pub taken-long : length y ≡ length x
+      taken-long = ap length put ∙ laid-length ws (take (length ws - p .from) (take j v)) p x
+
+      all-there : take (length ws - p .from) (take j v) ≡ taken
+      all-there =
+          let a : take j v ≡ taken = ap (λ (n : ℕ). take n v) many ∙ sym (take-take count r v (omega (arith, many, few .0))) in
+          ap (take (length ws - p .from)) a ∙ take-all (length ws - p .from) taken (omega (arith, as-many, many, count-words ws (take r v) (p .from)))
+
+      pub taken-written : Goes (memberWritten ws t s i e) m p x (m + j) (record { from = p .from + j; to = p .to + b }) y
+      taken-written p₀ x₀ h =
+          let f = memberWritten ws t s i e in
+          let w : through (m + length taken) f p₀ x₀ ≡ on (record { from = p .from + length taken; to = ends taken (p .to) }) (laid ws taken p x) = written-over ws taken m f (fewer-written ws (take r v) m f count codes-written) p (count-taken ws (take r v) (p .from)) x p₀ x₀ h in
+          let o : ends taken (p .to) ≡ p .to + b = ends-from taken (p .to) ∙ ap (λ (n : ℕ). p .to + n) (sym bytes) in
+          let q : laid ws taken p x ≡ y = sym (put ∙ ap (λ (cs : List ℕ). laid ws cs p x) all-there) in
+          rw (as-many, o, q) at w
 
 pub element-writes : (ws t : List ℕ) (s : Sections) (i c code : ℕ) → code ≡ baseAt t s i c → Writes ws code (λ k q y. walk (writer ws) (child t s i c) q y)
 element-writes ws t s i c code is k q y there = base-writes ws t s i c code is q y there

@@ -1,19 +1,19 @@
 -- 01, "Payload and words": writing a payload.
-use Prim.Native.Nat.{ℕ, _+_, _*_, _≤_, _<_}
+use Prim.Native.Nat.{ℕ, _+_, _*_, _≤_}
 use mathlib.Core.Path.{_≡_}
-use mathlib.Core.Bool.{Bool, true, _&&_}
+use mathlib.Core.Bool.{true}
 use mathlib.Core.List.{List}
 use lib.Dec.{ltb}
 use lib.ListN.{length, getD}
-use Rattle.wire.specs.Bytes.{written}
 use Rattle.table.specs.declared.Sections.{Sections}
 use Rattle.table.specs.declared.Entry.{Entry}
-use Rattle.table.specs.Leaf.{width, allowed}
+use Rattle.table.specs.Leaf.{width}
 use Rattle.table.specs.Entries.{memberAt}
 use Rattle.leaves.specs.Forms.{formOf}
 use Rattle.walk.specs.declared.Place.{Place}
 use Rattle.walk.specs.Tree.{child}
 use Rattle.walk.specs.Walk.{Step, on, through, Codec, walk}
+use Rattle.packing_leaves.specs.Stored.{isThere, behind, stored}
 
 -- a leaf is the next word, and its bytes are written
 unfoldable pub writer : List ℕ → Codec
@@ -29,24 +29,9 @@ writer ws =
 abbrev pub Writing : List ℕ → Place → Type 0
 Writing ws p = (p .to ≤ 8 * p .from) × (p .from ≤ length ws)
 
--- the next word is there, and a leaf of the base code takes it
-unfoldable pub isThere : List ℕ → ℕ → ℕ → Bool
-isThere ws code from = ltb from (length ws) && allowed code (getD ws from 0)
-
--- the place behind it, and what is left of the bytes
-abbrev pub behind : ℕ → Place → Place
-behind code p = record { from = p .from + 1; to = p .to + width code }
-
-abbrev pub stored : List ℕ → ℕ → Place → List ℕ → List ℕ
-stored ws code p x = written x (p .to) (formOf code (getD ws (p .from) 0))
-
 -- each step of a walk writes a leaf of that code, where its word is there
 abbrev pub Writes : List ℕ → ℕ → (ℕ → Place → List ℕ → Step) → Type 0
 Writes ws code f = (k : ℕ) (q : Place) (y : List ℕ) → isThere ws code (q .from) ≡ true → f k q y ≡ on (behind code q) (stored ws code q y)
-
--- each step from the m-th on writes a leaf of the next code
-abbrev pub WritesEach : List ℕ → List ℕ → ℕ → (ℕ → Place → List ℕ → Step) → Type 0
-WritesEach ws codes m f = (k : ℕ) (q : Place) (y : List ℕ) → k < length codes → isThere ws (getD codes k 0) (q .from) ≡ true → f (m + k) q y ≡ on (behind (getD codes k 0) q) (stored ws (getD codes k 0) q y)
 
 -- the step over a record's k-th member
 abbrev pub memberWritten : List ℕ → List ℕ → Sections → ℕ → Entry → ℕ → Place → List ℕ → Step

@@ -1,6 +1,5 @@
 // Writing a payload: the writer of a record's members and the writer of an array's elements call each other, each by the kind
 // of what it meets, and the type number falls at each entry.
-mod bases;
 mod runs;
 
 use table::Entry;
@@ -10,7 +9,7 @@ use walk::Place;
 use walk::Walked;
 ghost use mathlib.Core.Path.{_≡_};
 ghost use mathlib.Core.List.{List};
-ghost use Prim.Native.Nat.{ℕ, _≤_, _<_};
+ghost use Prim.Native.Nat.{ℕ, _≤_};
 ghost use lib.ListN.{length, getD};
 ghost use Rattle.walk.specs.declared.Place.{Place};
 ghost use Rattle.walk.specs.declared.Met.the-variants.{Members, Elements};
@@ -225,37 +224,22 @@ fn write_bases(
 {
     let mut codes = [0u8; CODES];
     let n = walk::runs::base_codes(table, s, i, e, from as u32, &mut codes);
-    bases::write_codes(words, out, &codes[..n], from, p)
-}
-
-// Writes the elements of an array of one base code, where all their words are there and taken, and else none: then it is for the
-// walk to say which is refused. A call for each code, so that the compiler makes its own loops of each.
-fn write_run(words: &[u64], out: &mut [u8], code: u16, count: u64, p: Place) -> Run
-    requires { ⌜ Writing (now words) p ⌝ }
-    ensures { λ r. ⌜ (r .upto ≤ count) × Writing (now (words .entry)) (r .at) ⌝ }
-    ensures { λ _. ⌜ length (now (out .exit)) ≡ length (now (out .entry)) ⌝ }
-    ensures { λ r. ⌜ ((f : ℕ → Place → List ℕ → Step) → Writes (now (words .entry)) code f → through (r .upto) f p (now (out .entry)) ≡ on (r .at) (now (out .exit))) ⌝ }
-{
-    match code {
-        0 => write_each(words, out, 0, count, p),
-        1 => write_each(words, out, 1, count, p),
-        2 => write_each(words, out, 2, count, p),
-        3 => write_each(words, out, 3, count, p),
-        4 => write_each(words, out, 4, count, p),
-        5 => write_each(words, out, 5, count, p),
-        6 => write_each(words, out, 6, count, p),
-        7 => write_each(words, out, 7, count, p),
-        8 => write_each(words, out, 8, count, p),
-        9 => write_each(words, out, 9, count, p),
-        10 => write_each(words, out, 10, count, p),
-        11 => write_each(words, out, 11, count, p),
-        12 => write_each(words, out, 12, count, p),
-        _ => Run { upto: 0, at: p },
+    let part = packing_leaves::judge_codes(words, &codes[..n], p.from);
+    let count = part.count;
+    packing_leaves::store_codes(words, out, &codes[..count], p);
+    Run {
+        upto: from + count as u64,
+        at: Place {
+            from: p.from + count,
+            to: p.to + part.bytes,
+        },
     }
 }
 
-fn write_each(words: &[u64], out: &mut [u8], code: u16, count: u64, p: Place) -> Run
-    requires { ⌜ Writing (now words) p × (code < 13) ⌝ }
+// Writes the elements of an array of one base code, where all their words are there and taken, and else none: then it is for the
+// walk to say which is refused.
+fn write_run(words: &[u64], out: &mut [u8], code: u16, count: u64, p: Place) -> Run
+    requires { ⌜ Writing (now words) p ⌝ }
     ensures { λ r. ⌜ (r .upto ≤ count) × Writing (now (words .entry)) (r .at) ⌝ }
     ensures { λ _. ⌜ length (now (out .exit)) ≡ length (now (out .entry)) ⌝ }
     ensures { λ r. ⌜ ((f : ℕ → Place → List ℕ → Step) → Writes (now (words .entry)) code f → through (r .upto) f p (now (out .entry)) ≡ on (r .at) (now (out .exit))) ⌝ }
@@ -266,7 +250,7 @@ fn write_each(words: &[u64], out: &mut [u8], code: u16, count: u64, p: Place) ->
     }
     let whole = count as usize;
     if runs::judged(words, p.from, code, whole) {
-        runs::store(words, out, code, whole, p);
+        packing_leaves::runs::store_run(words, out, code, whole, p);
         let width = codes::width(code);
         Run {
             upto: count,

@@ -1,17 +1,37 @@
-// A run of words of one base code, judged in one loop and stored in another: with no test inside, so that the compiler goes over
-// several words at once.
-use crate::bases;
-use walk::Place;
+// A run of words of one base code, judged in one loop with no test inside, so that the compiler goes over several words at once.
 ghost use mathlib.Core.Path.{_≡_};
 ghost use mathlib.Core.Bool.{true};
-ghost use Prim.Native.Nat.{_+_, _*_, _≤_, _<_};
+ghost use Prim.Native.Nat.{_+_, _≤_, _<_};
 ghost use lib.ListN.{length};
-ghost use Rattle.table.specs.Leaf.{width, allowed};
-ghost use Rattle.packing.specs.OneCode.{AllThere, storedAll, limitOf};
+ghost use Rattle.table.specs.Leaf.{allowed};
+ghost use Rattle.packing.specs.OneCode.{AllThere, limitOf};
 
-// Whether the code takes every word, by one test for all: no measure is above what they are put together to, and that is below
-// the limit where each is, since the limit is a power of two.
+// Whether the code takes every word. A call for each code, so that the compiler makes its own loop of each.
 pub(crate) fn judged(words: &[u64], from: usize, code: u16, count: usize) -> bool
+    requires { ⌜ from + count ≤ length (now words) ⌝ }
+    ensures { λ r. ⌜ (r ≡ true → AllThere (now (words .entry)) code from count) ⌝ }
+{
+    match code {
+        0 => judged_each(words, from, 0, count),
+        1 => judged_each(words, from, 1, count),
+        2 => judged_each(words, from, 2, count),
+        3 => judged_each(words, from, 3, count),
+        4 => judged_each(words, from, 4, count),
+        5 => judged_each(words, from, 5, count),
+        6 => judged_each(words, from, 6, count),
+        7 => judged_each(words, from, 7, count),
+        8 => judged_each(words, from, 8, count),
+        9 => judged_each(words, from, 9, count),
+        10 => judged_each(words, from, 10, count),
+        11 => judged_each(words, from, 11, count),
+        12 => judged_each(words, from, 12, count),
+        _ => false,
+    }
+}
+
+// By one test for all: no measure is above what they are put together to, and that is below the limit where each is, since the
+// limit is a power of two.
+fn judged_each(words: &[u64], from: usize, code: u16, count: usize) -> bool
     requires { ⌜ from + count ≤ length (now words) ⌝ }
     ensures { λ r. ⌜ (r ≡ true → AllThere (now (words .entry)) code from count) ⌝ }
 {
@@ -65,35 +85,5 @@ fn limit(code: u16) -> u64
         11 => 2147483648,
         12 => 9223372036854775808,
         _ => 0,
-    }
-}
-
-// Stores as many leaves as there is room for.
-pub(crate) fn store(words: &[u64], out: &mut [u8], code: u16, count: usize, p: Place)
-    requires { ⌜ (code < 13) × (p .from + count ≤ length (now words)) ⌝ }
-    ensures { λ _. ⌜ now (out .exit) ≡ storedAll (now (words .entry)) code p count (now (out .entry)) ⌝ }
-{
-    if p.to < out.len() {
-        let room = (out.len() - p.to) / codes::width(code);
-        store_each(words, out, code, least(room, count), p);
-    }
-}
-
-fn least(a: usize, b: usize) -> usize
-    ensures { λ r. ⌜ (r ≤ a) × (r ≤ b) × (r < b → r ≡ a) ⌝ }
-{
-    if a < b { a } else { b }
-}
-
-fn store_each(words: &[u64], out: &mut [u8], code: u16, count: usize, p: Place)
-    requires { ⌜ (p .from + count ≤ length (now words)) × (p .to + count * width code ≤ length (now out)) ⌝ }
-    ensures { λ _. ⌜ now (out .exit) ≡ storedAll (now (words .entry)) code p count (now (out .entry)) ⌝ }
-{
-    let width = codes::width(code);
-    let mut k = 0;
-    while k < count {
-        let from = p.from + k;
-        bases::set(out, p.to + k * width, code, words[from]);
-        k += 1;
     }
 }

@@ -3,10 +3,10 @@
 use Prim.Native.Nat.{ℕ, _+_, _≤_, _<_}
 use mathlib.Core.Path.{_≡_, refl, sym, ap, subst, _∙_}
 use mathlib.Core.Bool.{Bool, true, false, cond}
-use mathlib.Core.List.{List, [], _∷_, _++_}
-use native.Mathlib.Omega.{arith}
+use mathlib.Core.List.{List, []}
+use borrow.Author.Tests.{le-leb, lt-leb, ltb-true, ltb-false}
 use lib.Dec.{ltb, eqb}
-use lib.ListN.{length, take, drop}
+use lib.ListN.{length}
 use Rattle.wire.proofs.Cond.{yes-eq, no-eq, yes-lt, no-lt, yes-if, no-if}
 use Rattle.table.specs.declared.Sections.{Sections}
 use Rattle.table.specs.declared.Checked.{Checked}
@@ -20,6 +20,7 @@ use Rattle.walk.specs.declared.Walked.the-variants as walked
 use Rattle.payload.specs.declared.Answer.{Answer}
 use Rattle.payload.specs.declared.Answer.the-variants.{Refused, Stopped, Gave}
 use Rattle.walk.specs.Walk.{Codec, start, answer, left, typeWalk}
+use Rattle.walk.specs.Whole.{fits, isWhole, allOrNothing}
 use Rattle.payload.specs.Calls.{answered, answeredType, answeredIn, leftBy, leftIn, answeredIf, leftIf}
 
 -- the end of a walk
@@ -51,28 +52,26 @@ module _ (n room : ℕ) (w : Walked) where
 -- every way in which a walk can end
 pub ruleset ends = (by-rule, by-walk, left-over, too-short, gave)
 
--- the first walk stores nothing
-pub nothing-left : (u x : List ℕ) → length u ≡ length (take 0 x) → u ++ drop 0 x ≡ x
-nothing-left [] x h = refl
-nothing-left (a ∷ u) x h = absurd (omega arith)
+-- what is stored is all or nothing, by the answer
+left-by : (n room : ℕ) (w : Walked) (x z : List ℕ) → cond (isWhole n room w) z x ≡ leftBy (answered n room w) x z
+unfolding isWhole answered leftBy
+left-by n room (walked.Stopped k q) x z = go (eqb k 32) refl
+  where
+    go : (b : Bool) → eqb k 32 ≡ b → x ≡ leftBy (cond (eqb k 32) (Refused k) (Stopped k)) x z
+    go true h = rw h refl
+    go false h = rw h refl
+left-by n room (walked.Went q) x z = go (ltb (q .from) n) (ltb room (q .to)) refl refl
+  where
+    go : (a b : Bool) → ltb (q .from) n ≡ a → ltb room (q .to) ≡ b → cond (fits n room q) z x ≡ leftBy (answered n room (walked.Went q)) x z
+    go true b h g = rw (h, lt-leb n (q .from) (ltb-true (q .from) n h)) refl
+    go false true h g = rw (h, g, le-leb n (q .from) (ltb-false (q .from) n h), lt-leb (q .to) room (ltb-true room (q .to) g)) refl
+    go false false h g = rw (h, g, le-leb n (q .from) (ltb-false (q .from) n h), le-leb (q .to) room (ltb-false room (q .to) g)) refl
 
--- and the second ends as the first
-module _ (c : Codec) (n : ℕ) (t : List ℕ) (s : Sections) (i : ℕ) (x : List ℕ) (w : Walked) (first : w ≡ answer (typeWalk c t s i start [])) (y : List ℕ) (same : y ≡ x) (a : Answer) (is : a ≡ answered n (length y) w) where
-  the-answer : (b : Answer) → a ≡ b → b ≡ answeredType c n t s i (length x)
-  unfolding answeredType
-  the-answer b h = sym h ∙ is ∙ ap (λ (u : List ℕ). answered n (length u) w) same ∙ ap (answered n (length x)) first
-
-  pub type-refused : (k : ℕ) (z : List ℕ) → a ≡ Refused k → (Refused k ≡ answeredType c n t s i (length x)) × (y ≡ leftBy (Refused k) x z)
-  unfolding leftBy
-  type-refused k z h = (the-answer (Refused k) h, same)
-
-  pub type-stopped : (k : ℕ) (z : List ℕ) → a ≡ Stopped k → (Stopped k ≡ answeredType c n t s i (length x)) × (y ≡ leftBy (Stopped k) x z)
-  unfolding leftBy
-  type-stopped k z h = (the-answer (Stopped k) h, same)
-
-  pub type-gave : (k : ℕ) (z : List ℕ) → a ≡ Gave k → z ≡ left (typeWalk c t s i start y) → (Gave k ≡ answeredType c n t s i (length x)) × (z ≡ leftBy (Gave k) x (left (typeWalk c t s i start x)))
-  unfolding leftBy
-  type-gave k z h g = (the-answer (Gave k) h, g ∙ ap (λ (u : List ℕ). left (typeWalk c t s i start u)) same)
+pub type-answered : (c : Codec) (n : ℕ) (t : List ℕ) (s : Sections) (i : ℕ) (x y : List ℕ) (w : Walked) (a : Answer) → w ≡ answer (typeWalk c t s i start []) → y ≡ allOrNothing c n t s i x → a ≡ answered n (length x) w → (a ≡ answeredType c n t s i (length x)) × (y ≡ leftBy a x (left (typeWalk c t s i start x)))
+unfolding answeredType allOrNothing
+type-answered c n t s i x y w a first is h =
+    let e : a ≡ answered n (length x) (answer (typeWalk c t s i start [])) = h ∙ ap (answered n (length x)) first in
+    (e, is ∙ left-by n (length x) (answer (typeWalk c t s i start [])) x (left (typeWalk c t s i start x)) ∙ ap (λ (o : Answer). leftBy o x (left (typeWalk c t s i start x))) (sym e))
 
 -- the calls on sections
 module _ (c : Codec) (n : ℕ) (t : List ℕ) (s : Sections) (i : ℕ) (x : List ℕ) where

@@ -1,5 +1,4 @@
-// Payloads unpacked to words and packed from words, by a type of a table (01, "Payload and words"). The walk runs twice: once
-// over no room, to see that nothing is refused, and once to store, when it comes to the same place.
+// Payloads unpacked to words and packed from words, by a type of a table (01, "Payload and words"), whole or not at all.
 use table::Checked;
 use table::Sections;
 use walk::Walked;
@@ -88,24 +87,9 @@ fn unpack_type(table: &[u8], s: Sections, number: u16, payload: &[u8], words: &m
     ensures { λ r. ⌜ r ≡ answeredType (reader (now (payload .entry))) (length (now (payload .entry))) (now (table .entry)) s number (length (now (words .entry))) ⌝ }
     ensures { λ r. ⌜ now (words .exit) ≡ leftBy r (now (words .entry)) (left (typeWalk (reader (now (payload .entry))) (now (table .entry)) s number start (now (words .entry)))) ⌝ }
 {
-    let walked = first_read(table, s, number, payload, words);
-    match answered(payload.len(), words.len(), walked) {
-        Answer::Refused(n) => Answer::Refused(n),
-        Answer::Stopped(n) => Answer::Stopped(n),
-        Answer::Gave(n) => {
-            unpacking::read_type(table, s, number, payload, words);
-            Answer::Gave(n)
-        }
-    }
-}
-
-// The walk with no room for a word: it stores nothing.
-fn first_read(table: &[u8], s: Sections, number: u16, payload: &[u8], words: &mut [u64]) -> Walked
-    ensures { λ _. ⌜ now (words .exit) ≡ now (words .entry) ⌝ }
-    ensures { λ r. ⌜ r ≡ answer (typeWalk (reader (now (payload .entry))) (now (table .entry)) s number start []) ⌝ }
-{
-    let no_word = 0;
-    unpacking::read_type(table, s, number, payload, &mut words[..no_word])
+    let room = words.len();
+    let walked = whole_unpacking::read_type(table, s, number, payload, words);
+    answered(payload.len(), room, walked)
 }
 
 // What the walk's end comes to: 41 where input is left over, and last 45 where the output is too short.
@@ -136,22 +120,7 @@ fn pack_type(table: &[u8], s: Sections, number: u16, words: &[u64], out: &mut [u
     ensures { λ r. ⌜ r ≡ answeredType (writer (now (words .entry))) (length (now (words .entry))) (now (table .entry)) s number (length (now (out .entry))) ⌝ }
     ensures { λ r. ⌜ now (out .exit) ≡ leftBy r (now (out .entry)) (left (typeWalk (writer (now (words .entry))) (now (table .entry)) s number start (now (out .entry)))) ⌝ }
 {
-    let walked = first_write(table, s, number, words, out);
-    match answered(words.len(), out.len(), walked) {
-        Answer::Refused(n) => Answer::Refused(n),
-        Answer::Stopped(n) => Answer::Stopped(n),
-        Answer::Gave(n) => {
-            packing::write_type(table, s, number, words, out);
-            Answer::Gave(n)
-        }
-    }
-}
-
-// The walk with no room for a byte: it stores nothing.
-fn first_write(table: &[u8], s: Sections, number: u16, words: &[u64], out: &mut [u8]) -> Walked
-    ensures { λ _. ⌜ now (out .exit) ≡ now (out .entry) ⌝ }
-    ensures { λ r. ⌜ r ≡ answer (typeWalk (writer (now (words .entry))) (now (table .entry)) s number start []) ⌝ }
-{
-    let no_byte = 0;
-    packing::write_type(table, s, number, words, &mut out[..no_byte])
+    let room = out.len();
+    let walked = whole_packing::write_type(table, s, number, words, out);
+    answered(words.len(), room, walked)
 }

@@ -1,6 +1,9 @@
 -- Two outcomes that one promise allows are equal: each contract is an equation with a definition.
 -- Assumes nothing.
-use mathlib.Core.Path.{_≡_, sym, _∙_}
+use Prim.Native.Nat.{ℕ}
+use mathlib.Core.Path.{_≡_, sym, ap₂, _∙_}
+use Rattle.unpacking_leaves.specs.declared.Part.{Part as Read}
+use Rattle.packing_leaves.specs.declared.Part.{Part as Written}
 use Rattle.promises.specs.UniqueBelow.{WireUnique, ChannelsUnique, JoinerUnique, MessageUnique, ReactionsUnique, TableUnique, WalkUnique, UnpackingUnique, PackingUnique, StatesUnique, TextUnique, CallsUnique, LentUnique, LentChannelsUnique, LentJoinerUnique, LentMessagesUnique, LentTablesUnique, LentPayloadsUnique, LentPlatformUnique, LentStatesUnique, LentHeardUnique, EnumsUnique, LeavesUnique, UniqueBelow}
 
 leaves : LeavesUnique
@@ -80,22 +83,47 @@ walk =
       meet = λ k a z z′ e e′ p q. p ∙ sym q;
       look = λ k a z z′ e e′ p q. p ∙ sym q;
       base-at = λ k a z z′ e e′ p q. p ∙ sym q;
+      fits = λ k a z z′ e e′ p q. p ∙ sym q;
       base-codes = λ k a z z′ e e′ p q. p .0 ∙ sym (q .0);
       base-codes-codes = λ k a z z′ e e′ p q. p .1 ∙ sym (q .1);
     }
 
+-- a part that was judged, by its two numbers
+same-read : (a b : Read) → a .count ≡ b .count → a .from ≡ b .from → a ≡ b
+same-read a b h g = ap₂ (λ (m n : ℕ). the-read m n) h g
+  where
+    the-read : ℕ → ℕ → Read
+    the-read m n = record { count = m; from = n }
+
+same-written : (a b : Written) → a .count ≡ b .count → a .bytes ≡ b .bytes → a ≡ b
+same-written a b h g = ap₂ (λ (m n : ℕ). the-written m n) h g
+  where
+    the-written : ℕ → ℕ → Written
+    the-written m n = record { count = m; bytes = n }
+
 unpacking : UnpackingUnique
 unpacking =
     record {
+      judge-codes = λ k a z z′ e e′ p q. same-read z z′ (p .0 ∙ sym (q .0)) (p .1 ∙ sym (q .1));
+      store-codes-words = λ k a z z′ e e′ p q. p ∙ sym q;
+      judge-run = λ k a z z′ e e′ p q. p ∙ sym q;
+      store-run-words = λ k a z z′ e e′ p q. p ∙ sym q;
       read-type = λ k a z z′ e e′ p q. p .0 ∙ sym (q .0);
       read-type-words = λ k a z z′ e e′ p q. p .1 ∙ sym (q .1);
+      whole-type = λ k a z z′ e e′ p q. p .0 ∙ sym (q .0);
+      whole-type-words = λ k a z z′ e e′ p q. p .1 ∙ sym (q .1);
     }
 
 packing : PackingUnique
 packing =
     record {
+      judge-codes = λ k a z z′ e e′ p q. same-written z z′ (p .0 ∙ sym (q .0)) (p .1 ∙ sym (q .1));
+      store-codes-out = λ k a z z′ e e′ p q. p ∙ sym q;
+      store-run-out = λ k a z z′ e e′ p q. p ∙ sym q;
       write-type = λ k a z z′ e e′ p q. p .0 ∙ sym (q .0);
       write-type-out = λ k a z z′ e e′ p q. p .1 ∙ sym (q .1);
+      whole-type = λ k a z z′ e e′ p q. p .0 ∙ sym (q .0);
+      whole-type-out = λ k a z z′ e e′ p q. p .1 ∙ sym (q .1);
     }
 
 states : StatesUnique

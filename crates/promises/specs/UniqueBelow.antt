@@ -38,9 +38,19 @@ use Rattle.table.proofs.layout.member_place.Reads.{Post as table-layout-member-
 use Rattle.walk.proofs.meet.Reads.{Post as walk-meet}
 use Rattle.walk.proofs.look.Reads.{Post as walk-look}
 use Rattle.walk.proofs.base_at.Reads.{Post as walk-base-at}
+use Rattle.walk.proofs.fits.Reads.{Post as walk-fits}
 use Rattle.walk.proofs.runs.base_codes.Reads.{Post as walk-runs-base-codes}
+use Rattle.unpacking_leaves.proofs.judge_codes.Reads.{Post as unpacking-leaves-judge-codes}
+use Rattle.unpacking_leaves.proofs.store_codes.Reads.{Post as unpacking-leaves-store-codes}
+use Rattle.unpacking_leaves.proofs.runs.judge_run.Reads.{Post as unpacking-leaves-judge-run}
+use Rattle.unpacking_leaves.proofs.runs.store_run.Reads.{Post as unpacking-leaves-store-run}
 use Rattle.unpacking.proofs.read_type.Reads.{Post as unpacking-read-type}
+use Rattle.whole_unpacking.proofs.read_type.Reads.{Post as whole-unpacking-read-type}
+use Rattle.packing_leaves.proofs.judge_codes.Reads.{Post as packing-leaves-judge-codes}
+use Rattle.packing_leaves.proofs.store_codes.Reads.{Post as packing-leaves-store-codes}
+use Rattle.packing_leaves.proofs.runs.store_run.Reads.{Post as packing-leaves-store-run}
 use Rattle.packing.proofs.write_type.Reads.{Post as packing-write-type}
+use Rattle.whole_packing.proofs.write_type.Reads.{Post as whole-packing-write-type}
 use Rattle.states.proofs.fresh.Reads.{Post as states-fresh}
 use Rattle.states.proofs.is_up.Reads.{Post as states-is-up}
 use Rattle.states.proofs.how_many_up.Reads.{Post as states-how-many-up}
@@ -135,16 +145,28 @@ pub record WalkUnique : Type 0 where
   pub meet : Answer walk-meet
   pub look : Answer walk-look
   pub base-at : Answer walk-base-at
+  pub fits : Answer walk-fits
   pub base-codes : Answer walk-runs-base-codes
   pub base-codes-codes : Lent walk-runs-base-codes (λ k e. now (e .1 .1 .1 .1 .1 .0))
 
 pub record UnpackingUnique : Type 0 where
+  pub judge-codes : Answer unpacking-leaves-judge-codes
+  pub store-codes-words : Lent unpacking-leaves-store-codes (λ k e. now (e .1 .0))
+  pub judge-run : Answer unpacking-leaves-judge-run
+  pub store-run-words : Lent unpacking-leaves-store-run (λ k e. now (e .1 .0))
   pub read-type : Answer unpacking-read-type
   pub read-type-words : Lent unpacking-read-type (λ k e. now (e .1 .1 .1 .1 .0))
+  pub whole-type : Answer whole-unpacking-read-type
+  pub whole-type-words : Lent whole-unpacking-read-type (λ k e. now (e .1 .1 .1 .1 .0))
 
 pub record PackingUnique : Type 0 where
+  pub judge-codes : Answer packing-leaves-judge-codes
+  pub store-codes-out : Lent packing-leaves-store-codes (λ k e. now (e .1 .0))
+  pub store-run-out : Lent packing-leaves-store-run (λ k e. now (e .1 .0))
   pub write-type : Answer packing-write-type
   pub write-type-out : Lent packing-write-type (λ k e. now (e .1 .1 .1 .1 .0))
+  pub whole-type : Answer whole-packing-write-type
+  pub whole-type-out : Lent whole-packing-write-type (λ k e. now (e .1 .1 .1 .1 .0))
 
 pub record StatesUnique : Type 0 where
   pub fresh : Answer states-fresh

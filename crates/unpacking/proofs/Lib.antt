@@ -1,4 +1,3 @@
-mod ReadReturns
-mod ReadBases
-mod ReadRuns
-mod ReadCodes
+pub mod ReadReturns
+pub mod ReadBases
+pub mod ReadCodes

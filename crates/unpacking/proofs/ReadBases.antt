@@ -1,113 +1,34 @@
--- A leaf of a base code that is there: that its word is allowed, and what a run of such leaves comes to.
+-- A base that is met, and what the leaves of base codes come to in a walk.
 -- Assumes nothing.
-use Prim.Native.Nat.{ℕ, zero, suc, _+_, _-_, _*_, _/_, _%_, _^_, _≤_, _<_}
-use mathlib.Core.Path.{_≡_, refl, sym, ap, subst, _∙_}
-use mathlib.Core.Bool.{Bool, true, false, _&&_, _||_, not, cond}
-use mathlib.Core.List.{List, [], _∷_}
-use native.Mathlib.Nat.{add-assoc}
+use Prim.Native.Nat.{ℕ, zero, suc, _+_, _*_, _^_, _≤_, _<_}
+use mathlib.Core.Path.{_≡_, refl, sym, ap, _∙_}
+use mathlib.Core.Bool.{Bool, true, false, cond}
+use mathlib.Core.List.{List}
+use native.Mathlib.Nat.{mul-le-mul-left, zero-mul, add-zero}
 use native.Mathlib.Omega.{arith}
-use borrow.Author.Tests.{le-leb, lt-leb, lt-ltb, le-ltb, ltb-true, ltb-false, leb-true, ne-eqb}
-use lib.Dec.{ltb, leb, eqb}
-use lib.ListN.{length, getD, set}
-use Rattle.wire.specs.Bytes.{span, number, written, Octets}
-use Rattle.wire.proofs.Numbers.{number-lt}
-use Rattle.wire.proofs.Cond.{and-left, and-right, both}
-use Rattle.wire.proofs.Runs.{length-written}
+use mir.Syntax.{w32, w64}
+use mir.Val.{Fits}
+use lib.Dec.{leb}
+use lib.ListN.{length, take}
+use lib.Seq.{length-take-le}
+use Rattle.wire.proofs.Cond.{both}
 use Rattle.table.specs.declared.Sections.{Sections}
-use Rattle.table.specs.Leaf.{Leaf, boolean, signed, unsigned, float, none, base, bytesOf, inSigned, finite, isValue, width, allowed}
-use Rattle.leaves.specs.Forms.{truth, extended, wordOf, wordAt}
-use Rattle.leaves.proofs.Leaves.{truth-small}
+use Rattle.table.specs.Leaf.{width, allowed}
+use Rattle.table.proofs.AllBelow.{at-below}
+use Rattle.leaves.specs.Forms.{wordAt}
 use Rattle.walk.specs.declared.Place.{Place}
 use Rattle.walk.specs.Tree.{child, baseAt}
 use Rattle.walk.specs.Walk.{Step, on, through, walk}
-use Rattle.walk.proofs.Walks.{some-bytes, through-more}
+use Rattle.walk.proofs.Walks.{some-bytes}
 use Rattle.walk.proofs.Bases.{base-on}
-use Rattle.walk.proofs.Returns.{stored as put-in}
-use Rattle.unpacking.specs.Reading.{reader, Reading, isThere, behind, stored, Reads, ReadsCodes}
-
--- the room of the code that was met
-pub room-of : (n w : ℕ) → w ≡ width n → (p l code : ℕ) → code ≡ n → p + width code ≤ l → p + w ≤ l
-room-of n w e p l code h r = rw (e, ← h) r
-
--- a store of the word that was read
-pub stored-word : (x : List ℕ) (p w : ℕ) (b : List ℕ) (from code : ℕ) → p < length x → w ≡ wordAt code b from → set x p w ≡ written x p (wordAt code b from ∷ [])
-stored-word x p w b from code h e = put-in x p w h ∙ ap (λ (v : ℕ). written x p (v ∷ [])) e
-
--- every word of an integer that is read is allowed
-sign-in : (half x : ℕ) → half ≤ 2 ^ 63 → x < 2 * half → inSigned half (extended half x) ≡ true
-unfolding inSigned extended
-sign-in half x h l = go (ltb x half) refl
-  where
-    go : (t : Bool) → ltb x half ≡ t → inSigned half (extended half x) ≡ true
-    go true e = rw (e, e) refl
-    go false e =
-        let a : half ≤ x = ltb-false x half e in
-        let v : ℕ = x + (2 ^ 64 - 2 * half) in
-        rw (e, le-ltb v half (omega arith), le-leb (2 ^ 64 - half) v (omega arith), lt-ltb v (2 ^ 64) (omega arith)) refl
-
-module _ (s : List ℕ) (p : ℕ) (o : Octets s) where
-  all-unsigned : (k : ℕ) → isValue (unsigned k) (number k s p) ≡ true
-  unfolding isValue
-  all-unsigned k = lt-ltb (number k s p) (span k) (number-lt k s p o)
-
-  -- code by code, up to the floats
-  pub value-there : (code : ℕ) → code < 11 → allowed code (wordAt code s p) ≡ true
-  unfolding allowed wordAt base wordOf isValue
-  value-there zero l = lt-ltb (truth (number 0 s p)) 2 (truth-small (number 0 s p))
-  value-there (suc zero) l = sign-in 128 (number 0 s p) (omega arith) (o p)
-  value-there (suc (suc zero)) l = all-unsigned 0
-  value-there (suc (suc (suc zero))) l = sign-in 32768 (number 1 s p) (omega arith) (number-lt 1 s p o)
-  value-there (suc (suc (suc (suc zero)))) l = sign-in 2147483648 (number 2 s p) (omega arith) (number-lt 2 s p o)
-  value-there (suc (suc (suc (suc (suc zero))))) l = sign-in 9223372036854775808 (number 3 s p) (omega arith) (number-lt 3 s p o)
-  value-there (suc (suc (suc (suc (suc (suc zero)))))) l = all-unsigned 0
-  value-there (suc (suc (suc (suc (suc (suc (suc zero))))))) l = all-unsigned 0
-  value-there (suc (suc (suc (suc (suc (suc (suc (suc zero)))))))) l = all-unsigned 1
-  value-there (suc (suc (suc (suc (suc (suc (suc (suc (suc zero))))))))) l = all-unsigned 2
-  value-there (suc (suc (suc (suc (suc (suc (suc (suc (suc (suc zero)))))))))) l = all-unsigned 3
-  value-there (suc (suc (suc (suc (suc (suc (suc (suc (suc (suc (suc n))))))))))) l = absurd (omega arith)
-
-module _ (b : List ℕ) (from code n : ℕ) (in-payload : from ≤ length b) (is : n ≡ width code) where
-  pub cut-off : length b - from < n → false ≡ isThere b code from
-  unfolding isThere
-  cut-off h = rw (lt-leb (from + width code) (length b) (omega (arith, is))) refl
-
-  module _ (h : n ≤ length b - from) where
-    pub all-there : from + width code ≤ length b
-    all-there = omega (arith, is)
-
-    pub surely : Octets b → code < 11 → true ≡ isThere b code from
-    unfolding isThere
-    surely o l = rw (le-leb (from + width code) (length b) all-there, value-there b from o code l) refl
-
-    pub judged : (w : ℕ) (r : Bool) → w ≡ wordAt code b from → r ≡ allowed code w → r ≡ isThere b code from
-    unfolding isThere
-    judged w r e g = rw (le-leb (from + width code) (length b) all-there, ← e) g
-
--- where it is there, its bytes are
-pub there-room : (b : List ℕ) (from code : ℕ) (r : Bool) → r ≡ isThere b code from → r ≡ true → from + width code ≤ length b
-unfolding isThere
-there-room b from code r h g = leb-true (from + width code) (length b) (and-left (leb (from + width code) (length b)) (allowed code (wordAt code b from)) (sym h ∙ g))
-
-module _ (b : List ℕ) (code : ℕ) (p : Place) (n : ℕ) (is : n ≡ width code) (r : Bool) (there : r ≡ isThere b code (p .from)) (yes : r ≡ true) where
-  some : 1 ≤ width code
-  unfolding isThere
-  some = some-bytes code (wordAt code b (p .from)) (and-right (leb (p .from + width code) (length b)) (allowed code (wordAt code b (p .from))) (sym there ∙ yes))
-
-  pub reading-behind : Reading b p → Reading b (record { from = p .from + n; to = p .to + 1 })
-  reading-behind h = (omega (arith, some, is, h .0), omega (arith, there-room b (p .from) code r there yes, is))
-
-  -- one more of the codes
-  module _ (codes : List ℕ) (m : ℕ) (f : ℕ → Place → List ℕ → Step) (reads : ReadsCodes b codes m f) (k : ℕ) (less : k < length codes) (one : code ≡ getD codes k 0) where
-    pub code-more : (q : Place) (x y z : List ℕ) → through (m + k) f q x ≡ on p y → z ≡ written y (p .to) (wordAt code b (p .from) ∷ []) → through (m + (k + 1)) f q x ≡ on (record { from = p .from + n; to = p .to + 1 }) z
-    code-more q x y z so-far put =
-        ap (λ (j : ℕ). through j f q x) (sym (add-assoc m k 1))
-        ∙ through-more f q x (m + k) p y so-far
-        ∙ reads k p y less (rw (← one) (sym there ∙ yes))
-        ∙ rw (← one, ← is, ← put) refl
-
--- the words stay as many
-pub as-many : (n : ℕ) (y z : List ℕ) (p w : ℕ) → length y ≡ n → z ≡ written y p (w ∷ []) → length z ≡ n
-as-many n y z p w h e = ap length e ∙ length-written y p (w ∷ []) ∙ h
+use Rattle.unpacking_leaves.specs.Leaves.{isThere, behind, stored, ends, allThere, laid, thereCount, wholeCount}
+use Rattle.unpacking_leaves.specs.OneCode.{along, isGood, filled, runThere}
+use Rattle.unpacking_leaves.specs.Steps.{Reads, ReadsCodes}
+use Rattle.unpacking_leaves.proofs.InTurn.{codes-on, fewer-read}
+use Rattle.unpacking_leaves.proofs.Counts.{there-few, there-all, there-ends, ends-far, laid-whole, length-laid}
+use Rattle.unpacking_leaves.proofs.OneCode.{same-many}
+use Rattle.unpacking_leaves.proofs.WholeRuns.{run-room, run-good, run-walked}
+use Rattle.unpacking.specs.Reading.{reader, Reading, Goes}
 
 -- a base that is met, among a record's members or as an array's element
 module _ (b t : List ℕ) (s : Sections) (i c code : ℕ) (is : code ≡ baseAt t s i c) (p : Place) (x : List ℕ) (there : isThere b code (p .from) ≡ true) where
@@ -122,3 +43,84 @@ element-reads b t s i c code is k q y there = base-reads b t s i c code is q y t
 
 pub next-below : (n m : ℕ) → n ≤ m → (n ≡ m → ⊥) → n < m
 next-below n m h d = omega arith
+
+-- the leaves of a list of codes, as they were judged and stored
+module _ (b codes : List ℕ) (first c : ℕ) (counts : c ≡ thereCount b codes first) where
+  pub part-in : c ≤ length codes
+  part-in = omega (arith, counts, there-few b codes first)
+
+  pub part-length : c ≡ length (take c codes)
+  part-length = sym (length-take-le c codes part-in)
+
+  all-of-part : allThere b (take c codes) first ≡ true
+  all-of-part = ap (λ (n : ℕ). allThere b (take n codes) first) counts ∙ there-all b codes first
+
+  module _ (m : ℕ) (few : m + length codes ≤ 65535) where
+    pub part-small : Fits w32 c
+    part-small = record { fits = omega (arith, part-in) }
+
+    pub upto-small : Fits w32 (m + c)
+    upto-small = record { fits = omega (arith, part-in) }
+
+    pub upto-most : m + c ≤ m + length codes
+    upto-most = omega (arith, part-in)
+
+module _ (b codes : List ℕ) (p : Place) (c e : ℕ) (counts : c ≡ thereCount b codes (p .from)) (end : e ≡ ends (take (thereCount b codes (p .from)) codes) (p .from)) where
+  length-is : c ≡ length (take c codes)
+  length-is = part-length b codes (p .from) c counts
+
+  there : allThere b (take c codes) (p .from) ≡ true
+  there = all-of-part b codes (p .from) c counts
+
+  end-taken : e ≡ ends (take c codes) (p .from)
+  end-taken = end ∙ ap (λ (n : ℕ). ends (take n codes) (p .from)) (sym counts)
+
+  module _ (here : Reading b p) where
+    pub part-reading : Reading b (record { from = e; to = p .to + c })
+    part-reading =
+        (omega (arith, here .0, end-taken, length-is, ends-far b (take c codes) (p .from) there), omega (arith, end, there-ends b codes (p .from) (here .1)))
+
+    pub part-fits : length b * 1 < 2 ^ 63 → Fits w64 (p .to + c)
+    part-fits few = record { fits = omega (arith, part-reading .0, part-reading .1) }
+
+  module _ (x y : List ℕ) (put : y ≡ laid b (take (wholeCount b (take c codes) (p .from)) (take c codes)) p x) where
+    pub part-many : length y ≡ length x
+    part-many = ap length put ∙ length-laid b (take (wholeCount b (take c codes) (p .from)) (take c codes)) p x
+
+    pub part-goes : (m : ℕ) (f : ℕ → Place → List ℕ → Step) → ReadsCodes b codes m f → Goes f m p x (m + c) (record { from = e; to = p .to + c }) y
+    part-goes m f reads p₀ x₀ so-far =
+        ap (λ (n : ℕ). through (m + n) f p₀ x₀) length-is
+        ∙ codes-on b f p₀ x₀ (take c codes) m p x (fewer-read b codes m c f (part-in b codes (p .from) c counts) reads) there so-far
+        ∙ ap (λ (n : ℕ). on (record { from = ends (take c codes) (p .from); to = p .to + n }) (laid b (take c codes) p x)) (sym length-is)
+        ∙ ap (λ (n : ℕ). on (record { from = n; to = p .to + c }) (laid b (take c codes) p x)) (sym end-taken)
+        ∙ ap (on (record { from = e; to = p .to + c })) (sym (put ∙ laid-whole b (take c codes) p x there))
+
+-- and the leaves of one code
+module _ (b : List ℕ) (code : ℕ) (p : Place) (r : Bool) (here : Reading b p) where
+  along-reading : (n : ℕ) → r ≡ runThere b code (p .from) n → r ≡ true → Reading b (along code p n)
+  along-reading zero judged found = rw (zero-mul (width code), add-zero (p .from), add-zero (p .to)) here
+  along-reading (suc n) judged found =
+      let good : isGood b code (p .from) 0 ≡ true = at-below (isGood b code (p .from)) (suc n) 0 (run-good b code (p .from) (suc n) (sym judged ∙ found)) (omega arith) in
+      let some : 1 ≤ width code = some-bytes code (wordAt code b (p .from + 0 * width code)) good in
+      let much : suc n * 1 ≤ suc n * width code = mul-le-mul-left (suc n) some in
+      (omega (arith, here .0), run-room b code (p .from) (suc n) (sym judged ∙ found))
+
+  module _ (n w : ℕ) (is : w ≡ width code) (judged : r ≡ runThere b code (p .from) n) (found : r ≡ true) where
+    pub run-reading : Reading b (record { from = p .from + n * w; to = p .to + n })
+    run-reading = rw is (along-reading n judged found)
+
+    pub run-from-fits : length b * 1 < 2 ^ 63 → Fits w64 (p .from + n * w)
+    run-from-fits few = record { fits = omega (arith, run-reading .1) }
+
+    pub run-to-fits : length b * 1 < 2 ^ 63 → Fits w64 (p .to + n)
+    run-to-fits few = record { fits = omega (arith, run-reading .0, run-reading .1) }
+
+    pub run-goes : (x y : List ℕ) → y ≡ cond (leb (p .from + n * width code) (length b)) (filled b code p n x) x → (f : ℕ → Place → List ℕ → Step) → Reads b code f → through n f p x ≡ on (record { from = p .from + n * w; to = p .to + n }) y
+    run-goes x y put f reads = run-walked b code n p x y (sym judged ∙ found) put f reads ∙ rw is refl
+
+pub run-many : (b : List ℕ) (code n : ℕ) (p : Place) (x y : List ℕ) → y ≡ cond (leb (p .from + n * width code) (length b)) (filled b code p n x) x → length y ≡ length x
+run-many b code n p x y put = go (leb (p .from + n * width code) (length b)) put
+  where
+    go : (t : Bool) → y ≡ cond t (filled b code p n x) x → length y ≡ length x
+    go true e = same-many b code p x n y e
+    go false e = ap length e

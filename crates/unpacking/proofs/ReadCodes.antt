@@ -12,7 +12,8 @@ use Rattle.table.specs.declared.Entry.{Entry}
 use Rattle.table.specs.Entries.{memberAt}
 use Rattle.walk.specs.Codes.{codeCount, codesOf}
 use Rattle.walk.proofs.Codes.{few-codes, smaller-right, codes-fit, codes-as-long, code-is}
-use Rattle.unpacking.specs.Reading.{ReadsCodes, memberRead}
+use Rattle.unpacking_leaves.specs.Steps.{ReadsCodes}
+use Rattle.unpacking.specs.Reading.{memberRead}
 use Rattle.unpacking.proofs.ReadBases.{base-reads}
 
 module _ (t : List ℕ) (s : Sections) (i : ℕ) (e : Entry) (m r : ℕ) (u v : List ℕ) (counts : r ≡ codeCount t s i e m (length u)) (given : v ≡ over u 0 (codesOf t s i e m (length u))) where

@@ -1,8 +1,5 @@
 // Reading a payload: the reader of a record's members and the reader of an array's elements call each other, each by the kind
 // of what it meets, and the type number falls at each entry.
-mod bases;
-mod runs;
-
 use table::Entry;
 use table::Sections;
 use walk::Met;
@@ -15,8 +12,9 @@ ghost use Rattle.walk.specs.declared.Met.the-variants.{Members, Elements};
 ghost use Rattle.wire.specs.Bytes.{written};
 ghost use mathlib.Core.List.{List, [], _∷_};
 ghost use Rattle.walk.specs.declared.Place.{Place};
-ghost use Rattle.walk.specs.Walk.{Step, start, answer, left, begun, times, leafWalk, metWalk, typeWalk};
-ghost use Rattle.unpacking.specs.Reading.{reader, Reading, ReadsCodes, memberRead, Goes};
+ghost use Rattle.walk.specs.Walk.{Step, on, through, start, answer, left, begun, times, leafWalk, metWalk, typeWalk};
+ghost use Rattle.unpacking_leaves.specs.Steps.{Reads, ReadsCodes};
+ghost use Rattle.unpacking.specs.Reading.{reader, Reading, memberRead, Goes};
 
 // An array's count: its bytes on the wire, and its words.
 const COUNT_BYTES: usize = 4;
@@ -109,7 +107,7 @@ fn read_elements(
         Walked::Stopped(n, q) => Walked::Stopped(n, q),
         Walked::Went(q) => {
             let code = walk::base_at(table, s, i, child);
-            let run = runs::read_run(payload, words, code, count, q);
+            let run = read_run(payload, words, code, count, q);
             let mut at = run.at;
             let mut k = run.upto;
             while k < count {
@@ -236,26 +234,35 @@ fn read_codes(payload: &[u8], words: &mut [u64], codes: &[u8], from: u32, p: Pla
     ensures { λ _. ⌜ length (now (words .exit)) ≡ length (now (words .entry)) ⌝ }
     ensures { λ r. ⌜ ((f : ℕ → Place → List ℕ → Step) → ReadsCodes (now (payload .entry)) (now (codes .entry)) from f → Goes f from p (now (words .entry)) (r .upto) (r .at) (now (words .exit))) ⌝ }
 {
-    let mut at = p;
-    let mut k: usize = 0;
-    while k < codes.len() {
-        let code = codes[k] as u16;
-        if bases::is_there(payload, at.from, code) {
-            bases::put_base(payload, words, code, at.from, at.to);
-            at = Place {
-                from: at.from + codes::width(code),
-                to: at.to + 1,
-            };
-            k += 1;
-        } else {
-            return Run {
-                upto: from + k as u32,
-                at,
-            };
-        }
-    }
+    let part = unpacking_leaves::judge_codes(payload, codes, p.from);
+    unpacking_leaves::store_codes(payload, words, &codes[..part.count], p);
     Run {
-        upto: from + k as u32,
-        at,
+        upto: from + part.count as u32,
+        at: Place {
+            from: part.from,
+            to: p.to + part.count,
+        },
+    }
+}
+
+// Reads elements of one base code: all of them, or none where one is not there or not allowed.
+fn read_run(payload: &[u8], words: &mut [u64], code: u16, count: u32, p: Place) -> Run
+    requires { ⌜ Reading (now payload) p ⌝ }
+    ensures { λ r. ⌜ (r .upto ≤ count) × Reading (now (payload .entry)) (r .at) ⌝ }
+    ensures { λ _. ⌜ length (now (words .exit)) ≡ length (now (words .entry)) ⌝ }
+    ensures { λ r. ⌜ ((f : ℕ → Place → List ℕ → Step) → Reads (now (payload .entry)) code f → through (r .upto) f p (now (words .entry)) ≡ on (r .at) (now (words .exit))) ⌝ }
+{
+    if unpacking_leaves::runs::judge_run(payload, p.from, code, count) {
+        unpacking_leaves::runs::store_run(payload, words, code, count, p);
+        let many = count as usize;
+        Run {
+            upto: count,
+            at: Place {
+                from: p.from + many * codes::width(code),
+                to: p.to + many,
+            },
+        }
+    } else {
+        Run { upto: 0, at: p }
     }
 }

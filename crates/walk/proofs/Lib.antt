@@ -4,3 +4,4 @@ pub mod Returns
 pub mod Bases
 pub mod Codes
 pub mod Parts
+pub mod Whole

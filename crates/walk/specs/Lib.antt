@@ -1,3 +1,4 @@
 pub mod Tree
 pub mod Walk
 pub mod Codes
+pub mod Whole

@@ -6,6 +6,7 @@ use table::Entry;
 use table::Sections;
 ghost use mathlib.Core.Path.{_≡_};
 ghost use Rattle.walk.specs.Tree.{byKind, look, meet, baseOf, baseAt};
+ghost use Rattle.walk.specs.Whole.{fits};
 
 // 01, Numbers given back: what a walk can be refused with, and, behind it, what is left over.
 pub const ENDS_EARLY: u32 = 40;
@@ -93,4 +94,11 @@ fn base_of(e: Entry) -> u16
     } else {
         NO_BASE
     }
+}
+
+// Whether a walk that came to this place has read all, and there is room for what it gives: only then is any of it stored.
+pub fn fits(q: Place, len: usize, room: usize) -> bool
+    ensures { λ r. ⌜ r ≡ fits len room q ⌝ }
+{
+    (len <= q.from) & (q.to <= room)
 }

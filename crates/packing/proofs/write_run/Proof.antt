@@ -1,10 +1,9 @@
--- `packing::write_run` meets its contract: each arm writes leaves of its own code.
+-- `packing::write_run` meets its contract: all leaves are written, or none.
 -- Assumes nothing.
 use borrow.Author.Needs.{needs}
-use Prim.Native.Nat.{ℕ}
-use mathlib.Core.Path.{refl, subst}
+use mathlib.Core.Path.{refl}
 use Rattle.walk.proofs.Walks.{through-none}
-use Rattle.packing.specs.Writing.{Writes}
+use Rattle.packing.proofs.OneCode.{run-times, run-end, writing-run, run-long, run-went}
 use Rattle.packing.proofs.write_run.Statement.{statement}
 use Rattle.packing.proofs.write_run.Tie as tie
 
@@ -12,43 +11,18 @@ pub write-run-spec : {M : Type 1} → statement M
 write-run-spec =
     tie.close
     (tie.spec
-    (λ c κs. search needs)
-    (λ c κs. search needs)
-    (λ c κs. search needs)
-    (λ c κs. search needs)
-    (λ c κs. search needs)
-    (λ c κs. search needs)
-    (λ c κs. search needs)
-    (λ c κs. search needs)
-    (λ c κs. search needs)
-    (λ c κs. search needs)
+    (λ c. search needs)
+    (λ c. ((search needs, c .before .before .before .before .pre), (refl, λ f g. through-none f _ _)))
     (λ c κs. search needs)
     (λ c κs. search needs)
     (λ c κs. search needs)
     (λ c. search needs)
-    (λ c. (c .before .before .write-each .ensures .0, (c .before .before .write-each .ensures .1 .0, λ f g. c .before .before .write-each .ensures .1 .1 f (subst (λ (m : ℕ). Writes (c .before .before .before .before .before .before .before .args .words .now) m f) (c .before .before .before .before .match .keys1) g))))
+    (λ c. let a = c .before .before .before .before .before .before .before .before .before .before .before .before in run-times (a .args .words .now) (a .args .code) _ (a .args .p) _ (c .before .width .ensures) (search needs) (a .pre) (a .good .0 .1))
+    (λ c. let a = c .before .before .before .before .before .before .before .before .before .before .before .before .before in run-end (a .args .words .now) (a .args .code) _ (a .args .p) _ (c .before .before .width .ensures) (search needs) (a .pre) (a .good .0 .1))
     (λ c. search needs)
-    (λ c. (c .before .before .write-each2 .ensures .0, (c .before .before .write-each2 .ensures .1 .0, λ f g. c .before .before .write-each2 .ensures .1 .1 f (subst (λ (m : ℕ). Writes (c .before .before .before .before .before .before .before .args .words .now) m f) (c .before .before .before .before .match .keys2) g))))
-    (λ c. search needs)
-    (λ c. (c .before .before .write-each3 .ensures .0, (c .before .before .write-each3 .ensures .1 .0, λ f g. c .before .before .write-each3 .ensures .1 .1 f (subst (λ (m : ℕ). Writes (c .before .before .before .before .before .before .before .args .words .now) m f) (c .before .before .before .before .match .keys3) g))))
-    (λ c. search needs)
-    (λ c. (c .before .before .write-each4 .ensures .0, (c .before .before .write-each4 .ensures .1 .0, λ f g. c .before .before .write-each4 .ensures .1 .1 f (subst (λ (m : ℕ). Writes (c .before .before .before .before .before .before .before .args .words .now) m f) (c .before .before .before .before .match .keys4) g))))
-    (λ c. search needs)
-    (λ c. (c .before .before .write-each5 .ensures .0, (c .before .before .write-each5 .ensures .1 .0, λ f g. c .before .before .write-each5 .ensures .1 .1 f (subst (λ (m : ℕ). Writes (c .before .before .before .before .before .before .before .args .words .now) m f) (c .before .before .before .before .match .keys5) g))))
-    (λ c. search needs)
-    (λ c. (c .before .before .write-each6 .ensures .0, (c .before .before .write-each6 .ensures .1 .0, λ f g. c .before .before .write-each6 .ensures .1 .1 f (subst (λ (m : ℕ). Writes (c .before .before .before .before .before .before .before .args .words .now) m f) (c .before .before .before .before .match .keys6) g))))
-    (λ c. search needs)
-    (λ c. (c .before .before .write-each7 .ensures .0, (c .before .before .write-each7 .ensures .1 .0, λ f g. c .before .before .write-each7 .ensures .1 .1 f (subst (λ (m : ℕ). Writes (c .before .before .before .before .before .before .before .args .words .now) m f) (c .before .before .before .before .match .keys7) g))))
-    (λ c. search needs)
-    (λ c. (c .before .before .write-each8 .ensures .0, (c .before .before .write-each8 .ensures .1 .0, λ f g. c .before .before .write-each8 .ensures .1 .1 f (subst (λ (m : ℕ). Writes (c .before .before .before .before .before .before .before .args .words .now) m f) (c .before .before .before .before .match .keys8) g))))
-    (λ c. search needs)
-    (λ c. (c .before .before .write-each9 .ensures .0, (c .before .before .write-each9 .ensures .1 .0, λ f g. c .before .before .write-each9 .ensures .1 .1 f (subst (λ (m : ℕ). Writes (c .before .before .before .before .before .before .before .args .words .now) m f) (c .before .before .before .before .match .keys9) g))))
-    (λ c. search needs)
-    (λ c. (c .before .before .write-each10 .ensures .0, (c .before .before .write-each10 .ensures .1 .0, λ f g. c .before .before .write-each10 .ensures .1 .1 f (subst (λ (m : ℕ). Writes (c .before .before .before .before .before .before .before .args .words .now) m f) (c .before .before .before .before .match .keys10) g))))
-    (λ c. search needs)
-    (λ c. (c .before .before .write-each11 .ensures .0, (c .before .before .write-each11 .ensures .1 .0, λ f g. c .before .before .write-each11 .ensures .1 .1 f (subst (λ (m : ℕ). Writes (c .before .before .before .before .before .before .before .args .words .now) m f) (c .before .before .before .before .match .keys11) g))))
-    (λ c. search needs)
-    (λ c. (c .before .before .write-each12 .ensures .0, (c .before .before .write-each12 .ensures .1 .0, λ f g. c .before .before .write-each12 .ensures .1 .1 f (subst (λ (m : ℕ). Writes (c .before .before .before .before .before .before .before .args .words .now) m f) (c .before .before .before .before .match .keys12) g))))
-    (λ c. search needs)
-    (λ c. (c .before .before .write-each13 .ensures .0, (c .before .before .write-each13 .ensures .1 .0, λ f g. c .before .before .write-each13 .ensures .1 .1 f (subst (λ (m : ℕ). Writes (c .before .before .before .before .before .before .before .args .words .now) m f) (c .before .before .before .before .match .keys13) g))))
-    (λ c. ((search needs, c .before .before .before .pre), (refl, λ f g. through-none f _ _))))
+    (λ c.
+    let a = c .before .before .before .before .before .before .before .before .before .before .before .before .before in
+    let w = c .before .before .width .ensures in
+    let s = c .before .before .before .before .before .store-run .ensures in
+    ((search needs, writing-run (a .args .words .now) (a .args .code) _ (a .args .p) _ w (search needs) (a .pre)), (run-long (a .args .words .now) (a .args .code) (a .args .p) _ (a .args .count) _ (search needs) s, run-went (a .args .words .now) (a .args .code) (a .args .p) _ (a .args .count) _ (search needs) s _ w (c .before .before .before .before .before .before .before .before .judged .ensures (c .before .before .before .before .before .before .before .if2 .taken)))))
+    (λ c. ((search needs, c .before .before .before .before .before .before .pre), (refl, λ f g. through-none f _ _))))

@@ -27,7 +27,7 @@ use Rattle.unpacking.proofs.+read_elements+read_members.Lts-read_member
 use Rattle.unpacking.proofs.begin.Reads as begin-reads
 use Rattle.unpacking.proofs.read_leaf.Reads as read-leaf-reads
 use Rattle.unpacking.proofs.times.Reads as times-reads
-use Rattle.unpacking.proofs.runs.read_run.Reads as read-run-reads
+use Rattle.unpacking.proofs.read_run.Reads as read-run-reads
 use Rattle.unpacking.proofs.read_bases.Reads as read-bases-reads
 use Rattle.walk.proofs.meet.Reads as meet-reads
 use Rattle.walk.proofs.base_at.Reads as base-at-reads

@@ -1,31 +1,38 @@
--- `packing::runs::judged` meets its contract. The loop's invariant: where what was put together is below the limit, the words so
--- far are there and taken.
+-- `packing::runs::judged` meets its contract: each arm judges by its own code.
 -- Assumes nothing.
-use Prim.Native.Nat.{_-_, _≤_}
 use borrow.Author.Needs.{needs}
-use Rattle.packing.proofs.Measures.{Judged, none-judged, more-judged, all-judged}
+use Rattle.packing.proofs.Measures.{by-code, none-by-code}
 use Rattle.packing.proofs.runs.judged.Statement.{statement}
 use Rattle.packing.proofs.runs.judged.Tie as tie
-
-abbrev Inv-loop : tie.InvT-loop
-Inv-loop words from code count all₀ k₀ all k = (k ≤ count) × Judged words code from all k
-
-abbrev μ-loop : tie.MeasureT-loop
-μ-loop words from code count all₀ k₀ all k = count - k
 
 pub judged-spec : {M : Type 1} → statement M
 judged-spec =
     tie.close
     (tie.spec
-    Inv-loop
-    μ-loop
-    (λ c. (search needs, none-judged _ _ _))
-    (λ c. search needs)
-    (λ c. search needs)
-    (λ c. search needs)
     (λ c κs. search needs)
-    (λ c. search needs)
-    (λ c. search needs)
-    (λ c. (search needs, more-judged _ _ _ _ _ _ (search needs) (c .before .before .before .loop .inv .1) (c .measure .ensures)))
     (λ c κs. search needs)
-    (λ c t. search all-judged))
+    (λ c κs. search needs)
+    (λ c κs. search needs)
+    (λ c κs. search needs)
+    (λ c κs. search needs)
+    (λ c κs. search needs)
+    (λ c κs. search needs)
+    (λ c κs. search needs)
+    (λ c κs. search needs)
+    (λ c κs. search needs)
+    (λ c κs. search needs)
+    (λ c κs. search needs)
+    (λ c t. by-code _ _ _ _ _ _ (c .before .match .keys1) (c .judged-each .ensures) t)
+    (λ c t. by-code _ _ _ _ _ _ (c .before .match .keys2) (c .judged-each2 .ensures) t)
+    (λ c t. by-code _ _ _ _ _ _ (c .before .match .keys3) (c .judged-each3 .ensures) t)
+    (λ c t. by-code _ _ _ _ _ _ (c .before .match .keys4) (c .judged-each4 .ensures) t)
+    (λ c t. by-code _ _ _ _ _ _ (c .before .match .keys5) (c .judged-each5 .ensures) t)
+    (λ c t. by-code _ _ _ _ _ _ (c .before .match .keys6) (c .judged-each6 .ensures) t)
+    (λ c t. by-code _ _ _ _ _ _ (c .before .match .keys7) (c .judged-each7 .ensures) t)
+    (λ c t. by-code _ _ _ _ _ _ (c .before .match .keys8) (c .judged-each8 .ensures) t)
+    (λ c t. by-code _ _ _ _ _ _ (c .before .match .keys9) (c .judged-each9 .ensures) t)
+    (λ c t. by-code _ _ _ _ _ _ (c .before .match .keys10) (c .judged-each10 .ensures) t)
+    (λ c t. by-code _ _ _ _ _ _ (c .before .match .keys11) (c .judged-each11 .ensures) t)
+    (λ c t. by-code _ _ _ _ _ _ (c .before .match .keys12) (c .judged-each12 .ensures) t)
+    (λ c t. by-code _ _ _ _ _ _ (c .before .match .keys13) (c .judged-each13 .ensures) t)
+    (λ c t. none-by-code _ _ _ _ t))

@@ -1,0 +1,3 @@
+mod FlatLeaves
+mod JudgedBases
+mod JudgedRecord

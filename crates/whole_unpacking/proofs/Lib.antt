@@ -1,0 +1,2 @@
+mod FlatMembers
+mod BaseArrays
