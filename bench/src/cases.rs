@@ -65,27 +65,7 @@ pub fn all() -> Vec<Named> {
         "platform call, operation, last of 1,000",
         Box::new(move || receiving(&many(), &operation(999))),
     );
-    let types: [(&str, fn() -> (Vec<u8>, u16, Vec<u64>)); 3] = [
-        ("record of 64 uint16", || {
-            (
-                tables::record_of_uint16(),
-                1,
-                (0..64).map(|i| i * 1_000).collect(),
-            )
-        }),
-        ("record of 64, mixed codes", || {
-            (tables::record_of_all(), 14, tables::words_of_all())
-        }),
-        ("array of 1,000 float32", || {
-            let floats = (0..1_000).map(|i| u64::from((i as f32 * 1.25).to_bits()));
-            (
-                tables::array_of_floats(),
-                1,
-                std::iter::once(1_000).chain(floats).collect(),
-            )
-        }),
-    ];
-    for (name, value) in types {
+    for (name, value) in values() {
         add(
             &format!("unpack {name}"),
             Box::new(move || unpacking(value())),
@@ -101,6 +81,55 @@ pub fn all() -> Vec<Named> {
         Box::new(|| checking(tables::large_table(256, 1_024))),
     );
     cases
+}
+
+/// What is unpacked and packed: a table, the number of a type in it, and the words of a value.
+type Value = (Vec<u8>, u16, Vec<u64>);
+
+fn values() -> [(&'static str, fn() -> Value); 6] {
+    [
+        ("record of 64 uint16", || {
+            (tables::record_of_uint16(), 1, thousands())
+        }),
+        ("record of 64, mixed codes", || {
+            (tables::record_of_all(), 14, tables::words_of_all())
+        }),
+        ("array of 1,000 float32", || {
+            (tables::array_of_floats(), 1, behind(&[1_000], floats()))
+        }),
+        ("8 records of 8 uint16", || {
+            (tables::record_of_records(), 2, thousands())
+        }),
+        ("4 uint32, array of 1,000 float32", || {
+            (
+                tables::record_with_array(),
+                3,
+                behind(&[1, 2, 3, 4, 1_000], floats()),
+            )
+        }),
+        ("array of 100 records of 8", || {
+            let one = [7, 8, 0x3FC0_0000, 0x4000_1234_5678_9ABC];
+            (
+                tables::array_of_records(),
+                5,
+                behind(&[100], one.repeat(200)),
+            )
+        }),
+    ]
+}
+
+fn thousands() -> Vec<u64> {
+    (0..64).map(|i| i * 1_000).collect()
+}
+
+fn floats() -> Vec<u64> {
+    (0..1_000)
+        .map(|i| u64::from((i as f32 * 1.25).to_bits()))
+        .collect()
+}
+
+fn behind(first: &[u64], rest: Vec<u64>) -> Vec<u64> {
+    [first, &rest].concat()
 }
 
 fn operation(entry: u32) -> Vec<u8> {

@@ -80,6 +80,44 @@ pub fn array_of_floats() -> Vec<u8> {
     table(&[[0, 11, 0, 0], [4, 0, 0, 1000]], &[], &[], &operations(16))
 }
 
+/// Type 2: a record of 8 records of 8 uint16.
+pub fn record_of_records() -> Vec<u8> {
+    let members: Vec<u16> = (0..16).map(|i| i / 8).collect();
+    table(
+        &[[0, 8, 0, 0], [2, 0, 0, 8], [2, 0, 8, 8]],
+        &members,
+        &[],
+        &operations(16),
+    )
+}
+
+/// Type 3: a record of four uint32 and an array of up to 1,000 float32.
+pub fn record_with_array() -> Vec<u8> {
+    table(
+        &[[0, 9, 0, 0], [0, 11, 0, 0], [4, 1, 0, 1000], [2, 0, 0, 5]],
+        &[0, 0, 0, 0, 2],
+        &[],
+        &operations(16),
+    )
+}
+
+/// Type 5: an array of up to 100 records of 8: uint32, uint16, float32, float64, by turns.
+pub fn array_of_records() -> Vec<u8> {
+    table(
+        &[
+            [0, 9, 0, 0],
+            [0, 8, 0, 0],
+            [0, 11, 0, 0],
+            [0, 12, 0, 0],
+            [2, 0, 0, 8],
+            [4, 4, 0, 100],
+        ],
+        &[0, 1, 2, 3, 0, 1, 2, 3],
+        &[],
+        &operations(16),
+    )
+}
+
 /// Every kind in turn: so many types, with four members or values for each record and enum.
 pub fn large_table(count: u16, operation_count: u32) -> Vec<u8> {
     let (mut types, mut members, mut values) = (Vec::new(), Vec::new(), Vec::new());

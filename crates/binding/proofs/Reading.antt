@@ -1,18 +1,20 @@
 -- What reading a header shows at its returns.
 -- Assumes nothing.
-use Prim.Native.Nat.{ℕ, _+_, _*_, _/_, _%_}
-use mathlib.Core.Path.{_≡_}
+use Prim.Native.Nat.{ℕ, _*_, _/_, _%_}
+use mathlib.Core.Path.{_≡_, sym, _∙_}
 use mathlib.Core.Bool.{true, false, _&&_}
 use mathlib.Core.List.{List}
+use native.Mathlib.Omega.{arith}
 use borrow.Author.Tests.{eq-eqb, ne-eqb}
 use lib.Dec.{leb}
 use lib.ListN.{length}
-use Rattle.wire.specs.Bytes.{number}
+use Rattle.wire.specs.Bytes.{number, Octets}
+use Rattle.wire.proofs.Numbers.{number-lt}
 use Rattle.binding.specs.declared.MessagePart.{MessagePart}
 use Rattle.binding.specs.declared.MessagePart.the-variants.{Begin, Middle, End, Whole}
 use Rattle.binding.specs.declared.BindingHeader.{BindingHeader}
 use Rattle.binding.specs.declared.Heard.the-variants.{Refused, Piece}
-use Rattle.binding.specs.Header.{smallestDatagram, largestDatagram, codeOf, partOfCode, headerOf, heardIn, wrongLength, wrongField}
+use Rattle.binding.specs.Header.{theVersion, senders, counters, smallestDatagram, largestDatagram, codeOf, partOfCode, headerOf, versionIn, senderIn, counterIn, heardIn, wrongLength, wrongField}
 
 pub has-code : (p : MessagePart) {x : ℕ} → x ≡ codeOf p → p ≡ partOfCode x
 has-code Begin e = rw e
@@ -27,9 +29,22 @@ module _ (d : List ℕ) where
   pub not-so-long : (leb smallestDatagram (length d) && leb (length d) largestDatagram) ≡ false → Refused wrongLength ≡ heardIn d
   not-so-long e = rw e
 
-  module _ (l : (leb smallestDatagram (length d) && leb (length d) largestDatagram) ≡ true) {a : ℕ} (ea : a ≡ number 0 d 0) where
-    pub no-version : (a / 64 ≡ 0 → ⊥) → Refused wrongField ≡ heardIn d
-    no-version n = rw (← ea, l, ne-eqb (a / 64) 0 n)
+  module _ (l : (leb smallestDatagram (length d) && leb (length d) largestDatagram) ≡ true) (o : Octets d) {w : ℕ} (e : w ≡ number 2 d 0) where
+    -- the header as one number: version, part, sender and counter, from the most significant bit on
+    version-of : w / (4 * senders * counters) ≡ versionIn d
+    version-of = omega (arith, o 1, number-lt 1 d 2 o)
 
-    pub a-header : {b c : ℕ} {p : MessagePart} {h : BindingHeader} → a / 64 ≡ 0 → b ≡ number 0 d 1 → c ≡ number 1 d 2 → p ≡ partOfCode (a / 16 % 4) → h ≡ headerOf p (a % 16 * 256 + b) c → Piece h ≡ heardIn d
-    a-header {b} {c} {p} {h} v eb ec ep eh = rw (← ea, ← eb, ← ec, l, eq-eqb (a / 64) 0 v, eh, ep)
+    part-of : w / (senders * counters) % 4 ≡ number 0 d 0 / 16 % 4
+    part-of = omega (arith, o 1, number-lt 1 d 2 o)
+
+    sender-of : w / counters % senders ≡ senderIn d
+    sender-of = omega (arith, o 1, number-lt 1 d 2 o)
+
+    counter-of : w % counters ≡ counterIn d
+    counter-of = omega (arith, number-lt 1 d 2 o)
+
+    pub no-version : (w / (4 * senders * counters) ≡ theVersion → ⊥) → Refused wrongField ≡ heardIn d
+    no-version n = rw (l, ← version-of, ne-eqb (w / (4 * senders * counters)) theVersion n)
+
+    pub a-header : {p : MessagePart} {h : BindingHeader} → w / (4 * senders * counters) ≡ theVersion → p ≡ partOfCode (w / (senders * counters) % 4) → h ≡ headerOf p (w / counters % senders) (w % counters) → Piece h ≡ heardIn d
+    a-header v ep eh = rw (l, eq-eqb (versionIn d) theVersion (sym version-of ∙ v), eh, ep, part-of, sender-of, counter-of)

@@ -28,12 +28,21 @@ pub const WRONG_LENGTH: u32 = 21;
 
 pub const WRONG_FIELD: u32 = 22;
 
+// How many values each field of the header has that stands behind another.
+const PARTS: u32 = BindingHeader::PARTS as u32;
+
+const SENDERS: u32 = BindingHeader::SENDERS as u32;
+
+const COUNTERS: u32 = BindingHeader::COUNTERS as u32;
+
 impl BindingHeader {
     pub const LENGTH: usize = 4;
 
     pub const VERSION: u8 = 0;
 
-    // A sender ID is below SENDERS, and a counter below COUNTERS, which is M.
+    // A part's code is below PARTS, a sender ID below SENDERS, and a counter below COUNTERS, which is M.
+    pub const PARTS: usize = 4;
+
     pub const SENDERS: usize = 4096;
 
     pub const COUNTERS: usize = 65536;
@@ -62,11 +71,13 @@ impl BindingHeader {
         if (BindingHeader::SMALLEST_DATAGRAM <= length)
             & (length <= BindingHeader::LARGEST_DATAGRAM)
         {
-            let first = wire::u8_at(datagram, 0);
-            if first / 64 == BindingHeader::VERSION {
-                let sender = (first % 16) as u16 * 256 + wire::u8_at(datagram, 1) as u16;
-                let counter = wire::u16_at(datagram, 2);
-                Heard::Piece(BindingHeader::new(part_of_code(first / 16 % 4), sender, counter))
+            // One load: 000, A.4 has the fields of this number from its most significant bit on.
+            let word = wire::u32_at(datagram, 0);
+            if word / (PARTS * SENDERS * COUNTERS) == BindingHeader::VERSION as u32 {
+                let part = part_of_code((word / (SENDERS * COUNTERS) % PARTS) as u8);
+                let sender = (word / COUNTERS % SENDERS) as u16;
+                let counter = (word % COUNTERS) as u16;
+                Heard::Piece(BindingHeader::new(part, sender, counter))
             } else {
                 Heard::Refused(WRONG_FIELD)
             }

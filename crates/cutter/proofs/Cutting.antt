@@ -43,9 +43,12 @@ headable sender first e =
 
 -- how many pieces there are
 module _ (m s : ℕ) (h : 1 ≤ s) where
-  -- each piece starts within the message, and they reach its end
+  -- each piece starts within the message, what starts there is one, and they reach its end
   pub starts-in : (i : ℕ) → i < pieceCount m s → i * s < m
   starts-in i l = omega (arith, suc-mul i s, le-div-iff-mul-le {x = suc i} h .0 l)
+
+  pub started : (i : ℕ) → i * s < m → i < pieceCount m s
+  started i l = le-div-iff-mul-le {x = suc i} h .1 (omega (arith, suc-mul i s))
 
   pub covered : m ≤ pieceCount m s * s
   covered =

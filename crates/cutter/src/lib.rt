@@ -1,9 +1,11 @@
 // Cutting: a message to send becomes datagrams, one call for each, of 000's annex A. Joining them again is the joiner's.
 ghost use mathlib.Core.Path.{_≡_};
-ghost use mathlib.Core.Bool.{true};
+ghost use mathlib.Core.Bool.{true, cond};
 ghost use Prim.Native.Nat.{min, _<_, _≤_};
+ghost use lib.Dec.{ltb};
 ghost use lib.ListN.{length};
 ghost use Rattle.wire.specs.Bytes.{over, written};
+ghost use Rattle.binding.specs.declared.MessagePart.the-variants.{Begin, Middle, End, Whole};
 ghost use Rattle.binding.specs.Header.{headerLength, senders, largestPiece, codeOf, headerBytes};
 ghost use Rattle.cutter.specs.Cutting.{canCut, canHead, pieceCount, partOfPiece, countedOf, behind, madeIn, madeOf, cutInto};
 use binding::BindingHeader;
@@ -31,6 +33,13 @@ pub const OUTPUT_TOO_SHORT: u32 = 52;
 // The longest message that is cut.
 pub const LARGEST_MESSAGE: usize = 65560;
 
+// How many values each field of the header has that stands behind another.
+const PARTS: u8 = BindingHeader::PARTS as u8;
+
+const SENDERS: u32 = BindingHeader::SENDERS as u32;
+
+const COUNTERS: u32 = BindingHeader::COUNTERS as u32;
+
 // How many pieces a message of `total` bytes is cut into: 50, or the number.
 pub fn pieces(total: usize, size: usize) -> Counted
     ensures { λ r. ⌜ r ≡ countedOf total size ⌝ }
@@ -57,10 +66,8 @@ pub fn cut(
 {
     let total = message.len();
     if can_cut(total, size) & can_head(sender, first) {
-        let count = piece_count(total, size);
-        // Tested before anything is multiplied: a piece number may be any.
-        if piece < count {
-            let part = part_of_piece(count, piece);
+        if has_piece(total, size, piece) {
+            let part = part_of_piece(total, size, piece);
             let counter = ((first + piece) % BindingHeader::COUNTERS) as u16;
             let header = BindingHeader::new(part, sender as u16, counter);
             put_datagram(header, message, piece * size, size, out)
@@ -91,17 +98,45 @@ fn piece_count(total: usize, size: usize) -> usize
     (total + (size - 1)) / size
 }
 
-fn part_of_piece(count: usize, piece: usize) -> MessagePart
-    requires { ⌜ piece < count ⌝ }
-    ensures { λ r. ⌜ r ≡ partOfPiece count piece ⌝ }
+// Whether there is such a piece, told without a division: it starts within the message. A piece number may be any, and there are
+// no more pieces than bytes, so that is tested before anything is multiplied.
+fn has_piece(total: usize, size: usize, piece: usize) -> bool
+    requires { ⌜ canCut total size ≡ true ⌝ }
+    ensures { λ r. ⌜ r ≡ ltb piece (pieceCount total size) ⌝ }
 {
-    if count == 1 {
-        return MessagePart::Whole;
+    if piece < total {
+        piece * size < total
+    } else {
+        false
     }
+}
+
+fn part_of_piece(total: usize, size: usize, piece: usize) -> MessagePart
+    requires { ⌜ (canCut total size ≡ true) × (piece < pieceCount total size) ⌝ }
+    ensures { λ r. ⌜ r ≡ partOfPiece (pieceCount total size) piece ⌝ }
+{
+    let last = total - piece * size <= size;
     if piece == 0 {
-        return MessagePart::Begin;
+        part_of_first(last)
+    } else {
+        part_of_later(last)
     }
-    if piece + 1 == count {
+}
+
+fn part_of_first(last: bool) -> MessagePart
+    ensures { λ r. ⌜ r ≡ cond last Whole Begin ⌝ }
+{
+    if last {
+        MessagePart::Whole
+    } else {
+        MessagePart::Begin
+    }
+}
+
+fn part_of_later(last: bool) -> MessagePart
+    ensures { λ r. ⌜ r ≡ cond last End Middle ⌝ }
+{
+    if last {
         MessagePart::End
     } else {
         MessagePart::Middle
@@ -137,20 +172,19 @@ fn put_datagram(
     }
 }
 
+// The header is one number, so that it is one store: 000, A.4 has its fields from the most significant bit on.
 fn put_header(header: BindingHeader, out: &mut [u8])
     requires { ⌜ header .sender < senders ⌝ }
     requires { ⌜ headerLength ≤ length (now out) ⌝ }
     ensures { λ _. ⌜ now (out .exit) ≡ over (now (out .entry)) 0 (headerBytes header) ⌝ }
 {
     let part = header.part;
-    let sender = header.sender;
-    wire::put_u8(
+    let marks = (BindingHeader::VERSION * PARTS + code_of(part)) as u32;
+    wire::put_u32(
         out,
         0,
-        BindingHeader::VERSION * 64 + code_of(part) * 16 + (sender / 256) as u8,
+        (marks * SENDERS + header.sender as u32) * COUNTERS + header.counter as u32,
     );
-    wire::put_u8(out, 1, (sender % 256) as u8);
-    wire::put_u16(out, 2, header.counter);
 }
 
 fn code_of(part: MessagePart) -> u8

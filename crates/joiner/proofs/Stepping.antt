@@ -15,8 +15,8 @@ use Rattle.joiner.specs.declared.Step.{Step}
 use Rattle.joiner.specs.declared.Put.{Put}
 use Rattle.joiner.specs.declared.Put.the-variants.{Nowhere, At}
 use Rattle.joiner.specs.declared.Place.the-variants.{Datagram, Rooms}
-use Rattle.joiner.specs.declared.Outcome.the-variants.{Repeated, Delivered, Held, Stray, TooLong}
-use Rattle.joiner.specs.Channel.{Steppable, missedOf, repeated, keeping, notedOf, holding, tooLong, wholeOf, begunOf, followedOf, joinedOf, behindOf, placedOf, steppedOf}
+use Rattle.joiner.specs.declared.Outcome.the-variants.{Repeated, Delivered, Held, TooLong}
+use Rattle.joiner.specs.Channel.{Steppable, missedOf, repeated, keeping, notedOf, holding, strayOf, tooLong, wholeOf, begunOf, followedOf, joinedOf, behindOf, placedOf, steppedOf}
 
 module _ (ch : Channel) (c : ℕ) where
   pub some-missed : ch .seen ≡ true → (c + counters - (ch .last + 1)) % counters ≡ missedOf ch c
@@ -52,9 +52,9 @@ module _ (room : Room) (ch : Channel) (n m : ℕ) where
   unfolding begunOf
   begun-too-long f e = rw (lt-leb n (room .size) f, e)
 
-  pub nothing-held : (ends : Bool) → ch .held ≡ 0 → record { outcome = Stray m; channel = ch; put = Nowhere } ≡ followedOf ends room ch n m
+  pub nothing-held : {s : Step} (ends : Bool) → ch .held ≡ 0 → s ≡ strayOf ch m → s ≡ followedOf ends room ch n m
   unfolding followedOf
-  nothing-held ends e = rw (eq-eqb (ch .held) 0 e)
+  nothing-held ends e q = rw (eq-eqb (ch .held) 0 e, q)
 
   pub fits-behind : {s : Step} (ends : Bool) → (ch .held ≡ 0 → ⊥) → ch .held + n ≤ room .size → s ≡ joinedOf ends room ch n m → s ≡ followedOf ends room ch n m
   unfolding followedOf
@@ -86,7 +86,17 @@ module _ (room : Room) (ch : Channel) (n m : ℕ) where
   unfolding placedOf
   placed-end w e = rw w e
 
+  pub stray-middle : {p : MessagePart} {s : Step} → p ≡ Middle → ch .held ≡ 0 → s ≡ strayOf ch m → s ≡ placedOf room ch p n m
+  stray-middle w e q = placed-middle w (nothing-held false e q)
+
+  pub stray-end : {p : MessagePart} {s : Step} → p ≡ End → ch .held ≡ 0 → s ≡ strayOf ch m → s ≡ placedOf room ch p n m
+  stray-end w e q = placed-end w (nothing-held true e q)
+
 module _ (room : Room) (ch : Channel) (p : MessagePart) (c n : ℕ) where
+  pub noted-empty : {m : ℕ} {h : Channel} → m ≡ missedOf ch c → (m ≡ 0 → ⊥) → h ≡ notedOf ch c → h .held ≡ 0
+  unfolding notedOf keeping
+  noted-empty {m} em k e = rw (e, ← em, ne-eqb m 0 k)
+
   pub noted-steppable : {h : Channel} → Steppable room ch n → c < counters → h ≡ notedOf ch c → Steppable room h n
   unfolding notedOf keeping
   noted-steppable {h} s l e = rw e (go (eqb (missedOf ch c) 0))

@@ -46,6 +46,9 @@ unfoldable pub notedOf : Channel → ℕ → Channel
 notedOf ch c = record { sender = ch .sender; seen = true; last = c; held = keeping ch c }
 
 -- in steps 3 to 5 the record is the noted one, and m is missed
+abbrev pub strayOf : Channel → ℕ → Step
+strayOf ch m = record { outcome = Stray m; channel = ch; put = Nowhere }
+
 abbrev pub tooLong : Channel → ℕ → Step
 tooLong ch m = record { outcome = TooLong m; channel = holding ch 0; put = Nowhere }
 
@@ -69,7 +72,7 @@ joinedOf true room ch n m = record { outcome = Delivered m (Rooms (room .start) 
 -- step 5: with nothing held it is stray, and above R it is too long
 unfoldable pub followedOf : Bool → Room → Channel → ℕ → ℕ → Step
 followedOf ends room ch n m =
-    cond (eqb (ch .held) 0) (record { outcome = Stray m; channel = ch; put = Nowhere })
+    cond (eqb (ch .held) 0) (strayOf ch m)
     (cond (leb (ch .held + n) (room .size)) (joinedOf ends room ch n m) (tooLong ch m))
 
 -- steps 3 to 5

@@ -4,7 +4,7 @@ ghost use mathlib.Core.Path.{_≡_};
 ghost use Prim.Native.Nat.{_+_, _^_, _<_, _≤_};
 ghost use lib.Dec.{eqb};
 ghost use Rattle.binding.specs.Header.{counters};
-ghost use Rattle.joiner.specs.Channel.{Steppable, missedOf, repeated, notedOf, holding, behindOf, tooLong, wholeOf, begunOf, joinedOf, followedOf, placedOf, steppedOf};
+ghost use Rattle.joiner.specs.Channel.{Steppable, missedOf, repeated, notedOf, holding, behindOf, strayOf, tooLong, wholeOf, begunOf, joinedOf, followedOf, placedOf, steppedOf};
 use crate::Outcome;
 use crate::Place;
 use crate::Put;
@@ -32,7 +32,12 @@ pub(crate) fn stepped(room: Room, channel: Channel, header: BindingHeader, lengt
     } else {
         let missed = missed(channel, counter);
         let part = header.part;
-        placed(room, noted(channel, counter, missed), part, length, missed)
+        // A branch of its own, so that where a piece goes does not wait for the counter.
+        if missed == 0 {
+            placed(room, noted(channel, counter, missed), part, length, missed)
+        } else {
+            after_loss(room, noted(channel, counter, missed), part, length, missed)
+        }
     }
 }
 
@@ -87,6 +92,19 @@ fn placed(room: Room, channel: Channel, part: MessagePart, length: u32, missed: 
     }
 }
 
+// Steps 3 to 5 where datagrams are missed: nothing is held.
+fn after_loss(room: Room, channel: Channel, part: MessagePart, length: u32, missed: u32) -> Step
+    requires { ⌜ channel .held ≡ 0 ⌝ }
+    ensures { λ r. ⌜ r ≡ placedOf room channel part length missed ⌝ }
+{
+    match part {
+        MessagePart::Whole => whole(channel, length, missed),
+        MessagePart::Begin => begun(room, channel, length, missed),
+        MessagePart::Middle => stray(channel, missed),
+        MessagePart::End => stray(channel, missed),
+    }
+}
+
 // Step 3.
 fn whole(channel: Channel, length: u32, missed: u32) -> Step
     ensures { λ r. ⌜ r ≡ wholeOf channel length missed ⌝ }
@@ -130,11 +148,7 @@ fn followed(ends: bool, room: Room, channel: Channel, length: u32, missed: u32) 
     ensures { λ r. ⌜ r ≡ followedOf ends room channel length missed ⌝ }
 {
     if channel.held == 0 {
-        return Step {
-            outcome: Outcome::Stray { missed },
-            channel,
-            put: Put::Nowhere,
-        };
+        return stray(channel, missed);
     }
     if channel.held + length <= room.size {
         joined(ends, room, channel, length, missed)
@@ -180,6 +194,16 @@ fn behind(room: Room, held: u32) -> Put
     ensures { λ r. ⌜ r ≡ behindOf room held ⌝ }
 {
     Put::At(room.start + held as usize)
+}
+
+fn stray(channel: Channel, missed: u32) -> Step
+    ensures { λ r. ⌜ r ≡ strayOf channel missed ⌝ }
+{
+    Step {
+        outcome: Outcome::Stray { missed },
+        channel,
+        put: Put::Nowhere,
+    }
 }
 
 fn too_long(channel: Channel, missed: u32) -> Step

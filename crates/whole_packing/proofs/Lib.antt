@@ -1,3 +1,4 @@
-mod FlatLeaves
+mod Keeping
+mod OneLeaf
 mod JudgedBases
-mod JudgedRecord
+mod JudgedParts

@@ -1,6 +1,6 @@
 // Words are packed whole or not at all: what is refused, even at its end, changes nothing. So they are judged before any byte is
 // stored.
-mod flat;
+mod judging;
 
 use table::Sections;
 use walk::Place;
@@ -16,8 +16,8 @@ ghost use Rattle.walk.specs.Whole.{fits, allOrNothing};
 ghost use Rattle.packing.specs.Writing.{writer};
 ghost use Rattle.packing_leaves.specs.Stored.{laid};
 
-// How many base codes of a record's members are kept.
-const CODES: usize = 64;
+// How many base codes of a payload's leaves are kept.
+const CODES: usize = 1024;
 
 // Packs the words as a payload of type i, and stores its bytes where all of them were read and there is room for all of it. Answers
 // what the walk comes to.
@@ -26,16 +26,18 @@ pub fn write_type(table: &[u8], s: Sections, i: u16, words: &[u64], out: &mut [u
     ensures { λ _. ⌜ now (out .exit) ≡ allOrNothing (writer (now (words .entry))) (length (now (words .entry))) (now (table .entry)) s i (now (out .entry)) ⌝ }
 {
     let mut codes = [0u8; CODES];
-    let judged = flat::judge(table, s, i, words, &mut codes);
+    let judged = judging::judge(table, s, i, words, &mut codes);
     if judged.all {
-        store_flat(words, out, &codes[..judged.count], judged.at)
+        let at = judged.at;
+        let count = at.from;
+        store_kept(words, out, &codes[..count], at)
     } else {
         write_twice(table, s, i, words, out)
     }
 }
 
-// Stores a record whose leaves were judged, where it is whole.
-fn store_flat(words: &[u64], out: &mut [u8], codes: &[u8], q: Place) -> Walked
+// Stores a payload whose leaves were judged, by their codes, where it is whole.
+fn store_kept(words: &[u64], out: &mut [u8], codes: &[u8], q: Place) -> Walked
     requires { ⌜ length (now codes) ≤ length (now words) ⌝ }
     ensures { λ r. ⌜ r ≡ Went q ⌝ }
     ensures { λ _. ⌜ now (out .exit) ≡ cond (fits (length (now (words .entry))) (length (now (out .entry))) q) (laid (now (words .entry)) (now (codes .entry)) start (now (out .entry))) (now (out .entry)) ⌝ }

@@ -25,7 +25,7 @@ use Rattle.walk.specs.declared.Walked.the-variants.{Went}
 use Rattle.walk.specs.Tree.{look, tree, baseAt}
 use Rattle.walk.specs.Walk.{on, through, start, begun, times, metWalk, typeWalk}
 use Rattle.walk.specs.Whole.{fits}
-use Rattle.walk.proofs.Walks.{went, width-few}
+use Rattle.walk.proofs.Walks.{width-few}
 use Rattle.walk.proofs.Whole.{if-fits}
 use Rattle.walk.proofs.Returns.{Did, did-on, fixed-begun, fixed-times, elementStep, elements-did, met-elements, tree-looked, type-did}
 use Rattle.unpacking_leaves.specs.OneCode.{along, isGood, filled, runThere}
@@ -35,6 +35,7 @@ use Rattle.unpacking.specs.Reading.{reader}
 use Rattle.unpacking.proofs.ReadBases.{element-reads}
 use Rattle.unpacking.proofs.ReadReturns.{counted-times, count-went}
 use Rattle.whole_unpacking.specs.Arrays.{ArrayOf}
+use Rattle.whole_unpacking.proofs.Keeping.{did-goes}
 
 -- the places of an array's elements
 pub first-place : (n : ℕ) → _≡_ {A = Place} (record { from = n * 4; to = n }) (along 9 start n)
@@ -62,7 +63,7 @@ module _ (b t : List ℕ) (s : Sections) (i : ℕ) (e : Entry) (is : Elements e 
       let g : Did (typeWalk (reader b) t s i start x) (Went q) z =
       type-did (reader b) t s i start x (Went q) z
       (met-elements (reader b) t s i (tree t s i) start x (Elements e) (tree-looked t s i (Elements e) is) e (Went q) z refl (d .0) (d .1)) in
-      went (typeWalk (reader b) t s i start x) q (g .0) ∙ ap (on q) (sym (g .1))
+      did-goes (typeWalk (reader b) t s i start x) q z g
 
   -- elements that were judged, behind so many counts
   module _ (all : Bool) (counts c count : ℕ) (first at : Place) (k n : ℕ) (before : counts ≡ k) (same : c ≡ code) (many : count ≡ n) (from : first ≡ along 9 start k) (to : at ≡ along code first n) (judged : all ≡ runThere b code (first .from) n) (found : all ≡ true) where

@@ -1,2 +1,5 @@
-mod FlatMembers
+mod Keeping
+mod KeptLeaves
+mod KeptBases
+mod KeptParts
 mod BaseArrays

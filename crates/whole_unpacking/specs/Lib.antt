@@ -1,2 +1,2 @@
-pub mod Flat
+pub mod Kept
 pub mod Arrays

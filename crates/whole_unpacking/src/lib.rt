@@ -1,7 +1,7 @@
 // A payload is unpacked whole or not at all: what is refused, even at its end, changes nothing. So it is judged before any word is
 // stored.
 mod arrays;
-mod flat;
+mod judging;
 
 use arrays::Array;
 use table::Sections;
@@ -21,8 +21,8 @@ ghost use Rattle.unpacking.specs.Reading.{reader};
 ghost use Rattle.unpacking_leaves.specs.Leaves.{allThere, laid};
 ghost use Rattle.unpacking_leaves.specs.OneCode.{filled, runThere};
 
-// How many base codes of a record's members are kept.
-const MOST_CODES: usize = 64;
+// How many base codes of a payload's leaves are kept.
+const MOST_CODES: usize = 1024;
 
 // The base code of an array's count: uint32.
 const COUNT_CODE: u16 = 9;
@@ -33,17 +33,31 @@ pub fn read_type(table: &[u8], s: Sections, i: u16, payload: &[u8], words: &mut 
     ensures { λ r. ⌜ r ≡ answer (typeWalk (reader (now (payload .entry))) (now (table .entry)) s i start []) ⌝ }
     ensures { λ _. ⌜ now (words .exit) ≡ allOrNothing (reader (now (payload .entry))) (length (now (payload .entry))) (now (table .entry)) s i (now (words .entry)) ⌝ }
 {
-    let mut codes = [0u8; MOST_CODES];
-    let judged = flat::judge(table, s, i, payload, &mut codes);
-    if judged.all {
-        store_flat(payload, words, &codes[..judged.count], judged.at)
+    let a = arrays::judge(table, s, i, payload);
+    if a.all {
+        store_array(payload, words, a)
     } else {
-        read_other(table, s, i, payload, words)
+        read_kept(table, s, i, payload, words)
     }
 }
 
-// Stores a record whose leaves were judged, where it is whole.
-fn store_flat(payload: &[u8], words: &mut [u64], codes: &[u8], q: Place) -> Walked
+// What is no array of a base: it is judged once where the codes of its leaves can be kept, and walked twice where not.
+fn read_kept(table: &[u8], s: Sections, i: u16, payload: &[u8], words: &mut [u64]) -> Walked
+    ensures { λ r. ⌜ r ≡ answer (typeWalk (reader (now (payload .entry))) (now (table .entry)) s i start []) ⌝ }
+    ensures { λ _. ⌜ now (words .exit) ≡ allOrNothing (reader (now (payload .entry))) (length (now (payload .entry))) (now (table .entry)) s i (now (words .entry)) ⌝ }
+{
+    let mut codes = [0u8; MOST_CODES];
+    let judged = judging::judge(table, s, i, payload, &mut codes);
+    if judged.all {
+        let at = judged.at;
+        store_kept(payload, words, &codes[..at.to], at)
+    } else {
+        read_twice(table, s, i, payload, words)
+    }
+}
+
+// Stores leaves that were judged, by their codes, where they are the whole payload and there is room for their words.
+fn store_kept(payload: &[u8], words: &mut [u64], codes: &[u8], q: Place) -> Walked
     requires { ⌜ allThere (now payload) (now codes) 0 ≡ true ⌝ }
     ensures { λ r. ⌜ r ≡ Went q ⌝ }
     ensures { λ _. ⌜ now (words .exit) ≡ cond (fits (length (now (payload .entry))) (length (now (words .entry))) q) (laid (now (payload .entry)) (now (codes .entry)) start (now (words .entry))) (now (words .entry)) ⌝ }
@@ -54,19 +68,6 @@ fn store_flat(payload: &[u8], words: &mut [u64], codes: &[u8], q: Place) -> Walk
         Walked::Went(q)
     } else {
         Walked::Went(q)
-    }
-}
-
-// What is no record of leaves: an array of a base is judged once, and all else walked twice.
-fn read_other(table: &[u8], s: Sections, i: u16, payload: &[u8], words: &mut [u64]) -> Walked
-    ensures { λ r. ⌜ r ≡ answer (typeWalk (reader (now (payload .entry))) (now (table .entry)) s i start []) ⌝ }
-    ensures { λ _. ⌜ now (words .exit) ≡ allOrNothing (reader (now (payload .entry))) (length (now (payload .entry))) (now (table .entry)) s i (now (words .entry)) ⌝ }
-{
-    let a = arrays::judge(table, s, i, payload);
-    if a.all {
-        store_array(payload, words, a)
-    } else {
-        read_twice(table, s, i, payload, words)
     }
 }
 

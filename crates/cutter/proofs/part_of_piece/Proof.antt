@@ -1,7 +1,7 @@
--- `cutter::part_of_piece` meets its contract: the tests are the definition's own.
+-- `cutter::part_of_piece` meets its contract: by what is left from its start on.
 -- Assumes nothing.
 use borrow.Author.Needs.{needs}
-use Rattle.cutter.proofs.Cuts.{the-one, the-first, the-last, another}
+use Rattle.cutter.proofs.Cuts.{start-in, start-fits, first-part, later-part}
 use Rattle.cutter.proofs.part_of_piece.Statement.{statement}
 use Rattle.cutter.proofs.part_of_piece.Tie as tie
 
@@ -9,8 +9,9 @@ pub part-of-piece-spec : {M : Type 1} → statement M
 part-of-piece-spec =
     tie.close
     (tie.spec
-    (λ c. search the-one)
-    (λ c. search the-first)
-    (λ c. search needs)
-    (λ c. search the-last)
-    (λ c. search another))
+    (λ c. search start-fits)
+    (λ c. search start-in)
+    (λ c κs. search needs)
+    (λ c κs. search needs)
+    (λ c. search first-part)
+    (λ c. search later-part))

@@ -1,4 +1,4 @@
--- `cutter::put_header` meets its contract: the header's four bytes, one behind another.
+-- `cutter::put_header` meets its contract: the header as one number.
 -- Assumes nothing.
 use borrow.Author.Needs.{needs}
 use Rattle.cutter.proofs.Cuts.{the-header}
@@ -15,9 +15,10 @@ put-header-spec =
     (λ c. search needs)
     (λ c. search needs)
     (λ c. search needs)
-    (λ c κs. search needs)
     (λ c. search needs)
-    (λ c κs. search needs)
+    (λ c. search needs)
+    (λ c. search needs)
+    (λ c. search needs)
     (λ c κs. search needs)
     (λ c. search needs)
     (λ c. search the-header))

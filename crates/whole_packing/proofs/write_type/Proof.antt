@@ -1,10 +1,10 @@
--- `whole_packing::write_type` meets its contract: by the codes of a flat record, or by two walks.
+-- `whole_packing::write_type` meets its contract: by the codes of the leaves, or by two walks.
 -- Assumes nothing.
 use borrow.Author.Needs.{needs}
 use mathlib.Core.Path.{sym}
 use lib.Seq.{length-take-le}
 use Rattle.walk.proofs.Whole.{gone}
-use Rattle.whole_packing.proofs.JudgedRecord.{as-few}
+use Rattle.whole_packing.proofs.Keeping.{goes-kept, as-few}
 use Rattle.whole_packing.proofs.write_type.Statement.{statement}
 use Rattle.whole_packing.proofs.write_type.Tie as tie
 
@@ -14,11 +14,11 @@ write-type-spec =
     (tie.spec
     (λ c. search needs)
     (λ c κs. search needs)
-    (λ c. c .before .before .before .judge .ensures (c .before .if1 .taken) .0)
-    (λ c. sym (length-take-le _ _ (c .before .before .before .before .judge .ensures (c .before .before .if1 .taken) .0)))
-    (λ c κs. as-few _ _ (c .before .before .before .before .before .before .before .before .before .args .words .now) (c .before .before .before .before .judge .ensures (c .before .before .if1 .taken) .0) (c .before .before .before .before .judge .ensures (c .before .before .if1 .taken) .1))
+    (λ c. c .before .before .before .before .judge .ensures (c .before .before .if1 .taken) .room)
+    (λ c. sym (length-take-le _ _ (c .before .before .before .before .before .judge .ensures (c .before .before .before .if1 .taken) .room)))
+    (λ c κs. as-few _ _ _ _ _ (c .before .before .before .before .before .judge .ensures (c .before .before .before .if1 .taken)))
     (λ c κs. search needs)
     (λ c. search needs)
-    (λ c. gone _ _ _ _ _ _ _ _ (c .before .before .before .before .before .before .before .judge .ensures (c .before .before .before .before .before .if1 .taken) .2 .goes) _ _ (c .before .before .store-flat .ensures .0) (c .before .before .store-flat .ensures .1))
+    (λ c. gone _ _ _ _ _ _ _ _ (goes-kept _ _ _ _ _ (c .before .before .before .before .before .before .before .before .judge .ensures (c .before .before .before .before .before .before .if1 .taken))) _ _ (c .before .before .store-kept .ensures .0) (c .before .before .store-kept .ensures .1))
     (λ c. search needs)
     (λ c. search needs))

@@ -9,6 +9,7 @@ pub followed-spec : {M : Type 1} → statement M
 followed-spec =
     tie.close
     (tie.spec
+    (λ c κs. search needs)
     (λ c. search nothing-held)
     (λ c. search needs)
     (λ c κs. search needs)

@@ -1,7 +1,7 @@
 -- `joiner::steps::stepped` meets its contract: repeated, or placed on the record as noted.
 -- Assumes nothing.
 use borrow.Author.Needs.{needs}
-use Rattle.joiner.proofs.Stepping.{noted-steppable, stepped-repeated, stepped-placed}
+use Rattle.joiner.proofs.Stepping.{noted-empty, noted-steppable, stepped-repeated, stepped-placed}
 use Rattle.joiner.proofs.steps.stepped.Statement.{statement}
 use Rattle.joiner.proofs.steps.stepped.Tie as tie
 
@@ -14,5 +14,8 @@ stepped-spec =
     (λ c κs. search needs)
     (λ c κs. search needs)
     (λ c κs. search (needs, noted-steppable))
+    (λ c κs. search needs)
+    (λ c κs. search noted-empty)
     (λ c. search stepped-repeated)
+    (λ c. search stepped-placed)
     (λ c. search stepped-placed))

@@ -1,7 +1,7 @@
 -- `whole_unpacking::arrays::judge` meets its contract: what is no array is not judged.
 -- Assumes nothing.
 use borrow.Author.Needs.{needs}
-use Rattle.whole_unpacking.proofs.FlatMembers.{not-all}
+use Rattle.whole_unpacking.proofs.Keeping.{not-all}
 use Rattle.whole_unpacking.proofs.BaseArrays.{as-elements}
 use Rattle.whole_unpacking.proofs.arrays.judge.Statement.{statement}
 use Rattle.whole_unpacking.proofs.arrays.judge.Tie as tie

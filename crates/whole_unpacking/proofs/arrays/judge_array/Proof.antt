@@ -1,7 +1,7 @@
 -- `whole_unpacking::arrays::judge_array` meets its contract: a fixed array, or one behind its count.
 -- Assumes nothing.
 use borrow.Author.Needs.{needs}
-use Rattle.whole_unpacking.proofs.FlatMembers.{not-all}
+use Rattle.whole_unpacking.proofs.Keeping.{not-all}
 use Rattle.whole_unpacking.proofs.BaseArrays.{array-fixed, array-counted}
 use Rattle.whole_unpacking.proofs.arrays.judge_array.Statement.{statement}
 use Rattle.whole_unpacking.proofs.arrays.judge_array.Tie as tie

@@ -1,0 +1,13 @@
+-- `lent_heard::put_value` meets its contract.
+-- Assumes nothing.
+use borrow.Author.Needs.{needs}
+use Rattle.lent_heard.proofs.put_value.Statement.{statement}
+use Rattle.lent_heard.proofs.put_value.Tie as tie
+
+pub put-value-spec : {M : Type 1} → statement M
+put-value-spec =
+    tie.close
+    (tie.spec
+    (λ c. search needs)
+    (λ c. search needs)
+    (λ c. search needs))
