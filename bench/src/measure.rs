@@ -4,11 +4,19 @@ use std::cell::RefCell;
 use std::rc::Rc;
 
 /// A buffer that the programs, which run by turns, write into alike. What they read is one buffer too: how fast a copy is hangs
-/// on where it begins and ends.
-pub type Shared<T> = Rc<RefCell<Vec<T>>>;
+/// on where it begins and ends. It begins with a page, or it would lie astride two in one build and not in another.
+pub type Shared<T> = Rc<RefCell<&'static mut [T]>>;
 
-pub fn shared<T>(buffer: Vec<T>) -> Shared<T> {
-    Rc::new(RefCell::new(buffer))
+const PAGE: usize = 4_096;
+
+pub fn shared<T: Copy + Default>(buffer: Vec<T>) -> Shared<T> {
+    let each = std::mem::size_of::<T>();
+    let mut room = Vec::with_capacity(buffer.len() + PAGE / each);
+    let before = room.as_ptr() as usize % PAGE;
+    let skipped = (PAGE - before) % PAGE / each;
+    room.resize(skipped, T::default());
+    room.extend(buffer);
+    Rc::new(RefCell::new(&mut room.leak()[skipped..]))
 }
 
 /// So many calls.
