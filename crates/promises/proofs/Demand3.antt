@@ -12,8 +12,8 @@ use Rattle.channels.specs.Setup.{newChannel, sendersOf, freshOf, setupOf}
 use Rattle.joiner.specs.View.{View, viewOf}
 use Rattle.joiner.proofs.Setups.{accepted, accepted-joiner, accepted-standing, fresh-senders, fresh-view}
 use Rattle.promises.specs.Senders.{Sender, Genuine, sentBy, arrives, completeOf}
-use Rattle.promises.specs.Traffic.{Datagram, ofChannel, deliveredOn, AreBytes}
-use Rattle.promises.specs.Demand3.{fresh, Demand3, MixMakesNoDifference}
+use Rattle.promises.specs.Traffic.{Datagram, ofChannel, fresh, deliveredOn, AreBytes}
+use Rattle.promises.specs.Demand3.{Demand3, MixMakesNoDifference}
 use Rattle.promises.proofs.Machine.{deliveries}
 use Rattle.promises.proofs.Complete.{messages}
 use Rattle.promises.proofs.Apart.{Underway, through, viewDelivers, viewOutcomes, viewLeft}

@@ -18,6 +18,11 @@ mod Apart
 mod Agrees
 mod Arrivals
 pub mod Demand3
+pub mod WrongJoiners
+pub mod WrongCodecs
+pub mod WrongPlatforms
+pub mod NotRuledOut
+pub mod WrongTurns
 pub mod Starred
 pub mod Unique
 pub mod UniqueBelow

@@ -92,4 +92,4 @@ module _ (t : List ℕ) (s : Sections) (i : ℕ) (h : Known t s i) where
       }
 
 pub payloads : Payloads
-payloads t s i h = (packs-exactly t s i h, unpacks-exactly t s i h, round-trips t s i h, on-sections t s i h)
+payloads = record { calls = λ t s i h. (packs-exactly t s i h, unpacks-exactly t s i h, round-trips t s i h); on-sections = λ t s i h. on-sections t s i h }

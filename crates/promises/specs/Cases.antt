@@ -12,7 +12,7 @@ use Rattle.payload.specs.declared.Answer.{Answer}
 use Rattle.payload.specs.declared.Answer.the-variants.{Stopped, Gave}
 use Rattle.payload.specs.Calls.{unpacked, wordsAfter, packed, bytesAfter}
 use Rattle.promises.specs.Traffic.{Datagram, deliveredOn, outcomesOn}
-use Rattle.promises.specs.Demand3.{fresh}
+use Rattle.promises.specs.Traffic.{fresh}
 
 -- a type table with the types of the cases, and their numbers in it
 abbrev pub table : List ℕ

@@ -11,7 +11,7 @@ use Rattle.cutter.specs.Cutting.{canCut, pieceCount, datagramOf}
 use Rattle.channels.specs.declared.Answer.the-variants.{Accepted}
 use Rattle.channels.specs.Setup.{setupOf}
 use Rattle.promises.specs.Traffic.{Datagram, deliveredOn}
-use Rattle.promises.specs.Demand3.{fresh}
+use Rattle.promises.specs.Traffic.{fresh}
 
 -- the datagrams of n pieces from piece i on
 abbrev pub datagramsFrom : List ℕ → ℕ → ℕ → ℕ → ℕ → ℕ → List Datagram

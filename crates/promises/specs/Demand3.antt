@@ -4,15 +4,10 @@ use Prim.Native.Nat.{ℕ, _<_}
 use mathlib.Core.Path.{_≡_}
 use mathlib.Core.List.{List}
 use lib.ListN.{length, getD}
-use Rattle.channels.specs.declared.Joiner.{Joiner}
 use Rattle.channels.specs.declared.Answer.the-variants.{Accepted}
 use Rattle.channels.specs.Setup.{setupOf}
 use Rattle.promises.specs.Senders.{Sender, Genuine, arrives, completeOf}
-use Rattle.promises.specs.Traffic.{Datagram, ofChannel, deliveredOn, outcomesOn, leftOn, AreBytes}
-
--- the joiner that `setup` answers: "from a fresh start"
-abbrev pub fresh : List ℕ → ℕ → List ℕ → Joiner
-fresh ids R rooms = setupOf ids R (length rooms) .joiner
+use Rattle.promises.specs.Traffic.{Datagram, ofChannel, Joining, deliveredBy, fresh, ourJoining, deliveredOn, outcomesOn, leftOn, AreBytes}
 
 -- what the user grants
 pub record Granted (ids : List ℕ) (R : ℕ) (rooms : List ℕ) (sender : ℕ → Sender) (traffic : List Datagram) : Type 0 where
@@ -28,10 +23,13 @@ pub record Granted (ids : List ℕ) (R : ℕ) (rooms : List ℕ) (sender : ℕ �
   pub bytes : AreBytes traffic
 
 -- "Then each channel delivers exactly those of its messages whose every piece arrived, in order, once each"
-abbrev pub Demand3 : Type 0
-Demand3 =
+abbrev pub Demand3For : Joining → Type 0
+Demand3For J =
     (ids : List ℕ) (R : ℕ) (rooms : List ℕ) (sender : ℕ → Sender) (traffic : List Datagram) → Granted ids R rooms sender traffic
-    → (k : ℕ) → k < length ids → deliveredOn ids k (fresh ids R rooms) rooms traffic ≡ completeOf (sender k .messages)
+    → (k : ℕ) → k < length ids → deliveredBy J ids k (J .start ids R rooms) rooms traffic ≡ completeOf (sender k .messages)
+
+abbrev pub Demand3 : Type 0
+Demand3 = Demand3For ourJoining
 
 -- two traffics with the same datagrams of channel k in the same order, genuine or not, and any bytes in the rooms at the start
 pub record Alike (ids : List ℕ) (R : ℕ) (rooms rooms′ : List ℕ) (k : ℕ) (one other : List Datagram) : Type 0 where

@@ -12,6 +12,11 @@ pub mod Senders
 pub mod Traffic
 pub mod Demand3
 pub mod Cases
+pub mod WrongJoiners
+pub mod WrongCodecs
+pub mod WrongPlatforms
+pub mod NotRuledOut
+pub mod WrongTurns
 pub mod Starred
 pub mod Unique
 pub mod UniqueBelow

@@ -9,6 +9,7 @@ use Rattle.wire.specs.Bytes.{Octets, over}
 use Rattle.table.specs.declared.Sections.{Sections}
 use Rattle.table.specs.declared.Checked.the-variants.{Table}
 use Rattle.types.specs.Table.{checked}
+use Rattle.payload.specs.declared.Answer.{Answer}
 use Rattle.payload.specs.declared.Answer.the-variants.{Gave}
 use Rattle.values.specs.Values.{Value, Spoken, BooleansAsOne}
 use Rattle.payload.specs.Calls.{unpackedIn, wordsIn, packedIn, bytesIn, unpacked, wordsAfter, packed, bytesAfter}
@@ -18,30 +19,60 @@ pub record Known (t : List ℕ) (s : Sections) (i : ℕ) : Type 0 where
   pub accepted : checked t ≡ Table s
   pub known : i < s .types .count
 
--- a call gives just these bytes, or words, at the start of what was lent to it; the rest stays
+-- packing and unpacking, ours or any other: what is answered for table bytes, a type's number, the input and the room of the output,
+-- and what is left in the output
+pub record Coding : Type 0 where
+  pub packs : List ℕ → ℕ → List ℕ → ℕ → Answer
+  pub bytes-left : List ℕ → ℕ → List ℕ → List ℕ → List ℕ
+  pub unpacks : List ℕ → ℕ → List ℕ → ℕ → Answer
+  pub words-left : List ℕ → ℕ → List ℕ → List ℕ → List ℕ
+
+abbrev pub ourCoding : Coding
+ourCoding = record { packs = packed; bytes-left = bytesAfter; unpacks = unpacked; words-left = wordsAfter }
+
+module _ (C : Coding) where
+  -- a call gives just these bytes, or words, at the start of what was lent to it; the rest stays
+  abbrev pub PackGivesBy : List ℕ → ℕ → List ℕ → List ℕ → List ℕ → Type 0
+  PackGivesBy t i ws out bs = (C .packs t i ws (length out) ≡ Gave (length bs)) × (C .bytes-left t i ws out ≡ over out 0 bs)
+
+  abbrev pub UnpackGivesBy : List ℕ → ℕ → List ℕ → List ℕ → List ℕ → Type 0
+  UnpackGivesBy t i b words ws = (C .unpacks t i b (length words) ≡ Gave (length ws)) × (C .words-left t i b words ≡ over words 0 ws)
+
+  -- packing accepts the values of the type, wherever there is room, and nothing else; and gives their bytes
+  pub record PacksExactlyBy (t : List ℕ) (s : Sections) (i : ℕ) : Type 0 where
+    pub values : (ws bs out : List ℕ) → Value t s i ws bs → length bs ≤ length out → PackGivesBy t i ws out bs
+    pub only : (ws out : List ℕ) (k : ℕ) → C .packs t i ws (length out) ≡ Gave k →
+        (bs : List ℕ) × Value t s i ws bs × PackGivesBy t i ws out bs
+
+  -- unpacking accepts the byte forms of values, wherever there is room, and nothing else; and gives their words
+  pub record UnpacksExactlyBy (t : List ℕ) (s : Sections) (i : ℕ) : Type 0 where
+    pub forms : (ws b words : List ℕ) → Spoken t s i ws b → length ws ≤ length words → UnpackGivesBy t i b words ws
+    pub only : (b words : List ℕ) (k : ℕ) → Octets b → C .unpacks t i b (length words) ≡ Gave k →
+        (ws : List ℕ) × Spoken t s i ws b × UnpackGivesBy t i b words ws
+
+  pub record RoundTripsBy (t : List ℕ) (s : Sections) (i : ℕ) : Type 0 where
+    pub pack-then-unpack : (ws out words : List ℕ) (k : ℕ) → C .packs t i ws (length out) ≡ Gave k → length ws ≤ length words →
+        UnpackGivesBy t i (take k (C .bytes-left t i ws out)) words ws
+    pub unpack-then-pack : (b words out : List ℕ) (k : ℕ) → Octets b → C .unpacks t i b (length words) ≡ Gave k → length b ≤ length out →
+        (cs : List ℕ) × BooleansAsOne t s i b cs × (length cs ≡ length b) × PackGivesBy t i (take k (C .words-left t i b words)) out cs
+
+  abbrev pub PayloadsBy : Type 0
+  PayloadsBy = (t : List ℕ) (s : Sections) (i : ℕ) → Known t s i → PacksExactlyBy t s i × UnpacksExactlyBy t s i × RoundTripsBy t s i
+
 abbrev pub PackGives : List ℕ → ℕ → List ℕ → List ℕ → List ℕ → Type 0
-PackGives t i ws out bs = (packed t i ws (length out) ≡ Gave (length bs)) × (bytesAfter t i ws out ≡ over out 0 bs)
+PackGives = PackGivesBy ourCoding
 
 abbrev pub UnpackGives : List ℕ → ℕ → List ℕ → List ℕ → List ℕ → Type 0
-UnpackGives t i b words ws = (unpacked t i b (length words) ≡ Gave (length ws)) × (wordsAfter t i b words ≡ over words 0 ws)
+UnpackGives = UnpackGivesBy ourCoding
 
--- packing accepts the values of the type, wherever there is room, and nothing else; and gives their bytes
-pub record PacksExactly (t : List ℕ) (s : Sections) (i : ℕ) : Type 0 where
-  pub values : (ws bs out : List ℕ) → Value t s i ws bs → length bs ≤ length out → PackGives t i ws out bs
-  pub only : (ws out : List ℕ) (k : ℕ) → packed t i ws (length out) ≡ Gave k →
-      (bs : List ℕ) × Value t s i ws bs × PackGives t i ws out bs
+abbrev pub PacksExactly : List ℕ → Sections → ℕ → Type 0
+PacksExactly = PacksExactlyBy ourCoding
 
--- unpacking accepts the byte forms of values, wherever there is room, and nothing else; and gives their words
-pub record UnpacksExactly (t : List ℕ) (s : Sections) (i : ℕ) : Type 0 where
-  pub forms : (ws b words : List ℕ) → Spoken t s i ws b → length ws ≤ length words → UnpackGives t i b words ws
-  pub only : (b words : List ℕ) (k : ℕ) → Octets b → unpacked t i b (length words) ≡ Gave k →
-      (ws : List ℕ) × Spoken t s i ws b × UnpackGives t i b words ws
+abbrev pub UnpacksExactly : List ℕ → Sections → ℕ → Type 0
+UnpacksExactly = UnpacksExactlyBy ourCoding
 
-pub record RoundTrips (t : List ℕ) (s : Sections) (i : ℕ) : Type 0 where
-  pub pack-then-unpack : (ws out words : List ℕ) (k : ℕ) → packed t i ws (length out) ≡ Gave k → length ws ≤ length words →
-      UnpackGives t i (take k (bytesAfter t i ws out)) words ws
-  pub unpack-then-pack : (b words out : List ℕ) (k : ℕ) → Octets b → unpacked t i b (length words) ≡ Gave k → length b ≤ length out →
-      (cs : List ℕ) × BooleansAsOne t s i b cs × (length cs ≡ length b) × PackGives t i (take k (wordsAfter t i b words)) out cs
+abbrev pub RoundTrips : List ℕ → Sections → ℕ → Type 0
+RoundTrips = RoundTripsBy ourCoding
 
 -- the same calls on the sections that `check` gave answer and leave the same
 pub record OnSections (t : List ℕ) (s : Sections) (i : ℕ) : Type 0 where
@@ -50,6 +81,7 @@ pub record OnSections (t : List ℕ) (s : Sections) (i : ℕ) : Type 0 where
   pub unpacking : (b words : List ℕ) →
       (unpackedIn t s i b (length words) ≡ unpacked t i b (length words)) × (wordsIn t s i b words ≡ wordsAfter t i b words)
 
-abbrev pub Payloads : Type 0
-Payloads =
-    (t : List ℕ) (s : Sections) (i : ℕ) → Known t s i → PacksExactly t s i × UnpacksExactly t s i × RoundTrips t s i × OnSections t s i
+-- the promise, and the calls on sections beside it
+pub record Payloads : Type 0 where
+  pub calls : PayloadsBy ourCoding
+  pub on-sections : (t : List ℕ) (s : Sections) (i : ℕ) → Known t s i → OnSections t s i

@@ -7,6 +7,7 @@ use lib.ListN.{length, getD}
 use Rattle.wire.specs.Bytes.{Octets}
 use Rattle.binding.specs.Header.{theVersion, smallestDatagram, largestDatagram, versionIn, senderIn}
 use Rattle.channels.specs.declared.Joiner.{Joiner}
+use Rattle.channels.specs.Setup.{setupOf}
 use Rattle.joiner.specs.declared.Outcome.{Outcome}
 use Rattle.joiner.specs.declared.Outcome.the-variants.{Refused, Repeated, Delivered, Held, Stray, TooLong}
 use Rattle.joiner.specs.Take.{takenOf, roomsAfter, messageOf}
@@ -37,13 +38,42 @@ handedBack (Held m n) d rooms = []
 handedBack (Stray m) d rooms = []
 handedBack (TooLong m) d rooms = []
 
+-- a joiner, ours or any other: what it remembers beside the rooms lent to it, how it starts from a set-up of these IDs and rooms of
+-- R bytes, and what a datagram comes to
+pub record Took (State : Type 0) : Type 0 where
+  pub outcome : Outcome
+  pub state : State
+  pub rooms : List ℕ
+
+pub record Joining : Type 1 where
+  pub State : Type 0
+  pub start : List ℕ → ℕ → List ℕ → State
+  pub take : State → List ℕ → Datagram → Took State
+
+-- the messages that a joiner delivers on channel k while it takes a traffic
+abbrev pub deliveredBy : (J : Joining) → List ℕ → ℕ → J .State → List ℕ → List Datagram → List (List ℕ)
+deliveredBy J ids k s rooms [] = []
+deliveredBy J ids k s rooms (d ∷ ds) =
+    cond (isOf ids k d) (handedBack (J .take s rooms d .outcome) d (J .take s rooms d .rooms)) []
+    ++ deliveredBy J ids k (J .take s rooms d .state) (J .take s rooms d .rooms) ds
+
+-- the joiner that `setup` answers: "from a fresh start"
+abbrev pub fresh : List ℕ → ℕ → List ℕ → Joiner
+fresh ids R rooms = setupOf ids R (length rooms) .joiner
+
+-- our own
+abbrev pub ourJoining : Joining
+ourJoining =
+    record {
+      State = Joiner;
+      start = fresh;
+      take = λ j rooms d. record { outcome = takenOf j rooms d .outcome; state = takenOf j rooms d .joiner; rooms = roomsAfter j rooms d };
+    }
+
 -- `take` on each datagram of a traffic in turn: the messages delivered on channel k, the outcomes of its datagrams, and its
 -- record and held bytes in the end
 abbrev pub deliveredOn : List ℕ → ℕ → Joiner → List ℕ → List Datagram → List (List ℕ)
-deliveredOn ids k j rooms [] = []
-deliveredOn ids k j rooms (d ∷ ds) =
-    cond (isOf ids k d) (handedBack (takenOf j rooms d .outcome) d (roomsAfter j rooms d)) []
-    ++ deliveredOn ids k (takenOf j rooms d .joiner) (roomsAfter j rooms d) ds
+deliveredOn ids k j rooms ds = deliveredBy ourJoining ids k j rooms ds
 
 abbrev pub outcomesOn : List ℕ → ℕ → Joiner → List ℕ → List Datagram → List Outcome
 outcomesOn ids k j rooms [] = []

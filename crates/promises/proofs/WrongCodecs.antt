@@ -1,0 +1,120 @@
+-- No wrong packing meets demand 2: the uint16 258, whose bytes are 01 02.
+-- Assumes nothing.
+use Prim.Native.Nat.{ℕ, _<_}
+use mathlib.Core.Path.{_≡_, refl, sym, ap, _∙_}
+use mathlib.Core.Bool.{true}
+use mathlib.Core.List.{List, [], _∷_}
+use native.Mathlib.Omega.{arith}
+use lib.ListN.{length, getD}
+use Rattle.wire.specs.Bytes.{bytes}
+use Rattle.table.specs.declared.Sections.{Sections}
+use Rattle.table.specs.declared.Checked.the-variants.{Table}
+use Rattle.table.specs.All.{allBelow, above}
+use Rattle.table.specs.Layout.{sectionAt, after, ended, afterValues, afterMembers, afterTypes, sectionsOf, liesIn, within}
+use Rattle.table.specs.Entries.{typeAt, memberAt, valueAt, idAt, operationAt}
+use Rattle.table.specs.Leaf.{base, bytesOf, inSigned, finite, isValue, width, allowed}
+use Rattle.entry_rules.specs.Fields.{fieldsOk}
+use Rattle.types.specs.Rules.{memberOk, membersOk, pointedOk, typeOk}
+use Rattle.types.specs.Operations.{operationOk}
+use Rattle.types.specs.Sizes.{sizeOf, sizes, largest, sizeFits}
+use Rattle.types.specs.Table.{entriesOk, sizesOk, judged, judging, checked}
+use Rattle.leaves.specs.Forms.{truth, extended, wordOf, form, wordAt, formOf, Says}
+use Rattle.leaves.specs.Choice.{choice}
+use Rattle.walk.specs.Tree.{byKind, look, elementsOf, treeOf, trees, tree}
+use Rattle.walk.specs.Walk.{answer, left, next, through, item, counted, walk, typeWalk}
+use Rattle.unpacking.specs.Reading.{reader}
+use Rattle.packing.specs.Writing.{writer}
+use Rattle.payload.specs.Calls.{answered, answeredType, answeredIn, leftBy, leftIn, answeredIf, leftIf, unpacked}
+use Rattle.payload.specs.declared.Answer.{Answer}
+use Rattle.payload.specs.declared.Answer.the-variants.{Refused, Stopped, Gave}
+use Rattle.values.specs.Values.{Value, Spoken, Over, One, Some}
+use Rattle.promises.specs.Cases.{table, uint16, uint8, lent}
+use Rattle.promises.specs.Payloads.{Known, Coding, ourCoding, PackGivesBy, UnpackGivesBy, PayloadsBy}
+use Rattle.promises.specs.WrongCodecs.{PacksNothing, UnpacksNothing, PacksAlike, plainCopy, KeepsBy, storesAtOnce, NoWrongCodec}
+use Rattle.promises.specs.PayloadOrder.{numberOf}
+use Rattle.promises.proofs.Demand1.{demand-1}
+
+-- the table of the starred cases
+abbrev sections : Sections
+sections =
+    record {
+      types = record { at = 2; count = 7 };
+      members = record { at = 60; count = 0 };
+      values = record { at = 62; count = 0 };
+      operations = record { at = 64; count = 0 };
+    }
+
+accepted : checked table ≡ Table sections
+unfolding allBelow above sectionAt after ended afterValues afterMembers afterTypes sectionsOf liesIn within typeAt memberAt valueAt idAt operationAt base bytesOf inSigned finite isValue width allowed fieldsOk memberOk membersOk pointedOk typeOk operationOk sizeOf sizes largest sizeFits entriesOk sizesOk judged judging checked
+accepted = refl
+
+-- 258 is a value of uint16
+value : Value table sections uint16 (258 ∷ []) (0x01 ∷ 0x02 ∷ [])
+unfolding Value Over tree trees treeOf look byKind elementsOf fieldsOk typeAt base bytesOf isValue width allowed choice form formOf
+value = record { it = 258; is = record { in-range = refl; taken = refl; says = (refl, refl) } }
+
+spoken : Spoken table sections uint16 (258 ∷ []) (0x01 ∷ 0x02 ∷ [])
+unfolding Spoken Over tree trees treeOf look byKind elementsOf fieldsOk typeAt base bytesOf isValue width allowed choice form formOf Says
+spoken = record { it = 258; is = record { in-range = refl; taken = refl; says = (refl, refl) } }
+
+small : Value table sections uint8 (7 ∷ []) (7 ∷ [])
+unfolding Value Over tree trees treeOf look byKind elementsOf fieldsOk typeAt base bytesOf isValue width allowed choice form formOf
+small = record { it = 7; is = record { in-range = refl; taken = refl; says = (refl, refl) } }
+
+known : (i : ℕ) → i < 7 → Known table sections i
+known i h = record { accepted = accepted; known = h }
+
+-- what a packing that meets the demand does with it
+packing : (C : Coding) → PayloadsBy C → PackGivesBy C table uint16 (258 ∷ []) (lent 2) (0x01 ∷ 0x02 ∷ [])
+packing C p = p table sections uint16 (known uint16 (omega arith)) .0 .values (258 ∷ []) (0x01 ∷ 0x02 ∷ []) (lent 2) value (omega arith)
+
+packing-small : (C : Coding) → PayloadsBy C → PackGivesBy C table uint8 (7 ∷ []) (lent 2) (7 ∷ [])
+packing-small C p = p table sections uint8 (known uint8 (omega arith)) .0 .values (7 ∷ []) (7 ∷ []) (lent 2) small (omega arith)
+
+unpacking : (C : Coding) → PayloadsBy C → UnpackGivesBy C table uint16 (0x01 ∷ 0x02 ∷ []) (lent 1) (258 ∷ [])
+unpacking C p = p table sections uint16 (known uint16 (omega arith)) .1 .forms (258 ∷ []) (0x01 ∷ 0x02 ∷ []) (lent 1) spoken (omega arith)
+
+abbrev given : Answer → ℕ
+given (Gave k) = k
+given (Refused n) = 0
+given (Stopped n) = 0
+
+pub packs-nothing : (C : Coding) → PacksNothing C → PayloadsBy C → ⊥
+packs-nothing C n p = n table uint16 (258 ∷ []) 2 2 (packing C p .0)
+
+pub unpacks-nothing : (C : Coding) → UnpacksNothing C → PayloadsBy C → ⊥
+unpacks-nothing C n p = n table uint16 (0x01 ∷ 0x02 ∷ []) 1 1 (unpacking C p .0)
+
+-- it gives two bytes here, and one there
+pub packs-alike : (C : Coding) (a : Answer) → PacksAlike C a → PayloadsBy C → ⊥
+packs-alike C a s p =
+    let e : _≡_ {A = ℕ} 2 1 =
+    ap given (sym (packing C p .0) ∙ s table uint16 (258 ∷ []) 2 ∙ sym (s table uint8 (7 ∷ []) 2) ∙ packing-small C p .0) in
+    absurd (omega (arith, e))
+
+pub plain-copy : PayloadsBy plainCopy → ⊥
+plain-copy p = let e : _≡_ {A = ℕ} 1 2 = ap given (packing plainCopy p .0) in absurd (omega (arith, e))
+
+ours-keeps : KeepsBy ourCoding
+ours-keeps = record { unpack-words = demand-1 .changes-nothing .unpack-words; pack-output = demand-1 .changes-nothing .pack-output }
+
+-- two float32, the second of which is infinite
+abbrev pair : List ℕ
+pair = 0 ∷ 2 ∷ 0 ∷ 0 ∷ 0 ∷ 11 ∷ 0 ∷ 0 ∷ 0 ∷ 0 ∷ 0 ∷ 3 ∷ 0 ∷ 0 ∷ 0 ∷ 0 ∷ 0 ∷ 2 ∷ 0 ∷ 0 ∷ 0 ∷ 0 ∷ 0 ∷ 0 ∷ []
+
+abbrev late : List ℕ
+late = 0x7F ∷ 0x7F ∷ 0xFF ∷ 0xFF ∷ 0x7F ∷ 0x80 ∷ 0x00 ∷ 0x00 ∷ []
+
+refused-42 : numberOf (unpacked pair 1 late 2) ≡ 42
+unfolding allBelow above sectionAt after ended afterValues afterMembers afterTypes sectionsOf liesIn within typeAt memberAt valueAt idAt operationAt base bytesOf inSigned finite isValue width allowed fieldsOk memberOk membersOk pointedOk typeOk operationOk sizeOf sizes largest sizeFits entriesOk sizesOk judged judging checked truth extended wordOf form wordAt formOf choice byKind look elementsOf treeOf trees tree answer left next through item counted walk typeWalk reader writer answered answeredType answeredIn leftBy leftIn answeredIf leftIf
+refused-42 = refl
+
+pub stores-at-once : KeepsBy storesAtOnce → ⊥
+unfolding allBelow above sectionAt after ended afterValues afterMembers afterTypes sectionsOf liesIn within typeAt memberAt valueAt idAt operationAt base bytesOf inSigned finite isValue width allowed fieldsOk memberOk membersOk pointedOk typeOk operationOk sizeOf sizes largest sizeFits entriesOk sizesOk judged judging checked truth extended wordOf form wordAt formOf choice byKind look elementsOf treeOf trees tree answer left next through item counted walk typeWalk reader writer answered answeredType answeredIn leftBy leftIn answeredIf leftIf
+stores-at-once k =
+    let n : ¬ (numberOf (unpacked pair 1 late 2) ≡ 0) = λ (z : numberOf (unpacked pair 1 late 2) ≡ 0). let y : _≡_ {A = ℕ} 42 0 = sym refused-42 ∙ z in absurd (omega (arith, y)) in
+    let e : _≡_ {A = ℕ} 0x7F7FFFFF 9 = ap (λ (x : List ℕ). getD x 0 0) (k .unpack-words pair 1 late (lent 2) n) in
+    absurd (omega (arith, e))
+
+pub no-wrong-codec : NoWrongCodec
+no-wrong-codec = record { packs-nothing = packs-nothing; unpacks-nothing = unpacks-nothing; packs-alike = packs-alike; plain-copy = plain-copy; ours-keeps = ours-keeps; stores-at-once = stores-at-once }

@@ -1,0 +1,333 @@
+-- No wrong joiner meets demand 3: a small traffic for each, computed.
+-- Assumes nothing.
+use Prim.Native.Nat.{ℕ, zero, suc, _+_, _-_, _%_, _≤_, _<_}
+use mathlib.Core.Path.{_≡_, refl, sym, ap, ap₂, _∙_}
+use mathlib.Core.Bool.{Bool, true, false, cond, _&&_, true≢false}
+use mathlib.Core.List.{List, [], _∷_, _++_}
+use native.Mathlib.Omega.{arith}
+use native.Mathlib.Nat.{zero-add}
+use borrow.Author.Tests.{ltb-true, le-leb}
+use lib.Dec.{leb, ltb, eqb}
+use lib.ListN.{length, getD, take, replicate}
+use Rattle.wire.proofs.Cond.{both}
+use Rattle.wire.specs.Bytes.{Octets}
+use Rattle.binding.specs.Header.{counters, heardIn}
+use Rattle.binding.specs.declared.MessagePart.the-variants.{End, Whole}
+use Rattle.binding.specs.declared.Heard.{Heard}
+use Rattle.binding.specs.declared.Heard.the-variants as heard
+use Rattle.channels.specs.Setup.{badSetup, goodSizes, good, freshOf, setupOf}
+use Rattle.channels.specs.declared.Joiner.{Joiner}
+use Rattle.joiner.specs.Channel.{missedOf, keeping, notedOf, begunOf, followedOf, placedOf, steppedOf}
+use Rattle.joiner.specs.Take.{sentTo, heardBy, judgedOf, takenBy, takenOf, putBy, roomsBy, roomsAfter, messageOf}
+use Rattle.joiner.specs.declared.Judged.{Judged}
+use Rattle.joiner.specs.declared.Judged.the-variants.{Refusal, Move}
+use Rattle.joiner.specs.declared.Place.{Place}
+use Rattle.joiner.specs.declared.Outcome.{Outcome}
+use Rattle.joiner.specs.declared.Outcome.the-variants.{Refused, Repeated, Delivered, Held, Stray, TooLong}
+use Rattle.promises.specs.Cases.{sender, datagrams, ids, room}
+use Rattle.promises.specs.Senders.{Piece, Message, Sender, Genuine, sentBy, after, arriving, arrives, mostLost, lossesWithin, goodMessages, completeOf}
+use Rattle.promises.specs.Traffic.{Datagram, isOf, ofChannel, handedBack, Joining, deliveredBy, ourJoining, AreBytes, none, more}
+use Rattle.promises.specs.Demand3.{Granted, Demand3For}
+use Rattle.promises.specs.WrongJoiners.{heardWith, tookBy, delivers, always, NeverDelivers, DeliversOnce, firstOnly, againAnswered, stepping, testing, notAbove, never, beginningKeeps, repeatedPlaced, strayForgotten, sharedRoom, NoWrongJoiner}
+
+-- bytes, by a test
+abbrev octets : List ℕ → Bool
+octets [] = true
+octets (x ∷ xs) = ltb x 256 && octets xs
+
+abbrev allOctets : List Datagram → Bool
+allOctets [] = true
+allOctets (d ∷ ds) = octets d && allOctets ds
+
+octets-are : (d : List ℕ) → octets d ≡ true → Octets d
+octets-are [] e i = omega arith
+octets-are (x ∷ xs) e zero = ltb-true x 256 (both (ltb x 256) (octets xs) e .0)
+octets-are (x ∷ xs) e (suc i) = octets-are xs (both (ltb x 256) (octets xs) e .1) i
+
+all-are : (ds : List Datagram) → allOctets ds ≡ true → AreBytes ds
+all-are [] e = none
+all-are (d ∷ ds) e = let b = both (octets d) (allOctets ds) e in more (octets-are d (b .0)) (all-are ds (b .1))
+
+-- one channel, a room of 24 bytes: what the user grants of its sender, as tests
+record Small (s : Sender) : Type 0 where
+  counter : ltb (s .first) counters ≡ true
+  messages : goodMessages 24 (s .messages) ≡ true
+  losses : lossesWithin false 0 (sentBy (s .messages)) ≡ true
+  bytes : allOctets (arrives sender s) ≡ true
+  own : ofChannel ids 0 (arrives sender s) ≡ arrives sender s
+
+granted : (s : Sender) → Small s → Granted ids 24 (room 24) (λ k. s) (arrives sender s)
+unfolding goodSizes good freshOf setupOf
+granted s w =
+    record {
+      set-up = refl;
+      genuine = λ k h. record { counter = ltb-true (s .first) counters (w .counter); messages = w .messages; losses = w .losses };
+      mixed = mixed;
+      bytes = all-are (arrives sender s) (w .bytes);
+    }
+  where
+    mixed : (k : ℕ) → k < length ids → ofChannel ids k (arrives sender s) ≡ arrives (getD ids k 0) s
+    mixed zero h = w .own
+    mixed (suc k) h = absurd (omega (arith, h))
+
+-- what a joiner delivers of its traffic
+abbrev deliveredOf : Joining → Sender → List (List ℕ)
+deliveredOf J s = deliveredBy J ids 0 (J .start ids 24 (room 24)) (room 24) (arrives sender s)
+
+-- how many bytes
+abbrev total : List (List ℕ) → ℕ
+total [] = 0
+total (m ∷ ms) = length m + total ms
+
+kept : (J : Joining) (s : Sender) → Small s → Demand3For J → deliveredOf J s ≡ completeOf (s .messages)
+kept J s w d = d ids 24 (room 24) (λ k. s) (arrives sender s) (granted s w) 0 (omega arith)
+
+-- pieces: one byte that arrives once, that is lost, that arrives twice
+abbrev one : ℕ → Piece
+one x = record { bytes = x ∷ []; copies = 1 }
+
+abbrev lost : ℕ → Piece
+lost x = record { bytes = x ∷ []; copies = 0 }
+
+abbrev twice : ℕ → Piece
+twice x = record { bytes = x ∷ []; copies = 2 }
+
+abbrev from : ℕ → List Message → Sender
+from c ms = record { first = c; messages = ms }
+
+-- a message in two pieces, where the counter wraps
+abbrev wraps : Sender
+wraps = from (counters - 1) ((one 0xAA ∷ one 0xBB ∷ []) ∷ [])
+
+small-wraps : Small wraps
+small-wraps = record { counter = refl; messages = refl; losses = refl; bytes = refl; own = refl }
+
+our-step : (j : Joiner) (d : List ℕ) (x : Heard) → heardWith steppedOf j d x ≡ heardBy j d x
+unfolding sentTo heardBy
+our-step j d (heard.Refused n) = refl
+our-step j d (heard.Piece h) = refl
+
+with-our-step : (j : Joiner) (rooms : List ℕ) (d : Datagram) → stepping steppedOf .take j rooms d ≡ ourJoining .take j rooms d
+unfolding judgedOf takenOf roomsAfter
+with-our-step j rooms d = ap (λ (x : Judged). tookBy j rooms d (cond (good j (length rooms)) x (Refusal badSetup))) (our-step j d (heardIn d))
+
+-- a joiner that never delivers
+module _ (J : Joining) (n : NeverDelivers J) where
+  nothing-back : (o : Outcome) (d rooms : List ℕ) → ((m : ℕ) (p : Place) → o ≡ Delivered m p → ⊥) → handedBack o d rooms ≡ []
+  nothing-back (Delivered m p) d rooms h = absurd (h m p refl)
+  nothing-back (Refused n) d rooms h = refl
+  nothing-back Repeated d rooms h = refl
+  nothing-back (Held m n) d rooms h = refl
+  nothing-back (Stray m) d rooms h = refl
+  nothing-back (TooLong m) d rooms h = refl
+
+  either : (t : Bool) {xs : List (List ℕ)} → xs ≡ [] → cond t xs [] ≡ []
+  either true e = e
+  either false e = refl
+
+  nothing : (k : ℕ) (s : J .State) (rooms : List ℕ) (ds : List Datagram) → deliveredBy J ids k s rooms ds ≡ []
+  nothing k s rooms [] = refl
+  nothing k s rooms (d ∷ ds) =
+      let t = J .take s rooms d in
+      ap₂ _++_ (either (isOf ids k d) (nothing-back (t .outcome) d (t .rooms) (n s rooms d))) (nothing k (t .state) (t .rooms) ds)
+
+  pub silent : Demand3For J → ⊥
+  silent d =
+      let e : _≡_ {A = ℕ} 0 1 = ap length (sym (nothing 0 (J .start ids 24 (room 24)) (room 24) (arrives sender wraps)) ∙ kept J wraps small-wraps d) in
+      absurd (omega (arith, e))
+
+-- one answer to every datagram: a message of two pieces is delivered never or twice
+not-delivered : (o : Outcome) → delivers o ≡ false → NeverDelivers (always o)
+not-delivered o e s rooms d m p q = true≢false (sym (ap delivers q) ∙ e)
+
+pub constant : (o : Outcome) → Demand3For (always o) → ⊥
+constant (Delivered m p) d = let e : _≡_ {A = ℕ} 2 1 = ap length (kept (always (Delivered m p)) wraps small-wraps d) in absurd (omega (arith, e))
+constant (Refused n) d = silent (always (Refused n)) (not-delivered (Refused n) refl) d
+constant Repeated d = silent (always Repeated) (not-delivered Repeated refl) d
+constant (Held m n) d = silent (always (Held m n)) (not-delivered (Held m n) refl) d
+constant (Stray m) d = silent (always (Stray m)) (not-delivered (Stray m) refl) d
+constant (TooLong m) d = silent (always (TooLong m)) (not-delivered (TooLong m) refl) d
+
+pub greater-than : Demand3For (stepping (testing notAbove)) → ⊥
+unfolding missedOf keeping notedOf begunOf followedOf placedOf steppedOf goodSizes good freshOf setupOf sentTo heardBy judgedOf takenBy takenOf putBy roomsBy roomsAfter messageOf
+greater-than d = let e : _≡_ {A = ℕ} 0 1 = ap length (kept (stepping (testing notAbove)) wraps small-wraps d) in absurd (omega (arith, e))
+
+-- two whole messages
+abbrev two : Sender
+two = from 7 ((one 0xAA ∷ []) ∷ (one 0xBB ∷ []) ∷ [])
+
+small-two : Small two
+small-two = record { counter = refl; messages = refl; losses = refl; bytes = refl; own = refl }
+
+pub once : (J : Joining) → DeliversOnce J → Demand3For J → ⊥
+once J o d =
+    let e : length (deliveredOf J two) ≡ 2 = ap length (kept J two small-two d) in
+    absurd (omega (arith, e, o ids 0 24 (room 24) (arrives sender two)))
+
+pub first-only : Demand3For firstOnly → ⊥
+unfolding missedOf keeping notedOf begunOf followedOf placedOf steppedOf goodSizes good freshOf setupOf sentTo heardBy judgedOf takenBy takenOf putBy roomsBy roomsAfter messageOf
+first-only d = let e : _≡_ {A = ℕ} 1 2 = ap length (kept firstOnly two small-two d) in absurd (omega (arith, e))
+
+-- a message that lacks its end, and a whole one in two pieces
+abbrev brokenOff : Sender
+brokenOff = from 7 ((record { bytes = 0xAA ∷ 0xBB ∷ 0xCC ∷ []; copies = 1 } ∷ lost 0xDD ∷ []) ∷ (one 0xEE ∷ one 0xFF ∷ []) ∷ [])
+
+small-brokenOff : Small brokenOff
+small-brokenOff = record { counter = refl; messages = refl; losses = refl; bytes = refl; own = refl }
+
+pub old-length-kept : Demand3For (stepping beginningKeeps) → ⊥
+unfolding missedOf keeping notedOf begunOf followedOf placedOf steppedOf goodSizes good freshOf setupOf sentTo heardBy judgedOf takenBy takenOf putBy roomsBy roomsAfter messageOf
+old-length-kept d = let e : _≡_ {A = ℕ} 4 2 = ap total (kept (stepping beginningKeeps) brokenOff small-brokenOff d) in absurd (omega (arith, e))
+
+-- the network repeats the end
+abbrev endTwice : Sender
+endTwice = from 7 ((one 0xAA ∷ twice 0xBB ∷ []) ∷ [])
+
+small-endTwice : Small endTwice
+small-endTwice = record { counter = refl; messages = refl; losses = refl; bytes = refl; own = refl }
+
+pub end-twice : Demand3For againAnswered → ⊥
+unfolding missedOf keeping notedOf begunOf followedOf placedOf steppedOf goodSizes good freshOf setupOf sentTo heardBy judgedOf takenBy takenOf putBy roomsBy roomsAfter messageOf
+end-twice d = let e : _≡_ {A = ℕ} 2 1 = ap length (kept againAnswered endTwice small-endTwice d) in absurd (omega (arith, e))
+
+-- the network repeats a whole message
+abbrev wholeTwice : Sender
+wholeTwice = from 7 ((twice 0xAA ∷ []) ∷ [])
+
+small-wholeTwice : Small wholeTwice
+small-wholeTwice = record { counter = refl; messages = refl; losses = refl; bytes = refl; own = refl }
+
+pub whole-twice : Demand3For (stepping (testing never)) → ⊥
+unfolding missedOf keeping notedOf begunOf followedOf placedOf steppedOf goodSizes good freshOf setupOf sentTo heardBy judgedOf takenBy takenOf putBy roomsBy roomsAfter messageOf
+whole-twice d = let e : _≡_ {A = ℕ} 2 1 = ap length (kept (stepping (testing never)) wholeTwice small-wholeTwice d) in absurd (omega (arith, e))
+
+-- the network repeats a middle
+abbrev middleTwice : Sender
+middleTwice = from 7 ((one 0xAA ∷ twice 0xBB ∷ one 0xCC ∷ []) ∷ [])
+
+small-middleTwice : Small middleTwice
+small-middleTwice = record { counter = refl; messages = refl; losses = refl; bytes = refl; own = refl }
+
+pub middle-twice : Demand3For (stepping repeatedPlaced) → ⊥
+unfolding missedOf keeping notedOf begunOf followedOf placedOf steppedOf goodSizes good freshOf setupOf sentTo heardBy judgedOf takenBy takenOf putBy roomsBy roomsAfter messageOf
+middle-twice d = let e : _≡_ {A = ℕ} 4 3 = ap total (kept (stepping repeatedPlaced) middleTwice small-middleTwice d) in absurd (omega (arith, e))
+
+-- n whole messages that are lost, and others behind them: by laws, since they are as many as there are counters
+abbrev behindLost : ℕ → List Message → List Message
+behindLost n ms = replicate n (lost 0 ∷ []) ++ ms
+
+lost-arriving : (n c : ℕ) (ms : List Message) → c < counters → arriving sender c (sentBy (behindLost n ms)) ≡ arriving sender ((c + n) % counters) (sentBy ms)
+lost-arriving zero c ms b = let e : c ≡ (c + 0) % counters = omega (arith, b) in ap (λ (x : ℕ). arriving sender x (sentBy ms)) e
+lost-arriving (suc n) c ms b =
+    let e : (after c + n) % counters ≡ (c + suc n) % counters = omega arith in
+    lost-arriving n (after c) ms (omega arith) ∙ ap (λ (x : ℕ). arriving sender x (sentBy ms)) e
+
+lost-losses : (n g : ℕ) (ms : List Message) → lossesWithin true g (sentBy (behindLost n ms)) ≡ lossesWithin true (g + n) (sentBy ms)
+lost-losses zero g ms = let e : g ≡ g + 0 = omega arith in ap (λ (x : ℕ). lossesWithin true x (sentBy ms)) e
+lost-losses (suc n) g ms =
+    let e : suc g + n ≡ g + suc n = omega arith in
+    lost-losses n (suc g) ms ∙ ap (λ (x : ℕ). lossesWithin true x (sentBy ms)) e
+
+lost-good : (n : ℕ) (ms : List Message) → goodMessages 24 (behindLost n ms) ≡ goodMessages 24 ms
+lost-good zero ms = refl
+lost-good (suc n) ms = lost-good n ms
+
+lost-complete : (n : ℕ) (ms : List Message) → completeOf (behindLost n ms) ≡ completeOf ms
+lost-complete zero ms = refl
+lost-complete (suc n) ms = lost-complete n ms
+
+-- a whole message, a stray end, and a whole message with the counter of the first: all between are lost
+abbrev lastOne : List Message
+lastOne = (one 0xDD ∷ []) ∷ []
+
+abbrev wayRound : ℕ → Sender
+wayRound n = from 0 ((one 0xAA ∷ []) ∷ (lost 0xBB ∷ one 0xCC ∷ []) ∷ behindLost n lastOne)
+
+abbrev three : List Datagram
+three =
+    datagrams
+    (record { mark = Whole; counter = 0; piece = 0xAA ∷ [] }
+    ∷ record { mark = End; counter = 2; piece = 0xCC ∷ [] }
+    ∷ record { mark = Whole; counter = 0; piece = 0xDD ∷ [] }
+    ∷ [])
+
+module _ (n : ℕ) (round : (3 + n) % counters ≡ 0) (few : n ≤ mostLost) where
+  arrives-three : arrives sender (wayRound n) ≡ three
+  arrives-three =
+      ap (λ (ds : List Datagram). take 2 three ++ ds) (lost-arriving n 3 lastOne (omega arith) ∙ ap (λ (c : ℕ). arriving sender c (sentBy lastOne)) round)
+
+  small-wayRound : Small (wayRound n)
+  small-wayRound =
+      record {
+        counter = refl;
+        messages = lost-good n lastOne;
+        losses = lost-losses n 0 lastOne ∙ ap (λ (x : ℕ). lossesWithin true x (sentBy lastOne)) (zero-add n) ∙ ap (λ (b : Bool). b && true) (le-leb n mostLost few);
+        bytes = ap allOctets arrives-three;
+        own = ap (ofChannel ids 0) arrives-three ∙ sym arrives-three;
+      }
+
+  strays : Demand3For (stepping strayForgotten) → ⊥
+  unfolding missedOf keeping notedOf begunOf followedOf placedOf steppedOf goodSizes good freshOf setupOf sentTo heardBy judgedOf takenBy takenOf putBy roomsBy roomsAfter messageOf
+  strays d =
+      let J = stepping strayForgotten in
+      let l : length (deliveredOf J (wayRound n)) ≡ 1 = ap (λ (ds : List Datagram). length (deliveredBy J ids 0 (J .start ids 24 (room 24)) (room 24) ds)) arrives-three in
+      let r : length (completeOf (wayRound n .messages)) ≡ 2 = ap (λ (ms : List (List ℕ)). suc (length ms)) (lost-complete n lastOne) in
+      let e : _≡_ {A = ℕ} 1 2 = sym l ∙ ap length (kept J (wayRound n) small-wayRound d) ∙ r in
+      absurd (omega (arith, e))
+
+pub stray-forgotten : Demand3For (stepping strayForgotten) → ⊥
+stray-forgotten = strays (counters - 3) (omega arith) (omega arith)
+
+-- two channels, whose pieces come in turn
+abbrev both-ids : List ℕ
+both-ids = 0x102 ∷ 0x103 ∷ []
+
+abbrev senders : ℕ → Sender
+senders zero = from 7 ((one 0xAA ∷ one 0xBB ∷ []) ∷ [])
+senders (suc k) = from 7 ((one 0xCC ∷ one 0xDD ∷ []) ∷ [])
+
+abbrev inTurn : List Datagram → List Datagram → List Datagram
+inTurn [] es = es
+inTurn (d ∷ ds) [] = d ∷ ds
+inTurn (d ∷ ds) (e ∷ es) = d ∷ e ∷ inTurn ds es
+
+abbrev mix : List Datagram
+mix = inTurn (arrives 0x102 (senders 0)) (arrives 0x103 (senders 1))
+
+granted-mix : Granted both-ids 24 (room 48) senders mix
+unfolding goodSizes good freshOf setupOf
+granted-mix = record { set-up = refl; genuine = genuine; mixed = mixed; bytes = all-are mix refl }
+  where
+    genuine : (k : ℕ) → k < 2 → Genuine 24 (senders k)
+    genuine zero h = record { counter = omega arith; messages = refl; losses = refl }
+    genuine (suc k) h = record { counter = omega arith; messages = refl; losses = refl }
+
+    mixed : (k : ℕ) → k < 2 → ofChannel both-ids k mix ≡ arrives (getD both-ids k 0) (senders k)
+    mixed zero h = refl
+    mixed (suc zero) h = refl
+    mixed (suc (suc k)) h = absurd (omega (arith, h))
+
+-- the first byte of the first message
+abbrev firstByte : List (List ℕ) → ℕ
+firstByte ms = getD (getD ms 0 []) 0 0
+
+pub shared-room : Demand3For (stepping sharedRoom) → ⊥
+unfolding missedOf keeping notedOf begunOf followedOf placedOf steppedOf goodSizes good freshOf setupOf sentTo heardBy judgedOf takenBy takenOf putBy roomsBy roomsAfter messageOf
+shared-room d = let e : _≡_ {A = ℕ} 0xCC 0xAA = ap firstByte (d both-ids 24 (room 48) senders mix granted-mix 0 (omega arith)) in absurd (omega (arith, e))
+
+pub no-wrong-joiner : NoWrongJoiner
+no-wrong-joiner =
+    record {
+      with-our-step = with-our-step;
+      silent = silent;
+      constant = constant;
+      once = once;
+      first-only = first-only;
+      greater-than = greater-than;
+      old-length-kept = old-length-kept;
+      end-twice = end-twice;
+      whole-twice = whole-twice;
+      middle-twice = middle-twice;
+      stray-forgotten = stray-forgotten;
+      shared-room = shared-room;
+    }

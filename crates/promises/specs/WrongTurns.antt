@@ -1,0 +1,16 @@
+-- 01, "What the promises have to say" and "Easy wrong turns", in one place: which wrong programs each demand rules out, and which
+-- wrong joiners demand 3 alone leaves to the contract of `take` and to demand 1.
+use Rattle.promises.specs.WrongJoiners.{NoWrongJoiner}
+use Rattle.promises.specs.WrongCodecs.{NoWrongCodec}
+use Rattle.promises.specs.WrongPlatforms.{NoWrongPlatform}
+use Rattle.promises.specs.NotRuledOut.{NotRuledOut}
+
+pub record WrongTurns : Type 0 where
+  -- demand 3
+  pub joiners : NoWrongJoiner
+  -- demand 2, and of demand 1 that a refusal changes no word and no byte
+  pub codecs : NoWrongCodec
+  -- the replies of start-up: two platforms fall silent
+  pub platforms : NoWrongPlatform
+  -- met by demand 3, and ruled out by the steps' own equations (`missedOf`, `steppedOf`) and the order of refusals
+  pub left-to-others : NotRuledOut
