@@ -1,18 +1,19 @@
 -- What the returns of reading and of writing a leaf come to: each arm is the rule of its code.
 -- Assumes nothing.
-use Prim.Native.Nat.{ℕ, _+_, _-_, _*_, _%_, _^_, _≤_, _<_}
-use mathlib.Core.Path.{_≡_, refl, sym, ap, subst, _∙_}
-use mathlib.Core.Bool.{Bool, true, false, not, cond}
+use Prim.Native.Nat.{ℕ, zero, suc, _+_, _-_, _*_, _%_, _^_, _≤_, _<_}
+use mathlib.Core.Path.{_≡_, refl, sym, ap, ap₂, subst, _∙_}
+use mathlib.Core.Bool.{Bool, true, false, _&&_, not, cond}
 use mathlib.Core.List.{List, [], _∷_}
 use native.Mathlib.Nat.{add-zero, mod-eq-of-lt}
 use native.Mathlib.Omega.{arith}
-use borrow.Author.Tests.{eq-eqb, ne-eqb}
+use borrow.Author.Tests.{eq-eqb, ne-eqb, leb-true}
 use mir.Syntax.{w64}
 use mir.Val.{Fits}
 use lib.Dec.{ltb, leb, eqb}
 use lib.ListN.{length}
-use Rattle.wire.specs.Bytes.{span, number, bytes, written}
+use Rattle.wire.specs.Bytes.{span, number, whole, bytes, written}
 use Rattle.wire.proofs.Cond.{yes-lt, no-lt, yes-eq, no-eq}
+use Rattle.wire.proofs.Numbers.{whole-in}
 use Rattle.wire.proofs.Runs.{over-none}
 use Rattle.table.specs.declared.Sections.{Sections}
 use Rattle.table.specs.declared.Entry.{Entry}
@@ -22,7 +23,7 @@ use Rattle.table.specs.Entries.{valueAt}
 use Rattle.table.proofs.Leaves.{no-base}
 use Rattle.leaves.specs.Forms.{truth, extended, wordOf, wordAt, formOf}
 use Rattle.leaves.proofs.Leaves.{Other, form-is, no-bytes}
-use Rattle.leaves.specs.Choice.{other, among, choice, takes}
+use Rattle.leaves.specs.Choice.{other, otherAt, among, choice, takes}
 
 -- reading: the arm of code n
 pub at-truth : (s : List ℕ) (p x r code : ℕ) → x ≡ number 0 s p → r ≡ truth x → code ≡ 0 → r ≡ wordAt code s p
@@ -100,6 +101,19 @@ module _ (t : List ℕ) (s : Sections) (e : Entry) (w : ℕ) where
   unfolding other
   compared k v h = ap (λ (n : ℕ). not (eqb n w)) h
 
+  pub same-other : (k : ℕ) → otherAt t (s .values .at + 8 * e .first) w k ≡ other t s e w k
+  unfolding other otherAt valueAt
+  same-other k = ap (λ (n : ℕ). not (eqb (number 3 t n) w)) (omega arith)
+
+  all-same : (n : ℕ) → allBelow (otherAt t (s .values .at + 8 * e .first) w) n ≡ allBelow (other t s e w) n
+  unfolding allBelow
+  all-same zero = refl
+  all-same (suc n) = ap₂ _&&_ (all-same n) (same-other n)
+
+  pub all-there : {r : Bool} → r ≡ not (allBelow (otherAt t (s .values .at + 8 * e .first) w) (e .count)) → r ≡ among t s e w
+  unfolding among
+  all-there h = h ∙ ap not (all-same (e .count))
+
   pub found : false ≡ allBelow (other t s e w) (e .count) → true ≡ among t s e w
   unfolding among
   found h = ap not h
@@ -107,6 +121,21 @@ module _ (t : List ℕ) (s : Sections) (e : Entry) (w : ℕ) where
   pub not-found : true ≡ allBelow (other t s e w) (e .count) → false ≡ among t s e w
   unfolding among
   not-found h = ap not h
+
+-- a value that stands there
+pub compared-at : (t : List ℕ) (p w k v : ℕ) → p + 8 * k + 8 ≤ length t → v ≡ whole 3 t (p + 8 * k) → not (eqb v w) ≡ otherAt t p w k
+unfolding otherAt
+compared-at t p w k v i h = ap (λ (n : ℕ). not (eqb n w)) (h ∙ whole-in 3 t (p + 8 * k) i)
+
+pub values-there : {r : Bool} (n m : ℕ) → r ≡ leb n m → r ≡ true → n ≤ m
+values-there n m e t = leb-true n m (sym e ∙ t)
+
+-- one of them is the word, or none is
+pub hit : {b : Bool} → false ≡ b → true ≡ not b
+hit h = ap not h
+
+pub missed : {b : Bool} → true ≡ b → false ≡ not b
+missed h = ap not h
 
 module _ (t : List ℕ) (s : Sections) (e : Entry) (w : ℕ) {a : Bool} (p : a ≡ allowed (e .of) w) where
   pub outside : a ≡ false → false ≡ takes t s e w

@@ -3,12 +3,14 @@
 use table::Entry;
 use table::Sections;
 ghost use mathlib.Core.Path.{_≡_};
-ghost use mathlib.Core.Bool.{cond};
+ghost use mathlib.Core.Bool.{cond, not};
 ghost use Prim.Native.Nat.{_+_, _-_, _*_, _^_, _≤_, _<_};
 ghost use lib.Dec.{ltb};
+ghost use lib.ListN.{length};
+ghost use Rattle.table.specs.All.{allBelow};
 ghost use Rattle.wire.specs.Bytes.{written};
 ghost use Rattle.leaves.specs.Forms.{truth, extended, wordAt, formOf};
-ghost use Rattle.leaves.specs.Choice.{other, among, takes};
+ghost use Rattle.leaves.specs.Choice.{other, otherAt, among, takes};
 
 // The word of the leaf that stands at `at`. A byte past the end reads as 0.
 pub fn word_at(s: &[u8], at: usize, code: u16) -> u64
@@ -99,7 +101,42 @@ fn extended(x: u64, half: u64) -> u64
     }
 }
 
+// Where all values are there, they are compared with no look at the table's end.
 fn among(table: &[u8], s: Sections, e: Entry, word: u64) -> bool
+    ensures { λ r. ⌜ r ≡ among (now (table .entry)) s e word ⌝ }
+{
+    let at = s.values.at as usize + 8 * (e.first as usize);
+    let count = e.count as usize;
+    if wire::has_room(table.len(), at, 8 * count) {
+        among_whole(table, at, count, word)
+    } else {
+        among_cut(table, s, e, word)
+    }
+}
+
+fn among_whole(table: &[u8], at: usize, count: usize, word: u64) -> bool
+    requires { ⌜ at + 8 * count ≤ length (now table) ⌝ }
+    ensures { λ r. ⌜ r ≡ not (allBelow (otherAt (now (table .entry)) at word) count) ⌝ }
+{
+    let mut k: usize = 0;
+    while k < count {
+        if other_at(table, at, word, k) {
+            k += 1;
+        } else {
+            return true;
+        }
+    }
+    false
+}
+
+fn other_at(table: &[u8], at: usize, word: u64, k: usize) -> bool
+    requires { ⌜ at + 8 * k + 8 ≤ length (now table) ⌝ }
+    ensures { λ r. ⌜ r ≡ otherAt (now (table .entry)) at word k ⌝ }
+{
+    wire::whole_u64(table, at + 8 * k) != word
+}
+
+fn among_cut(table: &[u8], s: Sections, e: Entry, word: u64) -> bool
     ensures { λ r. ⌜ r ≡ among (now (table .entry)) s e word ⌝ }
 {
     let count = e.count;

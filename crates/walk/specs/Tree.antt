@@ -1,6 +1,6 @@
 -- 01, "The type table": a type of the table as a finite tree. Members and elements have smaller type numbers, so each tree is
 -- made of those before it; what points elsewhere, and any entry that breaks a rule that the walk sees, is broken.
-use Prim.Native.Nat.{ℕ, zero, suc, _+_}
+use Prim.Native.Nat.{ℕ, zero, suc, _+_, _/_, _%_}
 use mathlib.Core.Bool.{Bool, _&&_, cond}
 use mathlib.Core.List.{List, [], _∷_, _++_}
 use lib.Dec.{ltb, leb, eqb}
@@ -28,6 +28,13 @@ byKind e = cond (leb (e .kind) enumKind) (Leaf e) (cond (eqb (e .kind) recordKin
 
 unfoldable pub look : List ℕ → Sections → ℕ → Met
 look t s i = cond (fieldsOk s i (typeAt t s i)) (byKind (typeAt t s i)) Broken
+
+-- an entry as one number, and what is met there; a kind above the last is none
+unfoldable pub entryIn : ℕ → Entry
+entryIn w = record { kind = w / 281474976710656; of = w / 4294967296 % 65536; first = w / 65536 % 65536; count = w % 65536 }
+
+unfoldable pub metIn : ℕ → Met
+metIn w = cond (ltb 4 (w / 281474976710656)) Broken (byKind (entryIn w))
 
 -- and at type c, coming from type i
 unfoldable pub meet : List ℕ → Sections → ℕ → ℕ → Met

@@ -5,7 +5,7 @@ pub mod runs;
 use table::Entry;
 use table::Sections;
 ghost use mathlib.Core.Path.{_≡_};
-ghost use Rattle.walk.specs.Tree.{byKind, look, meet, baseOf, baseAt};
+ghost use Rattle.walk.specs.Tree.{byKind, entryIn, metIn, look, meet, baseOf, baseAt};
 ghost use Rattle.walk.specs.Whole.{fits};
 
 // 01, Numbers given back: what a walk can be refused with, and, behind it, what is left over.
@@ -19,6 +19,11 @@ pub const COUNT_OVER: u32 = 43;
 
 // The code that stands for no base: the base codes are below it.
 pub const NO_BASE: u16 = 13;
+
+// The last kind, and an entry of none.
+const LAST_KIND: u64 = 4;
+
+const NO_ENTRY: u64 = 18446744073709551615;
 
 // A walk's place: how far it has come in what it reads, and in what it writes. One of the two counts words, so the leaves
 // completed, array counts included.
@@ -46,21 +51,60 @@ pub fn meet(table: &[u8], s: Sections, i: u16, c: u16) -> Met
     ensures { λ r. ⌜ r ≡ meet (now (table .entry)) s i c ⌝ }
 {
     if c < i {
-        look(table, s, c)
+        let word = looked(table, s, c);
+        met_in(word)
     } else {
         Met::Broken
     }
 }
 
-// At type i itself.
+// At type i itself. What is met is small, and laid out where it is called; the entry comes back as one number, since four that
+// are stored and read as one would stall.
 pub fn look(table: &[u8], s: Sections, i: u16) -> Met
     ensures { λ r. ⌜ r ≡ look (now (table .entry)) s i ⌝ }
 {
+    let word = looked(table, s, i);
+    met_in(word)
+}
+
+// The entry of type i as one number, or one whose kind is none where it breaks a rule.
+fn looked(table: &[u8], s: Sections, i: u16) -> u64
+    ensures { λ r. ⌜ metIn r ≡ look (now (table .entry)) s i ⌝ }
+{
     let e = table::entries::type_at(table, s, i);
     if entry_rules::fields_ok(s, i, e) {
-        by_kind(e)
+        packed(e)
     } else {
-        Met::Broken
+        NO_ENTRY
+    }
+}
+
+fn packed(e: Entry) -> u64
+    ensures { λ r. ⌜ entryIn r ≡ e ⌝ }
+{
+    (e.kind as u64) * 281474976710656
+        + (e.of as u64) * 4294967296
+        + (e.first as u64) * 65536
+        + (e.count as u64)
+}
+
+fn met_in(word: u64) -> Met
+    ensures { λ r. ⌜ r ≡ metIn word ⌝ }
+{
+    if LAST_KIND < word / 281474976710656 {
+        return Met::Broken;
+    }
+    by_kind(entry_in(word))
+}
+
+fn entry_in(word: u64) -> Entry
+    ensures { λ r. ⌜ r ≡ entryIn word ⌝ }
+{
+    Entry {
+        kind: (word / 281474976710656) as u16,
+        of: (word / 4294967296 % 65536) as u16,
+        first: (word / 65536 % 65536) as u16,
+        count: (word % 65536) as u16,
     }
 }
 

@@ -1,7 +1,7 @@
 -- `walk::look` meets its contract.
 -- Assumes nothing.
 use borrow.Author.Needs.{needs}
-use Rattle.walk.proofs.Trees.{looked, not-looked}
+use Rattle.walk.proofs.Trees.{met-word}
 use Rattle.walk.proofs.look.Statement.{statement}
 use Rattle.walk.proofs.look.Tie as tie
 
@@ -11,6 +11,4 @@ look-spec =
     (tie.spec
     (λ c κs. search needs)
     (λ c κs. search needs)
-    (λ c κs. search needs)
-    (λ c. search looked)
-    (λ c. search not-looked))
+    (λ c. search met-word))

@@ -1,7 +1,7 @@
 -- `walk::meet` meets its contract.
 -- Assumes nothing.
 use borrow.Author.Needs.{needs}
-use Rattle.walk.proofs.Trees.{met, not-met}
+use Rattle.walk.proofs.Trees.{met-by-word, not-met}
 use Rattle.walk.proofs.meet.Statement.{statement}
 use Rattle.walk.proofs.meet.Tie as tie
 
@@ -10,5 +10,6 @@ meet-spec =
     tie.close
     (tie.spec
     (λ c κs. search needs)
-    (λ c. search met)
+    (λ c κs. search needs)
+    (λ c. search met-by-word)
     (λ c. search not-met))

@@ -1,10 +1,7 @@
--- `whole_packing::write_type` meets its contract: by the codes of the leaves, or by two walks.
+-- `whole_packing::write_type` meets its contract: the second walk ends as the first.
 -- Assumes nothing.
 use borrow.Author.Needs.{needs}
-use mathlib.Core.Path.{sym}
-use lib.Seq.{length-take-le}
-use Rattle.walk.proofs.Whole.{gone}
-use Rattle.whole_packing.proofs.Keeping.{goes-kept, as-few}
+use Rattle.walk.proofs.Whole.{refused, not-whole, all-stored}
 use Rattle.whole_packing.proofs.write_type.Statement.{statement}
 use Rattle.whole_packing.proofs.write_type.Tie as tie
 
@@ -12,13 +9,14 @@ pub write-type-spec : {M : Type 1} → statement M
 write-type-spec =
     tie.close
     (tie.spec
-    (λ c. search needs)
-    (λ c κs. search needs)
-    (λ c. c .before .before .before .before .judge .ensures (c .before .before .if1 .taken) .room)
-    (λ c. sym (length-take-le _ _ (c .before .before .before .before .before .judge .ensures (c .before .before .before .if1 .taken) .room)))
-    (λ c κs. as-few _ _ _ _ _ (c .before .before .before .before .before .judge .ensures (c .before .before .before .if1 .taken)))
     (λ c κs. search needs)
     (λ c. search needs)
-    (λ c. gone _ _ _ _ _ _ _ _ (goes-kept _ _ _ _ _ (c .before .before .before .before .before .before .before .before .judge .ensures (c .before .before .before .before .before .before .if1 .taken))) _ _ (c .before .before .store-kept .ensures .0) (c .before .before .store-kept .ensures .1))
     (λ c. search needs)
-    (λ c. search needs))
+    (λ c κs. search needs)
+    (λ c κs. search needs)
+    (λ c. search needs)
+    (λ c. refused _ _ _ _ _ _ _ (c .before .before .before .before .before .first-write .ensures .1) _ (c .before .before .before .before .before .first-write .ensures .0) _ _ (c .before .n .given .1))
+    (λ c. search needs)
+    (λ c. all-stored _ _ _ _ _ _ _ (c .before .before .before .before .before .before .before .before .before .before .before .first-write .ensures .1) _ (c .before .before .before .before .before .before .before .before .before .before .before .first-write .ensures .0) _ (c .before .before .before .before .before .before .before .q .given .1) _ (c .before .before .before .before .before .fits2 .ensures) _ _ (c .before .before .before .before .if1 .taken) (c .before .before .write-type .ensures .0) (c .before .before .write-type .ensures .1))
+    (λ c. search needs)
+    (λ c. not-whole _ _ _ _ _ _ _ (c .before .before .before .before .before .before .before .first-write .ensures .1) _ (c .before .before .before .before .before .before .before .first-write .ensures .0) _ (c .before .before .before .q .given .1) _ (c .before .fits2 .ensures) (c .if1 .left)))

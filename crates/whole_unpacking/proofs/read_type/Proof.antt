@@ -1,7 +1,7 @@
--- `whole_unpacking::read_type` meets its contract: by the two runs of an array of a base, or by what else there is.
+-- `whole_unpacking::read_type` meets its contract: the second walk ends as the first.
 -- Assumes nothing.
 use borrow.Author.Needs.{needs}
-use Rattle.walk.proofs.Whole.{gone}
+use Rattle.walk.proofs.Whole.{refused, not-whole, all-stored}
 use Rattle.whole_unpacking.proofs.read_type.Statement.{statement}
 use Rattle.whole_unpacking.proofs.read_type.Tie as tie
 
@@ -10,9 +10,13 @@ read-type-spec =
     tie.close
     (tie.spec
     (λ c κs. search needs)
-    (λ c κs. (c .before .before .judge .ensures (c .before .if1 .taken) .counted, c .before .before .judge .ensures (c .before .if1 .taken) .there))
+    (λ c. search needs)
+    (λ c. search needs)
+    (λ c κs. search needs)
     (λ c κs. search needs)
     (λ c. search needs)
-    (λ c. gone _ _ _ _ _ _ _ _ (c .before .before .before .before .before .judge .ensures (c .before .before .before .before .if1 .taken) .goes) _ _ (c .before .before .store-array .ensures .0) (c .before .before .store-array .ensures .1))
+    (λ c. refused _ _ _ _ _ _ _ (c .before .before .before .before .before .first-read .ensures .1) _ (c .before .before .before .before .before .first-read .ensures .0) _ _ (c .before .n .given .1))
     (λ c. search needs)
-    (λ c. search needs))
+    (λ c. all-stored _ _ _ _ _ _ _ (c .before .before .before .before .before .before .before .before .before .before .before .first-read .ensures .1) _ (c .before .before .before .before .before .before .before .before .before .before .before .first-read .ensures .0) _ (c .before .before .before .before .before .before .before .q .given .1) _ (c .before .before .before .before .before .fits2 .ensures) _ _ (c .before .before .before .before .if1 .taken) (c .before .before .read-type .ensures .0) (c .before .before .read-type .ensures .1))
+    (λ c. search needs)
+    (λ c. not-whole _ _ _ _ _ _ _ (c .before .before .before .before .before .before .before .first-read .ensures .1) _ (c .before .before .before .before .before .before .before .first-read .ensures .0) _ (c .before .before .before .q .given .1) _ (c .before .fits2 .ensures) (c .if1 .left)))

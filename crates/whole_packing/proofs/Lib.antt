@@ -1,4 +1,0 @@
-mod Keeping
-mod OneLeaf
-mod JudgedBases
-mod JudgedParts

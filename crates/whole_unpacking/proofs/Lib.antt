@@ -1,5 +1,0 @@
-mod Keeping
-mod KeptLeaves
-mod KeptBases
-mod KeptParts
-mod BaseArrays
