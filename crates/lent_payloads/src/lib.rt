@@ -3,7 +3,7 @@ ghost use mathlib.Core.Path.{_≡_};
 ghost use lib.ListN.{length};
 ghost use Rattle.wire.specs.Bytes.{written};
 ghost use Rattle.payload.specs.Calls.{unpacked, wordsAfter, unpackedIn, wordsIn, packed, bytesAfter, packedIn, bytesIn};
-ghost use Rattle.lent_tables.specs.Words.{sectionsIn};
+ghost use Rattle.sections.specs.Words.{sectionsIn};
 ghost use Rattle.lent_payloads.specs.Calls.{refusalIn, givenWords, payloadNumber, payloadAnswer, payloadLeft};
 use payload::Answer;
 
@@ -43,7 +43,7 @@ pub fn unpack_in(
     if answer.len() < 1 {
         return lent::OUTPUT_TOO_SHORT;
     }
-    let s = lent_tables::sections_in(sections);
+    let s = sections::sections_in(sections);
     let given = payload::unpack_in(table, s, number, payload, words);
     told(given, answer)
 }
@@ -78,7 +78,7 @@ pub fn pack_in(
     if answer.len() < 1 {
         return lent::OUTPUT_TOO_SHORT;
     }
-    let s = lent_tables::sections_in(sections);
+    let s = sections::sections_in(sections);
     let given = payload::pack_in(table, s, number, words, out);
     told(given, answer)
 }

@@ -2,7 +2,7 @@
 // has it.
 mod receiving;
 
-ghost use Rattle.lent_tables.specs.Words.{sectionsIn};
+ghost use Rattle.sections.specs.Words.{sectionsIn};
 ghost use Rattle.lent_receiving.specs.Calls.{ReceivedIn};
 use message::Own;
 use table::CUT_SHORT;
@@ -22,7 +22,7 @@ pub fn receive_in(
     if lent_platform::no_words(platform.len(), answer.len()) {
         return lent::OUTPUT_TOO_SHORT;
     }
-    let s = lent_tables::sections_in(sections);
+    let s = sections::sections_in(sections);
     if sections::within(table, s) {
         receiving::received(
             Own { platform: own },

@@ -18,7 +18,7 @@ use Rattle.table.specs.Operations.{Answers, operationOf}
 use Rattle.table.proofs.Unique.{operation-answers}
 use Rattle.lent.specs.Words.{outputTooShort}
 use Rattle.lent.proofs.Answers.{short, long, none-written}
-use Rattle.lent_tables.specs.Words.{wordsOf}
+use Rattle.sections.specs.Words.{wordsOf}
 use Rattle.lent_tables.specs.Calls.{checkRefusal, checkWords, foundLength, operationWords, foundWords, findNumber, findAnswer, Finds}
 
 -- `check`

@@ -16,7 +16,7 @@ use Rattle.table.specs.Entries.{operationAt}
 use Rattle.table.specs.Operations.{Answers}
 use Rattle.types.specs.Table.{checked}
 use Rattle.lent.specs.Words.{outputTooShort, tooFew}
-use Rattle.lent_tables.specs.Words.{sectionsWords, wordsOf}
+use Rattle.sections.specs.Words.{sectionsWords, wordsOf}
 
 -- 30 to 33, 0 where the table is good
 abbrev pub checkRefusal : Checked → ℕ

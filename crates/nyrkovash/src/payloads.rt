@@ -2,7 +2,7 @@
 ghost use mathlib.Core.Path.{_≡_};
 ghost use lib.ListN.{length};
 ghost use Rattle.payload.specs.Calls.{unpacked, wordsAfter, unpackedIn, wordsIn, packed, bytesAfter, packedIn, bytesIn};
-ghost use Rattle.lent_tables.specs.Words.{sectionsIn};
+ghost use Rattle.sections.specs.Words.{sectionsIn};
 ghost use Rattle.lent_payloads.specs.Calls.{payloadNumber, payloadAnswer, payloadLeft};
 
 // Unpacks a payload of the table's type of that number: 10 for too few words of answer, 30 to 33, 40 to 45, or 0 and how many

@@ -4,7 +4,7 @@ ghost use mathlib.Core.Bool.{cond};
 ghost use lib.ListN.{length};
 ghost use Rattle.states.specs.States.{isUp, howManyUp};
 ghost use Rattle.platform.specs.Receiving.{receivedOf, leftOf};
-ghost use Rattle.lent_tables.specs.Words.{sectionsIn};
+ghost use Rattle.sections.specs.Words.{sectionsIn};
 ghost use Rattle.lent_states.specs.Words.{statesIn, standingIn};
 ghost use Rattle.lent_states.specs.Calls.{freshNumber, freshWords};
 ghost use Rattle.lent_platform.specs.Calls.{receiveNumber, receiveWords, receiveAnswer, receiveOutput};

@@ -1,6 +1,6 @@
 // A table checked and its operations looked up. Sections are eight words, an answer three (`lent_tables`).
 ghost use mathlib.Core.Path.{_≡_};
-ghost use Rattle.lent_tables.specs.Words.{sectionsIn};
+ghost use Rattle.sections.specs.Words.{sectionsIn};
 ghost use Rattle.lent_tables.specs.Calls.{checkNumber, checkAnswer, findNumber, Finds};
 
 // Checks a table: 10 for too few words, 30 to 33, or 0 and its sections.

@@ -75,7 +75,7 @@ use Rattle.lent_messages.proofs.cut.Reads.{Post as lent-messages-cut}
 use Rattle.lent_messages.proofs.read.Reads.{Post as lent-messages-read}
 use Rattle.lent_messages.proofs.write.Reads.{Post as lent-messages-write}
 use Rattle.lent_tables.proofs.check.Reads.{Post as lent-tables-check}
-use Rattle.lent_tables.proofs.sections_in.Reads.{Post as lent-tables-sections-in}
+use Rattle.sections.proofs.sections_in.Reads.{Post as sections-sections-in}
 use Rattle.lent_payloads.proofs.unpack.Reads.{Post as lent-payloads-unpack}
 use Rattle.lent_payloads.proofs.unpack_in.Reads.{Post as lent-payloads-unpack-in}
 use Rattle.lent_payloads.proofs.pack.Reads.{Post as lent-payloads-pack}
@@ -222,7 +222,7 @@ pub record LentMessagesUnique : Type 0 where
 pub record LentTablesUnique : Type 0 where
   pub check : Answer lent-tables-check
   pub check-sections : Lent lent-tables-check (λ k e. now (e .1 .0))
-  pub sections-in : Answer lent-tables-sections-in
+  pub sections-in : Answer sections-sections-in
 
 pub record LentPayloadsUnique : Type 0 where
   pub unpack : Answer lent-payloads-unpack

@@ -1,5 +1,9 @@
 // Where the sections of a table lie. They are found in reading order, each after the one before, and the first refusal
 // met is the answer: 30 for a table cut short or one with bytes after its end, 31 for a count outside its limits.
+mod stored;
+
+pub use stored::SECTIONS_WORDS;
+pub use stored::sections_in;
 use table::COUNT_OUTSIDE;
 use table::CUT_SHORT;
 use table::Checked;

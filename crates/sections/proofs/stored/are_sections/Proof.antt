@@ -1,9 +1,9 @@
--- `lent_tables::are_sections` meets its contract.
+-- `sections::are_sections` meets its contract.
 -- Assumes nothing.
 use borrow.Author.Needs.{needs}
-use Rattle.lent_tables.proofs.Storing.{are-sections}
-use Rattle.lent_tables.proofs.are_sections.Statement.{statement}
-use Rattle.lent_tables.proofs.are_sections.Tie as tie
+use Rattle.sections.proofs.Storing.{are-sections}
+use Rattle.sections.proofs.stored.are_sections.Statement.{statement}
+use Rattle.sections.proofs.stored.are_sections.Tie as tie
 
 pub are-sections-spec : {M : Type 1} → statement M
 are-sections-spec =

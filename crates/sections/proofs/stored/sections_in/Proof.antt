@@ -1,9 +1,9 @@
--- `lent_tables::sections_in` meets its contract.
+-- `sections::sections_in` meets its contract.
 -- Assumes nothing.
 use borrow.Author.Needs.{needs}
-use Rattle.lent_tables.proofs.Storing.{types-there, members-there, values-there, operations-there, sections-in, no-sections}
-use Rattle.lent_tables.proofs.sections_in.Statement.{statement}
-use Rattle.lent_tables.proofs.sections_in.Tie as tie
+use Rattle.sections.proofs.Storing.{types-there, members-there, values-there, operations-there, sections-in, no-sections}
+use Rattle.sections.proofs.stored.sections_in.Statement.{statement}
+use Rattle.sections.proofs.stored.sections_in.Tie as tie
 
 pub sections-in-spec : {M : Type 1} → statement M
 sections-in-spec =

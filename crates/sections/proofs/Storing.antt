@@ -14,7 +14,7 @@ use lib.ListN.{length, getD}
 use Rattle.table.specs.declared.Section.{Section}
 use Rattle.table.specs.declared.Sections.{Sections}
 use Rattle.table.specs.Layout.{within, liesIn}
-use Rattle.lent_tables.specs.Words.{sectionsWords, wordLimit, isSection, sectionIn, areSections, outside, sectionsIn, wordsOf}
+use Rattle.sections.specs.Words.{sectionsWords, wordLimit, isSection, sectionIn, areSections, outside, sectionsIn, wordsOf}
 
 both-left : (a b : Bool) → (a && b) ≡ true → a ≡ true
 both-left true b e = refl

@@ -1,9 +1,9 @@
--- `lent_tables::section_in` meets its contract.
+-- `sections::section_in` meets its contract.
 -- Assumes nothing.
 use borrow.Author.Needs.{needs}
-use Rattle.lent_tables.proofs.Storing.{first-fits, count-fits, section-in}
-use Rattle.lent_tables.proofs.section_in.Statement.{statement}
-use Rattle.lent_tables.proofs.section_in.Tie as tie
+use Rattle.sections.proofs.Storing.{first-fits, count-fits, section-in}
+use Rattle.sections.proofs.stored.section_in.Statement.{statement}
+use Rattle.sections.proofs.stored.section_in.Tie as tie
 
 pub section-in-spec : {M : Type 1} → statement M
 section-in-spec =

@@ -1,9 +1,9 @@
--- `lent_tables::is_section` meets its contract.
+-- `sections::is_section` meets its contract.
 -- Assumes nothing.
 use borrow.Author.Needs.{needs}
-use Rattle.lent_tables.proofs.Storing.{is-section}
-use Rattle.lent_tables.proofs.is_section.Statement.{statement}
-use Rattle.lent_tables.proofs.is_section.Tie as tie
+use Rattle.sections.proofs.Storing.{is-section}
+use Rattle.sections.proofs.stored.is_section.Statement.{statement}
+use Rattle.sections.proofs.stored.is_section.Tie as tie
 
 pub is-section-spec : {M : Type 1} → statement M
 is-section-spec =
