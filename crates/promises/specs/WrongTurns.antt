@@ -5,7 +5,7 @@ use Rattle.promises.specs.WrongCodecs.{NoWrongCodec}
 use Rattle.promises.specs.WrongPlatforms.{NoWrongPlatform}
 use Rattle.promises.specs.NotRuledOut.{NotRuledOut}
 
-pub record WrongTurns : Type 0 where
+pub record WrongTurns : Type 1 where
   -- demand 3
   pub joiners : NoWrongJoiner
   -- demand 2, and of demand 1 that a refusal changes no word and no byte
