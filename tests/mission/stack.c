@@ -1,5 +1,5 @@
-/* stack: runs each call on a stack of its own, filled with a pattern, on inputs that go deep, and sees that it takes no more than
- * the header says. */
+/* stack: runs each call on a stack of its own, filled with a pattern, on inputs that go deep, and sees that it takes no
+ * more than the header says. */
 #define _XOPEN_SOURCE 700
 #define _DEFAULT_SOURCE
 #include "nyrkovash.h"
@@ -9,7 +9,16 @@
 #include <sys/mman.h>
 #include <ucontext.h>
 
-enum { STACK = 1 << 20, PATTERN = 0xA5, LARGEST_TABLE = 20488, TYPES = 256, RECORD = 2, FIXED = 3, ARRAY = 4, UINT8 = 6 };
+enum {
+    STACK = 1 << 20,
+    PATTERN = 0xA5,
+    LARGEST_TABLE = 20488,
+    TYPES = 256,
+    RECORD = 2,
+    FIXED = 3,
+    ARRAY = 4,
+    UINT8 = 6
+};
 
 static uint8_t *stack;
 static ucontext_t here, there;
@@ -87,8 +96,8 @@ static void pack(void)
 
 static void pack_in(void)
 {
-    number = nyr_pack_in(table, table_length, &sections, type_number, words, words_length, output, sizeof output,
-                         &given);
+    number =
+        nyr_pack_in(table, table_length, &sections, type_number, words, words_length, output, sizeof output, &given);
 }
 
 static void start(void)
@@ -119,20 +128,49 @@ static void how_many_up(void)
     number = nyr_how_many_up(1, &platform) & 0;
 }
 
-enum { SETUP, TAKE, PIECES, CUT, READ, WRITE, CHECK, FIND, UNPACK, UNPACK_IN, PACK, PACK_IN, START, RECEIVE, RECEIVE_IN, IS_UP, HOW_MANY, CALLS };
+enum {
+    SETUP,
+    TAKE,
+    PIECES,
+    CUT,
+    READ,
+    WRITE,
+    CHECK,
+    FIND,
+    UNPACK,
+    UNPACK_IN,
+    PACK,
+    PACK_IN,
+    START,
+    RECEIVE,
+    RECEIVE_IN,
+    IS_UP,
+    HOW_MANY,
+    CALLS
+};
 
 /* The bounds of include/nyrkovash.h. */
 static const struct {
     const char *name;
     void (*call)(void);
     size_t most;
-} calls[CALLS] = {
-    {"nyr_setup", setup, 4096},          {"nyr_take", take, 1024},       {"nyr_pieces", pieces, 256},
-    {"nyr_cut", cut, 1024},               {"nyr_read", read_message, 256}, {"nyr_write", write_message, 1024},
-    {"nyr_check_table", check_table, 4096}, {"nyr_find", find, 1024},     {"nyr_unpack", unpack, 131072},
-    {"nyr_unpack_in", unpack_in, 131072}, {"nyr_pack", pack, 131072},    {"nyr_pack_in", pack_in, 131072},
-    {"nyr_start", start, 256},           {"nyr_receive", receive, 4096}, {"nyr_receive_in", receive_in, 4096},
-    {"nyr_is_up", is_up, 256},           {"nyr_how_many_up", how_many_up, 256}};
+} calls[CALLS] = {{"nyr_setup", setup, 4096},
+                  {"nyr_take", take, 1024},
+                  {"nyr_pieces", pieces, 256},
+                  {"nyr_cut", cut, 1024},
+                  {"nyr_read", read_message, 256},
+                  {"nyr_write", write_message, 1024},
+                  {"nyr_check_table", check_table, 4096},
+                  {"nyr_find", find, 1024},
+                  {"nyr_unpack", unpack, 131072},
+                  {"nyr_unpack_in", unpack_in, 131072},
+                  {"nyr_pack", pack, 131072},
+                  {"nyr_pack_in", pack_in, 131072},
+                  {"nyr_start", start, 256},
+                  {"nyr_receive", receive, 4096},
+                  {"nyr_receive_in", receive_in, 4096},
+                  {"nyr_is_up", is_up, 256},
+                  {"nyr_how_many_up", how_many_up, 256}};
 
 static size_t taken_by_last[CALLS];
 static int failed;
@@ -282,7 +320,7 @@ static void messages(void)
 {
     static const struct {
         uint8_t domain, id, value[4], length;
-    } each[] = {{0, 1, {0, 0, 0, 1}, 4}, {0, 1, {0, 0, 0, 0}, 4}, {0, 2, {0}, 0}, {0, 3, {0, 0, 0, 9}, 4},
+    } each[] = {{0, 1, {0, 0, 0, 1}, 4}, {0, 1, {0, 0, 0, 0}, 4},         {0, 2, {0}, 0}, {0, 3, {0, 0, 0, 9}, 4},
                 {0, 4, {0, 0, 0, 7}, 4}, {0, 4, {255, 255, 255, 255}, 4}, {1, 7, {0}, 0}, {1, 8, {0}, 4}};
     static const uint8_t head[8] = {0xEC, 0x0A, 2, 0, 0, 0, 0, 2};
     measure(WRITE, 0);
