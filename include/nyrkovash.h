@@ -204,7 +204,8 @@ enum { NYR_EVENT = 0, NYR_VERSIONED_DATA = 1, NYR_NO_PAYLOAD = 0xFFFF };
  * Leaves where its sections lie. The calls that end in _in take these and spare the check: for a table that it accepted
  * they answer as their namesakes do. For others they are as safe; they give 30 where the sections do not lie in the
  * table, and 32 for an entry that they meet and that breaks a rule.
- * Stack 4096; time: for each type its members, or values (where these do not rise, the square of them).
+ * Stack 4096; time: each type's members or values, and the operations; where an enum's values do not rise, the square of
+ * the values.
  */
 uint32_t nyr_check_table(const uint8_t *table, size_t table_length, nyr_sections *sections);
 
@@ -231,7 +232,7 @@ uint32_t nyr_unpack_in(const uint8_t *table, size_t table_length, const nyr_sect
 /*
  * Packs words into a payload: the other way round, with the same numbers. `given` is how many bytes that made, from the
  * start of output on.
- * Stack and time as nyr_unpack.
+ * Stack and time as nyr_unpack, with the words in the place of the payload.
  */
 uint32_t nyr_pack(const uint8_t *table, size_t table_length, uint16_t type_number, const uint64_t *words,
                   size_t words_length, uint8_t *output, size_t output_length, size_t *given);

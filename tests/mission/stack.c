@@ -43,8 +43,8 @@ static void setup(void)
 
 static void take(void)
 {
-    nyr_taken taken;
-    number = nyr_take(&joiner, rooms, sizeof rooms, message, datagram_length, &taken);
+    nyr_taken answer;
+    number = nyr_take(&joiner, rooms, sizeof rooms, message, datagram_length, &answer);
 }
 
 static void pieces(void)
@@ -128,51 +128,30 @@ static void how_many_up(void)
     number = nyr_how_many_up(1, &platform) & 0;
 }
 
-enum {
-    SETUP,
-    TAKE,
-    PIECES,
-    CUT,
-    READ,
-    WRITE,
-    CHECK,
-    FIND,
-    UNPACK,
-    UNPACK_IN,
-    PACK,
-    PACK_IN,
-    START,
-    RECEIVE,
-    RECEIVE_IN,
-    IS_UP,
-    HOW_MANY,
-    CALLS
-};
-
 /* The bounds of include/nyrkovash.h. */
 static const struct {
     const char *name;
     void (*call)(void);
     size_t most;
-} calls[CALLS] = {{"nyr_setup", setup, 4096},
-                  {"nyr_take", take, 1024},
-                  {"nyr_pieces", pieces, 256},
-                  {"nyr_cut", cut, 1024},
-                  {"nyr_read", read_message, 256},
-                  {"nyr_write", write_message, 1024},
-                  {"nyr_check_table", check_table, 4096},
-                  {"nyr_find", find, 1024},
-                  {"nyr_unpack", unpack, 131072},
-                  {"nyr_unpack_in", unpack_in, 131072},
-                  {"nyr_pack", pack, 131072},
-                  {"nyr_pack_in", pack_in, 131072},
-                  {"nyr_start", start, 256},
-                  {"nyr_receive", receive, 4096},
-                  {"nyr_receive_in", receive_in, 4096},
-                  {"nyr_is_up", is_up, 256},
-                  {"nyr_how_many_up", how_many_up, 256}};
+} bounds[] = {{"nyr_setup", setup, 4096},
+              {"nyr_take", take, 1024},
+              {"nyr_pieces", pieces, 256},
+              {"nyr_cut", cut, 1024},
+              {"nyr_read", read_message, 256},
+              {"nyr_write", write_message, 1024},
+              {"nyr_check_table", check_table, 4096},
+              {"nyr_find", find, 1024},
+              {"nyr_unpack", unpack, 131072},
+              {"nyr_unpack_in", unpack_in, 131072},
+              {"nyr_pack", pack, 131072},
+              {"nyr_pack_in", pack_in, 131072},
+              {"nyr_start", start, 256},
+              {"nyr_receive", receive, 4096},
+              {"nyr_receive_in", receive_in, 4096},
+              {"nyr_is_up", is_up, 256},
+              {"nyr_how_many_up", how_many_up, 256}};
 
-static size_t taken_by_last[CALLS];
+static size_t taken[sizeof bounds / sizeof *bounds];
 static int failed;
 
 /* How much of the stack a function uses, from the top. */
@@ -191,23 +170,29 @@ static size_t used(void (*call)(void))
     return STACK - untouched;
 }
 
-/* Twice: the first time the functions of C that a call uses may have to be found. */
-static void measure(int which, uint32_t expected)
+/* Twice from the same state: the first time the functions of C that a call uses may have to be found. */
+static void measure(void (*call)(void), uint32_t expected)
 {
-    size_t around = used(nothing), bytes;
-    used(calls[which].call);
-    bytes = used(calls[which].call);
+    size_t around = used(nothing), bytes, b = 0;
+    nyr_joiner joiner_before = joiner;
+    nyr_platform platform_before = platform;
+    while (bounds[b].call != call)
+        b++;
+    used(call);
+    joiner = joiner_before;
+    platform = platform_before;
+    bytes = used(call);
     bytes = bytes > around ? bytes - around : 0;
     if (number != expected) {
-        printf("stack: %s answers %u and not %u\n", calls[which].name, (unsigned)number, (unsigned)expected);
+        printf("stack: %s answers %u and not %u\n", bounds[b].name, (unsigned)number, (unsigned)expected);
         failed = 1;
     }
-    if (bytes > calls[which].most) {
-        printf("stack: %s takes %zu bytes, and the header says %zu\n", calls[which].name, bytes, calls[which].most);
+    if (bytes > bounds[b].most) {
+        printf("stack: %s takes %zu bytes, and the header says %zu\n", bounds[b].name, bytes, bounds[b].most);
         failed = 1;
     }
-    if (bytes > taken_by_last[which])
-        taken_by_last[which] = bytes;
+    if (bytes > taken[b])
+        taken[b] = bytes;
 }
 
 static void put(uint64_t value, int width)
@@ -289,30 +274,29 @@ static void enumerate(void)
 
 static void payloads(void)
 {
-    measure(CHECK, 0);
-    measure(FIND, 0);
-    measure(UNPACK, 0);
-    measure(UNPACK_IN, 0);
-    measure(PACK, 0);
-    measure(PACK_IN, 0);
+    measure(check_table, 0);
+    measure(find, 0);
+    measure(unpack, 0);
+    measure(unpack_in, 0);
+    measure(pack, 0);
+    measure(pack_in, 0);
 }
 
 static void joining(void)
 {
     for (uint16_t k = 0; k < NYR_CHANNELS; k++)
         ids[k] = (uint16_t)(NYR_CHANNELS - k);
-    measure(SETUP, 0);
+    measure(setup, 0);
     for (int last = 0; last < 2; last++) {
         memset(message, 0, NYR_DATAGRAM_HEADER);
         message[0] = (uint8_t)(last ? 0x20 : 0);
         message[1] = 1;
         message[3] = (uint8_t)last;
         datagram_length = last ? 40 : NYR_LARGEST_DATAGRAM;
-        measure(TAKE, 0);
-        setup();
+        measure(take, 0);
     }
-    measure(PIECES, 0);
-    measure(CUT, 0);
+    measure(pieces, 0);
+    measure(cut, 0);
 }
 
 /* Each platform message and an operation that the table has or has not, by the table and by its sections. */
@@ -323,8 +307,8 @@ static void messages(void)
     } each[] = {{0, 1, {0, 0, 0, 1}, 4}, {0, 1, {0, 0, 0, 0}, 4},         {0, 2, {0}, 0}, {0, 3, {0, 0, 0, 9}, 4},
                 {0, 4, {0, 0, 0, 7}, 4}, {0, 4, {255, 255, 255, 255}, 4}, {1, 7, {0}, 0}, {1, 8, {0}, 4}};
     static const uint8_t head[8] = {0xEC, 0x0A, 2, 0, 0, 0, 0, 2};
-    measure(WRITE, 0);
-    measure(START, 0);
+    measure(write_message, 0);
+    measure(start, 0);
     for (size_t i = 0; i < sizeof each / sizeof *each; i++) {
         memset(message, 0, NYR_REPLY_BYTES);
         memcpy(message, head, sizeof head);
@@ -333,14 +317,14 @@ static void messages(void)
         message[15] = each[i].length;
         memcpy(message + NYR_MESSAGE_HEADER, each[i].value, 4);
         message_length = NYR_MESSAGE_HEADER + (size_t)each[i].length;
-        measure(READ, 0);
+        measure(read_message, 0);
         start();
-        measure(RECEIVE, 0);
+        measure(receive, 0);
         start();
-        measure(RECEIVE_IN, 0);
+        measure(receive_in, 0);
     }
-    measure(IS_UP, 0);
-    measure(HOW_MANY, 0);
+    measure(is_up, 0);
+    measure(how_many_up, 0);
 }
 
 int main(int argc, char **argv)
@@ -361,8 +345,8 @@ int main(int argc, char **argv)
     payloads();
     messages();
     if (argc > 1 && strcmp(argv[1], "show") == 0)
-        for (int which = 0; which < CALLS; which++)
-            printf("%-16s %6zu of %6zu\n", calls[which].name, taken_by_last[which], calls[which].most);
+        for (size_t b = 0; b < sizeof bounds / sizeof *bounds; b++)
+            printf("%-16s %6zu of %6zu\n", bounds[b].name, taken[b], bounds[b].most);
     if (!failed)
         puts("stack: no call takes more than the header says");
     return failed;
