@@ -20,8 +20,10 @@ enum {
 
 static uint8_t recording[1 << 20], table[TABLE_BYTES + 1], rooms[MOST_ROOMS];
 static size_t recorded, table_length, rooms_length;
-static uint32_t joiner[NYR_JOINER_WORDS];
-static uint64_t platform[NYR_PLATFORM_WORDS], sections[NYR_SECTIONS_WORDS], words[MOST_WORDS];
+static nyr_joiner joiner;
+static nyr_platform platform;
+static nyr_sections sections;
+static uint64_t words[MOST_WORDS];
 static uint16_t counter;
 
 static size_t number_at(const uint8_t *bytes, int width)
@@ -36,40 +38,40 @@ static size_t number_at(const uint8_t *bytes, int width)
 static void send_reply(unsigned to, const uint8_t *reply, size_t length)
 {
     uint8_t datagram[NYR_DATAGRAM_HEADER + PIECE];
-    uint64_t pieces[NYR_COUNT_ANSWER], written[NYR_COUNT_ANSWER];
-    if (nyr_pieces(length, PIECE, pieces, NYR_COUNT_ANSWER) != NYR_OK)
+    size_t pieces, written;
+    if (nyr_pieces(length, PIECE, &pieces) != NYR_OK)
         return;
-    for (size_t piece = 0; piece < pieces[0]; piece++) {
-        if (nyr_cut(reply, length, PIECE, OWN_SENDER, counter, piece, datagram, sizeof datagram, written,
-                    NYR_COUNT_ANSWER) != NYR_OK)
+    for (size_t piece = 0; piece < pieces; piece++) {
+        if (nyr_cut(reply, length, PIECE, OWN_SENDER, counter, piece, datagram, sizeof datagram, &written) != NYR_OK)
             return;
         printf("  to platform %u:", to);
-        for (size_t i = 0; i < written[0]; i++)
+        for (size_t i = 0; i < written; i++)
             printf(" %02X", datagram[i]);
         putchar('\n');
     }
-    counter = (uint16_t)(counter + pieces[0]);
+    counter = (uint16_t)(counter + pieces);
 }
 
 /* Unpacks an operation's payload by the type that the table gives it, and prints its words. */
 static void unpack(uint32_t id, const uint8_t *payload, size_t length)
 {
-    uint64_t found[NYR_FIND_ANSWER], count[NYR_COUNT_ANSWER];
-    uint32_t number = nyr_find(table, table_length, sections, NYR_SECTIONS_WORDS, id, found, NYR_FIND_ANSWER);
-    if (number != NYR_OK || !found[0])
+    nyr_operation operation;
+    size_t given;
+    uint32_t number = nyr_find(table, table_length, &sections, id, &operation);
+    if (number != NYR_OK || !operation.found)
         return;
-    if (found[2] == NYR_NO_PAYLOAD) {
+    if (operation.carries == NYR_NO_PAYLOAD) {
         puts("  no payload");
         return;
     }
-    number = nyr_unpack_in(table, table_length, sections, NYR_SECTIONS_WORDS, (uint16_t)found[2], payload, length,
-                           words, MOST_WORDS, count, NYR_COUNT_ANSWER);
+    number = nyr_unpack_in(table, table_length, &sections, (uint16_t)operation.carries, payload, length, words,
+                           MOST_WORDS, &given);
     if (number != NYR_OK) {
         printf("  payload refused %" PRIu32 "\n", number);
         return;
     }
     printf("  words");
-    for (size_t i = 0; i < count[0]; i++)
+    for (size_t i = 0; i < given; i++)
         printf(" %" PRIX64, words[i]);
     putchar('\n');
 }
@@ -77,46 +79,44 @@ static void unpack(uint32_t id, const uint8_t *payload, size_t length)
 /* Reads one delivered message, notes what it tells of its sender, and answers it. */
 static void receive(const uint8_t *message, size_t length)
 {
-    static const char *const heard[] = {
+    static const char *const kinds[] = {
         "", "status", "status request", "unknown operation", "pull of all", "pull",
         "pull of what is not versioned data", "operation", "operation not in the table"};
     uint8_t replies[NYR_REPLIES_BYTES];
-    uint64_t answer[NYR_RECEIVE_ANSWER];
-    uint32_t number =
-        nyr_receive_in(OWN, platform, NYR_PLATFORM_WORDS, table, table_length, sections, NYR_SECTIONS_WORDS, message,
-                       length, replies, sizeof replies, answer, NYR_RECEIVE_ANSWER);
+    nyr_heard heard;
+    uint32_t number = nyr_receive_in(OWN, &platform, table, table_length, &sections, message, length, replies,
+                                     sizeof replies, &heard);
     if (number != NYR_OK) {
         printf("  message refused %" PRIu32 "\n", number);
         return;
     }
-    printf("  platform %" PRIu64 ": %s", answer[2], heard[answer[0]]);
-    if (answer[0] == NYR_HEARD_STATUS)
-        printf(answer[1] ? " UP" : " DOWN");
-    else if (answer[0] != NYR_HEARD_REQUEST && answer[0] != NYR_HEARD_PULL_ALL)
-        printf(" %" PRIX64, answer[1]);
-    printf("; %" PRIu32 " are UP\n", nyr_how_many_up(OWN, platform, NYR_PLATFORM_WORDS));
-    if (answer[0] == NYR_HEARD_OPERATION)
-        unpack((uint32_t)answer[1], message + answer[4], (size_t)answer[5]);
-    for (size_t at = 0; at < answer[6]; at += NYR_REPLY_BYTES)
-        send_reply((unsigned)answer[2], replies + at, NYR_REPLY_BYTES);
+    printf("  platform %" PRIu64 ": %s", heard.sender, kinds[heard.kind]);
+    if (heard.kind == NYR_HEARD_STATUS)
+        printf(heard.value ? " UP" : " DOWN");
+    else if (heard.kind != NYR_HEARD_REQUEST && heard.kind != NYR_HEARD_PULL_ALL)
+        printf(" %" PRIX64, heard.value);
+    printf("; %" PRIu32 " are UP\n", nyr_how_many_up(OWN, &platform));
+    if (heard.kind == NYR_HEARD_OPERATION)
+        unpack((uint32_t)heard.value, message + heard.payload_start, (size_t)heard.payload_length);
+    for (size_t at = 0; at < heard.replies; at += NYR_REPLY_BYTES)
+        send_reply((unsigned)heard.sender, replies + at, NYR_REPLY_BYTES);
 }
 
 /* Joins one datagram, and reads the message that it completes, where it lies. */
 static void take(size_t number, const uint8_t *datagram, size_t length)
 {
     static const char *const outcomes[] = {"", "repeated", "delivered", "held", "stray", "too long"};
-    uint64_t answer[NYR_TAKE_ANSWER];
-    uint32_t refused =
-        nyr_take(joiner, NYR_JOINER_WORDS, rooms, rooms_length, datagram, length, answer, NYR_TAKE_ANSWER);
+    nyr_taken taken;
+    uint32_t refused = nyr_take(&joiner, rooms, rooms_length, datagram, length, &taken);
     if (refused != NYR_OK) {
         printf("%zu refused %" PRIu32 "\n", number, refused);
         return;
     }
-    printf("%zu %s %" PRIu64 " %" PRIu64 "\n", number, outcomes[answer[0]], answer[1], answer[2]);
-    if (answer[3] == NYR_IN_DATAGRAM)
-        receive(datagram + answer[4], (size_t)answer[2]);
-    if (answer[3] == NYR_IN_ROOMS)
-        receive(rooms + answer[4], (size_t)answer[2]);
+    printf("%zu %s %" PRIu64 " %" PRIu64 "\n", number, outcomes[taken.outcome], taken.missed, taken.bytes);
+    if (taken.slice == NYR_IN_DATAGRAM)
+        receive(datagram + taken.start, (size_t)taken.bytes);
+    if (taken.slice == NYR_IN_ROOMS)
+        receive(rooms + taken.start, (size_t)taken.bytes);
 }
 
 /* Sets the joiner up as the recording's start says; where its datagrams start, or 0. */
@@ -131,7 +131,7 @@ static size_t set_up(void)
     channels = number_at(recording, 2);
     room = number_at(recording + 2, 4);
     if (channels < 1 || channels > NYR_CHANNELS || room < NYR_SMALLEST_ROOM || room > MOST_ROOMS / channels) {
-        printf("setup refused %d\n", NYR_JOINER);
+        printf("setup refused %d\n", NYR_NO_JOINER);
         return 0;
     }
     rooms_length = channels * room;
@@ -142,8 +142,8 @@ static size_t set_up(void)
         }
         ids[k] = (uint16_t)number_at(recording + at, 2);
     }
-    if (nyr_setup(ids, channels, (uint32_t)room, rooms_length, joiner, NYR_JOINER_WORDS) != NYR_OK) {
-        printf("setup refused %d\n", NYR_JOINER);
+    if (nyr_setup(&joiner, ids, channels, (uint32_t)room, rooms_length) != NYR_OK) {
+        printf("setup refused %d\n", NYR_NO_JOINER);
         return 0;
     }
     return at;
@@ -174,12 +174,12 @@ int main(int argc, char **argv)
     if (!read_file(argv[1], recording, sizeof recording, &recorded) ||
         !read_file(argv[2], table, sizeof table, &table_length))
         return 2;
-    number = nyr_check_table(table, table_length, sections, NYR_SECTIONS_WORDS);
+    number = nyr_check_table(table, table_length, &sections);
     if (number != NYR_OK) {
         printf("table refused %" PRIu32 "\n", number);
         return 1;
     }
-    nyr_platform(OWN, platform, NYR_PLATFORM_WORDS);
+    nyr_start(OWN, &platform);
     at = set_up();
     if (at == 0)
         return 1;

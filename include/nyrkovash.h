@@ -4,17 +4,18 @@
  * needs no library but C's.
  *
  * Every call is total: no length, number, byte or state, right or wrong, makes it read or write outside what it was
- * lent. A call answers 0, or the number that refuses it, and then it has changed nothing. What it gives stands in
- * `answer`; words and bytes that a call is not said to write stay as they were.
+ * lent. A call answers 0, or the number that refuses it, and then it has changed nothing. Where it answers 0 it has
+ * written all fields of its answer; bytes and words that a call is not said to write stay as they were.
  *
- * A buffer is a pointer and a length, in elements. A length of 0 is an empty buffer, whatever the pointer, null too;
- * else the elements must be there, and aligned. A buffer that is written must not overlap another of the same call.
- * Where a number of words is named below, a buffer may be longer. A shorter one is NYR_NO_ROOM, judged before all
- * else, if it is an answer, a platform's state, or what the call makes; a joiner or sections that are handed in too
- * short are none: 20 and 30.
+ * What has a fixed size is a struct; a pointer to a struct or to a number may not be null, and what it points at may
+ * not overlap anything else of the same call. Any values in a struct that is handed in are safe. A buffer is a pointer
+ * and a length, in elements. A length of 0 is an empty buffer, whatever the pointer, null too; else the elements must
+ * be there, and aligned. A buffer that is written must not overlap another of the same call.
  *
- * The library has no memory, no globals and no locks: all state lies in the caller's words, nothing is kept between
- * calls, and no pointer outlives one. Threads may call at once, each on buffers that no other of them writes.
+ * The library has no memory, no globals and no locks: all state lies in the caller's structs, nothing is kept between
+ * calls, and no pointer outlives one. Threads may call at once, each on what no other of them writes.
+ *
+ * `Stack` is the most bytes of stack that a call takes, `time` what its time grows with, if with anything.
  */
 #ifndef NYRKOVASH_H
 #define NYRKOVASH_H
@@ -39,9 +40,9 @@ enum {
     NYR_PLATFORM_ID = 7,       /* domain 0, and the ID is not 1 to 4 */
     NYR_PLATFORM_LENGTH = 8,   /* domain 0, and the payload is not 4 bytes long (a request's: 0) */
     NYR_PLATFORM_VALUE = 9,    /* a status that is neither DOWN nor UP */
-    NYR_NO_ROOM = 10,          /* output or answer shorter than what must be written */
+    NYR_NO_ROOM = 10,          /* output shorter than what must be written */
     /* Joining. */
-    NYR_JOINER = 20,           /* a set-up that cannot be, or words that are no joiner */
+    NYR_NO_JOINER = 20,        /* a set-up that cannot be, or values that are no joiner */
     NYR_DATAGRAM_LENGTH = 21,  /* not 5 to 65,507 bytes */
     NYR_DATAGRAM_VERSION = 22, /* the binding header's version is not 0 */
     NYR_NOT_SET_UP = 23,       /* no channel has the sender ID */
@@ -63,21 +64,7 @@ enum {
     NYR_DATAGRAM_ROOM = 52     /* output shorter than the datagram */
 };
 
-/* How many words, or bytes, a buffer needs. */
-enum {
-    NYR_JOINER_WORDS = 130,
-    NYR_TAKE_ANSWER = 5,
-    NYR_COUNT_ANSWER = 1,      /* of pieces, cut, write, unpack and pack */
-    NYR_READ_ANSWER = 6,
-    NYR_SECTIONS_WORDS = 8,
-    NYR_FIND_ANSWER = 3,
-    NYR_PLATFORM_WORDS = 5,
-    NYR_RECEIVE_ANSWER = 7,
-    NYR_REPLY_BYTES = 24,      /* one reply */
-    NYR_REPLIES_BYTES = 48     /* the most that one message is owed */
-};
-
-/* Limits. */
+/* Limits and sizes. */
 enum {
     NYR_CHANNELS = 32,
     NYR_SMALLEST_ROOM = 24,
@@ -86,10 +73,33 @@ enum {
     NYR_DATAGRAM_HEADER = 4,
     NYR_LARGEST_PIECE = 65503,
     NYR_LARGEST_DATAGRAM = 65507,
-    NYR_LARGEST_MESSAGE = 65560 /* that is cut */
+    NYR_LARGEST_MESSAGE = 65560, /* that is cut */
+    NYR_REPLY_BYTES = 24,        /* one reply */
+    NYR_REPLIES_BYTES = 48       /* the most that one message is owed */
 };
 
 /* ---- Joining: a channel for each sender ID (platform times 256 plus channel: 0 to 4,095), each with its own room. */
+
+typedef struct {
+    uint32_t sender;           /* the sender ID */
+    uint32_t seen;             /* whether a datagram was seen: 0 or 1 */
+    uint32_t last;             /* the last counter */
+    uint32_t held;             /* bytes of an unfinished message, at the start of the channel's room */
+} nyr_channel;
+
+typedef struct {
+    uint32_t count;            /* how many channels there are; the others' fields are 0 */
+    uint32_t room;             /* the size of each one's room; channel k's is at k times room */
+    nyr_channel channel[NYR_CHANNELS];
+} nyr_joiner;
+
+typedef struct {
+    uint64_t outcome;          /* what the datagram was to its channel, as below */
+    uint64_t missed;           /* how many datagrams of its channel were missed before it */
+    uint64_t bytes;            /* the bytes held or delivered, else 0 */
+    uint64_t slice;            /* where the delivered message lies, as below */
+    uint64_t start;            /* from which byte there */
+} nyr_taken;
 
 /* What a datagram was to its channel. */
 enum {
@@ -106,40 +116,47 @@ enum { NYR_NOWHERE = 0, NYR_IN_DATAGRAM = 1, NYR_IN_ROOMS = 2 };
 /*
  * Makes a joiner for so many sender IDs, over rooms_length bytes with `room` bytes for each channel, in order.
  *   20  not 1 to 32 channels; room not 24 to 65,560; rooms_length not channels times room; an ID twice or above 4,095.
- * Leaves in joiner, 130 words: [0] the channel count, [1] the room size, and from 2 + 4k on channel k's sender ID,
- * whether a datagram was seen (0 or 1), the last counter, and the bytes held; 0 for channels that are not there.
- * The rooms' bytes may be any.
+ * Leaves a joiner with no datagram seen. The rooms' bytes may be any.
+ * Stack 4096; time: the square of the channels.
  */
-uint32_t nyr_setup(const uint16_t *ids, size_t channels, uint32_t room, size_t rooms_length,
-                   uint32_t *joiner, size_t joiner_words);
+uint32_t nyr_setup(nyr_joiner *joiner, const uint16_t *ids, size_t channels, uint32_t room, size_t rooms_length);
 
 /*
  * Takes one datagram.
- *   20  words that are no joiner for these rooms: sizes or IDs that nyr_setup refuses, seen not 0 or 1, a last counter
- *       above 65,535, more bytes held than a room has, too few words.
+ *   20  values that are no joiner for these rooms: sizes or IDs that nyr_setup refuses, seen not 0 or 1, a last counter
+ *       above 65,535, more bytes held than a room has.
  *   21, 22, 23 for the datagram.
- * answer: [0] what it was, NYR_REPEATED to NYR_TOO_LONG; [1] how many datagrams of its channel were missed before it;
- * [2] the bytes held or delivered, else 0; [3] where the delivered message lies; [4] from which byte there.
- * Writes no record but its channel's, and in the rooms nothing but the piece. A message in the rooms is good until
- * the next nyr_take on them.
+ * Writes in the joiner no channel but the datagram's, and in the rooms nothing but the piece. A message in the rooms is
+ * good until the next nyr_take on them.
+ * Stack 1024; time: the datagram's length, and the channels (where their IDs do not rise, the square of the channels).
  */
-uint32_t nyr_take(uint32_t *joiner, size_t joiner_words, uint8_t *rooms, size_t rooms_length,
-                  const uint8_t *datagram, size_t datagram_length, uint64_t *answer, size_t answer_words);
+uint32_t nyr_take(nyr_joiner *joiner, uint8_t *rooms, size_t rooms_length, const uint8_t *datagram,
+                  size_t datagram_length, nyr_taken *taken);
 
 /* ---- Cutting. */
 
-/* How many pieces a message of that length is cut into.  50.  answer: [0] the count. */
-uint32_t nyr_pieces(size_t message_length, size_t piece_size, uint64_t *answer, size_t answer_words);
+/* How many pieces a message of that length is cut into.  50.  Stack 256. */
+uint32_t nyr_pieces(size_t message_length, size_t piece_size, size_t *pieces);
 
 /*
- * Writes the datagram of one piece, numbered from 0, at the start of out: its header, and up to piece_size bytes. The
- * first piece has first_counter (0 to 65,535), each next one more; 65,535 is followed by 0.
- *   50, 51, 52.  answer: [0] the bytes written.
+ * Writes the datagram of one piece, numbered from 0, at the start of output: its header, and up to piece_size bytes;
+ * `written` is the length of both. The first piece has first_counter (0 to 65,535), each next one more; 65,535 is
+ * followed by 0.
+ *   50, 51, 52.  Stack 1024; time: the piece's length.
  */
 uint32_t nyr_cut(const uint8_t *message, size_t message_length, size_t piece_size, size_t sender, size_t first_counter,
-                 size_t piece, uint8_t *out, size_t out_length, uint64_t *answer, size_t answer_words);
+                 size_t piece, uint8_t *output, size_t output_length, size_t *written);
 
 /* ---- Messages. `own` is this platform's number. */
+
+typedef struct {
+    uint64_t kind;             /* what it is, as below */
+    uint64_t value;            /* as below */
+    uint64_t sender;           /* the sending platform */
+    uint64_t sequence;         /* the sequence number */
+    uint64_t payload_start;    /* the byte at which the payload starts */
+    uint64_t payload_length;
+} nyr_message;
 
 /* What a message is. */
 enum {
@@ -147,7 +164,7 @@ enum {
     NYR_REQUEST = 2,           /* of our status; value: 0 */
     NYR_UNKNOWN_OPERATION = 3, /* value: the ID that the sender does not know */
     NYR_PULL = 4,              /* value: the ID of the versioned data that is asked for, or NYR_ALL_DATA */
-    NYR_OPERATION = 5          /* value: its ID */
+    NYR_SERVICE_OPERATION = 5  /* value: its ID */
 };
 
 #define NYR_ALL_DATA UINT32_C(0xFFFFFFFF)
@@ -155,63 +172,91 @@ enum {
 /* For nyr_write. */
 enum { NYR_PLATFORM_DOMAIN = 0, NYR_OPERATION_DOMAIN = 1 };
 
-/*
- * Reads a message.  1 to 9.
- * answer: [0] what it is; [1] its value; [2] the sending platform; [3] the sequence number; [4] the byte at which the
- * payload starts; [5] the payload's length.
- */
-uint32_t nyr_read(uint8_t own, const uint8_t *message, size_t message_length, uint64_t *answer, size_t answer_words);
+/* Reads a message.  1 to 9.  Stack 256. */
+uint32_t nyr_read(uint8_t own, const uint8_t *message, size_t message_length, nyr_message *answer);
 
 /*
- * Writes a message of this platform at the start of out. The ID is an operation's, or in domain 0 what the message is.
- *   4, 5, 7 to 10.  answer: [0] the bytes written.
+ * Writes a message of this platform at the start of output; `written` is its length. The ID is an operation's, or in
+ * domain 0 what the message is (NYR_STATUS to NYR_PULL).
+ *   4, 5, 7 to 10.  Stack 1024; time: the payload's length.
  */
 uint32_t nyr_write(uint8_t own, uint8_t domain, uint32_t id, uint32_t sequence, const uint8_t *payload,
-                   size_t payload_length, uint8_t *out, size_t out_length, uint64_t *answer, size_t answer_words);
+                   size_t payload_length, uint8_t *output, size_t output_length, size_t *written);
 
 /* ---- Type tables. */
+
+/* First byte and count of the types, then of the members, the values, the operations. */
+typedef struct {
+    uint64_t words[8];
+} nyr_sections;
+
+typedef struct {
+    uint64_t found;            /* 1 if the table has it, else 0 */
+    uint64_t kind;             /* its kind, else 0 */
+    uint64_t carries;          /* its type's number, or NYR_NO_PAYLOAD, else 0 */
+} nyr_operation;
 
 /* An operation's kind, and the type of one without a payload. */
 enum { NYR_EVENT = 0, NYR_VERSIONED_DATA = 1, NYR_NO_PAYLOAD = 0xFFFF };
 
 /*
  * Checks a table.  30 to 33.
- * Leaves in sections: first byte and count of the types, then of the members, the values, the operations. The calls
- * that end in _in take them and spare the check: for a table that it accepted they answer as their namesakes do. For
- * others they are as safe; they give 30 where the sections do not lie in the table, and 32 for an entry that they
- * meet and that breaks a rule.
+ * Leaves where its sections lie. The calls that end in _in take these and spare the check: for a table that it accepted
+ * they answer as their namesakes do. For others they are as safe; they give 30 where the sections do not lie in the
+ * table, and 32 for an entry that they meet and that breaks a rule.
+ * Stack 4096; time: each type's members or values, and the operations; where an enum's values do not rise, the square of
+ * the values.
  */
-uint32_t nyr_check_table(const uint8_t *table, size_t table_length, uint64_t *sections, size_t sections_words);
+uint32_t nyr_check_table(const uint8_t *table, size_t table_length, nyr_sections *sections);
 
-/* Looks an operation up.  30.  answer: [0] 1 if the table has it, else 0; [1] its kind and [2] its type, else 0. */
-uint32_t nyr_find(const uint8_t *table, size_t table_length, const uint64_t *sections, size_t sections_words,
-                  uint32_t id, uint64_t *answer, size_t answer_words);
+/* Looks an operation up.  30.  Stack 1024; time: the logarithm of the operations. */
+uint32_t nyr_find(const uint8_t *table, size_t table_length, const nyr_sections *sections, uint32_t id,
+                  nyr_operation *operation);
 
 /* ---- Payloads: a 64-bit word for each leaf, left to right, and one for each array's count, before its elements. */
 
 /*
  * Unpacks a payload of the table's type of that number: integers sign- or zero-extended, floats as their bits,
- * booleans 0 or 1.
+ * booleans 0 or 1. `given` is how many words that made, from the start of words on.
  *   30 to 33 for the table; then 44; then 40, 42 or 43, the first met from the left; then 41; then 45.
- * answer: [0] how many words were given, from the start of words on.
+ * Stack 131072, where types nest as deep as they can; time: the payload's length times the nesting of its types (at
+ * most 255), and for each enum among the leaves its values; and, but for _in, the table's check.
  */
-uint32_t nyr_unpack(const uint8_t *table, size_t table_length, uint16_t type, const uint8_t *payload,
-                    size_t payload_length, uint64_t *words, size_t words_length, uint64_t *answer,
-                    size_t answer_words);
+uint32_t nyr_unpack(const uint8_t *table, size_t table_length, uint16_t type_number, const uint8_t *payload,
+                    size_t payload_length, uint64_t *words, size_t words_length, size_t *given);
 
-uint32_t nyr_unpack_in(const uint8_t *table, size_t table_length, const uint64_t *sections, size_t sections_words,
-                       uint16_t type, const uint8_t *payload, size_t payload_length, uint64_t *words,
-                       size_t words_length, uint64_t *answer, size_t answer_words);
+uint32_t nyr_unpack_in(const uint8_t *table, size_t table_length, const nyr_sections *sections, uint16_t type_number,
+                       const uint8_t *payload, size_t payload_length, uint64_t *words, size_t words_length,
+                       size_t *given);
 
-/* Packs words into a payload: the other way round, with the same numbers.  answer: [0] how many bytes were given. */
-uint32_t nyr_pack(const uint8_t *table, size_t table_length, uint16_t type, const uint64_t *words, size_t words_length,
-                  uint8_t *out, size_t out_length, uint64_t *answer, size_t answer_words);
+/*
+ * Packs words into a payload: the other way round, with the same numbers. `given` is how many bytes that made, from the
+ * start of output on.
+ * Stack and time as nyr_unpack, with the words in the place of the payload.
+ */
+uint32_t nyr_pack(const uint8_t *table, size_t table_length, uint16_t type_number, const uint64_t *words,
+                  size_t words_length, uint8_t *output, size_t output_length, size_t *given);
 
-uint32_t nyr_pack_in(const uint8_t *table, size_t table_length, const uint64_t *sections, size_t sections_words,
-                     uint16_t type, const uint64_t *words, size_t words_length, uint8_t *out, size_t out_length,
-                     uint64_t *answer, size_t answer_words);
+uint32_t nyr_pack_in(const uint8_t *table, size_t table_length, const nyr_sections *sections, uint16_t type_number,
+                     const uint64_t *words, size_t words_length, uint8_t *output, size_t output_length, size_t *given);
 
 /* ---- Platforms: which of the 256 are UP, and what they are owed. */
+
+typedef struct {
+    uint64_t up[4];            /* platform k is bit k % 64 of up[k / 64] */
+    uint64_t next;             /* the next own sequence number, whose low 32 bits count */
+} nyr_platform;                /* any values are a state */
+
+typedef struct {
+    uint64_t kind;             /* what the message was, as below */
+    uint64_t value;            /* as below, else 0 */
+    uint64_t sender;           /* the sending platform, to whom the replies go */
+    uint64_t sequence;         /* the message's sequence number: who answers a pull repeats it */
+    uint64_t number;           /* the number of the operation's entry, else 0 */
+    uint64_t payload_start;    /* where an operation's payload starts in the message, else 0 */
+    uint64_t payload_length;   /* and its length, else 0 */
+    uint64_t replies;          /* the bytes of replies written */
+} nyr_heard;
 
 /* What a message was. */
 enum {
@@ -219,40 +264,34 @@ enum {
     NYR_HEARD_REQUEST = 2,     /* answered with our status */
     NYR_HEARD_UNKNOWN = 3,     /* value: an ID that the sender does not know; nothing is owed */
     NYR_HEARD_PULL_ALL = 4,    /* all versioned data is asked for: the caller sends it */
-    NYR_HEARD_PULL_ONE = 5,    /* value: the ID that is asked for; entry is given, and the caller sends it */
+    NYR_HEARD_PULL_ONE = 5,    /* value: the ID that is asked for; number is given, and the caller sends it */
     NYR_HEARD_PULL_NONE = 6,   /* value: an ID that is no versioned data here; answered */
-    NYR_HEARD_OPERATION = 7,   /* value: the ID; entry and payload are given */
+    NYR_HEARD_OPERATION = 7,   /* value: the ID; number and payload are given */
     NYR_HEARD_NOT_IN_TABLE = 8 /* value: the ID; answered */
 };
 
-/*
- * A fresh state: this platform UP, all others DOWN.
- * Leaves in platform: four words, in which platform k is bit k % 64 of word k / 64, and the next own sequence number,
- * whose low 32 bits count. Any words are a state.
- */
-uint32_t nyr_platform(uint8_t own, uint64_t *platform, size_t platform_words);
+/* A fresh state: this platform UP, all others DOWN, the next own sequence number 0. It answers 0.  Stack 256. */
+uint32_t nyr_start(uint8_t own, nyr_platform *platform);
 
 /*
- * Reads a message, notes the state that it tells, and writes the replies that its sender is owed at the start of out,
- * one behind another, each of NYR_REPLY_BYTES.
+ * Reads a message, notes in platform the state that it tells, and writes the replies that its sender is owed at the
+ * start of output, one behind another, each of NYR_REPLY_BYTES.
  *   30 to 33 for the table; then 1 to 9 for the message; then 10 where the replies do not fit.
- * answer: [0] what it was; [1] its value, else 0; [2] the sender, to whom the replies go; [3] the number of the
- * operation's entry, else 0; [4] and [5] where an operation's payload starts in the message and its length, else 0;
- * [6] the bytes of replies written.
+ * Stack 4096; time: the logarithm of the operations; and, but for _in, the table's check.
  */
-uint32_t nyr_receive(uint8_t own, uint64_t *platform, size_t platform_words, const uint8_t *table, size_t table_length,
-                     const uint8_t *message, size_t message_length, uint8_t *out, size_t out_length, uint64_t *answer,
-                     size_t answer_words);
+uint32_t nyr_receive(uint8_t own, nyr_platform *platform, const uint8_t *table, size_t table_length,
+                     const uint8_t *message, size_t message_length, uint8_t *output, size_t output_length,
+                     nyr_heard *heard);
 
-uint32_t nyr_receive_in(uint8_t own, uint64_t *platform, size_t platform_words, const uint8_t *table,
-                        size_t table_length, const uint64_t *sections, size_t sections_words, const uint8_t *message,
-                        size_t message_length, uint8_t *out, size_t out_length, uint64_t *answer, size_t answer_words);
+uint32_t nyr_receive_in(uint8_t own, nyr_platform *platform, const uint8_t *table, size_t table_length,
+                        const nyr_sections *sections, const uint8_t *message, size_t message_length, uint8_t *output,
+                        size_t output_length, nyr_heard *heard);
 
-/* 1 where that platform is UP, else 0. This platform always is. A word that is not there counts as 0. */
-uint32_t nyr_is_up(uint8_t own, const uint64_t *platform, size_t platform_words, uint8_t platform_number);
+/* 1 where the platform of that number is UP, else 0. This platform always is; one above 255 never is.  Stack 256. */
+uint32_t nyr_is_up(uint8_t own, const nyr_platform *platform, uint32_t number);
 
-/* How many of the 256 are UP, this one counted. */
-uint32_t nyr_how_many_up(uint8_t own, const uint64_t *platform, size_t platform_words);
+/* How many of the 256 are UP, this one counted.  Stack 256. */
+uint32_t nyr_how_many_up(uint8_t own, const nyr_platform *platform);
 
 #ifdef __cplusplus
 }

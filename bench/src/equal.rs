@@ -3,8 +3,8 @@
 
 use crate::ours;
 use crate::pair::{
-    joiner_of, joiner_words, platform_words, read_words, receive_words, sections_of,
-    sections_words, take_words, OWN,
+    our_heard, our_joiner, our_message, our_platform, our_sections, our_taken, plain_joiner,
+    plain_sections, OWN,
 };
 use crate::tables::{self, message, put_binding_header, Random};
 use bench::plain::joiner::Joiner;
@@ -40,7 +40,7 @@ fn spoil(bytes: &mut Vec<u8>, random: &mut Random) {
 }
 
 fn joining(count: usize, random: &mut Random) {
-    let (mut state, mut rooms) = (vec![0u32; 130], Vec::new());
+    let (mut state, mut rooms) = (ours::Joiner::default(), Vec::new());
     for i in 0..count {
         if i % 500 == 0 {
             let channels = 1 + random.below(32);
@@ -49,11 +49,11 @@ fn joining(count: usize, random: &mut Random) {
             if random.below(2) == 0 {
                 ids.sort_unstable();
             }
-            let number = ours::setup(&ids, room as u32, channels * room, &mut state);
+            let number = ours::setup(&mut state, &ids, room as u32, channels * room);
             match Joiner::new(&ids, room as u32, channels * room) {
                 Ok(joiner) => {
                     assert_eq!(number, 0);
-                    assert_eq!(state, joiner_words(&joiner));
+                    assert_eq!(state, our_joiner(&joiner));
                     rooms = vec![0; channels * room];
                 }
                 Err(refused) => assert_eq!(number, refused),
@@ -65,41 +65,41 @@ fn joining(count: usize, random: &mut Random) {
         if rooms.is_empty() {
             continue;
         }
-        let k = 2 + 4 * random.below(state[0] as usize);
+        let k = random.below(state.count as usize);
         let length = 5 + random.below(60);
         let mut datagram = random.bytes(length);
         let (part, ahead) = (random.below(4) as u8, [1, 1, 1, 0, 2][random.below(5)]);
         put_binding_header(
             &mut datagram,
             part,
-            state[k] as u16,
-            (state[k + 2] + ahead) as u16,
+            state.channel[k].sender as u16,
+            (state.channel[k].last + ahead) as u16,
         );
         if random.below(8) == 0 {
             spoil(&mut datagram, random);
         }
-        let mut given = state.clone();
+        let mut given = state;
         if random.below(16) == 0 {
             // Only what the plain program's types can hold: its sender is of 16 bits and its `seen` a bool.
             match random.below(5) {
-                0 => given[k] = random.below(5_000) as u32,
-                1 => given[k + 2] = random.below(70_000) as u32,
-                2 => given[k + 3] = random.below(200) as u32,
-                3 => given[0] = random.below(33) as u32,
-                _ => given[1] = random.below(200) as u32,
+                0 => given.channel[k].sender = random.below(5_000) as u32,
+                1 => given.channel[k].last = random.below(70_000) as u32,
+                2 => given.channel[k].held = random.below(200) as u32,
+                3 => given.count = random.below(33) as u32,
+                _ => given.room = random.below(200) as u32,
             }
         }
-        let mut joiner = joiner_of(&given);
-        let (mut answer, mut plain_rooms) = ([0; 5], rooms.clone());
+        let mut joiner = plain_joiner(&given);
+        let (mut answer, mut plain_rooms) = (ours::Taken::default(), rooms.clone());
         let number = ours::take(&mut given, &mut rooms, &datagram, &mut answer);
         match joiner.take(&mut plain_rooms, &datagram) {
             Ok(outcome) => {
-                assert_eq!((number, answer), (0, take_words(outcome)));
-                state = given.clone();
+                assert_eq!((number, answer), (0, our_taken(outcome)));
+                state = given;
             }
             Err(refused) => assert_eq!(number, refused),
         }
-        assert_eq!(given, joiner_words(&joiner));
+        assert_eq!(given, our_joiner(&joiner));
         assert!(rooms == plain_rooms);
     }
 }
@@ -112,7 +112,7 @@ fn cutting(count: usize, random: &mut Random) {
         let (sender, first) = (random.below(4_100), random.below(65_600));
         let piece = random.below(6);
         let mut out = vec![0; random.below(120)];
-        let (mut plain_out, mut answer) = (out.clone(), [0]);
+        let (mut plain_out, mut given) = (out.clone(), 0);
         let number = ours::cut(
             &bytes[..length],
             size,
@@ -120,10 +120,10 @@ fn cutting(count: usize, random: &mut Random) {
             first,
             piece,
             &mut out,
-            &mut answer,
+            &mut given,
         );
         match binding::cut(&bytes[..length], size, sender, first, piece, &mut plain_out) {
-            Ok(written) => assert_eq!((number, answer[0]), (0, written as u64)),
+            Ok(written) => assert_eq!((number, given), (0, written)),
             Err(refused) => assert_eq!(number, refused),
         }
         assert_eq!(out, plain_out);
@@ -159,10 +159,10 @@ fn any_message(random: &mut Random) -> Vec<u8> {
 fn reading(count: usize, random: &mut Random) {
     for _ in 0..count {
         let bytes = any_message(random);
-        let mut answer = [0; 6];
+        let mut answer = ours::Message::default();
         let number = ours::read(OWN, &bytes, &mut answer);
         match plain_message::read(OWN, &bytes) {
-            Ok(read) => assert_eq!((number, answer), (0, read_words(&read))),
+            Ok(read) => assert_eq!((number, answer), (0, our_message(&read))),
             Err(refused) => assert_eq!(number, refused),
         }
     }
@@ -186,15 +186,15 @@ fn tables_and_payloads(count: usize, random: &mut Random) {
         if random.below(2) == 0 {
             spoil(&mut table, random);
         }
-        let mut words = [0; 8];
-        let refused = ours::check(&table, &mut words);
+        let mut given = ours::Sections::default();
+        let refused = ours::check(&table, &mut given);
         match types::check(&table) {
-            Ok(sections) => assert_eq!((refused, words), (0, sections_words(&sections))),
+            Ok(sections) => assert_eq!((refused, given), (0, our_sections(&sections))),
             Err(number) => assert_eq!(refused, number),
         }
         // By sections also a spoilt table is walked, and both refuse the same entries.
         let sections = types::check(whole).unwrap();
-        let section_words = sections_words(&sections);
+        let known = our_sections(&sections);
         let mut input = right.clone();
         match random.below(6) {
             0 => input.truncate(random.below(input.len())),
@@ -206,17 +206,10 @@ fn tables_and_payloads(count: usize, random: &mut Random) {
             _ => {}
         }
         let mut bytes = vec![0; random.below(20) * random.below(30)];
-        let (mut plain_bytes, mut answer) = (bytes.clone(), [0]);
-        let refused = ours::pack_in(
-            &table,
-            &section_words,
-            *number,
-            &input,
-            &mut bytes,
-            &mut answer,
-        );
+        let (mut plain_bytes, mut given) = (bytes.clone(), 0);
+        let refused = ours::pack_in(&table, &known, *number, &input, &mut bytes, &mut given);
         match payload::pack_in(&table, &sections, *number, &input, &mut plain_bytes) {
-            Ok(gave) => assert_eq!((refused, answer[0]), (0, gave as u64)),
+            Ok(gave) => assert_eq!((refused, given), (0, gave)),
             Err(number) => assert_eq!(refused, number),
         }
         assert_eq!(bytes, plain_bytes);
@@ -230,14 +223,14 @@ fn tables_and_payloads(count: usize, random: &mut Random) {
             let mut plain_out = out.clone();
             let refused = ours::unpack_in(
                 &table,
-                &section_words,
+                &known,
                 *number,
                 &payload_bytes,
                 &mut out,
-                &mut answer,
+                &mut given,
             );
             match payload::unpack_in(&table, &sections, *number, &payload_bytes, &mut plain_out) {
-                Ok(gave) => assert_eq!((refused, answer[0]), (0, gave as u64)),
+                Ok(gave) => assert_eq!((refused, given), (0, gave)),
                 Err(number) => assert_eq!(refused, number),
             }
             assert_eq!(out, plain_out);
@@ -250,15 +243,15 @@ fn receiving(count: usize, random: &mut Random) {
         tables::record_of_all(),
         tables::table(&[[0, 8, 0, 0]], &[], &[], &[(0x103, 0, 0xFFFF)]),
     ];
-    let mut state = [0; 5];
-    assert_eq!(ours::platform(OWN, &mut state), 0);
+    let mut state = ours::Platform::default();
+    assert_eq!(ours::start(OWN, &mut state), 0);
     let mut platform = Platform::new(OWN);
     for i in 0..count {
         let table = &tables[i % 2];
         let sections = types::check(table).unwrap();
-        let mut words = sections_words(&sections);
+        let mut known = our_sections(&sections);
         if random.below(32) == 0 {
-            words[random.below(8)] = random.below(1_000) as u64;
+            known.words[random.below(8)] = random.below(1_000) as u64;
         }
         let bytes = any_message(random);
         let mut out = vec![
@@ -269,32 +262,32 @@ fn receiving(count: usize, random: &mut Random) {
                 48
             }
         ];
-        let (mut plain_out, mut answer) = (out.clone(), [0; 7]);
+        let (mut plain_out, mut answer) = (out.clone(), ours::Heard::default());
         let number = ours::receive_in(
             OWN,
             &mut state,
             table,
-            &words,
+            &known,
             &bytes,
             &mut out,
             &mut answer,
         );
-        let heard = platform.receive_in(table, &sections_of(&words), &bytes, &mut plain_out);
-        if words != sections_words(&sections) {
+        let heard = platform.receive_in(table, &plain_sections(&known), &bytes, &mut plain_out);
+        if known != our_sections(&sections) {
             // On sections of no table an operation that is found is promised to bear the ID, and no more: what is owed
             // may differ, and so whether it fits.
             let refused = heard.err().unwrap_or(0);
             let either = |number| number == 0 || number == 10;
             assert!(number == refused || either(number) && either(refused));
-            platform.up.copy_from_slice(&state[..4]);
-            platform.next = state[4] as u32;
+            platform.up = state.up;
+            platform.next = state.next as u32;
             continue;
         }
         match heard {
-            Ok(heard) => assert_eq!((number, answer), (0, receive_words(&heard))),
+            Ok(heard) => assert_eq!((number, answer), (0, our_heard(&heard))),
             Err(refused) => assert_eq!(number, refused),
         }
         assert_eq!(out, plain_out);
-        assert_eq!(state.to_vec(), platform_words(&platform));
+        assert_eq!(state, our_platform(&platform));
     }
 }

@@ -1,5 +1,6 @@
-/* A fuzz run over the C interface: random lengths, bytes, words and state, most of them nearly right. Every buffer is lent
- * between pages that may not be touched, and after each call everything that it may not have changed is compared. */
+/* A fuzz run over the C interface: random lengths, bytes, words and state, most of them nearly right. Every buffer and every struct
+ * is lent, just as long as it is, between pages that may not be touched, and after each call everything that it may not have
+ * changed is compared. */
 #ifndef FUZZ_H
 #define FUZZ_H
 
@@ -12,7 +13,6 @@ uint64_t narrow(void);      /* any number, of any width */
 size_t below(size_t limit); /* 0 to limit - 1 */
 int one_in(size_t times);
 size_t near(size_t right);                    /* mostly right; sometimes one off, 0, small, or anything */
-size_t about(size_t needed);                  /* a length: mostly just as needed, sometimes shorter, sometimes longer */
 void scramble(uint8_t *bytes, size_t length); /* a few bytes changed */
 void fill(void *bytes, size_t length);
 
@@ -23,7 +23,7 @@ int differ(const void *one, const void *other, size_t bytes);
 /* A buffer that is lent: its end, or its start, stands against a page that may not be touched. */
 typedef struct {
     uint8_t *pages, *at, *before;
-    size_t room, length, from, to;
+    size_t room, length, from, to, field;
 } Lent;
 
 enum { IDS, JOINER, ROOMS, DATAGRAM, ANSWER, MESSAGE, OUT, PAYLOAD, TABLE, SECTIONS, WORDS, PLATFORM, BUFFERS };
@@ -32,6 +32,9 @@ void lent_start(void);
 /* A buffer of so many elements of that width, with these bytes, or any where they are null. Of no elements: null, or a place
  * that may not be touched. */
 void *lend(int buffer, const void *bytes, size_t elements, size_t width);
+/* A struct or a number that the call answers with, of fields of that width: just its size is lent, filled with what no field can be.
+ * Where the call answers 0 it must have written every field. */
+void *lend_answer(int buffer, size_t size, size_t field);
 /* The call may have changed these elements, and no others, of a buffer. */
 void may_change(int buffer, size_t from, size_t to, size_t width);
 
@@ -50,14 +53,15 @@ typedef struct {
     size_t length, types;
     uint16_t kind[256], of[256], first[256], count[256];
     uint16_t members[1024];
-    uint64_t values[1024], sections[8];
+    uint64_t values[1024];
+    nyr_sections sections;
     size_t members_count, values_count, operations;
     uint32_t ids[64];
 } Table;
 
 void make_table(Table *table);
-/* Whether so many words could be the sections of a table of so many bytes. */
-int lie_in(const uint64_t *sections, size_t words, size_t bytes);
+/* Whether these could be the sections of a table of so many bytes. */
+int lie_in(const nyr_sections *sections, size_t bytes);
 size_t make_words(const Table *table, size_t type, uint64_t *words, size_t room); /* 0 where they would not fit */
 
 /* One or more calls of each family, with their checks. */

@@ -9,7 +9,7 @@
 #include <sys/mman.h>
 #include <unistd.h>
 
-enum { CANARY = 64, CANARY_BYTE = 0xA5, ROOM = 1 << 22 };
+enum { CANARY = 64, CANARY_BYTE = 0xA5, UNWRITTEN = 0xC3, ROOM = 1 << 22 };
 
 uint64_t calls, accepted, numbers_met, outcomes_met, kinds_met, heard_met;
 static uint64_t state, seeded;
@@ -59,12 +59,6 @@ size_t near(size_t right)
     }
 }
 
-size_t about(size_t needed)
-{
-    if (one_in(16))
-        return below(needed + 1);
-    return needed + (one_in(4) ? below(9) : 0);
-}
 
 void scramble(uint8_t *bytes, size_t length)
 {
@@ -151,7 +145,7 @@ void *lend(int buffer, const void *bytes, size_t elements, size_t width)
     else
         fill(l->at, l->length);
     memcpy(l->before, l->at, l->length);
-    l->from = l->to = 0;
+    l->from = l->to = l->field = 0;
     live[buffer] = 1;
     if (elements == 0)
         return one_in(2) ? NULL : l->pages + l->room;
@@ -162,6 +156,30 @@ void may_change(int buffer, size_t from, size_t to, size_t width)
 {
     lents[buffer].from = from * width;
     lents[buffer].to = to * width;
+}
+
+void *lend_answer(int buffer, size_t size, size_t field)
+{
+    static uint8_t unwritten[2048];
+    void *at;
+    memset(unwritten, UNWRITTEN, sizeof unwritten);
+    at = lend(buffer, unwritten, 1, size);
+    may_change(buffer, 0, 1, size);
+    lents[buffer].field = field;
+    return at;
+}
+
+/* An answer's fields are all written. */
+static int all_written(const Lent *l)
+{
+    for (size_t at = 0; l->field > 0 && at < l->length; at += l->field) {
+        size_t i = 0;
+        while (i < l->field && l->at[at + i] == UNWRITTEN)
+            i++;
+        if (i == l->field)
+            return 0;
+    }
+    return 1;
 }
 
 void calling(const char *call)
@@ -186,6 +204,7 @@ uint32_t called(uint32_t number, uint64_t numbers)
         expect(from <= to && to <= l->length, "says that it wrote more than it was lent");
         expect(memcmp(l->at, l->before, from) == 0 && memcmp(l->at + to, l->before + to, l->length - to) == 0,
                number == 0 ? "changed what is not its answer" : "changed something, and refused");
+        expect(number != 0 || all_written(l), "a field of its answer is not written");
     }
     return number;
 }

@@ -118,18 +118,18 @@ void make_table(Table *t)
     size_t at = 2;
     size_t counts[4] = {t->types, t->members_count, t->values_count, t->operations};
     for (int s = 0; s < 4; s++) {
-        t->sections[2 * s] = at;
-        t->sections[2 * s + 1] = counts[s];
+        t->sections.words[2 * s] = at;
+        t->sections.words[2 * s + 1] = counts[s];
         at += counts[s] * (s == 1 ? 2 : 8) + 2;
     }
 }
 
-int lie_in(const uint64_t *sections, size_t words, size_t bytes)
+int lie_in(const nyr_sections *sections, size_t bytes)
 {
     static const size_t entry[4] = {8, 2, 8, 8}, most[4] = {256, 1024, 1024, 1024};
     for (int s = 0; s < 4; s++)
-        if (words < NYR_SECTIONS_WORDS || sections[2 * s + 1] > most[s] || sections[2 * s] > bytes ||
-            sections[2 * s + 1] * entry[s] > bytes - sections[2 * s])
+        if (sections->words[2 * s + 1] > most[s] || sections->words[2 * s] > bytes ||
+            sections->words[2 * s + 1] * entry[s] > bytes - sections->words[2 * s])
             return 0;
     return 1;
 }

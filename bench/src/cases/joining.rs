@@ -2,7 +2,7 @@
 
 use crate::measure::{opaque, shared, Calls, Case, Shared};
 use crate::ours;
-use crate::pair::{joiner_words, take_words};
+use crate::pair::{our_joiner, our_taken};
 use crate::tables::{put_binding_header, Random};
 use bench::plain::binding;
 use bench::plain::joiner::{Joiner, Outcome};
@@ -46,11 +46,11 @@ pub fn joining(channels: u16, piece: usize) -> Case {
     let mut stream = Stream::new(channels, piece);
     let mut rooms = vec![0; length];
     let mut plain_rooms = rooms.clone();
-    let mut state = vec![0; 130];
-    let mut answer = [0; 5];
-    assert_eq!(ours::setup(&stream.ids, room as u32, length, &mut state), 0);
+    let mut state = ours::Joiner::default();
+    let mut answer = ours::Taken::default();
+    assert_eq!(ours::setup(&mut state, &stream.ids, room as u32, length), 0);
     let mut joiner = Joiner::new(&stream.ids, room as u32, length).unwrap();
-    assert_eq!(state, joiner_words(&joiner));
+    assert_eq!(state, our_joiner(&joiner));
     for _ in 0..40 * channels {
         let datagram = Rc::clone(&stream.datagram);
         let mut datagram = datagram.borrow_mut();
@@ -60,8 +60,8 @@ pub fn joining(channels: u16, piece: usize) -> Case {
             0
         );
         let outcome = joiner.take(&mut plain_rooms, &datagram).unwrap();
-        assert_eq!(answer, take_words(outcome));
-        assert_eq!(state, joiner_words(&joiner));
+        assert_eq!(answer, our_taken(outcome));
+        assert_eq!(state, our_joiner(&joiner));
     }
     assert!(rooms == plain_rooms);
     let (mut plain_stream, mut bare_stream) = (stream.clone(), stream.clone());
@@ -106,14 +106,14 @@ pub fn cutting(piece: usize) -> Case {
     let count = binding::pieces(bytes.len(), piece).unwrap();
     let mut out = vec![0; 4 + piece];
     let mut plain_out = out.clone();
-    let mut answer = [0];
+    let mut written = 0;
     for i in 0..count {
         assert_eq!(
-            ours::cut(&bytes, piece, 0x102, 65_530, i, &mut out, &mut answer),
+            ours::cut(&bytes, piece, 0x102, 65_530, i, &mut out, &mut written),
             0
         );
         let length = binding::cut(&bytes, piece, 0x102, 65_530, i, &mut plain_out).unwrap();
-        assert_eq!(answer[0], length as u64);
+        assert_eq!(written, length);
         assert!(out == plain_out);
     }
     let (mut at, mut plain_at) = (0, 0);
@@ -124,7 +124,7 @@ pub fn cutting(piece: usize) -> Case {
             let mut out = out.borrow_mut();
             for _ in 0..calls {
                 assert_eq!(
-                    ours::cut(&bytes, piece, 0x102, 65_530, at, &mut out, &mut answer),
+                    ours::cut(&bytes, piece, 0x102, 65_530, at, &mut out, &mut written),
                     0
                 );
                 at = if at + 1 == count { 0 } else { at + 1 };

@@ -3,7 +3,7 @@
 use super::payloads::checked;
 use crate::measure::{opaque, Case};
 use crate::ours;
-use crate::pair::{platform_words, read_words, receive_words, OWN};
+use crate::pair::{our_heard, our_message, our_platform, OWN};
 use bench::plain::message::{self, Message};
 use bench::plain::platform::{Answer, Platform};
 use bench::plain::types::Sections;
@@ -14,9 +14,9 @@ type Receive =
     for<'m> fn(&mut Platform, &[u8], &Sections, &'m [u8], &mut [u8]) -> Result<Answer<'m>, u32>;
 
 pub fn reading(bytes: &[u8]) -> Case {
-    let mut answer = [0; 6];
+    let mut answer = ours::Message::default();
     assert_eq!(ours::read(OWN, bytes, &mut answer), 0);
-    assert_eq!(answer, read_words(&message::read(OWN, bytes).unwrap()));
+    assert_eq!(answer, our_message(&message::read(OWN, bytes).unwrap()));
     let bytes = Rc::new(bytes.to_vec());
     let plain_bytes = Rc::clone(&bytes);
     Case {
@@ -36,20 +36,29 @@ pub fn reading(bytes: &[u8]) -> Case {
 }
 
 pub fn receiving(table: &[u8], bytes: &[u8]) -> Case {
-    let (words, sections) = checked(table);
-    let (mut state, mut answer, mut out, mut plain_out) = ([0; 5], [0; 7], [0; 48], [0; 48]);
-    assert_eq!(ours::platform(OWN, &mut state), 0);
+    let (our_sections, sections) = checked(table);
+    let (mut state, mut answer) = (ours::Platform::default(), ours::Heard::default());
+    let (mut out, mut plain_out) = ([0; 48], [0; 48]);
+    assert_eq!(ours::start(OWN, &mut state), 0);
     let mut platform = Platform::new(OWN);
     assert_eq!(
-        ours::receive_in(OWN, &mut state, table, &words, bytes, &mut out, &mut answer),
+        ours::receive_in(
+            OWN,
+            &mut state,
+            table,
+            &our_sections,
+            bytes,
+            &mut out,
+            &mut answer
+        ),
         0
     );
     let heard = platform
         .receive_in(table, &sections, bytes, &mut plain_out)
         .unwrap();
-    assert_eq!(answer, receive_words(&heard));
+    assert_eq!(answer, our_heard(&heard));
     assert_eq!(out, plain_out);
-    assert_eq!(state.to_vec(), platform_words(&platform));
+    assert_eq!(state, our_platform(&platform));
     let (table, bytes) = (Rc::new(table.to_vec()), Rc::new(bytes.to_vec()));
     let (plain_table, plain_bytes) = (Rc::clone(&table), Rc::clone(&bytes));
     Case {
@@ -60,7 +69,7 @@ pub fn receiving(table: &[u8], bytes: &[u8]) -> Case {
                         OWN,
                         &mut state,
                         &table,
-                        &words,
+                        &our_sections,
                         &bytes,
                         &mut out,
                         &mut answer

@@ -2,7 +2,7 @@
 
 use crate::measure::{opaque, shared, Case};
 use crate::ours;
-use crate::pair::sections_words;
+use crate::pair::our_sections;
 use bench::plain::payload;
 use bench::plain::types::{self, Sections};
 use std::rc::Rc;
@@ -11,61 +11,43 @@ type Unpack = fn(&[u8], &Sections, u16, &[u8], &mut [u64]) -> Result<usize, u32>
 type Pack = fn(&[u8], &Sections, u16, &[u64], &mut [u8]) -> Result<usize, u32>;
 type Check = fn(&[u8]) -> Result<Sections, u32>;
 
-pub fn checked(table: &[u8]) -> ([u64; 8], Sections) {
-    let mut words = [0; 8];
-    assert_eq!(ours::check(table, &mut words), 0);
+pub fn checked(table: &[u8]) -> (ours::Sections, Sections) {
+    let mut given = ours::Sections::default();
+    assert_eq!(ours::check(table, &mut given), 0);
     let sections = types::check(table).unwrap();
-    assert_eq!(words, sections_words(&sections));
-    (words, sections)
+    assert_eq!(given, our_sections(&sections));
+    (given, sections)
 }
 
-fn packed(table: &[u8], number: u16, words: &[u64]) -> ([u64; 8], Sections, Vec<u8>) {
-    let (section_words, sections) = checked(table);
-    let (mut bytes, mut plain_bytes, mut answer) =
-        (vec![0; 8 * words.len()], vec![0; 8 * words.len()], [0]);
+fn packed(table: &[u8], number: u16, words: &[u64]) -> (ours::Sections, Sections, Vec<u8>) {
+    let (known, sections) = checked(table);
+    let (mut bytes, mut plain_bytes, mut length) =
+        (vec![0; 8 * words.len()], vec![0; 8 * words.len()], 0);
     assert_eq!(
-        ours::pack_in(
-            table,
-            &section_words,
-            number,
-            words,
-            &mut bytes,
-            &mut answer
-        ),
+        ours::pack_in(table, &known, number, words, &mut bytes, &mut length),
         0
     );
-    let length = answer[0] as usize;
     assert_eq!(
         payload::pack_in(table, &sections, number, words, &mut plain_bytes),
         Ok(length)
     );
     assert_eq!(bytes, plain_bytes);
     bytes.truncate(length);
-    (section_words, sections, bytes)
+    (known, sections, bytes)
 }
 
 pub fn unpacking((table, number, words): (Vec<u8>, u16, Vec<u64>)) -> Case {
-    let (section_words, sections, bytes) = packed(&table, number, &words);
-    let (mut out, mut plain_out, mut answer) = (vec![0; words.len()], vec![0; words.len()], [0]);
+    let (known, sections, bytes) = packed(&table, number, &words);
+    let (mut out, mut plain_out, mut given) = (vec![0; words.len()], vec![0; words.len()], 0);
     assert_eq!(
-        ours::unpack_in(
-            &table,
-            &section_words,
-            number,
-            &bytes,
-            &mut out,
-            &mut answer
-        ),
+        ours::unpack_in(&table, &known, number, &bytes, &mut out, &mut given),
         0
     );
     assert_eq!(
         payload::unpack_in(&table, &sections, number, &bytes, &mut plain_out),
         Ok(words.len())
     );
-    assert_eq!(
-        (answer[0], &out, &plain_out),
-        (words.len() as u64, &words, &words)
-    );
+    assert_eq!((given, &out, &plain_out), (words.len(), &words, &words));
     let (table, bytes, out) = (Rc::new(table), Rc::new(bytes), shared(out));
     let (plain_table, plain_bytes) = (Rc::clone(&table), Rc::clone(&bytes));
     let plain_out = Rc::clone(&out);
@@ -74,14 +56,7 @@ pub fn unpacking((table, number, words): (Vec<u8>, u16, Vec<u64>)) -> Case {
             let mut out = out.borrow_mut();
             for _ in 0..count {
                 assert_eq!(
-                    ours::unpack_in(
-                        &table,
-                        &section_words,
-                        number,
-                        &bytes,
-                        &mut out,
-                        &mut answer
-                    ),
+                    ours::unpack_in(&table, &known, number, &bytes, &mut out, &mut given),
                     0
                 );
             }
@@ -98,24 +73,17 @@ pub fn unpacking((table, number, words): (Vec<u8>, u16, Vec<u64>)) -> Case {
 }
 
 pub fn packing((table, number, words): (Vec<u8>, u16, Vec<u64>)) -> Case {
-    let (section_words, sections, out) = packed(&table, number, &words);
+    let (known, sections, out) = packed(&table, number, &words);
     let (table, words, out) = (Rc::new(table), Rc::new(words), shared(out));
     let (plain_table, plain_words) = (Rc::clone(&table), Rc::clone(&words));
     let plain_out = Rc::clone(&out);
-    let mut answer = [0];
+    let mut given = 0;
     Case {
         ours: Box::new(move |count| {
             let mut out = out.borrow_mut();
             for _ in 0..count {
                 assert_eq!(
-                    ours::pack_in(
-                        &table,
-                        &section_words,
-                        number,
-                        &words,
-                        &mut out,
-                        &mut answer
-                    ),
+                    ours::pack_in(&table, &known, number, &words, &mut out, &mut given),
                     0
                 );
             }
@@ -135,7 +103,7 @@ pub fn checking(table: Vec<u8>) -> Case {
     checked(&table);
     let table = Rc::new(table);
     let plain_table = Rc::clone(&table);
-    let mut sections = [0; 8];
+    let mut sections = ours::Sections::default();
     Case {
         ours: Box::new(move |count| {
             for _ in 0..count {

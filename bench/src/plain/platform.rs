@@ -32,6 +32,7 @@ pub enum Heard<'a> {
 pub struct Answer<'a> {
     pub heard: Heard<'a>,
     pub sender: u8,
+    pub sequence: u32,
     pub written: usize,
 }
 
@@ -123,6 +124,7 @@ impl Platform {
         Ok(Answer {
             heard,
             sender: got.sender,
+            sequence: got.sequence,
             written,
         })
     }

@@ -1,0 +1,42 @@
+/* Files of calls (docs/CALLS.md): the library's calls, run on what a file says, with a line for each. */
+#ifndef ANSWERS_H
+#define ANSWERS_H
+
+#include "nyrkovash.h"
+
+enum {
+    MOST_ARGUMENTS = 6,
+    MOST_BYTES = 70000, /* of an argument, and of an output */
+    MOST_WORDS = 65536,
+    RECORD = 11,        /* bytes: sender 2, seen 1, last counter 4, held 4 */
+    SEEN_AT = 2,
+    LAST_AT = 3,
+    HELD_AT = 7
+};
+
+typedef struct {
+    const uint8_t *bytes;
+    size_t length;
+    uint64_t number; /* that the bytes are, where the argument is one */
+} Argument;
+
+typedef struct {
+    unsigned code;
+    size_t end; /* where it ends in the input */
+    Argument argument[MOST_ARGUMENTS];
+} Call;
+
+/* What stands at a place of what has come so far: a call that is all there, a part of one or nothing, or what no call is. */
+typedef enum { WHOLE, UNFINISHED, BAD } Found;
+
+Found next_call(const uint8_t *input, size_t filled, size_t at, Call *call);
+
+uint64_t number_at(const uint8_t *bytes, size_t width);
+
+/* A platform that the calls speak to; at first it is platform 0. */
+void start_platform(uint8_t own);
+
+/* The answer's part of a call's line, on standard output. */
+void answer(const Call *call);
+
+#endif
