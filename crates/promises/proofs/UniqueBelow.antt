@@ -184,15 +184,15 @@ lent-messages : LentMessagesUnique
 lent-messages =
     record {
       pieces = λ k a z z′ e e′ p q. p .0 ∙ sym (q .0);
-      pieces-answer = λ k a z z′ e e′ p q. p .1 ∙ sym (q .1);
+      pieces-given = λ k a z z′ e e′ p q. p .1 ∙ sym (q .1);
       cut = λ k a z z′ e e′ p q. p .0 ∙ sym (q .0);
       cut-out = λ k a z z′ e e′ p q. p .1 .0 ∙ sym (q .1 .0);
-      cut-answer = λ k a z z′ e e′ p q. p .1 .1 ∙ sym (q .1 .1);
+      cut-written = λ k a z z′ e e′ p q. p .1 .1 ∙ sym (q .1 .1);
       read = λ k a z z′ e e′ p q. p .0 ∙ sym (q .0);
       read-answer = λ k a z z′ e e′ p q. p .1 ∙ sym (q .1);
       write = λ k a z z′ e e′ p q. p .0 ∙ sym (q .0);
       write-out = λ k a z z′ e e′ p q. p .1 .0 ∙ sym (q .1 .0);
-      write-answer = λ k a z z′ e e′ p q. p .1 .1 ∙ sym (q .1 .1);
+      write-written = λ k a z z′ e e′ p q. p .1 .1 ∙ sym (q .1 .1);
     }
 
 lent-tables : LentTablesUnique

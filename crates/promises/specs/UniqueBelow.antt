@@ -209,15 +209,15 @@ pub record LentJoinerUnique : Type 0 where
 
 pub record LentMessagesUnique : Type 0 where
   pub pieces : Answer lent-messages-pieces
-  pub pieces-answer : Lent lent-messages-pieces (λ k e. now (e .1 .1 .0))
+  pub pieces-given : Lent lent-messages-pieces (λ k e. now (e .1 .1 .0))
   pub cut : Answer lent-messages-cut
   pub cut-out : Lent lent-messages-cut (λ k e. now (e .1 .1 .1 .1 .1 .0))
-  pub cut-answer : Lent lent-messages-cut (λ k e. now (e .1 .1 .1 .1 .1 .1 .0))
+  pub cut-written : Lent lent-messages-cut (λ k e. now (e .1 .1 .1 .1 .1 .1 .0))
   pub read : Answer lent-messages-read
   pub read-answer : Lent lent-messages-read (λ k e. now (e .1 .1 .0))
   pub write : Answer lent-messages-write
   pub write-out : Lent lent-messages-write (λ k e. now (e .1 .1 .1 .1 .1 .0))
-  pub write-answer : Lent lent-messages-write (λ k e. now (e .1 .1 .1 .1 .1 .1 .0))
+  pub write-written : Lent lent-messages-write (λ k e. now (e .1 .1 .1 .1 .1 .1 .0))
 
 pub record LentTablesUnique : Type 0 where
   pub check : Answer lent-tables-check
