@@ -66,7 +66,6 @@ use Rattle.lent.proofs.u64_at.Reads.{Post as lent-u64-at}
 use Rattle.lent.proofs.u32_at.Reads.{Post as lent-u32-at}
 use Rattle.lent.proofs.put_u64.Reads.{Post as lent-put-u64}
 use Rattle.lent.proofs.put_u32.Reads.{Post as lent-put-u32}
-use Rattle.lent.proofs.put_count.Reads.{Post as lent-put-count}
 use Rattle.lent_channels.proofs.look.Reads.{Post as lent-channels-look}
 use Rattle.lent_joiner.proofs.setup.Reads.{Post as lent-joiner-setup}
 use Rattle.lent_joiner.proofs.take.Reads.{Post as lent-joiner-take}
@@ -194,7 +193,6 @@ pub record LentUnique : Type 0 where
   pub u32-at : Answer lent-u32-at
   pub put-u64-words : Lent lent-put-u64 (λ k e. now (e .0))
   pub put-u32-words : Lent lent-put-u32 (λ k e. now (e .0))
-  pub put-count-words : Lent lent-put-count (λ k e. now (e .0))
 
 pub record LentChannelsUnique : Type 0 where
   pub look : Answer lent-channels-look
@@ -227,16 +225,16 @@ pub record LentTablesUnique : Type 0 where
 pub record LentPayloadsUnique : Type 0 where
   pub unpack : Answer lent-payloads-unpack
   pub unpack-words : Lent lent-payloads-unpack (λ k e. now (e .1 .1 .1 .0))
-  pub unpack-answer : Lent lent-payloads-unpack (λ k e. now (e .1 .1 .1 .1 .0))
+  pub unpack-given : Lent lent-payloads-unpack (λ k e. now (e .1 .1 .1 .1 .0))
   pub unpack-in : Answer lent-payloads-unpack-in
   pub unpack-in-words : Lent lent-payloads-unpack-in (λ k e. now (e .1 .1 .1 .1 .0))
-  pub unpack-in-answer : Lent lent-payloads-unpack-in (λ k e. now (e .1 .1 .1 .1 .1 .0))
+  pub unpack-in-given : Lent lent-payloads-unpack-in (λ k e. now (e .1 .1 .1 .1 .1 .0))
   pub pack : Answer lent-payloads-pack
   pub pack-out : Lent lent-payloads-pack (λ k e. now (e .1 .1 .1 .0))
-  pub pack-answer : Lent lent-payloads-pack (λ k e. now (e .1 .1 .1 .1 .0))
+  pub pack-given : Lent lent-payloads-pack (λ k e. now (e .1 .1 .1 .1 .0))
   pub pack-in : Answer lent-payloads-pack-in
   pub pack-in-out : Lent lent-payloads-pack-in (λ k e. now (e .1 .1 .1 .1 .0))
-  pub pack-in-answer : Lent lent-payloads-pack-in (λ k e. now (e .1 .1 .1 .1 .1 .0))
+  pub pack-in-given : Lent lent-payloads-pack-in (λ k e. now (e .1 .1 .1 .1 .1 .0))
 
 pub record LentStatesUnique : Type 0 where
   pub fresh : Answer lent-states-fresh
