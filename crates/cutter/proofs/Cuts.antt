@@ -21,7 +21,7 @@ use Rattle.cutter.specs.declared.Counted.the-variants.{Refused as NotCou
 use Rattle.cutter.specs.declared.Made.{Made}
 use Rattle.cutter.specs.declared.Made.the-variants.{Refused, Datagram}
 use Rattle.binding.specs.Header.{senders, counters, largestPiece, codeOf, headerOf, headerBytes}
-use Rattle.cutter.specs.Cutting.{pieceCount, countedOf, partOfPiece, bytesFrom, behind, datagramOf, largestMessage, canCut, canHead, cannotCut, noSuchPiece, outputTooShort, madeIn, madeOf, outAfter, cutInto}
+use Rattle.cutter.specs.Cutting.{pieceCount, countedOf, partOfPiece, bytesFrom, behind, datagramOf, largestMessage, canCut, canHead, cannotCut, noSuchPiece, noRoomForDatagram, madeIn, madeOf, outAfter, cutInto}
 use Rattle.cutter.proofs.Cutting.{cuttable, headable, starts-in, started, covered, count-most}
 
 -- piece i of a message that can be cut, by where it starts
@@ -131,7 +131,7 @@ module _ (msg : List ℕ) (start size : ℕ) {r : ℕ} (e : r ≡ min size (leng
   module _ (header : BindingHeader) (out : List ℕ) where
     -- it does not fit: 52, and the output is as it was
     module _ (f : length out < 4 + r) where
-      pub made-none : Refused outputTooShort ≡ madeIn (behind header msg start size) (length out)
+      pub made-none : Refused noRoomForDatagram ≡ madeIn (behind header msg start size) (length out)
       made-none = rw (lt-leb (length (behind header msg start size)) (length out) (omega (arith, long)))
 
       pub wrote-none : out ≡ written out 0 (behind header msg start size)

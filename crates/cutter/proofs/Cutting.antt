@@ -16,7 +16,7 @@ use Rattle.binding.specs.declared.Heard.the-variants.{Piece}
 use Rattle.cutter.specs.declared.Counted.the-variants.{Refused as NotCounted, Pieces}
 use Rattle.cutter.specs.declared.Made.the-variants.{Refused, Datagram}
 use Rattle.binding.specs.Header.{headerLength, senders, counters, largestPiece, heardIn, pieceIn}
-use Rattle.cutter.specs.Cutting.{pieceCount, countedOf, pieceAt, counterOf, headerOfPiece, datagramOf, largestMessage, canCut, canHead, madeOf, cutInto, together, outputTooShort, noSuchPiece, cannotCut}
+use Rattle.cutter.specs.Cutting.{pieceCount, countedOf, pieceAt, counterOf, headerOfPiece, datagramOf, largestMessage, canCut, canHead, madeOf, cutInto, together, noRoomForDatagram, noSuchPiece, cannotCut}
 use Rattle.binding.proofs.Headers.{header-back, piece-back}
 
 -- what 50 leaves: a message of m bytes, cut at s
@@ -142,7 +142,7 @@ module _ (msg : List ℕ) (s sender first i : ℕ) where
       d = datagramOf msg s sender first i
 
       go : (a b p f : Bool) → canCut (length msg) s ≡ a → canHead sender first ≡ b → ltb i (pieceCount (length msg) s) ≡ p → leb (length d) room ≡ f →
-          cond (a && b) (cond p (cond f (Datagram (length d)) (Refused outputTooShort)) (Refused noSuchPiece)) (Refused cannotCut) ≡ Datagram n → Makes room n
+          cond (a && b) (cond p (cond f (Datagram (length d)) (Refused noRoomForDatagram)) (Refused noSuchPiece)) (Refused cannotCut) ≡ Datagram n → Makes room n
       go true true true true ea eb ep ef q =
           let k : (sender < senders) × (first < counters) = headable sender first eb in
           record {

@@ -63,8 +63,8 @@ cannotCut = 50
 abbrev pub noSuchPiece : ℕ
 noSuchPiece = 51
 
-abbrev pub outputTooShort : ℕ
-outputTooShort = 52
+abbrev pub noRoomForDatagram : ℕ
+noRoomForDatagram = 52
 
 -- the number of pieces, by a call of its own
 abbrev pub countedOf : ℕ → ℕ → Counted
@@ -72,7 +72,7 @@ countedOf m s = cond (canCut m s) (Pieces (pieceCount m s)) (NotCounted cannotCu
 
 -- a datagram in an output of so many bytes
 abbrev pub madeIn : List ℕ → ℕ → Made
-madeIn d room = cond (leb (length d) room) (Datagram (length d)) (Refused outputTooShort)
+madeIn d room = cond (leb (length d) room) (Datagram (length d)) (Refused noRoomForDatagram)
 
 -- cutting piece i out for an output of so many bytes: 50, then 51, then 52
 abbrev pub madeOf : List ℕ → ℕ → ℕ → ℕ → ℕ → ℕ → Made

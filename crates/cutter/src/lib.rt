@@ -28,7 +28,7 @@ pub const CANNOT_CUT: u32 = 50;
 
 pub const NO_SUCH_PIECE: u32 = 51;
 
-pub const OUTPUT_TOO_SHORT: u32 = 52;
+pub const NO_ROOM_FOR_DATAGRAM: u32 = 52;
 
 // The longest message that is cut.
 pub const LARGEST_MESSAGE: usize = 65560;
@@ -168,7 +168,7 @@ fn put_datagram(
         );
         Made::Datagram(whole)
     } else {
-        Made::Refused(OUTPUT_TOO_SHORT)
+        Made::Refused(NO_ROOM_FOR_DATAGRAM)
     }
 }
 

@@ -1,7 +1,7 @@
 -- What a call in lent words answers: where too few are lent, and otherwise.
 -- Assumes nothing.
 use Prim.Native.Nat.{ℕ, _≤_, _<_}
-use mathlib.Core.Path.{_≡_, sym, _∙_}
+use mathlib.Core.Path.{_≡_, sym, ap, _∙_}
 use mathlib.Core.Bool.{cond}
 use mathlib.Core.List.{List, []}
 use lib.ListN.{length}
@@ -21,3 +21,11 @@ module _ {A : Type 0} (n : ℕ) (ws : List ℕ) where
 -- no words are written where there are none to write
 pub none-written : (ws : List ℕ) → ws ≡ written ws 0 []
 none-written ws = sym (written-in ws 0 [] (omega arith))
+
+-- what a definition by cases says of an answer, at the case that the code has met
+pub met : {A B : Type 0} (F : A → B) {x : B} {r : A} (a v : A) → r ≡ a → r ≡ v → x ≡ F v → x ≡ F a
+met F a v e f g = g ∙ ap F (sym f ∙ e)
+
+-- and what it leaves of what was lent for the answer
+pub met-left : {A B : Type 0} (F : B → A → B) {x : B} {r : A} (was : B) (a v : A) → r ≡ a → r ≡ v → x ≡ F was v → x ≡ F was a
+met-left F was a v e f g = met (F was) a v e f g

@@ -1,7 +1,6 @@
 // State and answers in words that the caller lends, as the C interface has them. Every call is total: a word past the end
 // reads as 0, and a run that does not fit changes nothing.
 ghost use mathlib.Core.Path.{_≡_};
-ghost use mathlib.Core.List.{[], _∷_};
 ghost use lib.ListN.{getD};
 ghost use Rattle.wire.specs.Bytes.{written};
 
@@ -30,12 +29,4 @@ pub fn put_u64(words: &mut [u64], at: usize, run: &[u64])
             i += 1;
         }
     }
-}
-
-// Writes one word, a count, at the start.
-pub fn put_count(words: &mut [u64], count: usize)
-    ensures { λ _. ⌜ now (words .exit) ≡ written (now (words .entry)) 0 (count ∷ []) ⌝ }
-{
-    let run = [count as u64];
-    put_u64(words, 0, &run);
 }

@@ -1,2 +1,1 @@
-mod Answering
 mod Words

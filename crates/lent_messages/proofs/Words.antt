@@ -8,18 +8,18 @@ use native.Mathlib.Omega.{arith}
 use borrow.Author.Tests.{eq-eqb, eqb-true, eqb-false, ltb-false, leb-false, not-false}
 use lib.Dec.{eqb, leb, ltb}
 use lib.ListN.{length}
-use Rattle.wire.specs.Bytes.{number, written}
+use Rattle.wire.specs.Bytes.{number}
 use Rattle.wire.proofs.Cond.{yes-if, no-if, passed}
 use Rattle.wire.proofs.Numbers.{past-end, number-drop}
 use Rattle.message.specs.Header.{headerLength, platformDomain, domainIn, senderIn, idIn, payloadSizeIn, sequenceIn, payloadIn}
 use Rattle.message.specs.Platform.{platformStatus, reservedID, payloadLength, reservedStates, statusOf, statusValue, platformMessage, messageOf}
 use Rattle.message.specs.Refusal.{contentsRefusal, readRefusal}
-use Rattle.message.specs.Reading.{answered, readOut, readOf, numberGiven}
+use Rattle.message.specs.Reading.{answered, readOut, numberGiven}
+use Rattle.message.specs.declared.Message.{Message}
 use Rattle.message.specs.declared.Message.the-variants.{Operation}
 use Rattle.message.specs.declared.Reading.{Reading}
 use Rattle.message.proofs.Accepted.{readable}
-use Rattle.lent.proofs.Answers.{none-written}
-use Rattle.lent_messages.specs.Messages.{kindOf, valueOf, readWords}
+use Rattle.lent_messages.specs.Messages.{kindOf, valueOf, readLeft, readNumber, readAnswer}
 
 neither : (a b : Bool) → (a || b) ≡ false → (a ≡ false) × (b ≡ false)
 neither false b e = (refl, e)
@@ -97,38 +97,47 @@ module _ (d i : ℕ) (p : List ℕ) (e : contentsRefusal d i p ≡ 0) where
       go false a = rw a
 
 -- `put_reading`
-pub words-read : {d i f k v a b l : ℕ} {x : List ℕ} (s ws : List ℕ) → contentsRefusal (domainIn s) (idIn s) (payloadIn s) ≡ 0 → d ≡ domainIn s → i ≡ idIn s → k ≡ cond (eqb d platformDomain) i (kindOf Operation) → f ≡ number 2 s headerLength → v ≡ cond (eqb d platformDomain) f i → a ≡ senderIn s → b ≡ sequenceIn s → l ≡ payloadSizeIn s → x ≡ written ws 0 (k ∷ v ∷ a ∷ b ∷ headerLength ∷ l ∷ []) → x ≡ written ws 0 (readWords (readOut s))
-words-read {d} {i} {f} {k} {v} {a} {b} {l} {x} s ws ok ed ei ek ef ev ea eb el ex =
-    let f′ : f ≡ number 2 (payloadIn s) 0 = ef ∙ sym (number-drop 2 headerLength s 0) in
-    let k′ : k ≡ kindOf (messageOf (domainIn s) (idIn s) (number 2 (payloadIn s) 0)) =
-    ek ∙ ap₂ (λ (m n : ℕ). cond (eqb m platformDomain) n (kindOf Operation)) ed ei ∙ sym (kind-is (domainIn s) (idIn s) (payloadIn s) ok (number 2 (payloadIn s) 0)) in
-    let v′ : v ≡ valueOf (idIn s) (messageOf (domainIn s) (idIn s) (number 2 (payloadIn s) 0)) =
-    ev ∙ ap (λ (m : ℕ). cond (eqb m platformDomain) f i) ed ∙ ap₂ (λ (m n : ℕ). cond (eqb (domainIn s) platformDomain) m n) f′ ei ∙ sym (value-is (domainIn s) (idIn s) (payloadIn s) ok) in
-    ex ∙ ap₂ (λ (m n : ℕ). written ws 0 (m ∷ n ∷ a ∷ b ∷ headerLength ∷ l ∷ [])) k′ v′
-    ∙ ap₂ (λ (m n : ℕ). written ws 0 (kindOf (messageOf (domainIn s) (idIn s) (number 2 (payloadIn s) 0)) ∷ valueOf (idIn s) (messageOf (domainIn s) (idIn s) (number 2 (payloadIn s) 0)) ∷ m ∷ n ∷ headerLength ∷ l ∷ [])) ea eb
-    ∙ ap (λ (m : ℕ). written ws 0 (kindOf (messageOf (domainIn s) (idIn s) (number 2 (payloadIn s) 0)) ∷ valueOf (idIn s) (messageOf (domainIn s) (idIn s) (number 2 (payloadIn s) 0)) ∷ senderIn s ∷ sequenceIn s ∷ headerLength ∷ m ∷ [])) el
+pub words-read :
+    {d i f k v a b l : ℕ} (s was : List ℕ) →
+    contentsRefusal (domainIn s) (idIn s) (payloadIn s) ≡ 0 →
+    d ≡ domainIn s → i ≡ idIn s → k ≡ cond (eqb d platformDomain) i (kindOf Operation) →
+    f ≡ number 2 s headerLength → v ≡ cond (eqb d platformDomain) f i →
+    a ≡ senderIn s → b ≡ sequenceIn s → l ≡ payloadSizeIn s →
+    (k ∷ v ∷ a ∷ b ∷ headerLength ∷ l ∷ []) ≡ readLeft was (readOut s)
+words-read {d} {i} {f} {k} {v} {a} {b} {l} s was ok ed ei ek ef ev ea eb el =
+    let m : Message = messageOf (domainIn s) (idIn s) (number 2 (payloadIn s) 0) in
+    let f₁ : f ≡ number 2 (payloadIn s) 0 = ef ∙ sym (number-drop 2 headerLength s 0) in
+    let k₁ : k ≡ cond (eqb (domainIn s) platformDomain) (idIn s) (kindOf Operation) =
+    ek ∙ ap₂ (λ (y z : ℕ). cond (eqb y platformDomain) z (kindOf Operation)) ed ei in
+    let k₂ : k ≡ kindOf m = k₁ ∙ sym (kind-is (domainIn s) (idIn s) (payloadIn s) ok (number 2 (payloadIn s) 0)) in
+    let v₁ : v ≡ cond (eqb (domainIn s) platformDomain) (number 2 (payloadIn s) 0) (idIn s) =
+    ev ∙ ap (λ (y : ℕ). cond (eqb y platformDomain) f i) ed ∙ ap₂ (λ (y z : ℕ). cond (eqb (domainIn s) platformDomain) y z) f₁ ei in
+    let v₂ : v ≡ valueOf (idIn s) m = v₁ ∙ sym (value-is (domainIn s) (idIn s) (payloadIn s) ok) in
+    ap₂ (λ (y z : ℕ). y ∷ z ∷ a ∷ b ∷ headerLength ∷ l ∷ []) k₂ v₂
+    ∙ ap₂ (λ (y z : ℕ). kindOf m ∷ valueOf (idIn s) m ∷ y ∷ z ∷ headerLength ∷ l ∷ []) ea eb
+    ∙ ap (λ (y : ℕ). kindOf m ∷ valueOf (idIn s) m ∷ senderIn s ∷ sequenceIn s ∷ headerLength ∷ y ∷ []) el
 
 -- `read`, by the number that refuses
 not-refused : (n : ℕ) (r : Reading) → (n ≡ 0 → ⊥) → numberGiven (answered n r) ≡ n
 not-refused zero r h = absurd (h refl)
 not-refused (suc n) r h = refl
 
-no-words : (n : ℕ) (r : Reading) (ws : List ℕ) → (n ≡ 0 → ⊥) → ws ≡ written ws 0 (readWords (answered n r))
-no-words zero r ws h = absurd (h refl)
-no-words (suc n) r ws h = none-written ws
+no-words : (n : ℕ) (r : Reading) (was : List ℕ) → (n ≡ 0 → ⊥) → was ≡ readLeft was (answered n r)
+no-words zero r was h = absurd (h refl)
+no-words (suc n) r was h = refl
 
 module _ (own : ℕ) (s : List ℕ) (n : ℕ) (e : n ≡ readRefusal own s) where
   pub contents-known : n ≡ 0 → contentsRefusal (domainIn s) (idIn s) (payloadIn s) ≡ 0
   contents-known z = readable own s (sym e ∙ z) .contents
 
-  pub read-number : n ≡ 0 → 0 ≡ numberGiven (readOf own s)
+  pub read-number : n ≡ 0 → 0 ≡ readNumber own s
   read-number z = ap (λ (m : ℕ). numberGiven (answered m (readOut s))) (sym z ∙ e)
 
-  pub read-words : {x : List ℕ} (ws : List ℕ) → n ≡ 0 → x ≡ written ws 0 (readWords (readOut s)) → x ≡ written ws 0 (readWords (readOf own s))
-  read-words ws z f = f ∙ ap (λ (m : ℕ). written ws 0 (readWords (answered m (readOut s)))) (sym z ∙ e)
+  pub read-words : {x : List ℕ} (was : List ℕ) → n ≡ 0 → x ≡ readLeft was (readOut s) → x ≡ readAnswer own s was
+  read-words was z f = f ∙ ap (λ (m : ℕ). readLeft was (answered m (readOut s))) (sym z ∙ e)
 
-  pub read-refused : (n ≡ 0 → ⊥) → n ≡ numberGiven (readOf own s)
+  pub read-refused : (n ≡ 0 → ⊥) → n ≡ readNumber own s
   read-refused h = sym (not-refused n (readOut s) h) ∙ ap (λ (m : ℕ). numberGiven (answered m (readOut s))) e
 
-  pub read-nothing : (ws : List ℕ) → (n ≡ 0 → ⊥) → ws ≡ written ws 0 (readWords (readOf own s))
-  read-nothing ws h = no-words n (readOut s) ws h ∙ ap (λ (m : ℕ). written ws 0 (readWords (answered m (readOut s)))) e
+  pub read-nothing : (was : List ℕ) → (n ≡ 0 → ⊥) → was ≡ readAnswer own s was
+  read-nothing was h = no-words n (readOut s) was h ∙ ap (λ (m : ℕ). readLeft was (answered m (readOut s))) e

@@ -1,12 +1,12 @@
--- What reading and writing a message answer in lent words. Too few words for the answer come before anything else.
+-- What reading and writing a message give back: 01's number, and the message in six words or how many bytes were written; at a
+-- refusal what the caller lent for it stays as it was.
 use Prim.Native.Nat.{ℕ}
-use mathlib.Core.Bool.{cond}
 use mathlib.Core.List.{List, [], _∷_}
-use Rattle.wire.specs.Bytes.{written}
+use lib.ListN.{length}
 use Rattle.message.specs.Platform.{statusValue}
 use Rattle.message.specs.Reading.{readOf}
 use Rattle.message.specs.Reading as reading
-use Rattle.message.specs.Writing.{writeOf, outputAfter}
+use Rattle.message.specs.Writing.{writeOf}
 use Rattle.message.specs.Writing as writing
 use Rattle.message.specs.declared.Header.{Header}
 use Rattle.message.specs.declared.Message.{Message}
@@ -15,11 +15,6 @@ use Rattle.message.specs.declared.Reading.{Reading}
 use Rattle.message.specs.declared.Reading.the-variants as read
 use Rattle.message.specs.declared.Writing.{Writing}
 use Rattle.message.specs.declared.Writing.the-variants as write
-use Rattle.lent.specs.Words.{outputTooShort, tooFew}
-
--- a message read is kind, value, sender, sequence number, and where its payload starts and how long it is
-abbrev pub readingWords : ℕ
-readingWords = 6
 
 -- 1 to 4 are 000, Table 3's IDs; an operation is 5
 abbrev pub kindOf : Message → ℕ
@@ -37,26 +32,25 @@ valueOf id (UnknownOperation i) = i
 valueOf id (VersionedDataPull i) = i
 valueOf id Operation = id
 
-abbrev pub readWords : Reading → List ℕ
-readWords (read.Refused n) = []
-readWords (read.Read h m start len) = kindOf m ∷ valueOf (h .id) m ∷ h .platform ∷ h .sequence ∷ start ∷ len ∷ []
+-- a message read is kind, value, sender, sequence number, and where its payload starts and how long it is
+abbrev pub readLeft : List ℕ → Reading → List ℕ
+readLeft was (read.Refused n) = was
+readLeft was (read.Read h m start len) = kindOf m ∷ valueOf (h .id) m ∷ h .platform ∷ h .sequence ∷ start ∷ len ∷ []
 
-abbrev pub readNumber : ℕ → List ℕ → List ℕ → ℕ
-readNumber own s answer = cond (tooFew readingWords answer) outputTooShort (reading.numberGiven (readOf own s))
+abbrev pub readNumber : ℕ → List ℕ → ℕ
+readNumber own s = reading.numberGiven (readOf own s)
 
 abbrev pub readAnswer : ℕ → List ℕ → List ℕ → List ℕ
-readAnswer own s answer = cond (tooFew readingWords answer) answer (written answer 0 (readWords (readOf own s)))
+readAnswer own s was = readLeft was (readOf own s)
 
 -- a message written is how many bytes it took
-abbrev pub writeWords : Writing → List ℕ
-writeWords (write.Refused n) = []
-writeWords (write.Written n) = n ∷ []
+abbrev pub writeLeft : ℕ → Writing → ℕ
+writeLeft was (write.Refused n) = was
+writeLeft was (write.Written n) = n
 
-abbrev pub writeNumber : Writing → List ℕ → ℕ
-writeNumber r answer = cond (tooFew 1 answer) outputTooShort (writing.numberGiven r)
+-- for an output, which is `outputAfter` afterwards
+abbrev pub writeNumber : ℕ → ℕ → List ℕ → List ℕ → ℕ
+writeNumber domain id payload out = writing.numberGiven (writeOf domain id payload (length out))
 
-abbrev pub writeAnswer : Writing → List ℕ → List ℕ
-writeAnswer r answer = cond (tooFew 1 answer) answer (written answer 0 (writeWords r))
-
-abbrev pub writeOutput : ℕ → ℕ → ℕ → ℕ → List ℕ → List ℕ → List ℕ → List ℕ
-writeOutput own domain id seq payload out answer = cond (tooFew 1 answer) out (outputAfter own domain id seq payload out)
+abbrev pub writeGiven : ℕ → ℕ → List ℕ → List ℕ → ℕ → ℕ
+writeGiven domain id payload out was = writeLeft was (writeOf domain id payload (length out))

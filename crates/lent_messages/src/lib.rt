@@ -1,36 +1,34 @@
-// Cutting, and messages read and written, with the answers in lent words: as the C interface has them.
+// Cutting, and messages read and written, as the C interface has them: a refusal's number, or 0 and what was asked for in what
+// the caller lends, of which a refusal changes nothing.
 mod reading;
 
+pub use reading::READING_WORDS;
 pub use reading::read;
 ghost use mathlib.Core.Path.{_≡_};
-ghost use lib.ListN.{length};
-ghost use Rattle.cutter.specs.Cutting.{madeOf};
-ghost use Rattle.message.specs.Writing.{writeOf};
-ghost use Rattle.lent_messages.specs.Pieces.{piecesNumber, piecesAnswer, cutNumber, cutAnswer, cutOutput};
-ghost use Rattle.lent_messages.specs.Messages.{writeNumber, writeAnswer, writeOutput};
+ghost use Rattle.cutter.specs.Cutting.{cutInto};
+ghost use Rattle.message.specs.Writing.{outputAfter};
+ghost use Rattle.lent_messages.specs.Pieces.{piecesNumber, piecesGiven, cutNumber, cutGiven};
+ghost use Rattle.lent_messages.specs.Messages.{writeNumber, writeGiven};
 use cutter::Counted;
 use cutter::Made;
 use message::Own;
 use message::Writing;
 
-// How many pieces a message of `total` bytes is cut into: 10 for too few words of answer, 50, or 0 and the number.
-pub fn pieces(total: usize, size: usize, answer: &mut [u64]) -> u32
-    ensures { λ r. ⌜ r ≡ piecesNumber total size (now (answer .entry)) ⌝ }
-    ensures { λ _. ⌜ now (answer .exit) ≡ piecesAnswer total size (now (answer .entry)) ⌝ }
+// How many pieces a message of `total` bytes is cut into: 50, or 0 and the number.
+pub fn pieces(total: usize, size: usize, given: &mut usize) -> u32
+    ensures { λ r. ⌜ r ≡ piecesNumber total size ⌝ }
+    ensures { λ _. ⌜ now (given .exit) ≡ piecesGiven total size (now (given .entry)) ⌝ }
 {
-    if answer.len() < 1 {
-        return lent::OUTPUT_TOO_SHORT;
-    }
     match cutter::pieces(total, size) {
         Counted::Refused(number) => number,
         Counted::Pieces(count) => {
-            lent::put_count(answer, count);
+            *given = count;
             0
         }
     }
 }
 
-// Writes the datagram of one piece at the start of `out`: 10 for too few words of answer, 50 to 52, or 0 and its length.
+// Writes the datagram of one piece at the start of `out`: 50 to 52, or 0 and its length.
 pub fn cut(
     message: &[u8],
     size: usize,
@@ -38,26 +36,23 @@ pub fn cut(
     first: usize,
     piece: usize,
     out: &mut [u8],
-    answer: &mut [u64],
+    written: &mut usize,
 ) -> u32
-    ensures { λ r. ⌜ r ≡ cutNumber (madeOf (now (message .entry)) size sender first piece (length (now (out .entry)))) (now (answer .entry)) ⌝ }
-    ensures { λ _. ⌜ now (out .exit) ≡ cutOutput (now (message .entry)) size sender first piece (now (out .entry)) (now (answer .entry)) ⌝ }
-    ensures { λ _. ⌜ now (answer .exit) ≡ cutAnswer (madeOf (now (message .entry)) size sender first piece (length (now (out .entry)))) (now (answer .entry)) ⌝ }
+    ensures { λ r. ⌜ r ≡ cutNumber (now (message .entry)) size sender first piece (now (out .entry)) ⌝ }
+    ensures { λ _. ⌜ now (out .exit) ≡ cutInto (now (message .entry)) size sender first piece (now (out .entry)) ⌝ }
+    ensures { λ _. ⌜ now (written .exit) ≡ cutGiven (now (message .entry)) size sender first piece (now (out .entry)) (now (written .entry)) ⌝ }
 {
-    if answer.len() < 1 {
-        return lent::OUTPUT_TOO_SHORT;
-    }
     match cutter::cut(message, size, sender, first, piece, out) {
         Made::Refused(number) => number,
         Made::Datagram(length) => {
-            lent::put_count(answer, length);
+            *written = length;
             0
         }
     }
 }
 
-// Writes a message of this platform at the start of `out`: 10 for too few words of answer or bytes of output, 4, 5, 7 to 9, or
-// 0 and how many bytes were written.
+// Writes a message of this platform at the start of `out`: 4, 5, 7 to 9, 10 for too short an output, or 0 and how many bytes
+// were written.
 pub fn write(
     own: u8,
     domain: u8,
@@ -65,19 +60,16 @@ pub fn write(
     sequence: u32,
     payload: &[u8],
     out: &mut [u8],
-    answer: &mut [u64],
+    written: &mut usize,
 ) -> u32
-    ensures { λ r. ⌜ r ≡ writeNumber (writeOf domain id (now (payload .entry)) (length (now (out .entry)))) (now (answer .entry)) ⌝ }
-    ensures { λ _. ⌜ now (out .exit) ≡ writeOutput own domain id sequence (now (payload .entry)) (now (out .entry)) (now (answer .entry)) ⌝ }
-    ensures { λ _. ⌜ now (answer .exit) ≡ writeAnswer (writeOf domain id (now (payload .entry)) (length (now (out .entry)))) (now (answer .entry)) ⌝ }
+    ensures { λ r. ⌜ r ≡ writeNumber domain id (now (payload .entry)) (now (out .entry)) ⌝ }
+    ensures { λ _. ⌜ now (out .exit) ≡ outputAfter own domain id sequence (now (payload .entry)) (now (out .entry)) ⌝ }
+    ensures { λ _. ⌜ now (written .exit) ≡ writeGiven domain id (now (payload .entry)) (now (out .entry)) (now (written .entry)) ⌝ }
 {
-    if answer.len() < 1 {
-        return lent::OUTPUT_TOO_SHORT;
-    }
     match writer::write(Own { platform: own }, domain, id, sequence, payload, out) {
         Writing::Refused(number) => number,
         Writing::Written(length) => {
-            lent::put_count(answer, length);
+            *written = length;
             0
         }
     }

@@ -1,12 +1,12 @@
--- What unpacking and packing answer in lent words: one word, how many words or bytes were given. Too few words for the answer
--- come before anything else.
+-- What unpacking and packing give back: 01's number, and how many words or bytes were given; at a refusal what the caller lent
+-- for that count stays as it was.
 use Prim.Native.Nat.{ℕ}
-use mathlib.Core.Bool.{cond}
-use mathlib.Core.List.{List, [], _∷_}
-use Rattle.wire.specs.Bytes.{written}
+use mathlib.Core.List.{List}
+use lib.ListN.{length}
+use Rattle.sections.specs.Words.{sectionsIn}
 use Rattle.payload.specs.declared.Answer.{Answer}
 use Rattle.payload.specs.declared.Answer.the-variants.{Refused, Stopped, Gave}
-use Rattle.lent.specs.Words.{outputTooShort, tooFew}
+use Rattle.payload.specs.Calls.{unpacked, unpackedIn, packed, packedIn}
 
 -- the number of a refusal, 0 where all was given
 abbrev pub refusalIn : Answer → ℕ
@@ -14,17 +14,33 @@ refusalIn (Refused n) = n
 refusalIn (Stopped n) = n
 refusalIn (Gave n) = 0
 
-abbrev pub givenWords : Answer → List ℕ
-givenWords (Refused n) = []
-givenWords (Stopped n) = []
-givenWords (Gave n) = n ∷ []
+abbrev pub givenLeft : ℕ → Answer → ℕ
+givenLeft was (Refused n) = was
+givenLeft was (Stopped n) = was
+givenLeft was (Gave n) = n
 
--- the number, the answer, and what a call leaves of the words or bytes that it writes
-abbrev pub payloadNumber : Answer → List ℕ → ℕ
-payloadNumber a answer = cond (tooFew 1 answer) outputTooShort (refusalIn a)
+-- a payload b unpacked into words, which are `wordsAfter` afterwards; on sections in their words, `wordsIn`
+abbrev pub unpackNumber : List ℕ → ℕ → List ℕ → List ℕ → ℕ
+unpackNumber t i b words = refusalIn (unpacked t i b (length words))
 
-abbrev pub payloadAnswer : Answer → List ℕ → List ℕ
-payloadAnswer a answer = cond (tooFew 1 answer) answer (written answer 0 (givenWords a))
+abbrev pub unpackGiven : List ℕ → ℕ → List ℕ → List ℕ → ℕ → ℕ
+unpackGiven t i b words was = givenLeft was (unpacked t i b (length words))
 
-abbrev pub payloadLeft : List ℕ → List ℕ → List ℕ → List ℕ
-payloadLeft before after answer = cond (tooFew 1 answer) before after
+abbrev pub unpackNumberIn : List ℕ → List ℕ → ℕ → List ℕ → List ℕ → ℕ
+unpackNumberIn t sections i b words = refusalIn (unpackedIn t (sectionsIn sections) i b (length words))
+
+abbrev pub unpackGivenIn : List ℕ → List ℕ → ℕ → List ℕ → List ℕ → ℕ → ℕ
+unpackGivenIn t sections i b words was = givenLeft was (unpackedIn t (sectionsIn sections) i b (length words))
+
+-- words packed into an output, which is `bytesAfter` afterwards; on sections in their words, `bytesIn`
+abbrev pub packNumber : List ℕ → ℕ → List ℕ → List ℕ → ℕ
+packNumber t i words out = refusalIn (packed t i words (length out))
+
+abbrev pub packGiven : List ℕ → ℕ → List ℕ → List ℕ → ℕ → ℕ
+packGiven t i words out was = givenLeft was (packed t i words (length out))
+
+abbrev pub packNumberIn : List ℕ → List ℕ → ℕ → List ℕ → List ℕ → ℕ
+packNumberIn t sections i words out = refusalIn (packedIn t (sectionsIn sections) i words (length out))
+
+abbrev pub packGivenIn : List ℕ → List ℕ → ℕ → List ℕ → List ℕ → ℕ → ℕ
+packGivenIn t sections i words out was = givenLeft was (packedIn t (sectionsIn sections) i words (length out))

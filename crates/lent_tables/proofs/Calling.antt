@@ -1,4 +1,4 @@
--- What checking and looking up show at their returns.
+-- What looking up shows at its returns.
 -- Assumes nothing.
 use Prim.Native.Nat.{ℕ, _≤_, _<_}
 use mathlib.Core.Path.{_≡_, refl, sym, ap, _∙_}
@@ -8,8 +8,6 @@ use lib.ListN.{length}
 use Rattle.wire.specs.Bytes.{written}
 use Rattle.table.specs.declared.Sections.{Sections}
 use Rattle.table.specs.declared.Operation.{Operation}
-use Rattle.table.specs.declared.Checked.{Checked}
-use Rattle.table.specs.declared.Checked.the-variants.{Refused, Table}
 use Rattle.table.specs.declared.Found.{Found}
 use Rattle.table.specs.declared.Found.the-variants.{At, Nothing}
 use Rattle.table.specs.Layout.{cutShort, within}
@@ -17,23 +15,8 @@ use Rattle.table.specs.Entries.{operationAt}
 use Rattle.table.specs.Operations.{Answers, operationOf}
 use Rattle.table.proofs.Unique.{operation-answers}
 use Rattle.lent.specs.Words.{outputTooShort}
-use Rattle.lent.proofs.Answers.{short, long, none-written}
-use Rattle.sections.specs.Words.{wordsOf}
-use Rattle.lent_tables.specs.Calls.{checkRefusal, checkWords, foundLength, operationWords, foundWords, findNumber, findAnswer, Finds}
-
--- `check`
-module _ {r : Checked} (a : Checked) (e : r ≡ a) where
-  pub check-refused : (n : ℕ) → r ≡ Refused n → n ≡ checkRefusal a
-  check-refused n f = sym (ap checkRefusal (sym e ∙ f))
-
-  pub check-nothing : (ws : List ℕ) (n : ℕ) → r ≡ Refused n → ws ≡ written ws 0 (checkWords a)
-  check-nothing ws n f = none-written ws ∙ ap (λ (x : Checked). written ws 0 (checkWords x)) (sym (sym e ∙ f))
-
-  pub check-number : (s : Sections) → r ≡ Table s → 0 ≡ checkRefusal a
-  check-number s f = sym (ap checkRefusal (sym e ∙ f))
-
-  pub check-words : {x : List ℕ} (ws : List ℕ) (s : Sections) → r ≡ Table s → x ≡ written ws 0 (wordsOf s) → x ≡ written ws 0 (checkWords a)
-  check-words ws s f g = g ∙ ap (λ (x : Checked). written ws 0 (checkWords x)) (sym (sym e ∙ f))
+use Rattle.lent.proofs.Answers.{short, long}
+use Rattle.lent_tables.specs.Calls.{foundLength, operationWords, foundWords, findNumber, findAnswer, Finds}
 
 -- `find`
 module _ (t : List ℕ) (s : Sections) (id : ℕ) (answer : List ℕ) where

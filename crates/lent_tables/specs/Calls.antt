@@ -16,22 +16,23 @@ use Rattle.table.specs.Entries.{operationAt}
 use Rattle.table.specs.Operations.{Answers}
 use Rattle.types.specs.Table.{checked}
 use Rattle.lent.specs.Words.{outputTooShort, tooFew}
-use Rattle.sections.specs.Words.{sectionsWords, wordsOf}
+use Rattle.sections.specs.Words.{wordsOf}
 
 -- 30 to 33, 0 where the table is good
 abbrev pub checkRefusal : Checked → ℕ
 checkRefusal (Refused n) = n
 checkRefusal (Table s) = 0
 
-abbrev pub checkWords : Checked → List ℕ
-checkWords (Refused n) = []
-checkWords (Table s) = wordsOf s
+-- the sections in their words; at a refusal the words stay as they were
+abbrev pub sectionsLeft : List ℕ → Checked → List ℕ
+sectionsLeft was (Refused n) = was
+sectionsLeft was (Table s) = wordsOf s
 
-abbrev pub checkNumber : List ℕ → List ℕ → ℕ
-checkNumber t words = cond (tooFew sectionsWords words) outputTooShort (checkRefusal (checked t))
+abbrev pub checkNumber : List ℕ → ℕ
+checkNumber t = checkRefusal (checked t)
 
 abbrev pub checkAnswer : List ℕ → List ℕ → List ℕ
-checkAnswer t words = cond (tooFew sectionsWords words) words (written words 0 (checkWords (checked t)))
+checkAnswer t was = sectionsLeft was (checked t)
 
 -- an operation looked up is three words: whether there is one, its kind, and the type that it carries
 abbrev pub foundLength : ℕ

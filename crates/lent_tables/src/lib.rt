@@ -1,8 +1,8 @@
 // A table checked and its operations looked up, with the sections and the answers in lent words: as the C interface has them.
 ghost use mathlib.Core.Path.{_≡_};
-ghost use Rattle.wire.specs.Bytes.{written};
 ghost use Rattle.sections.specs.Words.{sectionsIn, wordsOf};
 ghost use Rattle.lent_tables.specs.Calls.{checkNumber, checkAnswer, findNumber, Finds};
+use sections::SECTIONS_WORDS;
 use table::Checked;
 use table::Found;
 use table::Sections;
@@ -13,14 +13,11 @@ pub const FOUND_WORDS: usize = 3;
 // Where an operation was found.
 pub const FOUND: u64 = 1;
 
-// Checks a table: 10 for too few words, 30 to 33, or 0 and its sections.
-pub fn check(table: &[u8], sections: &mut [u64]) -> u32
-    ensures { λ r. ⌜ r ≡ checkNumber (now (table .entry)) (now (sections .entry)) ⌝ }
+// Checks a table: 30 to 33, or 0 and its sections.
+pub fn check(table: &[u8], sections: &mut [u64; SECTIONS_WORDS]) -> u32
+    ensures { λ r. ⌜ r ≡ checkNumber (now (table .entry)) ⌝ }
     ensures { λ _. ⌜ now (sections .exit) ≡ checkAnswer (now (table .entry)) (now (sections .entry)) ⌝ }
 {
-    if sections.len() < sections::SECTIONS_WORDS {
-        return lent::OUTPUT_TOO_SHORT;
-    }
     match types::check(table) {
         Checked::Refused(number) => number,
         Checked::Table(s) => {
@@ -58,10 +55,10 @@ pub fn find(table: &[u8], sections: &[u64], id: u32, answer: &mut [u64]) -> u32
     }
 }
 
-fn put_sections(words: &mut [u64], s: Sections)
-    ensures { λ _. ⌜ now (words .exit) ≡ written (now (words .entry)) 0 (wordsOf s) ⌝ }
+fn put_sections(words: &mut [u64; SECTIONS_WORDS], s: Sections)
+    ensures { λ _. ⌜ now (words .exit) ≡ wordsOf s ⌝ }
 {
-    let run = [
+    *words = [
         s.types.at as u64,
         s.types.count as u64,
         s.members.at as u64,
@@ -71,5 +68,4 @@ fn put_sections(words: &mut [u64], s: Sections)
         s.operations.at as u64,
         s.operations.count as u64,
     ];
-    lent::put_u64(words, 0, &run);
 }

@@ -2,11 +2,12 @@
 ghost use mathlib.Core.Path.{_≡_};
 ghost use Rattle.sections.specs.Words.{sectionsIn};
 ghost use Rattle.lent_tables.specs.Calls.{checkNumber, checkAnswer, findNumber, Finds};
+use sections::SECTIONS_WORDS;
 
-// Checks a table: 10 for too few words, 30 to 33, or 0 and its sections.
+// Checks a table: 30 to 33, or 0 and its sections.
 #[no_mangle]
-pub extern "C" fn nyr_check_table(table: &[u8], sections: &mut [u64]) -> u32
-    ensures { λ r. ⌜ r ≡ checkNumber (now (table .entry)) (now (sections .entry)) ⌝ }
+pub extern "C" fn nyr_check_table(table: &[u8], sections: &mut [u64; SECTIONS_WORDS]) -> u32
+    ensures { λ r. ⌜ r ≡ checkNumber (now (table .entry)) ⌝ }
     ensures { λ _. ⌜ now (sections .exit) ≡ checkAnswer (now (table .entry)) (now (sections .entry)) ⌝ }
 {
     lent_tables::check(table, sections)

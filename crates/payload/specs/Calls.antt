@@ -23,14 +23,14 @@ use Rattle.packing.specs.Writing.{writer}
 abbrev pub noSuchType : ℕ
 noSuchType = 44
 
-abbrev pub tooShort : ℕ
-tooShort = 45
+abbrev pub outputTooShort : ℕ
+outputTooShort = 45
 
 -- what the end of a walk comes to, over n bytes or words of input and with that much room
 unfoldable pub answered : ℕ → ℕ → Walked → Answer
 answered n room (walked.Stopped k q) = cond (eqb k ruleBroken) (Refused k) (Stopped k)
 answered n room (walked.Went q) =
-    cond (ltb (q .from) n) (Stopped leftOver) (cond (ltb room (q .to)) (Refused tooShort) (Gave (q .to)))
+    cond (ltb (q .from) n) (Stopped leftOver) (cond (ltb room (q .to)) (Refused outputTooShort) (Gave (q .to)))
 
 -- the walk is over no room: what it comes to does not depend on what it writes into
 unfoldable pub answeredType : Codec → ℕ → List ℕ → Sections → ℕ → ℕ → Answer

@@ -13,7 +13,7 @@ ghost use Rattle.payload.specs.Calls.{answered, answeredType, leftBy, un
 // 01, Numbers given back. 40 to 43 are the walk's, 30 to 33 the table's.
 pub const NO_SUCH_TYPE: u32 = 44;
 
-pub const TOO_SHORT: u32 = 45;
+pub const OUTPUT_TOO_SHORT: u32 = 45;
 
 // What unpacking and packing answer: a number, which is a case of its own where it is the walk's (40 to 43), or how many words
 // or bytes were given.
@@ -109,7 +109,7 @@ fn answered(len: usize, room: usize, walked: Walked) -> Answer
                 return Answer::Stopped(walk::LEFT_OVER);
             }
             if room < q.to {
-                return Answer::Refused(TOO_SHORT);
+                return Answer::Refused(OUTPUT_TOO_SHORT);
             }
             Answer::Gave(q.to)
         }

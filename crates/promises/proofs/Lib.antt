@@ -27,3 +27,4 @@ pub mod Starred
 pub mod Unique
 pub mod UniqueBelow
 pub mod Exports
+pub mod ExportsKeep

@@ -163,7 +163,6 @@ lent =
       u32-at = λ k a z z′ e e′ p q. p ∙ sym q;
       put-u64-words = λ k a z z′ e e′ p q. p ∙ sym q;
       put-u32-words = λ k a z z′ e e′ p q. p ∙ sym q;
-      put-count-words = λ k a z z′ e e′ p q. p ∙ sym q;
     }
 
 lent-channels : LentChannelsUnique
@@ -184,15 +183,15 @@ lent-messages : LentMessagesUnique
 lent-messages =
     record {
       pieces = λ k a z z′ e e′ p q. p .0 ∙ sym (q .0);
-      pieces-answer = λ k a z z′ e e′ p q. p .1 ∙ sym (q .1);
+      pieces-given = λ k a z z′ e e′ p q. p .1 ∙ sym (q .1);
       cut = λ k a z z′ e e′ p q. p .0 ∙ sym (q .0);
       cut-out = λ k a z z′ e e′ p q. p .1 .0 ∙ sym (q .1 .0);
-      cut-answer = λ k a z z′ e e′ p q. p .1 .1 ∙ sym (q .1 .1);
+      cut-written = λ k a z z′ e e′ p q. p .1 .1 ∙ sym (q .1 .1);
       read = λ k a z z′ e e′ p q. p .0 ∙ sym (q .0);
       read-answer = λ k a z z′ e e′ p q. p .1 ∙ sym (q .1);
       write = λ k a z z′ e e′ p q. p .0 ∙ sym (q .0);
       write-out = λ k a z z′ e e′ p q. p .1 .0 ∙ sym (q .1 .0);
-      write-answer = λ k a z z′ e e′ p q. p .1 .1 ∙ sym (q .1 .1);
+      write-written = λ k a z z′ e e′ p q. p .1 .1 ∙ sym (q .1 .1);
     }
 
 lent-tables : LentTablesUnique
@@ -208,16 +207,16 @@ lent-payloads =
     record {
       unpack = λ k a z z′ e e′ p q. p .0 ∙ sym (q .0);
       unpack-words = λ k a z z′ e e′ p q. p .1 .0 ∙ sym (q .1 .0);
-      unpack-answer = λ k a z z′ e e′ p q. p .1 .1 ∙ sym (q .1 .1);
+      unpack-given = λ k a z z′ e e′ p q. p .1 .1 ∙ sym (q .1 .1);
       unpack-in = λ k a z z′ e e′ p q. p .0 ∙ sym (q .0);
       unpack-in-words = λ k a z z′ e e′ p q. p .1 .0 ∙ sym (q .1 .0);
-      unpack-in-answer = λ k a z z′ e e′ p q. p .1 .1 ∙ sym (q .1 .1);
+      unpack-in-given = λ k a z z′ e e′ p q. p .1 .1 ∙ sym (q .1 .1);
       pack = λ k a z z′ e e′ p q. p .0 ∙ sym (q .0);
       pack-out = λ k a z z′ e e′ p q. p .1 .0 ∙ sym (q .1 .0);
-      pack-answer = λ k a z z′ e e′ p q. p .1 .1 ∙ sym (q .1 .1);
+      pack-given = λ k a z z′ e e′ p q. p .1 .1 ∙ sym (q .1 .1);
       pack-in = λ k a z z′ e e′ p q. p .0 ∙ sym (q .0);
       pack-in-out = λ k a z z′ e e′ p q. p .1 .0 ∙ sym (q .1 .0);
-      pack-in-answer = λ k a z z′ e e′ p q. p .1 .1 ∙ sym (q .1 .1);
+      pack-in-given = λ k a z z′ e e′ p q. p .1 .1 ∙ sym (q .1 .1);
     }
 
 lent-states : LentStatesUnique

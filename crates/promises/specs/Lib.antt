@@ -21,3 +21,4 @@ pub mod Starred
 pub mod Unique
 pub mod UniqueBelow
 pub mod Exports
+pub mod ExportsKeep

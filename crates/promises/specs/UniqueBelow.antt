@@ -66,7 +66,6 @@ use Rattle.lent.proofs.u64_at.Reads.{Post as lent-u64-at}
 use Rattle.lent.proofs.u32_at.Reads.{Post as lent-u32-at}
 use Rattle.lent.proofs.put_u64.Reads.{Post as lent-put-u64}
 use Rattle.lent.proofs.put_u32.Reads.{Post as lent-put-u32}
-use Rattle.lent.proofs.put_count.Reads.{Post as lent-put-count}
 use Rattle.lent_channels.proofs.look.Reads.{Post as lent-channels-look}
 use Rattle.lent_joiner.proofs.setup.Reads.{Post as lent-joiner-setup}
 use Rattle.lent_joiner.proofs.take.Reads.{Post as lent-joiner-take}
@@ -194,7 +193,6 @@ pub record LentUnique : Type 0 where
   pub u32-at : Answer lent-u32-at
   pub put-u64-words : Lent lent-put-u64 (λ k e. now (e .0))
   pub put-u32-words : Lent lent-put-u32 (λ k e. now (e .0))
-  pub put-count-words : Lent lent-put-count (λ k e. now (e .0))
 
 pub record LentChannelsUnique : Type 0 where
   pub look : Answer lent-channels-look
@@ -209,15 +207,15 @@ pub record LentJoinerUnique : Type 0 where
 
 pub record LentMessagesUnique : Type 0 where
   pub pieces : Answer lent-messages-pieces
-  pub pieces-answer : Lent lent-messages-pieces (λ k e. now (e .1 .1 .0))
+  pub pieces-given : Lent lent-messages-pieces (λ k e. now (e .1 .1 .0))
   pub cut : Answer lent-messages-cut
   pub cut-out : Lent lent-messages-cut (λ k e. now (e .1 .1 .1 .1 .1 .0))
-  pub cut-answer : Lent lent-messages-cut (λ k e. now (e .1 .1 .1 .1 .1 .1 .0))
+  pub cut-written : Lent lent-messages-cut (λ k e. now (e .1 .1 .1 .1 .1 .1 .0))
   pub read : Answer lent-messages-read
   pub read-answer : Lent lent-messages-read (λ k e. now (e .1 .1 .0))
   pub write : Answer lent-messages-write
   pub write-out : Lent lent-messages-write (λ k e. now (e .1 .1 .1 .1 .1 .0))
-  pub write-answer : Lent lent-messages-write (λ k e. now (e .1 .1 .1 .1 .1 .1 .0))
+  pub write-written : Lent lent-messages-write (λ k e. now (e .1 .1 .1 .1 .1 .1 .0))
 
 pub record LentTablesUnique : Type 0 where
   pub check : Answer lent-tables-check
@@ -227,16 +225,16 @@ pub record LentTablesUnique : Type 0 where
 pub record LentPayloadsUnique : Type 0 where
   pub unpack : Answer lent-payloads-unpack
   pub unpack-words : Lent lent-payloads-unpack (λ k e. now (e .1 .1 .1 .0))
-  pub unpack-answer : Lent lent-payloads-unpack (λ k e. now (e .1 .1 .1 .1 .0))
+  pub unpack-given : Lent lent-payloads-unpack (λ k e. now (e .1 .1 .1 .1 .0))
   pub unpack-in : Answer lent-payloads-unpack-in
   pub unpack-in-words : Lent lent-payloads-unpack-in (λ k e. now (e .1 .1 .1 .1 .0))
-  pub unpack-in-answer : Lent lent-payloads-unpack-in (λ k e. now (e .1 .1 .1 .1 .1 .0))
+  pub unpack-in-given : Lent lent-payloads-unpack-in (λ k e. now (e .1 .1 .1 .1 .1 .0))
   pub pack : Answer lent-payloads-pack
   pub pack-out : Lent lent-payloads-pack (λ k e. now (e .1 .1 .1 .0))
-  pub pack-answer : Lent lent-payloads-pack (λ k e. now (e .1 .1 .1 .1 .0))
+  pub pack-given : Lent lent-payloads-pack (λ k e. now (e .1 .1 .1 .1 .0))
   pub pack-in : Answer lent-payloads-pack-in
   pub pack-in-out : Lent lent-payloads-pack-in (λ k e. now (e .1 .1 .1 .1 .0))
-  pub pack-in-answer : Lent lent-payloads-pack-in (λ k e. now (e .1 .1 .1 .1 .1 .0))
+  pub pack-in-given : Lent lent-payloads-pack-in (λ k e. now (e .1 .1 .1 .1 .1 .0))
 
 pub record LentStatesUnique : Type 0 where
   pub fresh : Answer lent-states-fresh

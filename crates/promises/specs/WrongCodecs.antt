@@ -15,7 +15,7 @@ use Rattle.types.specs.Table.{checked}
 use Rattle.walk.specs.Walk.{Codec, start, left, typeWalk}
 use Rattle.unpacking.specs.Reading.{reader}
 use Rattle.packing.specs.Writing.{writer}
-use Rattle.payload.specs.Calls.{tooShort, packed, unpacked}
+use Rattle.payload.specs.Calls.{outputTooShort, packed, unpacked}
 use Rattle.promises.specs.Checks.{Keeps}
 use Rattle.promises.specs.PayloadOrder.{numberOf}
 use Rattle.promises.specs.Payloads.{Coding, ourCoding, PayloadsBy}
@@ -33,7 +33,7 @@ PacksAlike C a = (t : List ℕ) (i : ℕ) (ws : List ℕ) (room : ℕ) → C .pa
 
 -- what is given goes out as it is, where there is room
 abbrev pub copied : ℕ → ℕ → Answer
-copied n room = cond (leb n room) (Gave n) (Refused tooShort)
+copied n room = cond (leb n room) (Gave n) (Refused outputTooShort)
 
 abbrev pub plainCopy : Coding
 plainCopy =

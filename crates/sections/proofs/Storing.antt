@@ -6,15 +6,15 @@ use mathlib.Core.Path.{_≡_, refl, sym, ap, _∙_}
 use mathlib.Core.Bool.{Bool, true, false, _&&_}
 use mathlib.Core.List.{List, _++_}
 use native.Mathlib.Omega.{arith}
-use borrow.Author.Tests.{ltb-true, lt-ltb, le-leb}
+use borrow.Author.Tests.{ltb-true, lt-ltb}
 use mir.Syntax.{w16}
 use mir.Val.{Fits}
-use lib.Dec.{leb, ltb}
-use lib.ListN.{length, getD}
+use lib.Dec.{ltb}
+use lib.ListN.{getD}
 use Rattle.table.specs.declared.Section.{Section}
 use Rattle.table.specs.declared.Sections.{Sections}
 use Rattle.table.specs.Layout.{within, liesIn}
-use Rattle.sections.specs.Words.{sectionsWords, wordLimit, isSection, sectionIn, areSections, outside, sectionsIn, wordsOf}
+use Rattle.sections.specs.Words.{wordLimit, isSection, sectionIn, areSections, outside, sectionsIn, wordsOf}
 
 both-left : (a b : Bool) → (a && b) ≡ true → a ≡ true
 both-left true b e = refl
@@ -44,7 +44,7 @@ module _ (ws : List ℕ) (k : ℕ) where
 
 -- the four of them
 module _ (ws : List ℕ) where
-  pub are-sections : {a b c d : Bool} → a ≡ isSection ws 0 → b ≡ isSection ws 2 → c ≡ isSection ws 4 → d ≡ isSection ws 6 → (leb sectionsWords (length ws) && (a && (b && (c && d)))) ≡ areSections ws
+  pub are-sections : {a b c d : Bool} → a ≡ isSection ws 0 → b ≡ isSection ws 2 → c ≡ isSection ws 4 → d ≡ isSection ws 6 → (a && (b && (c && d))) ≡ areSections ws
   are-sections ea eb ec ed = rw (ea, eb, ec, ed)
 
   module _ {t : Bool} (e : t ≡ areSections ws) where
@@ -54,7 +54,7 @@ module _ (ws : List ℕ) where
 
     module _ (f : t ≡ true) where
       all : (isSection ws 0 && (isSection ws 2 && (isSection ws 4 && isSection ws 6))) ≡ true
-      all = both-right (leb sectionsWords (length ws)) (isSection ws 0 && (isSection ws 2 && (isSection ws 4 && isSection ws 6))) (sym e ∙ f)
+      all = sym e ∙ f
 
       pub types-there : isSection ws 0 ≡ true
       types-there = both-left (isSection ws 0) (isSection ws 2 && (isSection ws 4 && isSection ws 6)) all
@@ -89,4 +89,4 @@ pub record Narrow (s : Section) : Type 0 where
 pub read-back : (s : Sections) (ws : List ℕ) → Narrow (s .types) → Narrow (s .members) → Narrow (s .values) → Narrow (s .operations) → sectionsIn (wordsOf s ++ ws) ≡ s
 unfolding sectionsIn
 read-back s ws a b c d =
-    rw (le-leb sectionsWords (length (wordsOf s ++ ws)) (omega arith), lt-ltb (s .types .at) wordLimit (a .at), lt-ltb (s .types .count) wordLimit (a .count), lt-ltb (s .members .at) wordLimit (b .at), lt-ltb (s .members .count) wordLimit (b .count), lt-ltb (s .values .at) wordLimit (c .at), lt-ltb (s .values .count) wordLimit (c .count), lt-ltb (s .operations .at) wordLimit (d .at), lt-ltb (s .operations .count) wordLimit (d .count))
+    rw (lt-ltb (s .types .at) wordLimit (a .at), lt-ltb (s .types .count) wordLimit (a .count), lt-ltb (s .members .at) wordLimit (b .at), lt-ltb (s .members .count) wordLimit (b .count), lt-ltb (s .values .at) wordLimit (c .at), lt-ltb (s .values .count) wordLimit (c .count), lt-ltb (s .operations .at) wordLimit (d .at), lt-ltb (s .operations .count) wordLimit (d .count))

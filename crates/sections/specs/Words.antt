@@ -2,8 +2,8 @@
 use Prim.Native.Nat.{ℕ, _+_}
 use mathlib.Core.Bool.{Bool, _&&_, cond}
 use mathlib.Core.List.{List, [], _∷_}
-use lib.Dec.{leb, ltb}
-use lib.ListN.{length, getD}
+use lib.Dec.{ltb}
+use lib.ListN.{getD}
 use Rattle.table.specs.declared.Section.{Section}
 use Rattle.table.specs.declared.Sections.{Sections}
 
@@ -21,7 +21,7 @@ abbrev pub sectionIn : List ℕ → ℕ → Section
 sectionIn ws k = record { at = getD ws k 0; count = getD ws (k + 1) 0 }
 
 abbrev pub areSections : List ℕ → Bool
-areSections ws = leb sectionsWords (length ws) && (isSection ws 0 && (isSection ws 2 && (isSection ws 4 && isSection ws 6)))
+areSections ws = isSection ws 0 && (isSection ws 2 && (isSection ws 4 && isSection ws 6))
 
 -- more entries than any table has
 abbrev pub nowhere : Section

@@ -55,10 +55,8 @@ pub fn sections_in(words: &[u64]) -> Sections
 fn are_sections(words: &[u64]) -> bool
     ensures { λ r. ⌜ r ≡ areSections (now (words .entry)) ⌝ }
 {
-    (SECTIONS_WORDS <= words.len())
-        & (is_section(words, TYPES)
-            & (is_section(words, MEMBERS)
-                & (is_section(words, VALUES) & is_section(words, OPERATIONS))))
+    is_section(words, TYPES)
+        & (is_section(words, MEMBERS) & (is_section(words, VALUES) & is_section(words, OPERATIONS)))
 }
 
 fn is_section(words: &[u64], at: usize) -> bool

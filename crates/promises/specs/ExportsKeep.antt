@@ -1,0 +1,36 @@
+-- Demand 1, "a refusal changes no channel, room, platform state, sequence number or output byte", of the calls as programs in C
+-- have them: where the number is not 0, what was lent is at the end as it was at the start. The theorem is in
+-- proofs/ExportsKeep.antt.
+use Prim.Native.Nat.{ℕ}
+use denote.Ref.{now}
+use Rattle.promises.specs.Checks.{Keeps}
+use Rattle.nyrkovash.proofs.nyr_pieces.Reads.{Post as nyr-pieces}
+use Rattle.nyrkovash.proofs.nyr_cut.Reads.{Post as nyr-cut}
+use Rattle.nyrkovash.proofs.nyr_read.Reads.{Post as nyr-read}
+use Rattle.nyrkovash.proofs.nyr_write.Reads.{Post as nyr-write}
+use Rattle.nyrkovash.proofs.nyr_check_table.Reads.{Post as nyr-check-table}
+use Rattle.nyrkovash.proofs.nyr_unpack.Reads.{Post as nyr-unpack}
+use Rattle.nyrkovash.proofs.nyr_unpack_in.Reads.{Post as nyr-unpack-in}
+use Rattle.nyrkovash.proofs.nyr_pack.Reads.{Post as nyr-pack}
+use Rattle.nyrkovash.proofs.nyr_pack_in.Reads.{Post as nyr-pack-in}
+
+-- whatever a call's promise allows: the number, and a lent buffer at entry and at exit
+abbrev pub Untouched : {K : Type 0} {A E : K → Type 0} {B : Type 0} → ((k : K) → A k → ℕ → E k → Type 0) → ((k : K) → A k → B) → ((k : K) → E k → B) → Type 0
+Untouched {K} {A} {E} post before after = (k : K) (a : A k) (n : ℕ) (e : E k) → post k a n e → Keeps n (before k a) (after k e)
+
+pub record ExportsKeep : Type 0 where
+  pub pieces : Untouched nyr-pieces (λ k a. now (a .1 .1 .0)) (λ k e. now (e .1 .1 .0))
+  pub cut-out : Untouched nyr-cut (λ k a. now (a .1 .1 .1 .1 .1 .0)) (λ k e. now (e .1 .1 .1 .1 .1 .0))
+  pub cut-written : Untouched nyr-cut (λ k a. now (a .1 .1 .1 .1 .1 .1 .0)) (λ k e. now (e .1 .1 .1 .1 .1 .1 .0))
+  pub read : Untouched nyr-read (λ k a. now (a .1 .1 .0)) (λ k e. now (e .1 .1 .0))
+  pub write-out : Untouched nyr-write (λ k a. now (a .1 .1 .1 .1 .1 .0)) (λ k e. now (e .1 .1 .1 .1 .1 .0))
+  pub write-written : Untouched nyr-write (λ k a. now (a .1 .1 .1 .1 .1 .1 .0)) (λ k e. now (e .1 .1 .1 .1 .1 .1 .0))
+  pub check-table : Untouched nyr-check-table (λ k a. now (a .1 .0)) (λ k e. now (e .1 .0))
+  pub unpack-words : Untouched nyr-unpack (λ k a. now (a .1 .1 .1 .0)) (λ k e. now (e .1 .1 .1 .0))
+  pub unpack-given : Untouched nyr-unpack (λ k a. now (a .1 .1 .1 .1 .0)) (λ k e. now (e .1 .1 .1 .1 .0))
+  pub unpack-in-words : Untouched nyr-unpack-in (λ k a. now (a .1 .1 .1 .1 .0)) (λ k e. now (e .1 .1 .1 .1 .0))
+  pub unpack-in-given : Untouched nyr-unpack-in (λ k a. now (a .1 .1 .1 .1 .1 .0)) (λ k e. now (e .1 .1 .1 .1 .1 .0))
+  pub pack-out : Untouched nyr-pack (λ k a. now (a .1 .1 .1 .0)) (λ k e. now (e .1 .1 .1 .0))
+  pub pack-given : Untouched nyr-pack (λ k a. now (a .1 .1 .1 .1 .0)) (λ k e. now (e .1 .1 .1 .1 .0))
+  pub pack-in-out : Untouched nyr-pack-in (λ k a. now (a .1 .1 .1 .1 .0)) (λ k e. now (e .1 .1 .1 .1 .0))
+  pub pack-in-given : Untouched nyr-pack-in (λ k a. now (a .1 .1 .1 .1 .1 .0)) (λ k e. now (e .1 .1 .1 .1 .1 .0))
