@@ -7,7 +7,7 @@ use mathlib.Core.List.{List}
 use native.Mathlib.Omega.{arith}
 use native.Mathlib.Numerals.{add-one}
 use borrow.Author.Count.{below-more}
-use borrow.Author.Tests.{ltb-true, leb-true, lt-ltb, le-ltb, lt-leb}
+use borrow.Author.Tests.{ltb-true, leb-true, lt-ltb, le-ltb}
 use mir.Syntax.{w16}
 use mir.Val.{Fits}
 use lib.Bits.{bitOr, bitAnd, or-add-and, and-le-l, and-le-r}
@@ -211,9 +211,6 @@ module _ (ws : List ℕ) (b x : ℕ) where
   unfolding foundOf
   bad e = rw e
 
-  pub bad-length : length ws < joinerWords → Bad ≡ foundOf (joinerIn ws) b x
-  bad-length h = bad (none-good ws b (rw (lt-leb joinerWords (length ws) h)))
-
   module _ {t : Bool} (e : t ≡ goodSizes (getD ws 0 0) (getD ws 1 0) b) where
     pub bad-sizes : t ≡ false → Bad ≡ foundOf (joinerIn ws) b x
     bad-sizes f = bad (not-true-false (good (joinerIn ws) b) no)
@@ -227,7 +224,7 @@ module _ (ws : List ℕ) (b x : ℕ) where
             let z : _≡_ {A = ℕ} 0 1 = cc in
             omega arith
 
-    module _ (f : t ≡ true) (w : joinerWords ≤ length ws) where
+    module _ (f : t ≡ true) (w : length ws ≡ joinerWords) where
       pub sized : Sized ws
       sized = record { words = w; few = few-channels (getD ws 0 0) (getD ws 1 0) b (sym e ∙ f) }
 

@@ -17,7 +17,7 @@ use Rattle.channels.specs.declared.Channel.{Channel}
 use Rattle.channels.specs.declared.Joiner.{Joiner}
 use Rattle.channels.proofs.Places.{not-true-false, every-at, every-by}
 use Rattle.channels.proofs.Lookups.{channels-length, channels-at, few-channels}
-use Rattle.lent_channels.specs.Words.{recordAt, joinerWords, senderLimit, seenLimit, recordIn, isRecord, areRecords, recordsIn, channelsIn, isJoiner, joinerIn}
+use Rattle.lent_channels.specs.Words.{recordAt, senderLimit, seenLimit, recordIn, isRecord, areRecords, recordsIn, channelsIn, isJoiner, joinerIn}
 use Rattle.lent_channels.specs.Records.{Sized, storedIn, sendersIn, allBelow, goodRecord, goodRecords, areGood}
 
 pub records-length : (ws : List ℕ) (n : ℕ) → length (recordsIn ws n) ≡ n
@@ -154,7 +154,7 @@ module _ (ws : List ℕ) (b : ℕ) (z : Sized ws) where
   well-joiner e =
       let g : goodRecords ws n ≡ true = and-left (goodRecords ws n) (distinct (sendersIn ws)) e in
       let r : areRecords ws n ≡ true = records-are ws n ∙ all-by (isRecord ws) n (λ k h. kept-record ws k (kept-says ws k (all-at (goodRecord ws) n g k h))) in
-      rw (le-leb joinerWords (length ws) (z .words), le-leb n channelLimit (z .few), r)
+      rw (le-leb n channelLimit (z .few), r)
 
   channel-is : (k : ℕ) → k < n → getD (channelsOf (storedIn ws)) k (newChannel 0) ≡ recordIn ws k
   channel-is k h = channels-at (storedIn ws) (z .few) (stored-length ws (z .few)) k h ∙ stored-at ws (z .few) k h
@@ -173,7 +173,7 @@ module _ (ws : List ℕ) (b : ℕ) (z : Sized ws) where
       there : good (joinerIn ws) b ≡ true → areGood ws ≡ true
       there g =
           let i : isJoiner ws ≡ true = is-joiner ws b g in
-          let a : areRecords ws n ≡ true = and-right (leb n channelLimit) (areRecords ws n) (and-right (leb joinerWords (length ws)) (leb n channelLimit && areRecords ws n) i) in
+          let a : areRecords ws n ≡ true = and-right (leb n channelLimit) (areRecords ws n) i in
           let e : good (storedIn ws) b ≡ true = rw (stored-joiner ws i) at g in
           let q : (every (goodChannel R) chs && distinct (sendersIn ws)) ≡ true = and-right (goodSizes n R b) (every (goodChannel R) chs && distinct (sendersIn ws)) e in
           let v : every (goodChannel R) chs ≡ true = and-left (every (goodChannel R) chs) (distinct (sendersIn ws)) q in

@@ -1,5 +1,6 @@
 -- What the look at a joiner in lent words goes by: its records as the words have them.
 use Prim.Native.Nat.{ℕ, zero, suc, _+_, _≤_}
+use mathlib.Core.Path.{_≡_}
 use mathlib.Core.Bool.{Bool, true, false, _&&_, cond}
 use mathlib.Core.List.{List}
 use lib.Dec.{leb, ltb}
@@ -11,9 +12,9 @@ use Rattle.channels.specs.declared.Found.{Found}
 use Rattle.channels.specs.declared.Found.the-variants.{Nobody, Somebody}
 use Rattle.lent_channels.specs.Words.{recordAt, joinerWords, seenLimit, recordIn, channelsIn}
 
--- enough words for a joiner, of no more channels than there can be
+-- the words of a joiner, of no more channels than there can be
 pub record Sized (ws : List ℕ) : Type 0 where
-  pub words : joinerWords ≤ length ws
+  pub words : length ws ≡ joinerWords
   pub few : getD ws 0 0 ≤ channelLimit
 
 -- what the words stand for, where they are a joiner's

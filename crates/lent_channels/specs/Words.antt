@@ -4,7 +4,7 @@ use Prim.Native.Nat.{ℕ, zero, suc, _+_, _-_, _*_}
 use mathlib.Core.Bool.{Bool, true, false, _&&_, cond}
 use mathlib.Core.List.{List, [], _∷_, _++_}
 use lib.Dec.{leb, ltb, eqb}
-use lib.ListN.{length, getD, replicate}
+use lib.ListN.{getD, replicate}
 use Rattle.channels.specs.Setup.{channelLimit, newChannel, freshOf}
 use Rattle.channels.specs.declared.Channel.{Channel}
 use Rattle.channels.specs.declared.Joiner.{Joiner}
@@ -50,7 +50,7 @@ abbrev pub channelsIn : List ℕ → ℕ → List Channel
 channelsIn ws n = recordsIn ws n ++ replicate (channelLimit - n) (newChannel 0)
 
 abbrev pub isJoiner : List ℕ → Bool
-isJoiner ws = leb joinerWords (length ws) && (leb (getD ws 0 0) channelLimit && areRecords ws (getD ws 0 0))
+isJoiner ws = leb (getD ws 0 0) channelLimit && areRecords ws (getD ws 0 0)
 
 -- words that are no joiner stand for the joiner of no channels, which every call refuses
 unfoldable pub joinerIn : List ℕ → Joiner

@@ -80,13 +80,8 @@ counted ws k h = go (isJoiner ws) h
     go false q = absurd (omega arith)
 
 -- words that are a joiner's
-enough-words : (ws : List ℕ) → isJoiner ws ≡ true → joinerWords ≤ length ws
-enough-words ws e = leb-true joinerWords (length ws) (and-left (leb joinerWords (length ws)) (leb (getD ws 0 0) channelLimit && areRecords ws (getD ws 0 0)) e)
-
 few-words : (ws : List ℕ) → isJoiner ws ≡ true → getD ws 0 0 ≤ channelLimit
-few-words ws e =
-    leb-true (getD ws 0 0) channelLimit
-    (and-left (leb (getD ws 0 0) channelLimit) (areRecords ws (getD ws 0 0)) (and-right (leb joinerWords (length ws)) (leb (getD ws 0 0) channelLimit && areRecords ws (getD ws 0 0)) e))
+few-words ws e = leb-true (getD ws 0 0) channelLimit (and-left (leb (getD ws 0 0) channelLimit) (areRecords ws (getD ws 0 0)) e)
 
 pub channels-length : (ws : List ℕ) → length (joinerIn ws .channels) ≡ channelLimit
 unfolding joinerIn freshOf
@@ -135,9 +130,6 @@ module _ (ws : List ℕ) (b : ℕ) (d : List ℕ) (k : ℕ) (s : Step) (e : judg
 module _ {f : Found} {r : Heard} {y R : ℕ} {x : Judged} (ws : List ℕ) (b : ℕ) (d : List ℕ) (eR : R ≡ getD ws 1 0) (er : r ≡ heardIn d) (ey : y ≡ senderBy r) (ef : f ≡ foundOf (joinerIn ws) b y) (ex : x ≡ judgedBy f R r (length d)) (k : ℕ) (s : Step) (m : x ≡ Move k s) where
   moved : judgedOf (joinerIn ws) b d ≡ Move k s
   moved = sym (judged-in ws b d eR er ey ef ex) ∙ m
-
-  pub moved-words : joinerWords ≤ length ws
-  moved-words = enough-words ws (some-joiner ws k (moves ws b d k s moved .known))
 
   pub moved-known : k < channelLimit
   moved-known = known ws b d k s moved

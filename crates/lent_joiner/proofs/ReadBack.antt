@@ -37,7 +37,7 @@ seen-small true = refl
 seen-small false = refl
 
 -- one record written
-module _ (ws : List ℕ) (k : ℕ) (ch : Channel) (w : joinerWords ≤ length ws) (l : k < channelLimit) where
+module _ (ws : List ℕ) (k : ℕ) (ch : Channel) (w : length ws ≡ joinerWords) (l : k < channelLimit) where
   abbrev after : List ℕ
   after = over ws (recordAt k) (recordWords ch)
 
@@ -106,19 +106,16 @@ module _ (ws : List ℕ) (k : ℕ) (ch : Channel) (w : joinerWords ≤ length ws
       ∙ sym (set-append-left (recordsIn ws n) (replicate (channelLimit - n) (newChannel 0)) k ch (omega (arith, records-length ws n)))
 
 -- words of a joiner with one record written are the words of the joiner with that record
-pub record-back : (ws : List ℕ) (k : ℕ) (ch : Channel) → isJoiner ws ≡ true → k < getD ws 0 0 → ch .sender < senderLimit → joinerIn (written ws (recordAt k) (recordWords ch)) ≡ changed (joinerIn ws) k ch
+pub record-back : (ws : List ℕ) (k : ℕ) (ch : Channel) → length ws ≡ joinerWords → isJoiner ws ≡ true → k < getD ws 0 0 → ch .sender < senderLimit → joinerIn (written ws (recordAt k) (recordWords ch)) ≡ changed (joinerIn ws) k ch
 unfolding joinerIn
-record-back ws k ch e h s =
+record-back ws k ch w e h s =
     let n : ℕ = getD ws 0 0 in
-    let rest : (leb n channelLimit && areRecords ws n) ≡ true = and-right (leb joinerWords (length ws)) (leb n channelLimit && areRecords ws n) e in
-    let w : joinerWords ≤ length ws = leb-true joinerWords (length ws) (and-left (leb joinerWords (length ws)) (leb n channelLimit && areRecords ws n) e) in
-    let f : n ≤ channelLimit = leb-true n channelLimit (and-left (leb n channelLimit) (areRecords ws n) rest) in
+    let f : n ≤ channelLimit = leb-true n channelLimit (and-left (leb n channelLimit) (areRecords ws n) e) in
     let l : k < channelLimit = omega arith in
     let v : List ℕ = over ws (recordAt k) (recordWords ch) in
     let a : written ws (recordAt k) (recordWords ch) ≡ v = written-in ws (recordAt k) (recordWords ch) (omega arith) in
-    let m : length v ≡ length ws = length-over ws (recordAt k) (recordWords ch) (omega arith) in
     let e0 : getD v 0 0 ≡ n = before-is ws k ch w l 0 (omega arith) in
     let e1 : getD v 1 0 ≡ getD ws 1 0 = before-is ws k ch w l 1 (omega arith) in
-    let r : areRecords v n ≡ true = still-records ws k ch w l s n (and-right (leb n channelLimit) (areRecords ws n) rest) in
+    let r : areRecords v n ≡ true = still-records ws k ch w l s n (and-right (leb n channelLimit) (areRecords ws n) e) in
     let c : channelsIn v n ≡ set (channelsIn ws n) k ch = channels-with ws k ch w l n h in
-    rw (a, e, m, e0, e1, le-leb joinerWords (length ws) w, le-leb n channelLimit f, r, c)
+    rw (a, e, e0, e1, le-leb n channelLimit f, r, c)

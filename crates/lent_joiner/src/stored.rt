@@ -13,24 +13,24 @@ ghost use Rattle.wire.specs.Bytes.{written};
 ghost use Rattle.channels.specs.Setup.{channelLimit};
 ghost use Rattle.lent_channels.specs.Words.{joinerWords, recordAt, recordWords, wordsOf};
 
-pub(crate) fn put_joiner(state: &mut [u32], joiner: Joiner)
+pub(crate) fn words_of(joiner: Joiner) -> [u32; JOINER_WORDS]
     requires { ⌜ joiner .count ≤ channelLimit ⌝ }
-    ensures { λ _. ⌜ now (state .exit) ≡ written (now (state .entry)) 0 (wordsOf joiner) ⌝ }
+    ensures { λ r. ⌜ r ≡ wordsOf joiner ⌝ }
 {
-    if JOINER_WORDS <= state.len() {
-        let sizes = [joiner.count as u32, joiner.room];
-        lent::put_u32(state, 0, &sizes);
-        let mut i = 0;
-        while i < CHANNELS {
-            let channel = joiner.channels[i];
-            put_record(state, i, channel);
-            i += 1;
-        }
+    let mut words = [0; JOINER_WORDS];
+    words[0] = joiner.count as u32;
+    words[1] = joiner.room;
+    let mut i = 0;
+    while i < CHANNELS {
+        let channel = joiner.channels[i];
+        put_record(&mut words, i, channel);
+        i += 1;
     }
+    words
 }
 
 pub(crate) fn put_record(state: &mut [u32], at: usize, channel: Channel)
-    requires { ⌜ (joinerWords ≤ length (now state)) × (at < channelLimit) ⌝ }
+    requires { ⌜ (length (now state) ≡ joinerWords) × (at < channelLimit) ⌝ }
     ensures { λ _. ⌜ now (state .exit) ≡ written (now (state .entry)) (recordAt at) (recordWords channel) ⌝ }
 {
     let start = FIRST_RECORD + RECORD_WORDS * at;

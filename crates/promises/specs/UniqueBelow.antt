@@ -201,7 +201,7 @@ pub record LentChannelsUnique : Type 0 where
 
 pub record LentJoinerUnique : Type 0 where
   pub setup : Answer lent-joiner-setup
-  pub setup-state : Lent lent-joiner-setup (λ k e. now (e .1 .1 .1 .0))
+  pub setup-state : Lent lent-joiner-setup (λ k e. now (e .0))
   pub take : Answer lent-joiner-take
   pub take-state : Lent lent-joiner-take (λ k e. now (e .0))
   pub take-rooms : Lent lent-joiner-take (λ k e. now (e .1 .0))
