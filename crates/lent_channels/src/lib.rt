@@ -1,4 +1,6 @@
-// A joiner's channels in lent words: whether they are good, and which of them bears a sender ID.
+// A joiner's channels in words: whether they are good, which of them bears a sender ID, and a joiner put into them. The one look
+// at a joiner, by value too.
+mod in_words;
 mod records;
 
 ghost use mathlib.Core.Path.{_≡_};
@@ -6,6 +8,8 @@ ghost use Rattle.channels.specs.Setup.{foundOf};
 ghost use Rattle.lent_channels.specs.Words.{joinerIn};
 use channels::CHANNELS;
 use channels::Found;
+pub use in_words::put_record;
+pub use in_words::words_of;
 
 // The words of a record behind one another, and where the first record starts.
 pub const RECORD_WORDS: usize = 4;

@@ -1,17 +1,13 @@
 -- What set-up and take show at their returns.
 -- Assumes nothing.
-use Prim.Native.Nat.{ℕ, _≤_, _<_}
-use mathlib.Core.Path.{_≡_, refl, sym, ap, _∙_}
-use mathlib.Core.Bool.{Bool, true, false, _&&_, cond}
+use Prim.Native.Nat.{ℕ}
+use mathlib.Core.Path.{_≡_, sym, ap, _∙_}
 use mathlib.Core.List.{List, [], _∷_}
-use native.Mathlib.Omega.{arith}
-use borrow.Author.Tests.{leb-true}
-use lib.Dec.{leb}
 use lib.ListN.{length, getD}
 use Rattle.wire.specs.Bytes.{written}
 use Rattle.binding.specs.Header.{heardIn}
 use Rattle.binding.specs.declared.Heard.{Heard}
-use Rattle.channels.specs.Setup.{channelLimit, freshOf, refusedSetup, good, setupOf, foundOf}
+use Rattle.channels.specs.Setup.{setupOf, foundOf}
 use Rattle.joiner.specs.Take.{judgedOf, senderBy, judgedBy, takenBy, takenOf, putBy, roomsBy, roomsAfter}
 use Rattle.joiner.specs.Outcomes.{answerIn, refusalIn}
 use Rattle.channels.specs.declared.Answer.{Answer}
@@ -50,15 +46,6 @@ module _ (ids : List ℕ) (R b : ℕ) {m : NewJoiner} (e : m ≡ setupOf ids R b
 
     pub accepted-words : {x : List ℕ} → m .answer ≡ Accepted → x ≡ wordsOf (m .joiner) → x ≡ setupWords ids R b ws
     accepted-words q f = f ∙ sym (ap (λ (x : Answer). acceptedWords x (m .joiner) ws) q) ∙ made-words
-
-pub few-set-up : {m : NewJoiner} (ids : List ℕ) (R b : ℕ) → m ≡ setupOf ids R b → m .joiner .count ≤ channelLimit
-unfolding setupOf freshOf
-few-set-up {m} ids R b e = go (leb (length ids) channelLimit) refl (good (freshOf ids R) b) e
-  where
-    go : (t : Bool) → leb (length ids) channelLimit ≡ t → (u : Bool) → m ≡ cond (t && u) (record { answer = Accepted; joiner = freshOf ids R }) refusedSetup → m .joiner .count ≤ channelLimit
-    go true q true f = rw f (leb-true (length ids) channelLimit q)
-    go true q false f = rw f (omega arith)
-    go false q u f = rw f (omega arith)
 
 -- `put_outcome`
 module _ {o : Outcome} (out : List ℕ) where

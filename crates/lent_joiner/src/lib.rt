@@ -1,6 +1,4 @@
 // Joining with the joiner and the answers in lent words: set-up and take as the C interface has them.
-mod stored;
-
 ghost use mathlib.Core.Path.{_≡_};
 ghost use mathlib.Core.List.{[], _∷_};
 ghost use Rattle.lent_joiner.specs.Calls.{setupNumber, setupWords, outcomeWords, takeNumber, takeWords, takeRooms, takeAnswer};
@@ -41,7 +39,7 @@ pub fn setup(state: &mut [u32; JOINER_WORDS], ids: &[u16], room: u32, rooms: usi
     match answer {
         Answer::Refused(number) => number,
         Answer::Accepted => {
-            *state = stored::words_of(joiner);
+            *state = lent_channels::words_of(joiner);
             0
         }
     }
@@ -69,7 +67,7 @@ pub fn take(
             let channel = step.channel;
             let put = step.put;
             put_outcome(answer, outcome);
-            stored::put_record(state, at, channel);
+            lent_channels::put_record(state, at, channel);
             taking::write_piece(rooms, put, datagram);
             0
         }

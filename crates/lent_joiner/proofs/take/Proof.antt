@@ -3,7 +3,6 @@
 use mathlib.Core.Path.{refl}
 use borrow.Author.Needs.{needs}
 use Rattle.lent_joiner.proofs.Calling.{refused-all, moved-all}
-use Rattle.lent_joiner.proofs.Moving.{moved-known}
 use Rattle.lent_joiner.proofs.take.Statement.{statement}
 use Rattle.lent_joiner.proofs.take.Tie as tie
 
@@ -19,16 +18,7 @@ take-spec =
     (λ c. search needs)
     (λ c. search needs)
     (λ c κs. search needs)
-    (λ c κs.
-    let found = c .before .before .before .before .before in
-    let judged = found .before .before in
-    let looked = judged .before in
-    let sought = looked .before in
-    let heard = sought .before .before .before in
-    let start = heard .before .before .before in
-    let ws = start .args .state .now in
-    let d = start .args .datagram .now in
-    (search needs, moved-known ws _ d refl (heard .read .ensures) (sought .sender-of .ensures) (looked .look .ensures) (judged .judge .ensures) _ _ (found .at .given .1)))
+    (λ c κs. search needs)
     (λ c κs. search needs)
     (λ c.
     let judged = c .before .before .before in
