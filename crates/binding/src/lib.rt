@@ -31,9 +31,9 @@ pub const WRONG_FIELD: u32 = 22;
 // How many values each field of the header has that stands behind another.
 const PARTS: u32 = BindingHeader::PARTS as u32;
 
-const SENDERS: u32 = BindingHeader::SENDERS as u32;
+pub const SENDERS: u32 = BindingHeader::SENDERS as u32;
 
-const COUNTERS: u32 = BindingHeader::COUNTERS as u32;
+pub const COUNTERS: u32 = BindingHeader::COUNTERS as u32;
 
 impl BindingHeader {
     pub const LENGTH: usize = 4;

@@ -1,9 +1,7 @@
-// A joiner's channels: judged and looked up. `setups` sets them up, and the joiner itself, which takes datagrams, is `joiner`.
+// A joiner and its channels, by value: their records, sizes and rooms. `lent_channels` looks at them, `setups` sets them up.
 mod records;
 
 pub use records::has_good_sizes;
-pub use records::is_good;
-pub use records::look;
 pub use records::room_start;
 
 // 01, Numbers given back.

@@ -3,6 +3,7 @@
 ghost use mathlib.Core.Path.{_≡_};
 ghost use Rattle.joiner.specs.Take.{canMove, movedOf};
 use binding::BindingHeader;
+use binding::COUNTERS;
 use channels::BAD_SETUP;
 use channels::CHANNELS;
 use channels::Channel;
@@ -79,6 +80,6 @@ fn can_move(at: usize, size: u32, channel: Channel, length: usize) -> bool
     ensures { λ r. ⌜ r ≡ canMove at size channel length ⌝ }
 {
     ((at < CHANNELS) & (size <= LARGEST_ROOM))
-        & (((channel.held <= size) & (channel.last < steps::COUNTERS))
+        & (((channel.held <= size) & (channel.last < COUNTERS))
             & ((BindingHeader::LENGTH <= length) & (length <= BindingHeader::LARGEST_DATAGRAM)))
 }

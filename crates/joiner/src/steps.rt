@@ -11,11 +11,9 @@ use crate::Put;
 use crate::Room;
 use crate::Step;
 use binding::BindingHeader;
+use binding::COUNTERS;
 use binding::MessagePart;
 use channels::Channel;
-
-// M, at the width of a record's last counter.
-pub(crate) const COUNTERS: u32 = BindingHeader::COUNTERS as u32;
 
 // What a datagram with a piece of `length` bytes does to its channel.
 pub(crate) fn stepped(room: Room, channel: Channel, header: BindingHeader, length: u32) -> Step

@@ -1,2 +1,4 @@
 pub mod Stored
+pub mod Storing
+pub mod FoundBack
 mod Looking

@@ -1,16 +1,16 @@
 -- What the functions of the look show at their returns.
 -- Assumes nothing.
-use Prim.Native.Nat.{ℕ, zero, suc, _+_, _-_, _^_, _≤_, _<_}
+use Prim.Native.Nat.{ℕ, _+_, _≤_, _<_}
 use mathlib.Core.Path.{_≡_, refl, sym, ap, _∙_}
 use mathlib.Core.Bool.{Bool, true, false, _&&_, cond}
 use mathlib.Core.List.{List}
 use native.Mathlib.Omega.{arith}
 use native.Mathlib.Numerals.{add-one}
 use borrow.Author.Count.{below-more}
-use borrow.Author.Tests.{ltb-true, leb-true, lt-ltb, le-ltb, lt-leb}
+use borrow.Author.Tests.{ltb-true, leb-true, lt-ltb, le-ltb}
 use mir.Syntax.{w16}
 use mir.Val.{Fits}
-use lib.Bits.{bitOr, bitAnd, or-add-and, and-le-l, and-le-r}
+use lib.Bits.{bitOr, or-add-and, and-le-l, and-le-r}
 use lib.Dec.{leb, ltb}
 use lib.ListN.{length, getD}
 use Rattle.wire.proofs.Cond.{and-left, and-right, and-true}
@@ -22,9 +22,9 @@ use Rattle.channels.specs.declared.Found.{Found}
 use Rattle.channels.specs.declared.Found.the-variants.{Bad, Nobody, Somebody}
 use Rattle.channels.proofs.Places.{not-true-false, is-distinct}
 use Rattle.channels.proofs.Lookups.{few-channels, senders-length, senders-at, found-here, found-nowhere, twice, never-twice}
-use Rattle.lent_channels.specs.Words.{recordAt, joinerWords, seenLimit, recordIn, isJoiner, joinerIn}
+use Rattle.lent_channels.specs.Words.{recordAt, joinerWords, seenLimit, recordIn, joinerIn}
 use Rattle.lent_channels.specs.Records.{Sized, storedIn, sendersIn, goodRecord, goodRecords, areGood, foundAt}
-use Rattle.lent_channels.proofs.Stored.{Kept, stored-length, stored-at, kept-says, says-kept, all-at, all-by, none-good, stored-joiner, is-joiner, well-joiner, good-well}
+use Rattle.lent_channels.proofs.Stored.{stored-length, stored-at, kept-says, says-kept, all-at, all-by, stored-joiner, is-joiner, well-joiner, good-well}
 
 -- `find` and `are_distinct`
 module _ (ws : List ℕ) (z : Sized ws) {n : ℕ} (en : n ≡ getD ws 0 0) where
@@ -211,9 +211,6 @@ module _ (ws : List ℕ) (b x : ℕ) where
   unfolding foundOf
   bad e = rw e
 
-  pub bad-length : length ws < joinerWords → Bad ≡ foundOf (joinerIn ws) b x
-  bad-length h = bad (none-good ws b (rw (lt-leb joinerWords (length ws) h)))
-
   module _ {t : Bool} (e : t ≡ goodSizes (getD ws 0 0) (getD ws 1 0) b) where
     pub bad-sizes : t ≡ false → Bad ≡ foundOf (joinerIn ws) b x
     bad-sizes f = bad (not-true-false (good (joinerIn ws) b) no)
@@ -227,7 +224,7 @@ module _ (ws : List ℕ) (b x : ℕ) where
             let z : _≡_ {A = ℕ} 0 1 = cc in
             omega arith
 
-    module _ (f : t ≡ true) (w : joinerWords ≤ length ws) where
+    module _ (f : t ≡ true) (w : length ws ≡ joinerWords) where
       pub sized : Sized ws
       sized = record { words = w; few = few-channels (getD ws 0 0) (getD ws 1 0) b (sym e ∙ f) }
 

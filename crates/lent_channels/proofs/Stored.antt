@@ -2,23 +2,21 @@
 -- Assumes nothing.
 use Prim.Native.Nat.{ℕ, zero, suc, _+_, _-_, _≤_, _<_}
 use mathlib.Core.Path.{_≡_, refl, sym, ap, _∙_}
-use mathlib.Core.Bool.{Bool, true, false, _&&_, cond}
+use mathlib.Core.Bool.{Bool, true, false, _&&_}
 use mathlib.Core.List.{List, [], _∷_, _++_, append-assoc}
 use native.Mathlib.Omega.{arith}
-use native.Mathlib.Nat.{add-zero}
 use borrow.Author.Tests.{ltb-true, ltb-false, lt-ltb, leb-true, le-leb}
 use lib.Dec.{leb, ltb}
 use lib.ListN.{length, getD, replicate, length-append, length-replicate}
 use lib.Seq.{getD-append-add}
 use Rattle.wire.proofs.Cond.{and-left, and-right, and-true}
 use Rattle.binding.specs.Header.{senders, counters}
-use Rattle.channels.specs.Setup.{channelLimit, newChannel, freshOf, channelAt, channelsOf, sendersOf, distinct, every, goodChannel, goodSizes, good}
+use Rattle.channels.specs.Setup.{channelLimit, newChannel, freshOf, channelAt, channelsOf, distinct, every, goodChannel, goodSizes, good}
 use Rattle.channels.specs.declared.Channel.{Channel}
-use Rattle.channels.specs.declared.Joiner.{Joiner}
-use Rattle.channels.proofs.Places.{not-true-false, every-at, every-by}
-use Rattle.channels.proofs.Lookups.{channels-length, channels-at, few-channels}
-use Rattle.lent_channels.specs.Words.{recordAt, joinerWords, senderLimit, seenLimit, recordIn, isRecord, areRecords, recordsIn, channelsIn, isJoiner, joinerIn}
-use Rattle.lent_channels.specs.Records.{Sized, storedIn, sendersIn, allBelow, goodRecord, goodRecords, areGood}
+use Rattle.channels.proofs.Places.{every-at, every-by}
+use Rattle.channels.proofs.Lookups.{channels-length, channels-at}
+use Rattle.lent_channels.specs.Words.{recordAt, senderLimit, seenLimit, recordIn, isRecord, allBelow, areRecords, recordsIn, isJoiner, joinerIn}
+use Rattle.lent_channels.specs.Records.{Sized, storedIn, sendersIn, goodRecord, goodRecords, areGood}
 
 pub records-length : (ws : List ℕ) (n : ℕ) → length (recordsIn ws n) ≡ n
 records-length ws zero = refl
@@ -117,10 +115,6 @@ module _ (f : ℕ → Bool) where
   all-by zero h = refl
   all-by (suc n) h = and-true (allBelow f n) (f n) (all-by n (λ k l. h k (omega arith))) (h n (omega arith))
 
-records-are : (ws : List ℕ) (n : ℕ) → areRecords ws n ≡ allBelow (isRecord ws) n
-records-are ws zero = refl
-records-are ws (suc n) = ap (λ (t : Bool). t && isRecord ws n) (records-are ws n)
-
 -- words that are no joiner are not good, whatever the rooms
 pub none-good : (ws : List ℕ) (b : ℕ) → isJoiner ws ≡ false → good (joinerIn ws) b ≡ false
 unfolding joinerIn good goodSizes freshOf
@@ -153,8 +147,8 @@ module _ (ws : List ℕ) (b : ℕ) (z : Sized ws) where
   unfolding areGood
   well-joiner e =
       let g : goodRecords ws n ≡ true = and-left (goodRecords ws n) (distinct (sendersIn ws)) e in
-      let r : areRecords ws n ≡ true = records-are ws n ∙ all-by (isRecord ws) n (λ k h. kept-record ws k (kept-says ws k (all-at (goodRecord ws) n g k h))) in
-      rw (le-leb joinerWords (length ws) (z .words), le-leb n channelLimit (z .few), r)
+      let r : areRecords ws n ≡ true = all-by (isRecord ws) n (λ k h. kept-record ws k (kept-says ws k (all-at (goodRecord ws) n g k h))) in
+      rw (le-leb n channelLimit (z .few), r)
 
   channel-is : (k : ℕ) → k < n → getD (channelsOf (storedIn ws)) k (newChannel 0) ≡ recordIn ws k
   channel-is k h = channels-at (storedIn ws) (z .few) (stored-length ws (z .few)) k h ∙ stored-at ws (z .few) k h
@@ -173,13 +167,13 @@ module _ (ws : List ℕ) (b : ℕ) (z : Sized ws) where
       there : good (joinerIn ws) b ≡ true → areGood ws ≡ true
       there g =
           let i : isJoiner ws ≡ true = is-joiner ws b g in
-          let a : areRecords ws n ≡ true = and-right (leb n channelLimit) (areRecords ws n) (and-right (leb joinerWords (length ws)) (leb n channelLimit && areRecords ws n) i) in
+          let a : areRecords ws n ≡ true = and-right (leb n channelLimit) (areRecords ws n) i in
           let e : good (storedIn ws) b ≡ true = rw (stored-joiner ws i) at g in
           let q : (every (goodChannel R) chs && distinct (sendersIn ws)) ≡ true = and-right (goodSizes n R b) (every (goodChannel R) chs && distinct (sendersIn ws)) e in
           let v : every (goodChannel R) chs ≡ true = and-left (every (goodChannel R) chs) (distinct (sendersIn ws)) q in
           and-true (goodRecords ws n) (distinct (sendersIn ws))
           (all-by (goodRecord ws) n
-          (λ k h. channel-kept ws k (all-at (isRecord ws) n (sym (records-are ws n) ∙ a) k h) (ap (goodChannel R) (sym (channel-is k h)) ∙ every-at (goodChannel R) (newChannel 0) chs k v (omega (arith, count-is)))))
+          (λ k h. channel-kept ws k (all-at (isRecord ws) n a k h) (ap (goodChannel R) (sym (channel-is k h)) ∙ every-at (goodChannel R) (newChannel 0) chs k v (omega (arith, count-is)))))
           (and-right (every (goodChannel R) chs) (distinct (sendersIn ws)) q)
 
       back : areGood ws ≡ true → good (joinerIn ws) b ≡ true

@@ -1,6 +1,7 @@
 -- What the look at a joiner in lent words goes by: its records as the words have them.
-use Prim.Native.Nat.{ℕ, zero, suc, _+_, _≤_}
-use mathlib.Core.Bool.{Bool, true, false, _&&_, cond}
+use Prim.Native.Nat.{ℕ, _+_, _≤_}
+use mathlib.Core.Path.{_≡_}
+use mathlib.Core.Bool.{Bool, _&&_, cond}
 use mathlib.Core.List.{List}
 use lib.Dec.{leb, ltb}
 use lib.ListN.{length, getD}
@@ -9,11 +10,11 @@ use Rattle.channels.specs.Setup.{channelLimit, sendersOf, distinct}
 use Rattle.channels.specs.declared.Joiner.{Joiner}
 use Rattle.channels.specs.declared.Found.{Found}
 use Rattle.channels.specs.declared.Found.the-variants.{Nobody, Somebody}
-use Rattle.lent_channels.specs.Words.{recordAt, joinerWords, seenLimit, recordIn, channelsIn}
+use Rattle.lent_channels.specs.Words.{recordAt, joinerWords, seenLimit, allBelow, recordIn, channelsIn}
 
--- enough words for a joiner, of no more channels than there can be
+-- the words of a joiner, of no more channels than there can be
 pub record Sized (ws : List ℕ) : Type 0 where
-  pub words : joinerWords ≤ length ws
+  pub words : length ws ≡ joinerWords
   pub few : getD ws 0 0 ≤ channelLimit
 
 -- what the words stand for, where they are a joiner's
@@ -28,11 +29,6 @@ abbrev pub goodRecord : List ℕ → ℕ → Bool
 goodRecord ws k =
     (ltb (getD ws (recordAt k) 0) senders && ltb (getD ws (recordAt k + 1) 0) seenLimit)
     && (ltb (getD ws (recordAt k + 2) 0) counters && leb (getD ws (recordAt k + 3) 0) (getD ws 1 0))
-
--- all numbers below n pass
-abbrev pub allBelow : (ℕ → Bool) → ℕ → Bool
-allBelow f zero = true
-allBelow f (suc n) = allBelow f n && f n
 
 abbrev pub goodRecords : List ℕ → ℕ → Bool
 goodRecords ws n = allBelow (goodRecord ws) n

@@ -1,10 +1,10 @@
 -- A joiner in lent words of 32 bits: the channel count, the room size, and for channel k four words from 2 + 4 k on: sender
 -- ID, seen (0 or 1), last counter, bytes held.
 use Prim.Native.Nat.{ℕ, zero, suc, _+_, _-_, _*_}
-use mathlib.Core.Bool.{Bool, true, false, _&&_, cond}
+use mathlib.Core.Bool.{Bool, true, _&&_, cond}
 use mathlib.Core.List.{List, [], _∷_, _++_}
 use lib.Dec.{leb, ltb, eqb}
-use lib.ListN.{length, getD, replicate}
+use lib.ListN.{getD, replicate}
 use Rattle.channels.specs.Setup.{channelLimit, newChannel, freshOf}
 use Rattle.channels.specs.declared.Channel.{Channel}
 use Rattle.channels.specs.declared.Joiner.{Joiner}
@@ -36,10 +36,14 @@ recordIn ws k =
 abbrev pub isRecord : List ℕ → ℕ → Bool
 isRecord ws k = ltb (getD ws (recordAt k) 0) senderLimit && ltb (getD ws (recordAt k + 1) 0) seenLimit
 
+-- all numbers below n pass
+abbrev pub allBelow : (ℕ → Bool) → ℕ → Bool
+allBelow f zero = true
+allBelow f (suc n) = allBelow f n && f n
+
 -- the first n records
 abbrev pub areRecords : List ℕ → ℕ → Bool
-areRecords ws zero = true
-areRecords ws (suc n) = areRecords ws n && isRecord ws n
+areRecords ws n = allBelow (isRecord ws) n
 
 abbrev pub recordsIn : List ℕ → ℕ → List Channel
 recordsIn ws zero = []
@@ -50,7 +54,7 @@ abbrev pub channelsIn : List ℕ → ℕ → List Channel
 channelsIn ws n = recordsIn ws n ++ replicate (channelLimit - n) (newChannel 0)
 
 abbrev pub isJoiner : List ℕ → Bool
-isJoiner ws = leb joinerWords (length ws) && (leb (getD ws 0 0) channelLimit && areRecords ws (getD ws 0 0))
+isJoiner ws = leb (getD ws 0 0) channelLimit && areRecords ws (getD ws 0 0)
 
 -- words that are no joiner stand for the joiner of no channels, which every call refuses
 unfoldable pub joinerIn : List ℕ → Joiner
@@ -67,5 +71,6 @@ abbrev pub recordsWords : List Channel → List ℕ
 recordsWords [] = []
 recordsWords (ch ∷ chs) = recordWords ch ++ recordsWords chs
 
-abbrev pub wordsOf : Joiner → List ℕ
-wordsOf j = j .count ∷ j .room ∷ recordsWords (j .channels)
+-- a joiner of more channels than there can be is stored as one of none
+unfoldable pub wordsOf : Joiner → List ℕ
+wordsOf j = cond (leb (j .count) channelLimit) (j .count ∷ j .room ∷ recordsWords (j .channels)) (replicate joinerWords 0)

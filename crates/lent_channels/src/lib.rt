@@ -1,4 +1,6 @@
-// A joiner's channels in lent words: whether they are good, and which of them bears a sender ID.
+// A joiner's channels in words: whether they are good, which of them bears a sender ID, and a joiner put into them. The one look
+// at a joiner, by value too.
+mod in_words;
 mod records;
 
 ghost use mathlib.Core.Path.{_≡_};
@@ -6,6 +8,8 @@ ghost use Rattle.channels.specs.Setup.{foundOf};
 ghost use Rattle.lent_channels.specs.Words.{joinerIn};
 use channels::CHANNELS;
 use channels::Found;
+pub use in_words::put_record;
+pub use in_words::words_of;
 
 // The words of a record behind one another, and where the first record starts.
 pub const RECORD_WORDS: usize = 4;
@@ -16,16 +20,14 @@ pub const FIRST_RECORD: usize = 2;
 pub const JOINER_WORDS: usize = FIRST_RECORD + RECORD_WORDS * CHANNELS;
 
 // Whether the joiner in the words is good for rooms of so many bytes, and which channel bears the sender ID.
-pub fn look(state: &[u32], rooms: usize, sender: u16) -> Found
+pub fn look(state: &[u32; JOINER_WORDS], rooms: usize, sender: u16) -> Found
     ensures { λ r. ⌜ r ≡ foundOf (joinerIn (now (state .entry))) rooms sender ⌝ }
 {
-    if JOINER_WORDS <= state.len() {
-        let count = state[0] as usize;
-        if channels::has_good_sizes(count, state[1], rooms) {
-            if records::are_good(state) {
-                return records::found(state, records::find(state, sender as u32));
-            }
-            return Found::Bad;
+    let words: &[u32] = state;
+    let count = words[0] as usize;
+    if channels::has_good_sizes(count, words[1], rooms) {
+        if records::are_good(words) {
+            return records::found(words, records::find(words, sender as u32));
         }
         return Found::Bad;
     }

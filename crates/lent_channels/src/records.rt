@@ -8,15 +8,12 @@ ghost use Rattle.lent_channels.specs.Words.{recordIn};
 ghost use Rattle.lent_channels.specs.Records.{Sized, goodRecord, goodRecords, sendersIn, areGood, foundAt};
 use crate::FIRST_RECORD;
 use crate::RECORD_WORDS;
-use binding::BindingHeader;
+use binding::COUNTERS;
+use binding::SENDERS;
 use channels::Channel;
 use channels::Found;
 
-// Their limits, at the width of a word. Seen is 0 or 1.
-const SENDERS: u32 = BindingHeader::SENDERS as u32;
-
-const COUNTERS: u32 = BindingHeader::COUNTERS as u32;
-
+// Seen is 0 or 1.
 const SEEN_LIMIT: u32 = 2;
 
 // Whether every record is good and no ID stands twice. Only where the IDs do not rise, as they do in most set-ups, is each

@@ -1,17 +1,13 @@
 -- What set-up and take show at their returns.
 -- Assumes nothing.
-use Prim.Native.Nat.{ℕ, _≤_, _<_}
-use mathlib.Core.Path.{_≡_, refl, sym, ap, _∙_}
-use mathlib.Core.Bool.{Bool, true, false, _&&_, cond}
+use Prim.Native.Nat.{ℕ}
+use mathlib.Core.Path.{_≡_, sym, ap, _∙_}
 use mathlib.Core.List.{List, [], _∷_}
-use native.Mathlib.Omega.{arith}
-use borrow.Author.Tests.{leb-true}
-use lib.Dec.{leb}
 use lib.ListN.{length, getD}
 use Rattle.wire.specs.Bytes.{written}
 use Rattle.binding.specs.Header.{heardIn}
 use Rattle.binding.specs.declared.Heard.{Heard}
-use Rattle.channels.specs.Setup.{channelLimit, freshOf, refusedSetup, good, setupOf, foundOf}
+use Rattle.channels.specs.Setup.{setupOf, foundOf}
 use Rattle.joiner.specs.Take.{judgedOf, senderBy, judgedBy, takenBy, takenOf, putBy, roomsBy, roomsAfter}
 use Rattle.joiner.specs.Outcomes.{answerIn, refusalIn}
 use Rattle.channels.specs.declared.Answer.{Answer}
@@ -26,155 +22,117 @@ use Rattle.joiner.specs.declared.Place.the-variants.{Datagram, Rooms}
 use Rattle.joiner.specs.declared.Outcome.{Outcome}
 use Rattle.joiner.specs.declared.Outcome.the-variants as outcome
 use Rattle.joiner.specs.declared.Taken.{Taken}
-use Rattle.lent.specs.Words.{outputTooShort}
-use Rattle.lent.proofs.Answers.{short, long, none-written}
-use Rattle.lent_channels.specs.Words.{joinerWords, recordAt, joinerIn, recordWords, wordsOf}
-use Rattle.lent_joiner.specs.Calls.{answerWords, acceptedWords, newWords, setupNumber, setupWords, outcomeWords, placeIn, wordsBy, takeNumber, takeWords, takeRooms, takeAnswer}
+use Rattle.lent_channels.specs.Words.{recordAt, joinerIn, recordWords, wordsOf}
+use Rattle.lent_joiner.specs.Calls.{acceptedWords, setupNumber, setupWords, outcomeWords, placeIn, wordsBy, takeNumber, takeWords, takeRooms, takeAnswer}
 use Rattle.lent_joiner.proofs.Moving.{step-number, judged-in, steps, words-moved}
 
 -- `setup`
-module _ (ids : List ℕ) (R b : ℕ) (ws : List ℕ) where
-  pub short-number : length ws < joinerWords → outputTooShort ≡ setupNumber ids R b ws
+module _ (ids : List ℕ) (R b : ℕ) {m : NewJoiner} (e : m ≡ setupOf ids R b) where
+  pub refused-number : (n : ℕ) → m .answer ≡ Refused n → n ≡ setupNumber ids R b
   unfolding setupNumber
-  short-number h = short joinerWords ws outputTooShort (answerIn (setupOf ids R b .answer)) h
+  refused-number n q = sym (ap answerIn (ap (λ (x : NewJoiner). x .answer) (sym e) ∙ q))
 
-  pub short-words : length ws < joinerWords → ws ≡ setupWords ids R b ws
-  unfolding setupWords
-  short-words h = short joinerWords ws ws (written ws 0 (newWords (setupOf ids R b))) h
+  pub accepted-number : m .answer ≡ Accepted → 0 ≡ setupNumber ids R b
+  unfolding setupNumber
+  accepted-number q = sym (ap answerIn (ap (λ (x : NewJoiner). x .answer) (sym e) ∙ q))
 
-  module _ {m : NewJoiner} (h : joinerWords ≤ length ws) (e : m ≡ setupOf ids R b) where
-    pub refused-number : (n : ℕ) → m .answer ≡ Refused n → n ≡ setupNumber ids R b ws
-    unfolding setupNumber
-    refused-number n q = long joinerWords ws outputTooShort (answerIn (setupOf ids R b .answer)) h (sym (ap answerIn (ap (λ (x : NewJoiner). x .answer) (sym e) ∙ q)))
+  module _ (ws : List ℕ) where
+    made-words : acceptedWords (m .answer) (m .joiner) ws ≡ setupWords ids R b ws
+    unfolding setupWords
+    made-words = ap (λ (x : NewJoiner). acceptedWords (x .answer) (x .joiner) ws) e
 
     pub refused-words : (n : ℕ) → m .answer ≡ Refused n → ws ≡ setupWords ids R b ws
-    unfolding setupWords
-    refused-words n q =
-        long joinerWords ws ws (written ws 0 (newWords (setupOf ids R b))) h
-        (none-written ws ∙ ap (written ws 0) (sym (ap newWords (sym e) ∙ ap (λ (x : Answer). acceptedWords x (m .joiner)) q)))
+    refused-words n q = sym (ap (λ (x : Answer). acceptedWords x (m .joiner) ws) q) ∙ made-words
 
-    pub accepted-number : m .answer ≡ Accepted → 0 ≡ setupNumber ids R b ws
-    unfolding setupNumber
-    accepted-number q = long joinerWords ws outputTooShort (answerIn (setupOf ids R b .answer)) h (sym (ap answerIn (ap (λ (x : NewJoiner). x .answer) (sym e) ∙ q)))
-
-    pub accepted-words : {x : List ℕ} → m .answer ≡ Accepted → x ≡ written ws 0 (wordsOf (m .joiner)) → x ≡ setupWords ids R b ws
-    unfolding setupWords
-    accepted-words q f =
-        long joinerWords ws ws (written ws 0 (newWords (setupOf ids R b))) h
-        (f ∙ ap (written ws 0) (sym (ap newWords (sym e) ∙ ap (λ (x : Answer). acceptedWords x (m .joiner)) q)))
-
-pub few-set-up : {m : NewJoiner} (ids : List ℕ) (R b : ℕ) → m ≡ setupOf ids R b → m .joiner .count ≤ channelLimit
-unfolding setupOf freshOf
-few-set-up {m} ids R b e = go (leb (length ids) channelLimit) refl (good (freshOf ids R) b) e
-  where
-    go : (t : Bool) → leb (length ids) channelLimit ≡ t → (u : Bool) → m ≡ cond (t && u) (record { answer = Accepted; joiner = freshOf ids R }) refusedSetup → m .joiner .count ≤ channelLimit
-    go true q true f = rw f (leb-true (length ids) channelLimit q)
-    go true q false f = rw f (omega arith)
-    go false q u f = rw f (omega arith)
+    pub accepted-words : {x : List ℕ} → m .answer ≡ Accepted → x ≡ wordsOf (m .joiner) → x ≡ setupWords ids R b ws
+    accepted-words q f = f ∙ sym (ap (λ (x : Answer). acceptedWords x (m .joiner) ws) q) ∙ made-words
 
 -- `put_outcome`
-module _ {o : Outcome} (ws : List ℕ) where
-  pub told-refused : (n : ℕ) → o ≡ outcome.Refused n → ws ≡ written ws 0 (outcomeWords o)
-  told-refused n e = rw e (none-written ws)
+module _ {o : Outcome} (out : List ℕ) where
+  pub told-refused : (n : ℕ) → o ≡ outcome.Refused n → out ≡ outcomeWords o out
+  told-refused n e = rw e
 
   module _ {x : List ℕ} where
-    pub told-repeated : o ≡ outcome.Repeated → x ≡ written ws 0 (1 ∷ 0 ∷ 0 ∷ 0 ∷ 0 ∷ []) → x ≡ written ws 0 (outcomeWords o)
+    pub told-repeated : o ≡ outcome.Repeated → x ≡ (1 ∷ 0 ∷ 0 ∷ 0 ∷ 0 ∷ []) → x ≡ outcomeWords o out
     told-repeated e f = rw e f
 
-    pub told-datagram : {p : Place} (m s l : ℕ) → o ≡ outcome.Delivered m p → p ≡ Datagram s l → x ≡ written ws 0 (2 ∷ m ∷ l ∷ 1 ∷ s ∷ []) → x ≡ written ws 0 (outcomeWords o)
+    pub told-datagram : {p : Place} (m s l : ℕ) → o ≡ outcome.Delivered m p → p ≡ Datagram s l → x ≡ (2 ∷ m ∷ l ∷ 1 ∷ s ∷ []) → x ≡ outcomeWords o out
     told-datagram m s l e g f = rw (e, g) f
 
-    pub told-rooms : {p : Place} (m s l : ℕ) → o ≡ outcome.Delivered m p → p ≡ Rooms s l → x ≡ written ws 0 (2 ∷ m ∷ l ∷ 2 ∷ s ∷ []) → x ≡ written ws 0 (outcomeWords o)
+    pub told-rooms : {p : Place} (m s l : ℕ) → o ≡ outcome.Delivered m p → p ≡ Rooms s l → x ≡ (2 ∷ m ∷ l ∷ 2 ∷ s ∷ []) → x ≡ outcomeWords o out
     told-rooms m s l e g f = rw (e, g) f
 
-    pub told-held : (m n : ℕ) → o ≡ outcome.Held m n → x ≡ written ws 0 (3 ∷ m ∷ n ∷ 0 ∷ 0 ∷ []) → x ≡ written ws 0 (outcomeWords o)
+    pub told-held : (m n : ℕ) → o ≡ outcome.Held m n → x ≡ (3 ∷ m ∷ n ∷ 0 ∷ 0 ∷ []) → x ≡ outcomeWords o out
     told-held m n e f = rw e f
 
-    pub told-stray : (m : ℕ) → o ≡ outcome.Stray m → x ≡ written ws 0 (4 ∷ m ∷ 0 ∷ 0 ∷ 0 ∷ []) → x ≡ written ws 0 (outcomeWords o)
+    pub told-stray : (m : ℕ) → o ≡ outcome.Stray m → x ≡ (4 ∷ m ∷ 0 ∷ 0 ∷ 0 ∷ []) → x ≡ outcomeWords o out
     told-stray m e f = rw e f
 
-    pub told-too-long : (m : ℕ) → o ≡ outcome.TooLong m → x ≡ written ws 0 (5 ∷ m ∷ 0 ∷ 0 ∷ 0 ∷ []) → x ≡ written ws 0 (outcomeWords o)
+    pub told-too-long : (m : ℕ) → o ≡ outcome.TooLong m → x ≡ (5 ∷ m ∷ 0 ∷ 0 ∷ 0 ∷ []) → x ≡ outcomeWords o out
     told-too-long m e f = rw e f
 
 -- `take`
-module _ (ws rooms d out : List ℕ) where
+module _ (ws rooms d : List ℕ) {f : Found} {r : Heard} {y R : ℕ} {x : Judged} (eR : R ≡ getD ws 1 0) (er : r ≡ heardIn d) (ey : y ≡ senderBy r) (ef : f ≡ foundOf (joinerIn ws) (length rooms) y) (ex : x ≡ judgedBy f R r (length d)) where
   abbrev taken : Taken
   taken = takenOf (joinerIn ws) rooms d
 
-  pub short-take : length out < answerWords → outputTooShort ≡ takeNumber ws rooms d out
-  unfolding takeNumber
-  short-take h = short answerWords out outputTooShort (refusalIn (taken .outcome)) h
+  judged : x ≡ judgedOf (joinerIn ws) (length rooms) d
+  judged = judged-in ws (length rooms) d eR er ey ef ex
 
-  pub short-state : length out < answerWords → ws ≡ takeWords ws rooms d out
-  unfolding takeWords
-  short-state h = short answerWords out ws (wordsBy ws (placeIn (joinerIn ws) d) taken) h
+  module _ (n : ℕ) (m : x ≡ Refusal n) where
+    refused : taken ≡ record { outcome = outcome.Refused n; joiner = joinerIn ws }
+    unfolding takenOf takenBy
+    refused = rw (sym judged ∙ m)
 
-  pub short-rooms : length out < answerWords → rooms ≡ takeRooms ws rooms d out
-  unfolding takeRooms
-  short-rooms h = short answerWords out rooms (roomsAfter (joinerIn ws) rooms d) h
+    refused-take : n ≡ takeNumber ws rooms d
+    unfolding takeNumber
+    refused-take = sym (ap (λ (t : Taken). refusalIn (t .outcome)) refused)
 
-  pub short-answer : length out < answerWords → out ≡ takeAnswer ws rooms d out
-  unfolding takeAnswer
-  short-answer h = short answerWords out out (written out 0 (outcomeWords (taken .outcome))) h
+    refused-state : ws ≡ takeWords ws rooms d
+    unfolding takeWords
+    refused-state = sym (ap (wordsBy ws (placeIn (joinerIn ws) d)) refused)
 
-  module _ {f : Found} {r : Heard} {y R : ℕ} {x : Judged} (h : answerWords ≤ length out) (eR : R ≡ getD ws 1 0) (er : r ≡ heardIn d) (ey : y ≡ senderBy r) (ef : f ≡ foundOf (joinerIn ws) (length rooms) y) (ex : x ≡ judgedBy f R r (length d)) where
-    judged : x ≡ judgedOf (joinerIn ws) (length rooms) d
-    judged = judged-in ws (length rooms) d eR er ey ef ex
+    refused-rooms : rooms ≡ takeRooms ws rooms d
+    unfolding takeRooms roomsAfter roomsBy
+    refused-rooms = rw (sym judged ∙ m)
 
-    module _ (n : ℕ) (m : x ≡ Refusal n) where
-      refused : taken ≡ record { outcome = outcome.Refused n; joiner = joinerIn ws }
-      unfolding takenOf takenBy
-      refused = rw (sym judged ∙ m)
-
-      refused-take : n ≡ takeNumber ws rooms d out
-      unfolding takeNumber
-      refused-take = long answerWords out outputTooShort (refusalIn (taken .outcome)) h (sym (ap (λ (t : Taken). refusalIn (t .outcome)) refused))
-
-      refused-state : ws ≡ takeWords ws rooms d out
-      unfolding takeWords
-      refused-state = long answerWords out ws (wordsBy ws (placeIn (joinerIn ws) d) taken) h (sym (ap (wordsBy ws (placeIn (joinerIn ws) d)) refused))
-
-      refused-rooms : rooms ≡ takeRooms ws rooms d out
-      unfolding takeRooms roomsAfter roomsBy
-      refused-rooms = long answerWords out rooms (roomsAfter (joinerIn ws) rooms d) h (rw (sym judged ∙ m))
-
+    module _ (out : List ℕ) where
       refused-answer : out ≡ takeAnswer ws rooms d out
       unfolding takeAnswer
-      refused-answer =
-          long answerWords out out (written out 0 (outcomeWords (taken .outcome))) h (none-written out ∙ sym (ap (λ (t : Taken). written out 0 (outcomeWords (t .outcome))) refused))
+      refused-answer = sym (ap (λ (t : Taken). outcomeWords (t .outcome) out) refused)
 
-      pub refused-all : (n ≡ takeNumber ws rooms d out) × ((ws ≡ takeWords ws rooms d out) × ((rooms ≡ takeRooms ws rooms d out) × (out ≡ takeAnswer ws rooms d out)))
+      pub refused-all : (n ≡ takeNumber ws rooms d) × ((ws ≡ takeWords ws rooms d) × ((rooms ≡ takeRooms ws rooms d) × (out ≡ takeAnswer ws rooms d out)))
       refused-all = (refused-take, (refused-state, (refused-rooms, refused-answer)))
 
-    module _ (k : ℕ) (s : Step) (m : x ≡ Move k s) where
-      moved : judgedOf (joinerIn ws) (length rooms) d ≡ Move k s
-      moved = sym judged ∙ m
+  module _ (k : ℕ) (s : Step) (m : x ≡ Move k s) where
+    moved : judgedOf (joinerIn ws) (length rooms) d ≡ Move k s
+    moved = sym judged ∙ m
 
-      taken-is : taken ≡ takenBy (joinerIn ws) (Move k s)
-      unfolding takenOf
-      taken-is = rw moved
+    taken-is : taken ≡ takenBy (joinerIn ws) (Move k s)
+    unfolding takenOf
+    taken-is = rw moved
 
-      outcome-is : taken .outcome ≡ s .outcome
-      unfolding takenBy
-      outcome-is = ap (λ (t : Taken). t .outcome) taken-is
+    outcome-is : taken .outcome ≡ s .outcome
+    unfolding takenBy
+    outcome-is = ap (λ (t : Taken). t .outcome) taken-is
 
-      moved-take : 0 ≡ takeNumber ws rooms d out
-      unfolding takeNumber
-      moved-take = long answerWords out outputTooShort (refusalIn (taken .outcome)) h (step-number (steps ws (length rooms) d k s moved) ∙ ap refusalIn (sym outcome-is))
+    moved-take : 0 ≡ takeNumber ws rooms d
+    unfolding takeNumber
+    moved-take = step-number (steps ws (length rooms) d k s moved) ∙ ap refusalIn (sym outcome-is)
 
-      moved-state : {v : List ℕ} → v ≡ written ws (recordAt k) (recordWords (s .channel)) → v ≡ takeWords ws rooms d out
-      unfolding takeWords
-      moved-state e =
-          long answerWords out ws (wordsBy ws (placeIn (joinerIn ws) d) taken) h (e ∙ sym (ap (wordsBy ws (placeIn (joinerIn ws) d)) taken-is ∙ words-moved ws (length rooms) d k s moved))
+    moved-state : {v : List ℕ} → v ≡ written ws (recordAt k) (recordWords (s .channel)) → v ≡ takeWords ws rooms d
+    unfolding takeWords
+    moved-state e = e ∙ sym (ap (wordsBy ws (placeIn (joinerIn ws) d)) taken-is ∙ words-moved ws (length rooms) d k s moved)
 
-      moved-rooms : {v : List ℕ} → v ≡ putBy rooms (s .put) d → v ≡ takeRooms ws rooms d out
-      unfolding takeRooms roomsAfter roomsBy
-      moved-rooms e = long answerWords out rooms (roomsAfter (joinerIn ws) rooms d) h (rw moved e)
+    moved-rooms : {v : List ℕ} → v ≡ putBy rooms (s .put) d → v ≡ takeRooms ws rooms d
+    unfolding takeRooms roomsAfter roomsBy
+    moved-rooms e = rw moved e
 
-      moved-answer : {v : List ℕ} → v ≡ written out 0 (outcomeWords (s .outcome)) → v ≡ takeAnswer ws rooms d out
+    module _ (out : List ℕ) where
+      moved-answer : {v : List ℕ} → v ≡ outcomeWords (s .outcome) out → v ≡ takeAnswer ws rooms d out
       unfolding takeAnswer
-      moved-answer e = long answerWords out out (written out 0 (outcomeWords (taken .outcome))) h (e ∙ ap (λ (o : Outcome). written out 0 (outcomeWords o)) (sym outcome-is))
+      moved-answer e = e ∙ ap (λ (o : Outcome). outcomeWords o out) (sym outcome-is)
 
-      pub moved-all : {u v w : List ℕ} → u ≡ written ws (recordAt k) (recordWords (s .channel)) → v ≡ putBy rooms (s .put) d → w ≡ written out 0 (outcomeWords (s .outcome)) →
-          (0 ≡ takeNumber ws rooms d out) × ((u ≡ takeWords ws rooms d out) × ((v ≡ takeRooms ws rooms d out) × (w ≡ takeAnswer ws rooms d out)))
+      pub moved-all : {u v w : List ℕ} → u ≡ written ws (recordAt k) (recordWords (s .channel)) → v ≡ putBy rooms (s .put) d → w ≡ outcomeWords (s .outcome) out →
+          (0 ≡ takeNumber ws rooms d) × ((u ≡ takeWords ws rooms d) × ((v ≡ takeRooms ws rooms d) × (w ≡ takeAnswer ws rooms d out)))
       moved-all eu ev ew = (moved-take, (moved-state eu, (moved-rooms ev, moved-answer ew)))

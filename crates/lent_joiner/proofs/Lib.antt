@@ -1,4 +1,3 @@
-pub mod Storing
 pub mod ReadBack
 pub mod Moving
 pub mod WordsBack

@@ -1,20 +1,20 @@
 -- A joiner in its words that a datagram moves: the step that was taken, and the record that it leaves.
 -- Assumes nothing.
-use Prim.Native.Nat.{ℕ, _+_, _-_, _*_, _≤_, _<_}
+use Prim.Native.Nat.{ℕ, _≤_, _<_}
 use mathlib.Core.Path.{_≡_, refl, sym, ap, _∙_}
-use mathlib.Core.Bool.{Bool, true, false, _&&_, cond}
-use mathlib.Core.List.{List, [], _++_}
+use mathlib.Core.Bool.{Bool, true, false, cond}
+use mathlib.Core.List.{List, []}
 use native.Mathlib.Omega.{arith}
 use borrow.Author.Tests.{leb-true}
 use lib.Dec.{leb}
-use lib.ListN.{length, getD, set}
+use lib.ListN.{length, getD}
 use lib.Seq.{getD-set-same}
 use Rattle.wire.specs.Bytes.{written}
-use Rattle.wire.proofs.Cond.{and-left, and-right}
+use Rattle.wire.proofs.Cond.{and-left}
 use Rattle.binding.specs.Header.{heardIn, partIn, counterIn, pieceIn}
 use Rattle.binding.specs.declared.MessagePart.{MessagePart}
 use Rattle.binding.specs.declared.Heard.{Heard}
-use Rattle.channels.specs.Setup.{channelLimit, badSetup, newChannel, freshOf, channelAt, good, foundOf}
+use Rattle.channels.specs.Setup.{channelLimit, newChannel, freshOf, channelAt, foundOf}
 use Rattle.channels.specs.declared.Channel.{Channel}
 use Rattle.channels.specs.declared.Joiner.{Joiner}
 use Rattle.channels.specs.declared.Found.{Found}
@@ -28,7 +28,7 @@ use Rattle.joiner.specs.declared.Judged.{Judged}
 use Rattle.joiner.specs.declared.Judged.the-variants.{Move}
 use Rattle.joiner.proofs.Judging.{Moved, judged-by, judged-moved, good-sizes}
 use Rattle.joiner.proofs.Cases.{Stepped, again, whole, begins, stray, long, goes-on, ends, step-cases}
-use Rattle.lent_channels.specs.Words.{recordAt, joinerWords, areRecords, channelsIn, isJoiner, joinerIn, recordWords}
+use Rattle.lent_channels.specs.Words.{recordAt, areRecords, channelsIn, isJoiner, joinerIn, recordWords}
 use Rattle.lent_channels.proofs.Stored.{stored-length, none-good, stored-joiner}
 use Rattle.lent_joiner.specs.Calls.{unlessRefused, withRecord, placeIn, wordsBy}
 
@@ -80,13 +80,8 @@ counted ws k h = go (isJoiner ws) h
     go false q = absurd (omega arith)
 
 -- words that are a joiner's
-enough-words : (ws : List ℕ) → isJoiner ws ≡ true → joinerWords ≤ length ws
-enough-words ws e = leb-true joinerWords (length ws) (and-left (leb joinerWords (length ws)) (leb (getD ws 0 0) channelLimit && areRecords ws (getD ws 0 0)) e)
-
 few-words : (ws : List ℕ) → isJoiner ws ≡ true → getD ws 0 0 ≤ channelLimit
-few-words ws e =
-    leb-true (getD ws 0 0) channelLimit
-    (and-left (leb (getD ws 0 0) channelLimit) (areRecords ws (getD ws 0 0)) (and-right (leb joinerWords (length ws)) (leb (getD ws 0 0) channelLimit && areRecords ws (getD ws 0 0)) e))
+few-words ws e = leb-true (getD ws 0 0) channelLimit (and-left (leb (getD ws 0 0) channelLimit) (areRecords ws (getD ws 0 0)) e)
 
 pub channels-length : (ws : List ℕ) → length (joinerIn ws .channels) ≡ channelLimit
 unfolding joinerIn freshOf
@@ -131,13 +126,3 @@ module _ (ws : List ℕ) (b : ℕ) (d : List ℕ) (k : ℕ) (s : Step) (e : judg
       step-changes ws new steps
       ∙ ap (λ (i : ℕ). withRecord ws i (changed j k (s .channel))) (sym (moves .channel))
       ∙ ap (λ (c : Channel). written ws (recordAt k) (recordWords c)) (getD-set-same (j .channels) k (s .channel) (newChannel 0) (omega (arith, known)))
-
-module _ {f : Found} {r : Heard} {y R : ℕ} {x : Judged} (ws : List ℕ) (b : ℕ) (d : List ℕ) (eR : R ≡ getD ws 1 0) (er : r ≡ heardIn d) (ey : y ≡ senderBy r) (ef : f ≡ foundOf (joinerIn ws) b y) (ex : x ≡ judgedBy f R r (length d)) (k : ℕ) (s : Step) (m : x ≡ Move k s) where
-  moved : judgedOf (joinerIn ws) b d ≡ Move k s
-  moved = sym (judged-in ws b d eR er ey ef ex) ∙ m
-
-  pub moved-words : joinerWords ≤ length ws
-  moved-words = enough-words ws (some-joiner ws k (moves ws b d k s moved .known))
-
-  pub moved-known : k < channelLimit
-  moved-known = known ws b d k s moved

@@ -1,26 +1,25 @@
 -- The words of a joiner read back as that joiner: after a set-up that was accepted, and after every datagram.
 -- Assumes nothing.
-use Prim.Native.Nat.{ℕ, zero, suc, _+_, _-_, _*_, _≤_, _<_}
+use Prim.Native.Nat.{ℕ, zero, suc, _+_, _-_, _≤_, _<_}
 use mathlib.Core.Path.{_≡_, refl, sym, ap, _∙_}
-use mathlib.Core.Logic.{⊎-elim}
-use mathlib.Core.Bool.{Bool, true, false, _&&_, cond}
-use mathlib.Core.List.{List, [], _∷_, _++_, append-assoc}
+use mathlib.Core.Bool.{Bool, true, false}
+use mathlib.Core.List.{List, [], _∷_, _++_}
 use native.Mathlib.Omega.{arith}
 use native.Mathlib.Nat.{add-zero}
 use borrow.Author.Tests.{leb-true, ltb-true, ltb-false, lt-ltb, le-leb, eqb-true, eqb-false}
 use lib.Dec.{leb, ltb, eqb}
-use lib.ListN.{length, getD, set, take, drop, replicate, length-append}
-use lib.Seq.{length-take-le, set-at, set-append-left, getD-append-add, getD-set-same}
+use lib.ListN.{length, getD, set, take, drop, replicate}
+use lib.Seq.{length-take-le, set-at, set-append-left, getD-append-add}
 use Rattle.wire.specs.Bytes.{over, written}
-use Rattle.wire.proofs.Runs.{written-in, length-over}
+use Rattle.wire.proofs.Runs.{written-in}
 use Rattle.wire.proofs.Numbers.{read-before, read-behind}
-use Rattle.channels.specs.Setup.{channelLimit, newChannel, freshOf, channelAt}
+use Rattle.channels.specs.Setup.{channelLimit, newChannel}
 use Rattle.joiner.specs.Take.{changed}
 use Rattle.channels.specs.declared.Channel.{Channel}
-use Rattle.channels.specs.declared.Joiner.{Joiner}
 use Rattle.wire.proofs.Cond.{and-left, and-right, and-true}
-use Rattle.lent_channels.specs.Words.{recordAt, joinerWords, senderLimit, seenLimit, recordIn, isRecord, areRecords, recordsIn, channelsIn, isJoiner, joinerIn, recordWords}
+use Rattle.lent_channels.specs.Words.{recordAt, joinerWords, senderLimit, recordIn, isRecord, areRecords, recordsIn, channelsIn, isJoiner, joinerIn, recordWords}
 use Rattle.lent_channels.proofs.Stored.{records-length}
+use Rattle.lent_channels.proofs.Storing.{seen-back, seen-small}
 
 -- a word that was written is read
 at-written : (ws : List ℕ) (p : ℕ) (b : List ℕ) (n : ℕ) → p ≤ length ws → getD (over ws p b) (p + n) 0 ≡ getD (b ++ drop (p + length b) ws) n 0
@@ -28,16 +27,8 @@ at-written ws p b n h =
     let t : length (take p ws) ≡ p = length-take-le p ws h in
     ap (λ (q : ℕ). getD (over ws p b) (q + n) 0) (sym t) ∙ getD-append-add (take p ws) (b ++ drop (p + length b) ws) n 0
 
-pub seen-back : (b : Bool) → eqb (cond b 1 0) 1 ≡ b
-seen-back true = refl
-seen-back false = refl
-
-pub seen-small : (b : Bool) → ltb (cond b 1 0) seenLimit ≡ true
-seen-small true = refl
-seen-small false = refl
-
 -- one record written
-module _ (ws : List ℕ) (k : ℕ) (ch : Channel) (w : joinerWords ≤ length ws) (l : k < channelLimit) where
+module _ (ws : List ℕ) (k : ℕ) (ch : Channel) (w : length ws ≡ joinerWords) (l : k < channelLimit) where
   abbrev after : List ℕ
   after = over ws (recordAt k) (recordWords ch)
 
@@ -106,19 +97,16 @@ module _ (ws : List ℕ) (k : ℕ) (ch : Channel) (w : joinerWords ≤ length ws
       ∙ sym (set-append-left (recordsIn ws n) (replicate (channelLimit - n) (newChannel 0)) k ch (omega (arith, records-length ws n)))
 
 -- words of a joiner with one record written are the words of the joiner with that record
-pub record-back : (ws : List ℕ) (k : ℕ) (ch : Channel) → isJoiner ws ≡ true → k < getD ws 0 0 → ch .sender < senderLimit → joinerIn (written ws (recordAt k) (recordWords ch)) ≡ changed (joinerIn ws) k ch
+pub record-back : (ws : List ℕ) (k : ℕ) (ch : Channel) → length ws ≡ joinerWords → isJoiner ws ≡ true → k < getD ws 0 0 → ch .sender < senderLimit → joinerIn (written ws (recordAt k) (recordWords ch)) ≡ changed (joinerIn ws) k ch
 unfolding joinerIn
-record-back ws k ch e h s =
+record-back ws k ch w e h s =
     let n : ℕ = getD ws 0 0 in
-    let rest : (leb n channelLimit && areRecords ws n) ≡ true = and-right (leb joinerWords (length ws)) (leb n channelLimit && areRecords ws n) e in
-    let w : joinerWords ≤ length ws = leb-true joinerWords (length ws) (and-left (leb joinerWords (length ws)) (leb n channelLimit && areRecords ws n) e) in
-    let f : n ≤ channelLimit = leb-true n channelLimit (and-left (leb n channelLimit) (areRecords ws n) rest) in
+    let f : n ≤ channelLimit = leb-true n channelLimit (and-left (leb n channelLimit) (areRecords ws n) e) in
     let l : k < channelLimit = omega arith in
     let v : List ℕ = over ws (recordAt k) (recordWords ch) in
     let a : written ws (recordAt k) (recordWords ch) ≡ v = written-in ws (recordAt k) (recordWords ch) (omega arith) in
-    let m : length v ≡ length ws = length-over ws (recordAt k) (recordWords ch) (omega arith) in
     let e0 : getD v 0 0 ≡ n = before-is ws k ch w l 0 (omega arith) in
     let e1 : getD v 1 0 ≡ getD ws 1 0 = before-is ws k ch w l 1 (omega arith) in
-    let r : areRecords v n ≡ true = still-records ws k ch w l s n (and-right (leb n channelLimit) (areRecords ws n) rest) in
+    let r : areRecords v n ≡ true = still-records ws k ch w l s n (and-right (leb n channelLimit) (areRecords ws n) e) in
     let c : channelsIn v n ≡ set (channelsIn ws n) k ch = channels-with ws k ch w l n h in
-    rw (a, e, m, e0, e1, le-leb joinerWords (length ws) w, le-leb n channelLimit f, r, c)
+    rw (a, e, e0, e1, le-leb n channelLimit f, r, c)

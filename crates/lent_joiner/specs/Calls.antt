@@ -1,6 +1,5 @@
--- What set-up and take answer in lent words. Too few words for the answer or for a new joiner come before anything else.
+-- What set-up and take answer in lent words: a joiner's and an answer's, each of its own fixed count.
 use Prim.Native.Nat.{ℕ}
-use mathlib.Core.Bool.{cond}
 use mathlib.Core.List.{List, [], _∷_}
 use Rattle.wire.specs.Bytes.{written}
 use Rattle.binding.specs.Header.{senderIn}
@@ -10,45 +9,37 @@ use Rattle.joiner.specs.Outcomes.{answerIn, refusalIn}
 use Rattle.channels.specs.declared.Answer.{Answer}
 use Rattle.channels.specs.declared.Answer.the-variants.{Accepted, Refused}
 use Rattle.channels.specs.declared.Joiner.{Joiner}
-use Rattle.channels.specs.declared.NewJoiner.{NewJoiner}
 use Rattle.joiner.specs.declared.Place.{Place}
 use Rattle.joiner.specs.declared.Place.the-variants.{Datagram, Rooms}
 use Rattle.joiner.specs.declared.Outcome.{Outcome}
 use Rattle.joiner.specs.declared.Outcome.the-variants as outcome
 use Rattle.joiner.specs.declared.Taken.{Taken}
-use Rattle.lent.specs.Words.{outputTooShort, tooFew}
-use Rattle.lent_channels.specs.Words.{joinerWords, recordAt, joinerIn, recordWords, wordsOf}
+use Rattle.lent_channels.specs.Words.{recordAt, joinerIn, recordWords, wordsOf}
 
--- a joiner that was accepted, as words; none of one that was refused
-abbrev pub acceptedWords : Answer → Joiner → List ℕ
-acceptedWords Accepted j = wordsOf j
-acceptedWords (Refused n) j = []
+-- a joiner that was accepted, as words; where it was refused, the words that were there
+abbrev pub acceptedWords : Answer → Joiner → List ℕ → List ℕ
+acceptedWords Accepted j old = wordsOf j
+acceptedWords (Refused n) j old = old
 
-abbrev pub newWords : NewJoiner → List ℕ
-newWords new = acceptedWords (new .answer) (new .joiner)
-
-unfoldable pub setupNumber : List ℕ → ℕ → ℕ → List ℕ → ℕ
-setupNumber ids R b ws = cond (tooFew joinerWords ws) outputTooShort (answerIn (setupOf ids R b .answer))
+unfoldable pub setupNumber : List ℕ → ℕ → ℕ → ℕ
+setupNumber ids R b = answerIn (setupOf ids R b .answer)
 
 unfoldable pub setupWords : List ℕ → ℕ → ℕ → List ℕ → List ℕ
-setupWords ids R b ws = cond (tooFew joinerWords ws) ws (written ws 0 (newWords (setupOf ids R b)))
+setupWords ids R b ws = acceptedWords (setupOf ids R b .answer) (setupOf ids R b .joiner) ws
 
 -- what an outcome is in words: which, missed, the bytes held or delivered, in which slice a delivered message lies (0 none, 1
--- the datagram, 2 the rooms), and from which byte on
-abbrev pub answerWords : ℕ
-answerWords = 5
-
+-- the datagram, 2 the rooms), and from which byte on; where it is a refusal, the words that were there
 abbrev pub deliveredWords : ℕ → Place → List ℕ
 deliveredWords m (Datagram p n) = 2 ∷ m ∷ n ∷ 1 ∷ p ∷ []
 deliveredWords m (Rooms p n) = 2 ∷ m ∷ n ∷ 2 ∷ p ∷ []
 
-abbrev pub outcomeWords : Outcome → List ℕ
-outcomeWords (outcome.Refused n) = []
-outcomeWords outcome.Repeated = 1 ∷ 0 ∷ 0 ∷ 0 ∷ 0 ∷ []
-outcomeWords (outcome.Delivered m p) = deliveredWords m p
-outcomeWords (outcome.Held m n) = 3 ∷ m ∷ n ∷ 0 ∷ 0 ∷ []
-outcomeWords (outcome.Stray m) = 4 ∷ m ∷ 0 ∷ 0 ∷ 0 ∷ []
-outcomeWords (outcome.TooLong m) = 5 ∷ m ∷ 0 ∷ 0 ∷ 0 ∷ []
+abbrev pub outcomeWords : Outcome → List ℕ → List ℕ
+outcomeWords (outcome.Refused n) old = old
+outcomeWords outcome.Repeated old = 1 ∷ 0 ∷ 0 ∷ 0 ∷ 0 ∷ []
+outcomeWords (outcome.Delivered m p) old = deliveredWords m p
+outcomeWords (outcome.Held m n) old = 3 ∷ m ∷ n ∷ 0 ∷ 0 ∷ []
+outcomeWords (outcome.Stray m) old = 4 ∷ m ∷ 0 ∷ 0 ∷ 0 ∷ []
+outcomeWords (outcome.TooLong m) old = 5 ∷ m ∷ 0 ∷ 0 ∷ 0 ∷ []
 
 -- what a refusal leaves as it is
 abbrev pub unlessRefused : Outcome → List ℕ → List ℕ → List ℕ
@@ -71,14 +62,14 @@ placeIn j d = placeOf (sendersOf j) (senderIn d)
 abbrev pub wordsBy : List ℕ → ℕ → Taken → List ℕ
 wordsBy ws k t = unlessRefused (t .outcome) ws (withRecord ws k (t .joiner))
 
-unfoldable pub takeNumber : List ℕ → List ℕ → List ℕ → List ℕ → ℕ
-takeNumber ws rooms d out = cond (tooFew answerWords out) outputTooShort (refusalIn (takenOf (joinerIn ws) rooms d .outcome))
+unfoldable pub takeNumber : List ℕ → List ℕ → List ℕ → ℕ
+takeNumber ws rooms d = refusalIn (takenOf (joinerIn ws) rooms d .outcome)
 
-unfoldable pub takeWords : List ℕ → List ℕ → List ℕ → List ℕ → List ℕ
-takeWords ws rooms d out = cond (tooFew answerWords out) ws (wordsBy ws (placeIn (joinerIn ws) d) (takenOf (joinerIn ws) rooms d))
+unfoldable pub takeWords : List ℕ → List ℕ → List ℕ → List ℕ
+takeWords ws rooms d = wordsBy ws (placeIn (joinerIn ws) d) (takenOf (joinerIn ws) rooms d)
 
-unfoldable pub takeRooms : List ℕ → List ℕ → List ℕ → List ℕ → List ℕ
-takeRooms ws rooms d out = cond (tooFew answerWords out) rooms (roomsAfter (joinerIn ws) rooms d)
+unfoldable pub takeRooms : List ℕ → List ℕ → List ℕ → List ℕ
+takeRooms ws rooms d = roomsAfter (joinerIn ws) rooms d
 
 unfoldable pub takeAnswer : List ℕ → List ℕ → List ℕ → List ℕ → List ℕ
-takeAnswer ws rooms d out = cond (tooFew answerWords out) out (written out 0 (outcomeWords (takenOf (joinerIn ws) rooms d .outcome)))
+takeAnswer ws rooms d out = outcomeWords (takenOf (joinerIn ws) rooms d .outcome) out

@@ -1,9 +1,6 @@
 // Joining with the joiner and the answers in lent words: set-up and take as the C interface has them.
-mod stored;
-
 ghost use mathlib.Core.Path.{_≡_};
 ghost use mathlib.Core.List.{[], _∷_};
-ghost use Rattle.wire.specs.Bytes.{written};
 ghost use Rattle.lent_joiner.specs.Calls.{setupNumber, setupWords, outcomeWords, takeNumber, takeWords, takeRooms, takeAnswer};
 use binding::BindingHeader;
 use channels::Answer;
@@ -31,39 +28,37 @@ pub const IN_DATAGRAM: u64 = 1;
 
 pub const IN_ROOMS: u64 = 2;
 
-// A fresh joiner for these sender IDs, with `room` bytes for each in rooms of `rooms` bytes: 10 for too few words, 20.
-pub fn setup(ids: &[u16], room: u32, rooms: usize, state: &mut [u32]) -> u32
-    ensures { λ r. ⌜ r ≡ setupNumber (now (ids .entry)) room rooms (now (state .entry)) ⌝ }
+// A fresh joiner for these sender IDs, with `room` bytes for each in rooms of `rooms` bytes; or 20.
+pub fn setup(state: &mut [u32; JOINER_WORDS], ids: &[u16], room: u32, rooms: usize) -> u32
+    ensures { λ r. ⌜ r ≡ setupNumber (now (ids .entry)) room rooms ⌝ }
     ensures { λ _. ⌜ now (state .exit) ≡ setupWords (now (ids .entry)) room rooms (now (state .entry)) ⌝ }
 {
-    if state.len() < JOINER_WORDS {
-        return lent::OUTPUT_TOO_SHORT;
-    }
     let made = setups::setup(ids, room, rooms);
     let answer = made.answer;
     let joiner = made.joiner;
     match answer {
         Answer::Refused(number) => number,
         Answer::Accepted => {
-            stored::put_joiner(state, joiner);
+            *state = lent_channels::words_of(joiner);
             0
         }
     }
 }
 
-// Takes one datagram: 10 for too few words of answer, 20 to 23, or 0 and what it was to its channel, whose record alone
-// changes.
-pub fn take(state: &mut [u32], rooms: &mut [u8], datagram: &[u8], answer: &mut [u64]) -> u32
-    ensures { λ r. ⌜ r ≡ takeNumber (now (state .entry)) (now (rooms .entry)) (now (datagram .entry)) (now (answer .entry)) ⌝ }
-    ensures { λ _. ⌜ now (state .exit) ≡ takeWords (now (state .entry)) (now (rooms .entry)) (now (datagram .entry)) (now (answer .entry)) ⌝ }
-    ensures { λ _. ⌜ now (rooms .exit) ≡ takeRooms (now (state .entry)) (now (rooms .entry)) (now (datagram .entry)) (now (answer .entry)) ⌝ }
+// Takes one datagram: 20 to 23, or 0 and what it was to its channel, whose record alone changes.
+pub fn take(
+    state: &mut [u32; JOINER_WORDS],
+    rooms: &mut [u8],
+    datagram: &[u8],
+    answer: &mut [u64; ANSWER_WORDS],
+) -> u32
+    ensures { λ r. ⌜ r ≡ takeNumber (now (state .entry)) (now (rooms .entry)) (now (datagram .entry)) ⌝ }
+    ensures { λ _. ⌜ now (state .exit) ≡ takeWords (now (state .entry)) (now (rooms .entry)) (now (datagram .entry)) ⌝ }
+    ensures { λ _. ⌜ now (rooms .exit) ≡ takeRooms (now (state .entry)) (now (rooms .entry)) (now (datagram .entry)) ⌝ }
     ensures { λ _. ⌜ now (answer .exit) ≡ takeAnswer (now (state .entry)) (now (rooms .entry)) (now (datagram .entry)) (now (answer .entry)) ⌝ }
 {
-    if answer.len() < ANSWER_WORDS {
-        return lent::OUTPUT_TOO_SHORT;
-    }
     let heard = BindingHeader::read(datagram);
-    let size = lent::u32_at(state, 1);
+    let size = state[1];
     let found = lent_channels::look(state, rooms.len(), taking::sender_of(heard));
     match taking::judge(found, size, heard, datagram.len()) {
         Judged::Refusal(number) => number,
@@ -72,15 +67,15 @@ pub fn take(state: &mut [u32], rooms: &mut [u8], datagram: &[u8], answer: &mut [
             let channel = step.channel;
             let put = step.put;
             put_outcome(answer, outcome);
-            stored::put_record(state, at, channel);
+            lent_channels::put_record(state, at, channel);
             taking::write_piece(rooms, put, datagram);
             0
         }
     }
 }
 
-fn put_outcome(answer: &mut [u64], outcome: Outcome)
-    ensures { λ _. ⌜ now (answer .exit) ≡ written (now (answer .entry)) 0 (outcomeWords outcome) ⌝ }
+fn put_outcome(answer: &mut [u64; ANSWER_WORDS], outcome: Outcome)
+    ensures { λ _. ⌜ now (answer .exit) ≡ outcomeWords outcome (now (answer .entry)) ⌝ }
 {
     match outcome {
         Outcome::Refused(_) => {}
@@ -109,9 +104,15 @@ fn put_outcome(answer: &mut [u64], outcome: Outcome)
     }
 }
 
-fn put_words(answer: &mut [u64], outcome: u64, missed: u64, bytes: u64, slice: u64, start: u64)
-    ensures { λ _. ⌜ now (answer .exit) ≡ written (now (answer .entry)) 0 (outcome ∷ missed ∷ bytes ∷ slice ∷ start ∷ []) ⌝ }
+fn put_words(
+    answer: &mut [u64; ANSWER_WORDS],
+    outcome: u64,
+    missed: u64,
+    bytes: u64,
+    slice: u64,
+    start: u64,
+)
+    ensures { λ _. ⌜ now (answer .exit) ≡ (outcome ∷ missed ∷ bytes ∷ slice ∷ start ∷ []) ⌝ }
 {
-    let words = [outcome, missed, bytes, slice, start];
-    lent::put_u64(answer, 0, &words);
+    *answer = [outcome, missed, bytes, slice, start];
 }

@@ -24,13 +24,7 @@ wire =
     }
 
 channels : ChannelsUnique
-channels =
-    record {
-      is-good = λ k a z z′ e e′ p q. p ∙ sym q;
-      look = λ k a z z′ e e′ p q. p ∙ sym q;
-      room-start = λ k a z z′ e e′ p q. p ∙ sym q;
-      has-good-sizes = λ k a z z′ e e′ p q. p ∙ sym q;
-    }
+channels = record { room-start = λ k a z z′ e e′ p q. p ∙ sym q; has-good-sizes = λ k a z z′ e e′ p q. p ∙ sym q }
 
 joiner : JoinerUnique
 joiner =
@@ -166,7 +160,12 @@ lent =
     }
 
 lent-channels : LentChannelsUnique
-lent-channels = record { look = λ k a z z′ e e′ p q. p ∙ sym q }
+lent-channels =
+    record {
+      look = λ k a z z′ e e′ p q. p ∙ sym q;
+      put-record-state = λ k a z z′ e e′ p q. p ∙ sym q;
+      words-of = λ k a z z′ e e′ p q. p ∙ sym q;
+    }
 
 lent-joiner : LentJoinerUnique
 lent-joiner =

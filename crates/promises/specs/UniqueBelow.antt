@@ -11,8 +11,6 @@ use Rattle.leaves.proofs.truth.Reads.{Post as leaves-truth}
 use Rattle.leaves.proofs.signed8.Reads.{Post as leaves-signed8}
 use Rattle.leaves.proofs.signed16.Reads.{Post as leaves-signed16}
 use Rattle.leaves.proofs.signed32.Reads.{Post as leaves-signed32}
-use Rattle.channels.proofs.is_good.Reads.{Post as channels-is-good}
-use Rattle.channels.proofs.look.Reads.{Post as channels-look}
 use Rattle.channels.proofs.room_start.Reads.{Post as channels-room-start}
 use Rattle.channels.proofs.has_good_sizes.Reads.{Post as channels-has-good-sizes}
 use Rattle.joiner.proofs.moved.Reads.{Post as joiner-moved}
@@ -67,6 +65,8 @@ use Rattle.lent.proofs.u32_at.Reads.{Post as lent-u32-at}
 use Rattle.lent.proofs.put_u64.Reads.{Post as lent-put-u64}
 use Rattle.lent.proofs.put_u32.Reads.{Post as lent-put-u32}
 use Rattle.lent_channels.proofs.look.Reads.{Post as lent-channels-look}
+use Rattle.lent_channels.proofs.put_record.Reads.{Post as lent-channels-put-record}
+use Rattle.lent_channels.proofs.words_of.Reads.{Post as lent-channels-words-of}
 use Rattle.lent_joiner.proofs.setup.Reads.{Post as lent-joiner-setup}
 use Rattle.lent_joiner.proofs.take.Reads.{Post as lent-joiner-take}
 use Rattle.lent_messages.proofs.pieces.Reads.{Post as lent-messages-pieces}
@@ -105,8 +105,6 @@ pub record LeavesUnique : Type 0 where
   pub signed32 : Answer leaves-signed32
 
 pub record ChannelsUnique : Type 0 where
-  pub is-good : Answer channels-is-good
-  pub look : Answer channels-look
   pub room-start : Answer channels-room-start
   pub has-good-sizes : Answer channels-has-good-sizes
 
@@ -196,10 +194,12 @@ pub record LentUnique : Type 0 where
 
 pub record LentChannelsUnique : Type 0 where
   pub look : Answer lent-channels-look
+  pub put-record-state : Lent lent-channels-put-record (λ k e. now (e .0))
+  pub words-of : Answer lent-channels-words-of
 
 pub record LentJoinerUnique : Type 0 where
   pub setup : Answer lent-joiner-setup
-  pub setup-state : Lent lent-joiner-setup (λ k e. now (e .1 .1 .1 .0))
+  pub setup-state : Lent lent-joiner-setup (λ k e. now (e .0))
   pub take : Answer lent-joiner-take
   pub take-state : Lent lent-joiner-take (λ k e. now (e .0))
   pub take-rooms : Lent lent-joiner-take (λ k e. now (e .1 .0))

@@ -2,11 +2,12 @@
 ghost use mathlib.Core.Path.{_≡_};
 ghost use Prim.Native.Nat.{_≤_};
 ghost use lib.ListN.{length};
-ghost use Rattle.channels.specs.Setup.{channelLimit, newChannel, freshOf, refusedSetup, setupOf};
+ghost use Rattle.channels.specs.Setup.{channelLimit, newChannel, good, freshOf, refusedSetup, setupOf};
 use channels::Answer;
 use channels::BAD_SETUP;
 use channels::CHANNELS;
 use channels::Channel;
+use channels::Found;
 use channels::Joiner;
 use channels::NewJoiner;
 
@@ -16,7 +17,7 @@ pub fn setup(ids: &[u16], room: u32, buffer: usize) -> NewJoiner
 {
     if ids.len() <= CHANNELS {
         let joiner = fresh(ids, room);
-        if channels::is_good(joiner, buffer) {
+        if is_good(joiner, buffer) {
             return NewJoiner {
                 answer: Answer::Accepted,
                 joiner,
@@ -25,6 +26,18 @@ pub fn setup(ids: &[u16], room: u32, buffer: usize) -> NewJoiner
         return refused_setup();
     }
     refused_setup()
+}
+
+// Whether it is good, as every joiner has to be, whatever sender ID is looked for.
+fn is_good(joiner: Joiner, buffer: usize) -> bool
+    ensures { λ r. ⌜ r ≡ good joiner buffer ⌝ }
+{
+    let words = lent_channels::words_of(joiner);
+    match lent_channels::look(&words, buffer, 0) {
+        Found::Bad => false,
+        Found::Nobody => true,
+        Found::Somebody { at: _, channel: _ } => true,
+    }
 }
 
 fn refused_setup() -> NewJoiner

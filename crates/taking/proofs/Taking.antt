@@ -1,6 +1,6 @@
 -- What taking a datagram and handing back a message show at their returns.
 -- Assumes nothing.
-use Prim.Native.Nat.{ℕ, _+_, _-_, _*_, _≤_, _<_}
+use Prim.Native.Nat.{ℕ, _+_, _-_, _*_, _<_}
 use mathlib.Core.Path.{_≡_, refl, sym, ap, _∙_}
 use mathlib.Core.Bool.{Bool, true, false}
 use mathlib.Core.List.{List, [], _∷_}
@@ -32,6 +32,8 @@ use Rattle.joiner.specs.declared.Outcome.{Outcome}
 use Rattle.joiner.specs.declared.Outcome.the-variants.{Refused, Repeated, Delivered, Held, Stray, TooLong}
 use Rattle.channels.specs.Setup.{channelLimit, foundOf}
 use Rattle.joiner.specs.Take.{senderBy, judgedBy, judgedOf, changed, takenBy, takenOf, putBy, roomsBy, roomsAfter, messageOf}
+use Rattle.lent_channels.specs.Words.{joinerIn, wordsOf}
+use Rattle.lent_channels.proofs.FoundBack.{looked}
 use Rattle.joiner.proofs.Judging.{Moved, judged-by, judged-moved, good-sizes}
 
 module _ {o : Outcome} {pl : Place} (d rooms : List ℕ) where
@@ -73,9 +75,9 @@ not-delivered (Stray m) d rooms t = refl
 not-delivered (TooLong m) d rooms t = refl
 
 -- `take`
-module _ {f : Found} {r : Heard} {y : ℕ} {x : Judged} (j : Joiner) (rooms d : List ℕ) (w : length (j .channels) ≡ channelLimit) (er : r ≡ heardIn d) (ey : y ≡ senderBy r) (ef : f ≡ foundOf j (length rooms) y) (ex : x ≡ judgedBy f (j .room) r (length d)) where
+module _ {f : Found} {r : Heard} {ws : List ℕ} {y : ℕ} {x : Judged} (j : Joiner) (rooms d : List ℕ) (w : length (j .channels) ≡ channelLimit) (er : r ≡ heardIn d) (ey : y ≡ senderBy r) (ew : ws ≡ wordsOf j) (ef : f ≡ foundOf (joinerIn ws) (length rooms) y) (ex : x ≡ judgedBy f (j .room) r (length d)) where
   judged : x ≡ judgedOf j (length rooms) d
-  judged = judged-by j (length rooms) d w er ey ef ex
+  judged = judged-by j (length rooms) d w er ey (looked j (length rooms) y w ew ef) ex
 
   pub refused-taken : (n : ℕ) → x ≡ Refusal n → record { outcome = Refused n; joiner = j } ≡ takenOf j rooms d
   unfolding takenOf takenBy

@@ -22,7 +22,8 @@ pub fn take(joiner: Joiner, rooms: &mut [u8], datagram: &[u8]) -> Taken
     ensures { λ _. ⌜ now (rooms .exit) ≡ roomsAfter joiner (now (rooms .entry)) (now (datagram .entry)) ⌝ }
 {
     let heard = BindingHeader::read(datagram);
-    let found = channels::look(joiner, rooms.len(), sender_of(heard));
+    let words = lent_channels::words_of(joiner);
+    let found = lent_channels::look(&words, rooms.len(), sender_of(heard));
     match judge(found, joiner.room, heard, datagram.len()) {
         Judged::Refusal(number) => Taken {
             outcome: Outcome::Refused(number),

@@ -2,7 +2,7 @@
 -- Assumes nothing.
 use borrow.Author.Needs.{needs}
 use native.Mathlib.Omega.{arith}
-use Rattle.lent_channels.proofs.Looking.{sized, so-good, found-in, bad-records, bad-sizes, bad-length}
+use Rattle.lent_channels.proofs.Looking.{sized, so-good, found-in, bad-records, bad-sizes}
 use Rattle.lent_channels.proofs.look.Statement.{statement}
 use Rattle.lent_channels.proofs.look.Tie as tie
 
@@ -11,7 +11,7 @@ look-spec =
     tie.close
     (tie.spec
     (λ c. search needs)
-    (λ c. record { fits = omega (arith, c .shared-slice-known2 .given 0) })
+    (λ c. record { fits = omega (arith, c .shared-slice-known .given 0) })
     (λ c. search needs)
     (λ c κs. search needs)
     (λ c κs. search sized)
@@ -19,5 +19,4 @@ look-spec =
     (λ c κs. (search sized, search so-good))
     (λ c. search found-in)
     (λ c. search bad-records)
-    (λ c. search bad-sizes)
-    (λ c. search bad-length))
+    (λ c. search bad-sizes))

@@ -1,7 +1,7 @@
 -- `lent_joiner::setup` meets its contract: nothing where it is refused, else the joiner's words.
 -- Assumes nothing.
 use borrow.Author.Needs.{needs}
-use Rattle.lent_joiner.proofs.Calling.{short-number, short-words, refused-number, refused-words, accepted-number, accepted-words, few-set-up}
+use Rattle.lent_joiner.proofs.Calling.{refused-number, refused-words, accepted-number, accepted-words}
 use Rattle.lent_joiner.proofs.setup.Statement.{statement}
 use Rattle.lent_joiner.proofs.setup.Tie as tie
 
@@ -9,11 +9,9 @@ pub setup-spec : {M : Type 1} → statement M
 setup-spec =
     tie.close
     (tie.spec
-    (λ c. (search short-number, search short-words))
     (λ c κs. search needs)
     (λ c. search needs)
     (λ c. search needs)
-    (λ c κs. search few-set-up)
+    (λ c κs. search needs)
     (λ c. (search refused-number, search refused-words))
-    (λ c. search needs)
     (λ c. (search accepted-number, search accepted-words)))

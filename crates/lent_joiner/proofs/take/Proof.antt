@@ -1,8 +1,8 @@
 -- `lent_joiner::take` meets its contract: what was judged; the record of the channel that moved, its piece and the answer.
 -- Assumes nothing.
+use mathlib.Core.Path.{refl}
 use borrow.Author.Needs.{needs}
-use Rattle.lent_joiner.proofs.Calling.{short-take, short-state, short-rooms, short-answer, refused-all, moved-all}
-use Rattle.lent_joiner.proofs.Moving.{moved-words, moved-known}
+use Rattle.lent_joiner.proofs.Calling.{refused-all, moved-all}
 use Rattle.lent_joiner.proofs.take.Statement.{statement}
 use Rattle.lent_joiner.proofs.take.Tie as tie
 
@@ -10,58 +10,40 @@ pub take-spec : {M : Type 1} → statement M
 take-spec =
     tie.close
     (tie.spec
-    (λ c. (search short-take, (search short-state, (search short-rooms, search short-answer))))
     (λ c κs. search needs)
-    (λ c κs. search needs)
+    (λ c. search needs)
     (λ c κs. search needs)
     (λ c κs. search needs)
     (λ c κs. search needs)
     (λ c. search needs)
     (λ c. search needs)
     (λ c κs. search needs)
-    (λ c κs.
-    let found = c .before .before .before .before .before .before .before in
-    let judged = found .before .before in
-    let looked = judged .before in
-    let sought = looked .before in
-    let size = sought .before .before in
-    let heard = size .before .before in
-    let ws = heard .before .before .before .before .before .before .args .state .now in
-    let d = heard .before .before .before .before .before .before .args .datagram .now in
-    let m = found .at .given .1 in
-    (moved-words ws _ d (size .u32-at .ensures) (heard .read .ensures) (sought .sender-of .ensures) (looked .look .ensures) (judged .judge .ensures) _ _ m, moved-known ws _ d (size .u32-at .ensures) (heard .read .ensures) (sought .sender-of .ensures) (looked .look .ensures) (judged .judge .ensures) _ _ m))
     (λ c κs. search needs)
-    (λ c. search needs)
+    (λ c κs. search needs)
     (λ c.
     let judged = c .before .before .before in
     let looked = judged .before in
     let sought = looked .before in
-    let size = sought .before .before in
-    let heard = size .before .before in
-    let long = heard .before .if1 .left in
-    let start = heard .before .before .before .before .before .before in
+    let heard = sought .before .before .before in
+    let start = heard .before .before .before in
     let ws = start .args .state .now in
     let rooms = start .args .rooms .now in
     let d = start .args .datagram .now in
     let out = start .args .answer .now in
-    refused-all ws rooms d out long (size .u32-at .ensures) (heard .read .ensures) (sought .sender-of .ensures) (looked .look .ensures) (judged .judge .ensures) _ (c .before .number .given .1))
-    (λ c. search needs)
-    (λ c. search needs)
+    refused-all ws rooms d refl (heard .read .ensures) (sought .sender-of .ensures) (looked .look .ensures) (judged .judge .ensures) _ (c .before .number .given .1) out)
     (λ c. search needs)
     (λ c.
     let written = c .before .before in
-    let stored = written .before .before .before .before in
-    let told = stored .before .before .before .before in
+    let stored = written .before .before in
+    let told = stored .before .before in
     let found = told .before .before .before .before in
     let judged = found .before .before in
     let looked = judged .before in
     let sought = looked .before in
-    let size = sought .before .before in
-    let heard = size .before .before in
-    let long = heard .before .if1 .left in
-    let start = heard .before .before .before .before .before .before in
+    let heard = sought .before .before .before in
+    let start = heard .before .before .before in
     let ws = start .args .state .now in
     let rooms = start .args .rooms .now in
     let d = start .args .datagram .now in
     let out = start .args .answer .now in
-    moved-all ws rooms d out long (size .u32-at .ensures) (heard .read .ensures) (sought .sender-of .ensures) (looked .look .ensures) (judged .judge .ensures) _ _ (found .at .given .1) (stored .put-record .ensures) (written .write-piece .ensures) (told .put-outcome .ensures)))
+    moved-all ws rooms d refl (heard .read .ensures) (sought .sender-of .ensures) (looked .look .ensures) (judged .judge .ensures) _ _ (found .at .given .1) out (stored .put-record .ensures) (written .write-piece .ensures) (told .put-outcome .ensures)))

@@ -16,23 +16,61 @@ take-spec =
     (λ c κs. search needs)
     (λ c κs. search needs)
     (λ c κs. search needs)
+    (λ c κs. search needs)
     (λ c. search needs)
     (λ c. search needs)
     (λ c κs. search needs)
     (λ c.
-    let start = c .before .before .before .before .before .before .before .before .before .before .before .before .before .before in
-    let w : length (start .args .joiner .channels) ≡ channelLimit = simp length-map at (start .good .0 .1 .1 .0 .1 .0 .1) in
-    search moved-fits)
+    let found = c .before .before .before .before .before .before in
+    let judged = found .before .before in
+    let looked = judged .before in
+    let sought = looked .before in
+    let stored = sought .before .before in
+    let heard = stored .before in
+    let start = heard .before .before .before in
+    let j = start .args .joiner in
+    let rooms = start .args .rooms .now in
+    let d = start .args .datagram .now in
+    let w : length (j .channels) ≡ channelLimit = simp length-map at (start .good .0 .1 .1 .0 .1 .0 .1) in
+    moved-fits j rooms d w (heard .read .ensures) (sought .sender-of .ensures) (stored .words-of .ensures) (looked .look .ensures) (judged .judge .ensures) _ _ (found .moved .given .1))
     (λ c.
-    let start = c .before .before .before .before .before .before .before .before .before .before .before .before .before .before in
-    let w : length (start .args .joiner .channels) ≡ channelLimit = simp length-map at (start .good .0 .1 .1 .0 .1 .0 .1) in
-    search moved-known)
+    let found = c .before .before .before .before .before .before in
+    let judged = found .before .before in
+    let looked = judged .before in
+    let sought = looked .before in
+    let stored = sought .before .before in
+    let heard = stored .before in
+    let start = heard .before .before .before in
+    let j = start .args .joiner in
+    let rooms = start .args .rooms .now in
+    let d = start .args .datagram .now in
+    let w : length (j .channels) ≡ channelLimit = simp length-map at (start .good .0 .1 .1 .0 .1 .0 .1) in
+    moved-known j rooms d w (heard .read .ensures) (sought .sender-of .ensures) (stored .words-of .ensures) (looked .look .ensures) (judged .judge .ensures) _ _ (found .moved .given .1))
     (λ c.
-    let start = c .before .before .before .before .before .before .before .before .before in
-    let w : length (start .args .joiner .channels) ≡ channelLimit = simp length-map at (start .good .0 .1 .1 .0 .1 .0 .1) in
-    (search refused-taken, search refused-rooms))
+    let judged = c .before .before .before in
+    let looked = judged .before in
+    let sought = looked .before in
+    let stored = sought .before .before in
+    let heard = stored .before in
+    let start = heard .before .before .before in
+    let j = start .args .joiner in
+    let rooms = start .args .rooms .now in
+    let d = start .args .datagram .now in
+    let w : length (j .channels) ≡ channelLimit = simp length-map at (start .good .0 .1 .1 .0 .1 .0 .1) in
+    let refusal = c .before .number .given .1 in
+    (refused-taken j rooms d w (heard .read .ensures) (sought .sender-of .ensures) (stored .words-of .ensures) (looked .look .ensures) (judged .judge .ensures) _ refusal, refused-rooms j rooms d w (heard .read .ensures) (sought .sender-of .ensures) (stored .words-of .ensures) (looked .look .ensures) (judged .judge .ensures) _ refusal))
     (λ c. search needs)
     (λ c.
-    let start = c .before .before .before .before .before .before .before .before .before .before .before .before .before .before in
-    let w : length (start .args .joiner .channels) ≡ channelLimit = simp length-map at (start .good .0 .1 .1 .0 .1 .0 .1) in
-    (search moved-taken, search moved-rooms)))
+    let found = c .before .before .before .before .before .before in
+    let judged = found .before .before in
+    let looked = judged .before in
+    let sought = looked .before in
+    let stored = sought .before .before in
+    let heard = stored .before in
+    let start = heard .before .before .before in
+    let j = start .args .joiner in
+    let rooms = start .args .rooms .now in
+    let d = start .args .datagram .now in
+    let w : length (j .channels) ≡ channelLimit = simp length-map at (start .good .0 .1 .1 .0 .1 .0 .1) in
+    let move = found .moved .given .1 in
+    (moved-taken j rooms d w (heard .read .ensures) (sought .sender-of .ensures) (stored .words-of .ensures) (looked .look .ensures) (judged .judge .ensures) _ _ move, moved-rooms j rooms d w (heard .read .ensures) (sought .sender-of .ensures) (stored .words-of .ensures) (looked .look .ensures) (judged .judge .ensures) _ _ move (c .before .before .write-piece .ensures))))

@@ -1,0 +1,31 @@
+-- `setups::is_good` meets its contract: the look at its words found it bad, or not.
+-- Assumes nothing.
+use mathlib.Core.Path.{_≡_}
+use borrow.Author.Needs.{needs}
+use lib.ListN.{length, length-map}
+use Rattle.channels.specs.Setup.{channelLimit}
+use Rattle.setups.proofs.Making.{bad-look, nobody-look, somebody-look}
+use Rattle.setups.proofs.is_good.Statement.{statement}
+use Rattle.setups.proofs.is_good.Tie as tie
+
+pub is-good-spec : {M : Type 1} → statement M
+is-good-spec =
+    tie.close
+    (tie.spec
+    (λ c κs. search needs)
+    (λ c κs. search needs)
+    (λ c. search needs)
+    (λ c. search needs)
+    (λ c. search needs)
+    (λ c.
+    let start = c .before .before .before .before .before in
+    let w : length (start .args .joiner .channels) ≡ channelLimit = simp length-map at (start .good .0 .1 .1 .0 .1 .0 .1) in
+    search bad-look)
+    (λ c.
+    let start = c .before .before .before .before .before in
+    let w : length (start .args .joiner .channels) ≡ channelLimit = simp length-map at (start .good .0 .1 .1 .0 .1 .0 .1) in
+    search nobody-look)
+    (λ c.
+    let start = c .before .before .before .before .before in
+    let w : length (start .args .joiner .channels) ≡ channelLimit = simp length-map at (start .good .0 .1 .1 .0 .1 .0 .1) in
+    search somebody-look))
