@@ -1,1 +1,1 @@
-pub mod Calling
+mod Calling

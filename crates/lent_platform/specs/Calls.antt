@@ -1,26 +1,24 @@
--- What the call for one message answers in lent words. Too few words for the answer or for the platform come before anything else.
+-- What the call for one message answers in lent words: its number, the platform's words, the output and what was heard.
 use Prim.Native.Nat.{ℕ}
-use mathlib.Core.Bool.{Bool, cond, _||_}
 use mathlib.Core.List.{List}
-use Rattle.wire.specs.Bytes.{written}
+use lib.ListN.{length}
 use Rattle.platform.specs.declared.Outcome.{Outcome}
-use Rattle.platform.specs.Receiving.{numberGiven}
-use Rattle.lent.specs.Words.{outputTooShort, tooFew}
-use Rattle.lent_states.specs.Words.{platformWords}
-use Rattle.lent_heard.specs.Words.{heardLength, answerWords, notedWords}
+use Rattle.platform.specs.Receiving.{receivedOf, leftOf, numberGiven}
+use Rattle.lent_states.specs.Words.{standingIn}
+use Rattle.lent_heard.specs.Words.{heardAfter, platformAfter}
 
-abbrev pub noWords : List ℕ → List ℕ → Bool
-noWords ws answer = tooFew heardLength answer || tooFew platformWords ws
+-- own number, the platform's words, the table, the message and the output, in this order
+abbrev pub outcomeWith : ℕ → List ℕ → List ℕ → List ℕ → List ℕ → Outcome
+outcomeWith own ws t m out = receivedOf own t (standingIn ws) m (length out)
 
--- the number, the platform's words and the answer, by the outcome; and the output
-abbrev pub receiveNumber : Outcome → List ℕ → List ℕ → ℕ
-receiveNumber o ws answer = cond (noWords ws answer) outputTooShort (numberGiven (o .answer))
+abbrev pub receiveNumber : ℕ → List ℕ → List ℕ → List ℕ → List ℕ → ℕ
+receiveNumber own ws t m out = numberGiven (outcomeWith own ws t m out .answer)
 
-abbrev pub receiveWords : Outcome → List ℕ → List ℕ → List ℕ
-receiveWords o ws answer = cond (noWords ws answer) ws (written ws 0 (notedWords (o .answer) (o .standing)))
+abbrev pub receiveWords : ℕ → List ℕ → List ℕ → List ℕ → List ℕ → List ℕ
+receiveWords own ws t m out = platformAfter (outcomeWith own ws t m out) ws
 
-abbrev pub receiveAnswer : Outcome → List ℕ → List ℕ → List ℕ
-receiveAnswer o ws answer = cond (noWords ws answer) answer (written answer 0 (answerWords (o .answer)))
+abbrev pub receiveOutput : ℕ → List ℕ → List ℕ → List ℕ → List ℕ → List ℕ
+receiveOutput own ws t m out = leftOf own t (standingIn ws) m out
 
-abbrev pub receiveOutput : List ℕ → List ℕ → List ℕ → List ℕ → List ℕ
-receiveOutput out left ws answer = cond (noWords ws answer) out left
+abbrev pub receiveHeard : ℕ → List ℕ → List ℕ → List ℕ → List ℕ → List ℕ → List ℕ
+receiveHeard own ws t m out heard = heardAfter (outcomeWith own ws t m out) heard

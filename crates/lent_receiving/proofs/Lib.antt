@@ -1,2 +1,1 @@
 mod OnSections
-mod Straight

@@ -1,22 +1,25 @@
--- What the call for one message on sections promises.
+-- What the call for one message answers by the sections that a check gave, as words.
 use Prim.Native.Nat.{ℕ}
-use mathlib.Core.Path.{_≡_}
 use mathlib.Core.List.{List}
 use lib.ListN.{length}
-use Rattle.table.specs.declared.Sections.{Sections}
-use Rattle.table.specs.declared.Found.{Found}
-use Rattle.message.specs.Reading.{readOf}
-use Rattle.reactions.specs.Reaction.{Looked}
-use Rattle.platform.specs.Receiving.{sectionsOutcome, sectionsOutput}
+use Rattle.sections.specs.Words.{sectionsIn}
+use Rattle.platform.specs.declared.Outcome.{Outcome}
+use Rattle.platform.specs.Receiving.{sectionsOutcome, sectionsOutput, numberGiven}
 use Rattle.lent_states.specs.Words.{standingIn}
-use Rattle.lent_platform.specs.Calls.{receiveNumber, receiveWords, receiveAnswer, receiveOutput}
+use Rattle.lent_heard.specs.Words.{heardAfter, platformAfter}
 
--- what is promised of a call on sections: all of it is that of one answer that the look-up may give, and on a table that `check`
--- accepts there is one
-pub record ReceivedIn (own : ℕ) (t : List ℕ) (s : Sections) (ws m out answer : List ℕ) (number : ℕ) (words left after : List ℕ) : Type 0 where
-  pub found : Found
-  pub looked : Looked t s (readOf own m) found
-  pub numbered : number ≡ receiveNumber (sectionsOutcome own t s found (standingIn ws) m (length out)) ws answer
-  pub noted : words ≡ receiveWords (sectionsOutcome own t s found (standingIn ws) m (length out)) ws answer
-  pub laid : left ≡ receiveOutput out (sectionsOutput own t s found (standingIn ws) m out) ws answer
-  pub answered : after ≡ receiveAnswer (sectionsOutcome own t s found (standingIn ws) m (length out)) ws answer
+-- own number, the platform's words, the table, the sections' words, the message and the output, in this order
+abbrev pub outcomeWith : ℕ → List ℕ → List ℕ → List ℕ → List ℕ → List ℕ → Outcome
+outcomeWith own ws t ss m out = sectionsOutcome own t (sectionsIn ss) (standingIn ws) m (length out)
+
+abbrev pub receiveInNumber : ℕ → List ℕ → List ℕ → List ℕ → List ℕ → List ℕ → ℕ
+receiveInNumber own ws t ss m out = numberGiven (outcomeWith own ws t ss m out .answer)
+
+abbrev pub receiveInWords : ℕ → List ℕ → List ℕ → List ℕ → List ℕ → List ℕ → List ℕ
+receiveInWords own ws t ss m out = platformAfter (outcomeWith own ws t ss m out) ws
+
+abbrev pub receiveInOutput : ℕ → List ℕ → List ℕ → List ℕ → List ℕ → List ℕ → List ℕ
+receiveInOutput own ws t ss m out = sectionsOutput own t (sectionsIn ss) (standingIn ws) m out
+
+abbrev pub receiveInHeard : ℕ → List ℕ → List ℕ → List ℕ → List ℕ → List ℕ → List ℕ → List ℕ
+receiveInHeard own ws t ss m out heard = heardAfter (outcomeWith own ws t ss m out) heard

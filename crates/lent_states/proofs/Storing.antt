@@ -1,16 +1,18 @@
 -- A platform in its words: what reading and writing show, and that the words of a platform read back as that platform.
 -- Assumes nothing.
-use Prim.Native.Nat.{ℕ, _%_, _^_, _<_}
-use mathlib.Core.Path.{_≡_, ap, _∙_}
+use Prim.Native.Nat.{ℕ, _%_, _^_, _≤_, _<_}
+use mathlib.Core.Path.{_≡_, sym, ap, _∙_}
 use mathlib.Core.Bool.{Bool, true, false, cond}
 use mathlib.Core.List.{List, _++_}
 use native.Mathlib.Nat.{mod-eq-of-lt}
 use lib.ListN.{getD}
-use Rattle.wire.specs.Bytes.{written}
+use Rattle.wire.proofs.Cond.{yes-lt, no-lt}
+use Rattle.message.specs.Refusal.{platforms}
 use Rattle.states.specs.declared.States.{States}
 use Rattle.reactions.specs.declared.Standing.{Standing}
 use Rattle.states.specs.States.{isUp, howManyUp}
 use Rattle.platform.specs.Receiving.{freshStanding}
+use Rattle.lent_states.specs.Calls.{upNumber}
 use Rattle.lent_states.specs.Words.{statesIn, standingIn, standingWords}
 
 module _ (ws : List ℕ) where
@@ -25,19 +27,19 @@ module _ (ws : List ℕ) where
     pub up-states : {r : ℕ} → r ≡ howManyUp own s → r ≡ howManyUp own (statesIn ws)
     up-states e = e ∙ ap (howManyUp own) es
 
-    pub is-up : {t : Bool} (k : ℕ) → t ≡ isUp own s k → t ≡ true → _≡_ {A = ℕ} 1 (cond (isUp own (statesIn ws) k) 1 0)
-    is-up k e f = rw (← es, ← e, f)
+    module _ {t : Bool} (k : ℕ) (l : k < platforms) (e : t ≡ isUp own s k) where
+      pub is-up : t ≡ true → 1 ≡ upNumber own ws k
+      is-up f = sym (yes-lt (cond (isUp own (statesIn ws) k) 1 0) 0 k platforms l ∙ rw (← es, ← e, f))
 
-    pub is-down : {t : Bool} (k : ℕ) → t ≡ isUp own s k → t ≡ false → _≡_ {A = ℕ} 0 (cond (isUp own (statesIn ws) k) 1 0)
-    is-down k e f = rw (← es, ← e, f)
+      pub is-down : t ≡ false → 0 ≡ upNumber own ws k
+      is-down f = sym (yes-lt (cond (isUp own (statesIn ws) k) 1 0) 0 k platforms l ∙ rw (← es, ← e, f))
 
-  -- a fresh one
-  pub fresh-words : {x : List ℕ} {p : Standing} (own : ℕ) → p ≡ freshStanding own → x ≡ written ws 0 (standingWords p) → x ≡ written ws 0 (standingWords (freshStanding own))
-  fresh-words own e f = f ∙ ap (λ (q : Standing). written ws 0 (standingWords q)) e
+  pub no-platform : (own k : ℕ) → platforms ≤ k → 0 ≡ upNumber own ws k
+  no-platform own k l = sym (no-lt (cond (isUp own (statesIn ws) k) 1 0) 0 k platforms l)
 
-  -- one that stays as it is
-  pub kept : {x : List ℕ} {p : Standing} → p ≡ standingIn ws → x ≡ written ws 0 (standingWords p) → x ≡ written ws 0 (standingWords (standingIn ws))
-  kept e f = f ∙ ap (λ (q : Standing). written ws 0 (standingWords q)) e
+-- a fresh one
+pub fresh-words : {x : List ℕ} {p : Standing} (own : ℕ) → p ≡ freshStanding own → x ≡ standingWords p → x ≡ standingWords (freshStanding own)
+fresh-words own e f = f ∙ ap standingWords e
 
 -- the words of a platform, whatever stands behind them, read back as that platform
 pub read-back : (p : Standing) (ws : List ℕ) → p .next < 2 ^ 32 → standingIn (standingWords p ++ ws) ≡ p

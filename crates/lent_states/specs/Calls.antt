@@ -1,14 +1,11 @@
--- What a fresh platform is in lent words: 10 for too few of them.
+-- Who is UP, asked by number: 1, or 0 where that platform is DOWN or there is none of that number.
 use Prim.Native.Nat.{ℕ}
 use mathlib.Core.Bool.{cond}
 use mathlib.Core.List.{List}
-use Rattle.wire.specs.Bytes.{written}
-use Rattle.platform.specs.Receiving.{freshStanding}
-use Rattle.lent.specs.Words.{outputTooShort, tooFew}
-use Rattle.lent_states.specs.Words.{platformWords, standingWords}
+use lib.Dec.{ltb}
+use Rattle.message.specs.Refusal.{platforms}
+use Rattle.states.specs.States.{isUp}
+use Rattle.lent_states.specs.Words.{statesIn}
 
-abbrev pub freshNumber : List ℕ → ℕ
-freshNumber ws = cond (tooFew platformWords ws) outputTooShort 0
-
-abbrev pub freshWords : ℕ → List ℕ → List ℕ
-freshWords own ws = cond (tooFew platformWords ws) ws (written ws 0 (standingWords (freshStanding own)))
+abbrev pub upNumber : ℕ → List ℕ → ℕ → ℕ
+upNumber own ws k = cond (ltb k platforms) (cond (isUp own (statesIn ws) k) 1 0) 0

@@ -1,7 +1,7 @@
 // A table checked and its operations looked up, with the sections and the answers in lent words: as the C interface has them.
 ghost use mathlib.Core.Path.{_≡_};
 ghost use Rattle.sections.specs.Words.{sectionsIn, wordsOf};
-ghost use Rattle.lent_tables.specs.Calls.{checkNumber, checkAnswer, findNumber, Finds};
+ghost use Rattle.lent_tables.specs.Calls.{checkNumber, checkAnswer, findNumber, findAnswer};
 use sections::SECTIONS_WORDS;
 use table::Checked;
 use table::Found;
@@ -27,29 +27,28 @@ pub fn check(table: &[u8], sections: &mut [u64; SECTIONS_WORDS]) -> u32
     }
 }
 
-// Looks an operation up: 10 for too few words of answer, 30 for sections that do not lie in the table, or 0 and what was found.
-pub fn find(table: &[u8], sections: &[u64], id: u32, answer: &mut [u64]) -> u32
-    ensures { λ r. ⌜ r ≡ findNumber (now (table .entry)) (sectionsIn (now (sections .entry))) (now (answer .entry)) ⌝ }
-    ensures { λ _. ⌜ Finds (now (table .entry)) (sectionsIn (now (sections .entry))) id (now (answer .entry)) (now (answer .exit)) ⌝ }
+// Looks an operation up: 30 for sections that do not lie in the table, or 0 and what was found.
+pub fn find(
+    table: &[u8],
+    sections: &[u64; SECTIONS_WORDS],
+    id: u32,
+    answer: &mut [u64; FOUND_WORDS],
+) -> u32
+    ensures { λ r. ⌜ r ≡ findNumber (now (table .entry)) (sectionsIn (now (sections .entry))) ⌝ }
+    ensures { λ _. ⌜ now (answer .exit) ≡ findAnswer (now (table .entry)) (sectionsIn (now (sections .entry))) id (now (answer .entry)) ⌝ }
 {
-    if answer.len() < FOUND_WORDS {
-        return lent::OUTPUT_TOO_SHORT;
-    }
     let s = sections::sections_in(sections);
     if sections::within(table, s) {
         match lookup::find(table, s, id) {
             Found::At(i) => {
                 let operation = table::entries::operation_at(table, s, i);
-                let words = [FOUND, operation.kind as u64, operation.carries as u64];
-                lent::put_u64(answer, 0, &words);
-                0
+                *answer = [FOUND, operation.kind as u64, operation.carries as u64];
             }
             Found::Nothing => {
-                let words = [0, 0, 0];
-                lent::put_u64(answer, 0, &words);
-                0
+                *answer = [0, 0, 0];
             }
         }
+        0
     } else {
         table::CUT_SHORT
     }

@@ -10,12 +10,12 @@ ghost use lib.ListN.{length};
 ghost use Rattle.wire.specs.Bytes.{number};
 ghost use Rattle.table.specs.Layout.{operationPlace};
 ghost use Rattle.table.specs.Entries.{idAt};
-ghost use Rattle.table.specs.Operations.{Answers};
+ghost use Rattle.lookup.specs.Search.{lookedUp};
 
-// An entry that bears the ID, or none; and none means absent where the IDs rise: they are searched by halving. Both ends are
+// An entry that bears the ID, or none, searched by halving; where the IDs rise it is the operation of that ID. Both ends are
 // as wide as a place: of narrower ones the compiler makes moves that wait for each other, and a look-up takes longer by half.
 pub fn find(table: &[u8], s: Sections, id: u32) -> Found
-    ensures { λ r. ⌜ Answers (now (table .entry)) s id r ⌝ }
+    ensures { λ r. ⌜ r ≡ lookedUp (now (table .entry)) s id ⌝ }
 {
     let operations = s.operations;
     let whole = layout::end(operations, layout::OPERATION_WIDTH) <= table.len();

@@ -15,7 +15,6 @@ use Rattle.table.specs.declared.Checked.{Checked}
 use Rattle.table.specs.declared.Checked.the-variants as checked
 use Rattle.table.specs.Layout.{cutShort, within}
 use Rattle.types.specs.Table.{checked}
-use Rattle.types.proofs.Accepted.{accepted, is-within}
 use Rattle.message.specs.declared.Header.{Header}
 use Rattle.message.specs.declared.Message.{Message}
 use Rattle.message.specs.declared.Reading.{Reading}
@@ -26,10 +25,9 @@ use Rattle.reactions.specs.declared.Heard.{Heard}
 use Rattle.reactions.specs.declared.Heard.the-variants as heard
 use Rattle.platform.specs.declared.Outcome.{Outcome}
 use Rattle.reactions.specs.declared.Reaction.{Reaction}
-use Rattle.reactions.specs.Reaction.{Looked, operationIn, reactionTo}
-use Rattle.platform.specs.Receiving.{refused, answered, laidOut, outcomeOf, outputOf, receivedBy, receivedOf, leftBy, leftOf, sectionsOutcome, sectionsOutput, Received, payloadHeard}
+use Rattle.reactions.specs.Reaction.{operationIn, reactionTo}
+use Rattle.platform.specs.Receiving.{refused, answered, laidOut, outcomeOf, outputOf, outcomeIn, outputIn, receivedBy, receivedOf, leftBy, leftOf, sectionsOutcome, sectionsOutput, payloadHeard}
 use Rattle.reactions.proofs.Heard.{the-type}
-use Rattle.platform.proofs.Unique.{operation-looked, same-outcome, same-output}
 
 -- the message was refused, or read
 module _ (own : ℕ) (t : List ℕ) (s : Sections) (f : Found) (p : Standing) (x : Reading) where
@@ -50,36 +48,35 @@ module _ (own : ℕ) (t : List ℕ) (s : Sections) (f : Found) (p : Standing) (x
     unfolding outputOf
     read-output out o d = rw (e, ← k) d
 
+-- what the message asks for is looked up
+module _ (own : ℕ) (t : List ℕ) (s : Sections) (p : Standing) (m : List ℕ) (x : Reading) (f : Found) (e : x ≡ readOf own m) (l : f ≡ operationIn t s x) where
+  pub looked-up : (room : ℕ) (r : Outcome) → r ≡ outcomeOf own t s f p x room → r ≡ outcomeIn own t s p m room
+  looked-up room r a =
+      a ∙ ap (λ (g : Found). outcomeOf own t s g p x room) l ∙ ap (λ (y : Reading). outcomeOf own t s (operationIn t s y) p y room) e
+
+  pub looked-up-output : (out o : List ℕ) → o ≡ outputOf own t s f p x out → o ≡ outputIn own t s p m out
+  looked-up-output out o a =
+      a ∙ ap (λ (g : Found). outputOf own t s g p x out) l ∙ ap (λ (y : Reading). outputOf own t s (operationIn t s y) p y out) e
+
 -- on sections
-module _ (own : ℕ) (t : List ℕ) (s : Sections) (p : Standing) (m out : List ℕ) where
-  pub received-is : (x : Reading) (f : Found) (r : Outcome) (o : List ℕ) → within t s ≡ true → x ≡ readOf own m → Looked t s x f → r ≡ outcomeOf own t s f p x (length out) → o ≡ outputOf own t s f p x out → Received own t s p m out r o
-  unfolding sectionsOutcome sectionsOutput
-  received-is x f r o w e l a b = record {
-    found = f;
-    looked = rw e at l;
-    outcome = a ∙ ap (λ (y : Reading). outcomeOf own t s f p y (length out)) e ∙ sym (yes-if {A = Outcome} (outcomeOf own t s f p (readOf own m) (length out)) (refused p cutShort) w);
-    output = b ∙ ap (λ (y : Reading). outputOf own t s f p y out) e ∙ sym (yes-if (outputOf own t s f p (readOf own m) out) out w);
-  }
+module _ (own : ℕ) (t : List ℕ) (s : Sections) (p : Standing) (m : List ℕ) (b : Bool) (e : b ≡ within t s) where
+  pub inside : (room : ℕ) (r : Outcome) → b ≡ true → r ≡ outcomeIn own t s p m room → r ≡ sectionsOutcome own t s p m room
+  unfolding sectionsOutcome
+  inside room r z d = d ∙ sym (yes-if {A = Outcome} (outcomeIn own t s p m room) (refused p cutShort) (sym e ∙ z))
 
-  pub not-within : (b : Bool) (r : Outcome) → b ≡ within t s → b ≡ false → r ≡ refused p cutShort → Received own t s p m out r out
-  unfolding sectionsOutcome sectionsOutput
-  not-within b r e z d =
-      let w : within t s ≡ false = sym e ∙ z in
-      let f : Found = operationIn t s (readOf own m) in
-      record {
-        found = f;
-        looked = operation-looked t s (readOf own m);
-        outcome = d ∙ sym (no-if {A = Outcome} (outcomeOf own t s f p (readOf own m) (length out)) (refused p cutShort) w);
-        output = sym (no-if (outputOf own t s f p (readOf own m) out) out w);
-      }
+  pub inside-output : (out o : List ℕ) → b ≡ true → o ≡ outputIn own t s p m out → o ≡ sectionsOutput own t s p m out
+  unfolding sectionsOutput
+  inside-output out o z d = d ∙ sym (yes-if (outputIn own t s p m out) out (sym e ∙ z))
 
-pub is-in : (b : Bool) (t : List ℕ) (s : Sections) → b ≡ within t s → b ≡ true → within t s ≡ true
-is-in b t s e z = sym e ∙ z
+  pub outside : (room : ℕ) (r : Outcome) → b ≡ false → r ≡ refused p cutShort → r ≡ sectionsOutcome own t s p m room
+  unfolding sectionsOutcome
+  outside room r z d = d ∙ sym (no-if {A = Outcome} (outcomeIn own t s p m room) (refused p cutShort) (sym e ∙ z))
+
+  pub outside-output : (out : List ℕ) → b ≡ false → out ≡ sectionsOutput own t s p m out
+  unfolding sectionsOutput
+  outside-output out z = sym (no-if (outputIn own t s p m out) out (sym e ∙ z))
 
 -- on table bytes
-pub checked-within : (k : Checked) (t : List ℕ) (s : Sections) → k ≡ checked t → k ≡ checked.Table s → within t s ≡ true
-checked-within k t s e z = is-within t s (accepted t s (sym e ∙ z))
-
 module _ (own : ℕ) (t : List ℕ) (p : Standing) (m out : List ℕ) (k : Checked) (e : k ≡ checked t) where
   pub bad-table : (n : ℕ) (r : Outcome) → k ≡ checked.Refused n → r ≡ refused p n → r ≡ receivedOf own t p m (length out)
   unfolding receivedOf receivedBy
@@ -89,12 +86,14 @@ module _ (own : ℕ) (t : List ℕ) (p : Standing) (m out : List ℕ) (k : Check
   unfolding leftOf leftBy
   bad-table-output n z = rw (← e, z) refl
 
-  module _ (s : Sections) (z : k ≡ checked.Table s) (r : Outcome) (o : List ℕ) (a : Received own t s p m out r o) where
-    pub good-table : r ≡ receivedOf own t p m (length out)
-    good-table = same-outcome own t s p m out (sym e ∙ z) r o a
+  module _ (s : Sections) (z : k ≡ checked.Table s) where
+    pub good-table : (r : Outcome) → r ≡ outcomeIn own t s p m (length out) → r ≡ receivedOf own t p m (length out)
+    unfolding receivedOf receivedBy
+    good-table r d = rw (← e, z) d
 
-    pub good-table-output : o ≡ leftOf own t p m out
-    good-table-output = same-output own t s p m out (sym e ∙ z) r o a
+    pub good-table-output : (o : List ℕ) → o ≡ outputIn own t s p m out → o ≡ leftOf own t p m out
+    unfolding leftOf leftBy
+    good-table-output o d = rw (← e, z) d
 
 -- the payload of an operation, and of anything else
 pub operation-payload : (m u : List ℕ) (x : Heard) (i start len : ℕ) → x ≡ heard.Operation i start len → u ≡ part m start len → u ≡ payloadHeard m x

@@ -34,7 +34,7 @@ use Rattle.reactions.specs.declared.Owed.the-variants as owed
 use Rattle.reactions.specs.declared.Reaction.{Reaction}
 use Rattle.reactions.specs.Replies.{replyBytes, replies, owedBytes, owedLength}
 use Rattle.reactions.specs.Reaction.{operationIn, reactionTo}
-use Rattle.platform.specs.Receiving.{refused, taken, answered, laidOut, outcomeOf, outputOf, receivedBy, receivedOf, leftBy, leftOf, sectionsOutcome, sectionsOutput, bytesWritten}
+use Rattle.platform.specs.Receiving.{refused, taken, answered, laidOut, outcomeOf, outputOf, outcomeIn, outputIn, receivedBy, receivedOf, leftBy, leftOf, sectionsOutcome, sectionsOutput, bytesWritten}
 use Rattle.platform.specs.Exchange.{written, sentOf}
 use Rattle.reactions.proofs.ReplyLaws.{length-owed}
 
@@ -70,12 +70,12 @@ module _ (own : ℕ) (p : Standing) (n : ℕ) (out : List ℕ) where
       go (checked.Table s) q = outcome-unchanged t s (operationIn t s (readOf own m)) (readOf own m) q
 
   -- the call on sections
-  pub sections-refusal-changes-nothing : (t : List ℕ) (s : Sections) (f : Found) (m : List ℕ) → sectionsOutcome own t s f p m (length out) .answer ≡ Refused n → Unchanged p out (sectionsOutcome own t s f p m (length out)) (sectionsOutput own t s f p m out)
+  pub sections-refusal-changes-nothing : (t : List ℕ) (s : Sections) (m : List ℕ) → sectionsOutcome own t s p m (length out) .answer ≡ Refused n → Unchanged p out (sectionsOutcome own t s p m (length out)) (sectionsOutput own t s p m out)
   unfolding sectionsOutcome sectionsOutput
-  sections-refusal-changes-nothing t s f m e = go (within t s) e
+  sections-refusal-changes-nothing t s m e = go (within t s) e
     where
-      go : (b : Bool) → cond b (outcomeOf own t s f p (readOf own m) (length out)) (refused p cutShort) .answer ≡ Refused n → Unchanged p out (cond b (outcomeOf own t s f p (readOf own m) (length out)) (refused p cutShort)) (cond b (outputOf own t s f p (readOf own m) out) out)
-      go true q = outcome-unchanged t s f (readOf own m) q
+      go : (b : Bool) → cond b (outcomeIn own t s p m (length out)) (refused p cutShort) .answer ≡ Refused n → Unchanged p out (cond b (outcomeIn own t s p m (length out)) (refused p cutShort)) (cond b (outputIn own t s p m out) out)
+      go true q = outcome-unchanged t s (operationIn t s (readOf own m)) (readOf own m) q
       go false q = record { standing = refl; output = refl }
 
 -- the bytes of replies, one behind another

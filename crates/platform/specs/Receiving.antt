@@ -2,7 +2,6 @@
 -- the output.
 use Prim.Native.Nat.{ℕ}
 use mathlib.Core.Bool.{cond}
-use mathlib.Core.Path.{_≡_}
 use mathlib.Core.List.{List, []}
 use lib.Dec.{ltb}
 use lib.ListN.{length}
@@ -27,7 +26,7 @@ use Rattle.platform.specs.declared.Outcome.{Outcome}
 use Rattle.reactions.specs.declared.Reaction.{Reaction}
 use Rattle.states.specs.States.{freshStates}
 use Rattle.reactions.specs.Replies.{firstNumber, owedLength, owedBytes}
-use Rattle.reactions.specs.Reaction.{Looked, operationIn, reactionTo}
+use Rattle.reactions.specs.Reaction.{operationIn, reactionTo}
 
 -- at the start: the other 255 are DOWN, and own numbers start at 0
 abbrev pub freshStanding : ℕ → Standing
@@ -56,35 +55,34 @@ unfoldable pub outputOf : ℕ → List ℕ → Sections → Found → Standing �
 outputOf own t s f p (reading.Refused n) out = out
 outputOf own t s f p (reading.Read h m start len) out = laidOut own (reactionTo own t s f p h m start len) out
 
+-- a message's bytes, with what it asks for looked up in these sections
+abbrev pub outcomeIn : ℕ → List ℕ → Sections → Standing → List ℕ → ℕ → Outcome
+outcomeIn own t s p m room = outcomeOf own t s (operationIn t s (readOf own m)) p (readOf own m) room
+
+abbrev pub outputIn : ℕ → List ℕ → Sections → Standing → List ℕ → List ℕ → List ℕ
+outputIn own t s p m out = outputOf own t s (operationIn t s (readOf own m)) p (readOf own m) out
+
 -- the call on table bytes: 30 to 33 first
 unfoldable pub receivedBy : Checked → ℕ → List ℕ → Standing → List ℕ → ℕ → Outcome
 receivedBy (checked.Refused n) own t p m room = refused p n
-receivedBy (checked.Table s) own t p m room = outcomeOf own t s (operationIn t s (readOf own m)) p (readOf own m) room
+receivedBy (checked.Table s) own t p m room = outcomeIn own t s p m room
 
 unfoldable pub receivedOf : ℕ → List ℕ → Standing → List ℕ → ℕ → Outcome
 receivedOf own t p m room = receivedBy (checked t) own t p m room
 
 unfoldable pub leftBy : Checked → ℕ → List ℕ → Standing → List ℕ → List ℕ → List ℕ
 leftBy (checked.Refused n) own t p m out = out
-leftBy (checked.Table s) own t p m out = outputOf own t s (operationIn t s (readOf own m)) p (readOf own m) out
+leftBy (checked.Table s) own t p m out = outputIn own t s p m out
 
 unfoldable pub leftOf : ℕ → List ℕ → Standing → List ℕ → List ℕ → List ℕ
 leftOf own t p m out = leftBy (checked t) own t p m out
 
--- the call on sections, for the operation that was looked up: 30 where the sections don't lie in the bytes
-unfoldable pub sectionsOutcome : ℕ → List ℕ → Sections → Found → Standing → List ℕ → ℕ → Outcome
-sectionsOutcome own t s f p m room = cond (within t s) (outcomeOf own t s f p (readOf own m) room) (refused p cutShort)
+-- the call on sections: 30 where these don't lie in the bytes
+unfoldable pub sectionsOutcome : ℕ → List ℕ → Sections → Standing → List ℕ → ℕ → Outcome
+sectionsOutcome own t s p m room = cond (within t s) (outcomeIn own t s p m room) (refused p cutShort)
 
-unfoldable pub sectionsOutput : ℕ → List ℕ → Sections → Found → Standing → List ℕ → List ℕ → List ℕ
-sectionsOutput own t s f p m out = cond (within t s) (outputOf own t s f p (readOf own m) out) out
-
--- what is promised of a call on sections: outcome and output are those of one answer that the look-up may give. On a table
--- that `check` accepts there is one such answer (`same-outcome` and `same-output` of proofs/Unique)
-pub record Received (own : ℕ) (t : List ℕ) (s : Sections) (p : Standing) (m out : List ℕ) (r : Outcome) (left : List ℕ) : Type 0 where
-  pub found : Found
-  pub looked : Looked t s (readOf own m) found
-  pub outcome : r ≡ sectionsOutcome own t s found p m (length out)
-  pub output : left ≡ sectionsOutput own t s found p m out
+unfoldable pub sectionsOutput : ℕ → List ℕ → Sections → Standing → List ℕ → List ℕ → List ℕ
+sectionsOutput own t s p m out = cond (within t s) (outputIn own t s p m out) out
 
 -- by cases: the number that an answer gives back (0: none), and how many reply bytes were written
 abbrev pub numberGiven : Answer → ℕ

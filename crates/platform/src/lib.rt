@@ -3,10 +3,8 @@
 // 33 for the type table) changes no state, own number or output byte.
 ghost use mathlib.Core.Path.{_≡_};
 ghost use lib.ListN.{length};
-ghost use mathlib.Core.Bool.{true};
-ghost use Rattle.table.specs.Layout.{within};
 ghost use Rattle.states.specs.States.{isUp, howManyUp};
-ghost use Rattle.platform.specs.Receiving.{freshStanding, refused, taken, answered, laidOut, outcomeOf, outputOf, receivedOf, leftOf, Received, payloadHeard};
+ghost use Rattle.platform.specs.Receiving.{freshStanding, refused, taken, answered, laidOut, outcomeOf, outputOf, outcomeIn, outputIn, receivedOf, leftOf, sectionsOutcome, sectionsOutput, payloadHeard};
 use message::Header;
 use message::Own;
 use message::Reading;
@@ -85,7 +83,8 @@ pub fn receive_checked(
     message: &[u8],
     out: &mut [u8],
 ) -> Outcome
-    ensures { λ r. ⌜ Received (own .platform) (now (table .entry)) s standing (now (message .entry)) (now (out .entry)) r (now (out .exit)) ⌝ }
+    ensures answer { λ r. ⌜ r ≡ sectionsOutcome (own .platform) (now (table .entry)) s standing (now (message .entry)) (length (now (out .entry))) ⌝ }
+    ensures output { λ r. ⌜ now (out .exit) ≡ sectionsOutput (own .platform) (now (table .entry)) s standing (now (message .entry)) (now (out .entry)) ⌝ }
 {
     if sections::within(table, s) {
         received(own, table, s, standing, message, out)
@@ -116,8 +115,8 @@ fn received(
     message: &[u8],
     out: &mut [u8],
 ) -> Outcome
-    requires { ⌜ within (now table) s ≡ true ⌝ }
-    ensures { λ r. ⌜ Received (own .platform) (now (table .entry)) s standing (now (message .entry)) (now (out .entry)) r (now (out .exit)) ⌝ }
+    ensures answer { λ r. ⌜ r ≡ outcomeIn (own .platform) (now (table .entry)) s standing (now (message .entry)) (length (now (out .entry))) ⌝ }
+    ensures output { λ r. ⌜ now (out .exit) ≡ outputIn (own .platform) (now (table .entry)) s standing (now (message .entry)) (now (out .entry)) ⌝ }
 {
     let reading = reader::read(own, message);
     let found = reactions::look_up(table, s, reading);

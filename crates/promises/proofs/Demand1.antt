@@ -41,8 +41,8 @@ use Rattle.platform.specs.declared.Outcome.{Outcome as Received′}
 use Rattle.platform.specs.declared.Answer.{Answer as Noting}
 use Rattle.platform.specs.declared.Answer.the-variants as noting
 use Rattle.reactions.specs.Replies.{owedLength}
-use Rattle.reactions.specs.Reaction.{operationIn, reactionTo}
-use Rattle.platform.specs.Receiving.{refused, taken, answered, outcomeOf, receivedBy, receivedOf, leftOf, sectionsOutcome, Received, numberGiven as receiveNumber}
+use Rattle.reactions.specs.Reaction.{operationFor, operationIn, reactionTo}
+use Rattle.platform.specs.Receiving.{refused, taken, answered, outcomeOf, outcomeIn, receivedBy, receivedOf, leftOf, sectionsOutcome, sectionsOutput, numberGiven as receiveNumber}
 use Rattle.platform.proofs.Unchanged.{Unchanged, refusal-changes-nothing, sections-refusal-changes-nothing}
 use Rattle.promises.specs.Checks.{Check, _when_, Answers, Keeps, none, this, next}
 use Rattle.promises.specs.Order.{InOrder, readChecks}
@@ -105,12 +105,10 @@ module _ (own : ℕ) (t : List ℕ) (p : Standing) (m out : List ℕ) where
   receive-kept : ¬ (receiveNumber (receivedOf own t p m (length out) .answer) ≡ 0) → Unchanged p out (receivedOf own t p m (length out)) (leftOf own t p m out)
   receive-kept k = refusal-changes-nothing own p (receiveNumber (receivedOf own t p m (length out) .answer)) out t m (noting-refused (receivedOf own t p m (length out) .answer) k)
 
-  module _ (s : Sections) (r : Received′) (o : List ℕ) (a : Received own t s p m out r o) where
-    checked-kept : ¬ (receiveNumber (r .answer) ≡ 0) → Unchanged p out r o
-    checked-kept k =
-        let e : sectionsOutcome own t s (a .found) p m (length out) .answer ≡ noting.Refused (receiveNumber (r .answer)) = ap (λ (x : Received′). x .answer) (sym (a .outcome)) ∙ noting-refused (r .answer) k in
-        let u = sections-refusal-changes-nothing own p (receiveNumber (r .answer)) out t s (a .found) m e in
-        record { standing = ap (λ (x : Received′). x .standing) (a .outcome) ∙ u .standing; output = a .output ∙ u .output }
+  checked-kept : (s : Sections) → ¬ (receiveNumber (sectionsOutcome own t s p m (length out) .answer) ≡ 0) → Unchanged p out (sectionsOutcome own t s p m (length out)) (sectionsOutput own t s p m out)
+  checked-kept s k =
+      let r : Received′ = sectionsOutcome own t s p m (length out) in
+      sections-refusal-changes-nothing own p (receiveNumber (r .answer)) out t s m (noting-refused (r .answer) k)
 
 kept : (p : Standing) (out : List ℕ) (r : Received′) (o : List ℕ) → (¬ (receiveNumber (r .answer) ≡ 0) → Unchanged p out r o) → Kept p out r o
 kept p out r o u =
@@ -132,7 +130,8 @@ changes-nothing =
       pack-output = λ t i ws out. if-keeps (checked t) (writer ws) (length ws) t i out;
       pack-in-output = λ t s i ws out. in-keeps (writer ws) (length ws) t s i out;
       receive = λ own t p m out. kept p out (receivedOf own t p m (length out)) (leftOf own t p m out) (receive-kept own t p m out);
-      receive-checked = λ own t s p m out r o a. kept p out r o (checked-kept own t p m out s r o a);
+      receive-checked = λ own t s p m out.
+          kept p out (sectionsOutcome own t s p m (length out)) (sectionsOutput own t s p m out) (checked-kept own t p m out s);
     }
 
 in-order : InOrder
@@ -175,33 +174,34 @@ receive-in-order : ReceiveInOrder
 receive-in-order own t p m room ho hn o = received-in-order own t p m room ho hn o
 
 -- the same on sections
-module _ (own : ℕ) (t : List ℕ) (s : Sections) (f : Found) (p : Standing) (m : List ℕ) (room : ℕ) where
-  answered-number : receiveNumber (outcomeOf own t s f p (readOut m) room .answer) ≡ cond (ltb room (owedIn own t s f p m)) 10 0
+module _ (own : ℕ) (t : List ℕ) (s : Sections) (p : Standing) (m : List ℕ) (room : ℕ) where
+  abbrev whatIsFound : Found
+  whatIsFound = operationFor t s (headerIn m) (kindIn m)
+
+  answered-number : receiveNumber (outcomeOf own t s whatIsFound p (readOut m) room .answer) ≡ cond (ltb room (owedIn own t s p m)) 10 0
   unfolding outcomeOf answered
-  answered-number = go (ltb room (owedIn own t s f p m))
+  answered-number = go (ltb room (owedIn own t s p m))
     where
-      go : (b : Bool) → receiveNumber (cond b (refused p noRoom) (taken (headerIn m) (reactionTo own t s f p (headerIn m) (kindIn m) headerLength (payloadSizeIn m)) (owedIn own t s f p m)) .answer) ≡ cond b 10 0
+      go : (b : Bool) → receiveNumber (cond b (refused p noRoom) (taken (headerIn m) (reactionTo own t s whatIsFound p (headerIn m) (kindIn m) headerLength (payloadSizeIn m)) (owedIn own t s p m)) .answer) ≡ cond b 10 0
       go true = refl
       go false = refl
 
-  found-in-order : Answers (λ (n : ℕ). n) 0 (readChecks own m ++ (10 when (room < owedIn own t s f p m) ∷ [])) (receiveNumber (outcomeOf own t s f p (readOf own m) room .answer))
-  unfolding outcomeOf
+  found-in-order : Answers (λ (n : ℕ). n) 0 (readChecks own m ++ (10 when (room < owedIn own t s p m) ∷ [])) (receiveNumber (outcomeIn own t s p m room .answer))
+  unfolding outcomeOf operationIn
   found-in-order =
-      then reading.Refused (readOut m) (λ n. n) 0 (λ (x : Reading). receiveNumber (outcomeOf own t s f p x room .answer)) (λ n. refl) (read-in-order own m)
-      (λ _. subst (Answers (λ (n : ℕ). n) 0 (10 when (room < owedIn own t s f p m) ∷ [])) (sym answered-number) (by (λ n. n) 0 (ltb room (owedIn own t s f p m)) 10 (lt-decides room (owedIn own t s f p m)) none))
+      then reading.Refused (readOut m) (λ n. n) 0 (λ (x : Reading). receiveNumber (outcomeOf own t s (operationIn t s x) p x room .answer)) (λ n. refl) (read-in-order own m)
+      (λ _. subst (Answers (λ (n : ℕ). n) 0 (10 when (room < owedIn own t s p m) ∷ [])) (sym answered-number) (by (λ n. n) 0 (ltb room (owedIn own t s p m)) 10 (lt-decides room (owedIn own t s p m)) none))
 
-  sections-in-order : Answers (λ (n : ℕ). n) 0 (30 when (within t s ≡ false) ∷ (readChecks own m ++ (10 when (room < owedIn own t s f p m) ∷ []))) (receiveNumber (sectionsOutcome own t s f p m room .answer))
+  sections-in-order : Answers (λ (n : ℕ). n) 0 (30 when (within t s ≡ false) ∷ (readChecks own m ++ (10 when (room < owedIn own t s p m) ∷ []))) (receiveNumber (sectionsOutcome own t s p m room .answer))
   unfolding sectionsOutcome
   sections-in-order = go (within t s) refl
     where
-      go : (b : Bool) → within t s ≡ b → Answers (λ (n : ℕ). n) 0 (30 when (within t s ≡ false) ∷ (readChecks own m ++ (10 when (room < owedIn own t s f p m) ∷ []))) (receiveNumber (cond b (outcomeOf own t s f p (readOf own m) room) (refused p 30) .answer))
+      go : (b : Bool) → within t s ≡ b → Answers (λ (n : ℕ). n) 0 (30 when (within t s ≡ false) ∷ (readChecks own m ++ (10 when (room < owedIn own t s p m) ∷ []))) (receiveNumber (cond b (outcomeIn own t s p m room) (refused p 30) .answer))
       go true e = next (λ (z : within t s ≡ false). let q : _≡_ {A = ℕ} 0 1 = cc in omega arith) found-in-order
       go false e = this e
 
 receive-checked-in-order : ReceiveCheckedInOrder
-receive-checked-in-order own t s p m out r left x =
-    subst (λ (y : Received′). Answers (λ (n : ℕ). n) 0 (30 when (within t s ≡ false) ∷ (readChecks own m ++ (10 when (length out < owedIn own t s (x .found) p m) ∷ []))) (receiveNumber (y .answer))) (sym (x .outcome))
-    (sections-in-order own t s (x .found) p m (length out))
+receive-checked-in-order own t s p m room = sections-in-order own t s p m room
 
 pub demand-1 : Demand1
 demand-1 =

@@ -7,6 +7,7 @@ pub mod Demand1
 pub mod Headers
 pub mod CutAndJoined
 pub mod Payloads
+mod Lookups
 mod Reacting
 mod Replying
 pub mod Platforms

@@ -15,6 +15,7 @@ use Rattle.table.specs.declared.Sections.{Sections}
 use Rattle.table.specs.declared.Found.{Found}
 use Rattle.table.specs.declared.Found.the-variants as found
 use Rattle.table.specs.Operations.{operationOf}
+use Rattle.lookup.specs.Search.{lookedUp}
 use Rattle.message.specs.declared.Header.{Header}
 use Rattle.message.specs.declared.Status.the-variants.{Down, Up}
 use Rattle.message.specs.declared.Message.{Message}
@@ -94,7 +95,7 @@ module _ (own : ℕ) (t : List ℕ) (s : Sections) (p : Standing) (h : Header) (
         go true e = record { owed-is = rw e; long = rw e; wide = rw e tt; next = rw e; states = λ k l. rw e (now-turned own (p .states) k (h .platform) true e l hs other) }
         go false e = record { owed-is = rw e; long = rw e; wide = rw e tt; next = rw e; states = λ k l. rw e (as-it-was own (p .states) k (h .platform) false e) }
 
-    module _ (hq : h .sequence < 2 ^ 32) (hi : h .id < 2 ^ 32) where
+    module _ (hq : h .sequence < 2 ^ 32) (hi : h .id < 2 ^ 32) (scan : (id : ℕ) → lookedUp t s id ≡ operationOf t s id) where
       on-request : Reacts message.PlatformStatusRequest
       unfolding reactionTo
       on-request = record { owed-is = refl; long = refl; wide = (record { number = hq; field = omega arith }, tt); next = refl; states = λ k l. refl }
@@ -105,14 +106,14 @@ module _ (own : ℕ) (t : List ℕ) (s : Sections) (p : Standing) (h : Header) (
 
       on-pull : (id : ℕ) → id < 2 ^ 32 → Reacts (message.VersionedDataPull id)
       unfolding reactionTo operationFor onPull onPullAll onPullOne foundData
-      on-pull id l = go (eqb id allData) refl (noData t s) refl (operationOf t s id) refl
+      on-pull id l = go (eqb id allData) refl (noData t s) refl (operationOf t s id) refl (scan id)
         where
-          one : (b : Bool) (i : ℕ) → eqb id allData ≡ false → operationOf t s id ≡ found.At i → isData t s i ≡ b → Reacts (message.VersionedDataPull id)
-          one true i e f d = record { owed-is = rw (e, f, d); long = rw (e, f, d); wide = rw (e, f, d) tt; next = rw (e, f, d); states = λ k l. rw (e, f, d) refl }
-          one false i e f d = record { owed-is = rw (e, f, d); long = rw (e, f, d); wide = rw (e, f, d) (record { number = hq; field = l }, tt); next = rw (e, f, d); states = λ k l. rw (e, f, d) refl }
+          one : (b : Bool) (i : ℕ) → eqb id allData ≡ false → operationOf t s id ≡ found.At i → lookedUp t s id ≡ operationOf t s id → isData t s i ≡ b → Reacts (message.VersionedDataPull id)
+          one true i e f g d = record { owed-is = rw (e, g, f, d); long = rw (e, g, f, d); wide = rw (e, g, f, d) tt; next = rw (e, g, f, d); states = λ k l. rw (e, g, f, d) refl }
+          one false i e f g d = record { owed-is = rw (e, g, f, d); long = rw (e, g, f, d); wide = rw (e, g, f, d) (record { number = hq; field = l }, tt); next = rw (e, g, f, d); states = λ k l. rw (e, g, f, d) refl }
 
-          go : (a : Bool) → eqb id allData ≡ a → (b : Bool) → noData t s ≡ b → (x : Found) → operationOf t s id ≡ x → Reacts (message.VersionedDataPull id)
-          go true e true d x f =
+          go : (a : Bool) → eqb id allData ≡ a → (b : Bool) → noData t s ≡ b → (x : Found) → operationOf t s id ≡ x → lookedUp t s id ≡ operationOf t s id → Reacts (message.VersionedDataPull id)
+          go true e true d x f g =
               let q : id ≡ allData = eqb-true id allData e in
               record {
                 owed-is = rw (e, d) (ap (λ (n : ℕ). record { number = h .sequence; means = message.UnknownOperation n } ∷ []) (sym q));
@@ -121,17 +122,17 @@ module _ (own : ℕ) (t : List ℕ) (s : Sections) (p : Standing) (h : Header) (
                 next = rw (e, d);
                 states = λ k l. rw (e, d) refl;
               }
-          go true e false d x f = record { owed-is = rw (e, d); long = rw (e, d); wide = rw (e, d) tt; next = rw (e, d); states = λ k l. rw (e, d) refl }
-          go false e b d (found.At i) f = one (isData t s i) i e f refl
-          go false e b d found.Nothing f = record { owed-is = rw (e, f); long = rw (e, f); wide = rw (e, f) (record { number = hq; field = l }, tt); next = rw (e, f); states = λ k l. rw (e, f) refl }
+          go true e false d x f g = record { owed-is = rw (e, d); long = rw (e, d); wide = rw (e, d) tt; next = rw (e, d); states = λ k l. rw (e, d) refl }
+          go false e b d (found.At i) f g = one (isData t s i) i e f g refl
+          go false e b d found.Nothing f g = record { owed-is = rw (e, g, f); long = rw (e, g, f); wide = rw (e, g, f) (record { number = hq; field = l }, tt); next = rw (e, g, f); states = λ k l. rw (e, g, f) refl }
 
       on-operation : Reacts message.Operation
       unfolding reactionTo operationFor onOperation
-      on-operation = go (operationOf t s (h .id)) refl
+      on-operation = go (operationOf t s (h .id)) refl (scan (h .id))
         where
-          go : (x : Found) → operationOf t s (h .id) ≡ x → Reacts message.Operation
-          go (found.At i) f = record { owed-is = rw f; long = rw f; wide = rw f tt; next = rw f; states = λ k l. rw f refl }
-          go found.Nothing f = record { owed-is = rw f; long = rw f; wide = rw f (record { number = hq; field = hi }, tt); next = rw f; states = λ k l. rw f refl }
+          go : (x : Found) → operationOf t s (h .id) ≡ x → lookedUp t s (h .id) ≡ operationOf t s (h .id) → Reacts message.Operation
+          go (found.At i) f g = record { owed-is = rw (g, f); long = rw (g, f); wide = rw (g, f) tt; next = rw (g, f); states = λ k l. rw (g, f) refl }
+          go found.Nothing f g = record { owed-is = rw (g, f); long = rw (g, f); wide = rw (g, f) (record { number = hq; field = hi }, tt); next = rw (g, f); states = λ k l. rw (g, f) refl }
 
       pub reacts : (kind : Message) → fieldOf kind < 2 ^ 32 → Reacts kind
       reacts (message.PlatformStatus Up) l = on-up

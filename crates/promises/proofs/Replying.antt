@@ -38,6 +38,7 @@ use Rattle.promises.specs.Platforms.{owedFor, replyLength, AreReplies, R
 use Rattle.promises.proofs.Headers.{was-read, headerRead}
 use Rattle.reactions.specs.declared.Reply.{Reply}
 use Rattle.reactions.specs.declared.Reaction.{Reaction}
+use Rattle.promises.proofs.Lookups.{accepted-find}
 use Rattle.promises.proofs.Reacting.{said, fieldOf, X, Reacts, reacts, field-le}
 
 -- replies one behind another, as they are read
@@ -100,6 +101,7 @@ module _ (own : ℕ) (t : List ℕ) (s : Sections) (p : Standing) (m out : List 
       from-another
       (subst (λ (x : Header). x .sequence < 2 ^ 32) its-header (number-lt 2 m 16 (c .bytes)))
       (subst (λ (x : Header). x .id < 2 ^ 32) its-header (number-lt 2 m 8 (c .bytes)))
+      (λ id. accepted-find t s id (c .table))
       kind its-field
 
   pub its-length : owedLength (the .owed) ≡ replyLength * length (owedFor own t s p h kind)

@@ -1,11 +1,9 @@
 -- Two outcomes that one promise allows are equal: each contract is an equation with a definition.
 -- Assumes nothing.
 use mathlib.Core.Path.{_≡_, sym, _∙_}
-use denote.Ref.{now}
-use Rattle.types.proofs.Accepted.{accepted, ids-rise}
-use Rattle.table.proofs.Unique.{answers-unique}
-use Rattle.platform.proofs.Unique.{the-outcome, the-output, same-outcome, same-output}
-use Rattle.promises.specs.Unique.{WireUnique, MessageUnique, BindingUnique, JoinerUnique, TypesUnique, LeavesUnique, PayloadUnique, PlatformUnique, RecordingUnique, WhereIDsRise, Unique}
+use Rattle.platform.proofs.Unique.{same-outcome, same-output}
+use Rattle.promises.proofs.Lookups.{accepted-find}
+use Rattle.promises.specs.Unique.{WireUnique, MessageUnique, BindingUnique, JoinerUnique, TypesUnique, LeavesUnique, PayloadUnique, PlatformUnique, RecordingUnique, OnAccepted, Unique}
 
 wire : WireUnique
 wire =
@@ -68,6 +66,7 @@ types =
       allowed = λ k a z z′ e e′ p q. p ∙ sym q;
       fields-ok = λ k a z z′ e e′ p q. p ∙ sym q;
       largest = λ k a z z′ e e′ p q. p ∙ sym q;
+      find = λ k a z z′ e e′ p q. p ∙ sym q;
     }
 
 leaves : LeavesUnique
@@ -99,6 +98,8 @@ platform =
       how-many-up = λ k a z z′ e e′ p q. p ∙ sym q;
       receive = λ k a z z′ e e′ p q. p .0 ∙ sym (q .0);
       receive-out = λ k a z z′ e e′ p q. p .1 ∙ sym (q .1);
+      receive-checked = λ k a z z′ e e′ p q. p .0 ∙ sym (q .0);
+      receive-checked-out = λ k a z z′ e e′ p q. p .1 ∙ sym (q .1);
       payload = λ k a z z′ e e′ p q. p ∙ sym q;
     }
 
@@ -116,18 +117,12 @@ recording =
       put-ending-output = λ k a z z′ e e′ p q. p .1 ∙ sym (q .1);
     }
 
-exceptions : WhereIDsRise
-exceptions =
+on-accepted : OnAccepted
+on-accepted =
     record {
-      find = λ k a z z′ e e′ rise p q. answers-unique (now (a .0)) (a .1 .0) (a .1 .1 .0) rise z z′ p q;
-      receive-checked = λ k a z z′ e e′ rise p q.
-          the-outcome (a .0 .platform) (now (a .1 .0)) (a .1 .1 .0) (a .1 .1 .1 .0) (now (a .1 .1 .1 .1 .0)) (now (a .1 .1 .1 .1 .1 .0)) rise z (now (e .1 .1 .1 .1 .1 .0)) p
-          ∙ sym (the-outcome (a .0 .platform) (now (a .1 .0)) (a .1 .1 .0) (a .1 .1 .1 .0) (now (a .1 .1 .1 .1 .0)) (now (a .1 .1 .1 .1 .1 .0)) rise z′ (now (e′ .1 .1 .1 .1 .1 .0)) q);
-      receive-checked-out = λ k a z z′ e e′ rise p q.
-          the-output (a .0 .platform) (now (a .1 .0)) (a .1 .1 .0) (a .1 .1 .1 .0) (now (a .1 .1 .1 .1 .0)) (now (a .1 .1 .1 .1 .1 .0)) rise z (now (e .1 .1 .1 .1 .1 .0)) p
-          ∙ sym (the-output (a .0 .platform) (now (a .1 .0)) (a .1 .1 .0) (a .1 .1 .1 .0) (now (a .1 .1 .1 .1 .0)) (now (a .1 .1 .1 .1 .1 .0)) rise z′ (now (e′ .1 .1 .1 .1 .1 .0)) q);
-      accepted-rise = λ t s e. ids-rise t s (accepted t s e);
-      as-receive = λ own t s p m out r left e a. (same-outcome own t s p m out e r left a, same-output own t s p m out e r left a);
+      find = accepted-find;
+      receive-checked = λ own t s p m room e. same-outcome own t s p m e room;
+      receive-checked-out = λ own t s p m out e. same-output own t s p m e out;
     }
 
 pub unique : Unique
@@ -142,5 +137,5 @@ unique =
       payload = payload;
       platform = platform;
       recording = recording;
-      exceptions = exceptions;
+      on-accepted = on-accepted;
     }

@@ -4,7 +4,7 @@ use Prim.Native.Nat.{ℕ}
 use mathlib.Core.Path.{_≡_, sym, ap₂, _∙_}
 use Rattle.unpacking_leaves.specs.declared.Part.{Part as Read}
 use Rattle.packing_leaves.specs.declared.Part.{Part as Written}
-use Rattle.promises.specs.UniqueBelow.{WireUnique, ChannelsUnique, JoinerUnique, MessageUnique, ReactionsUnique, TableUnique, WalkUnique, UnpackingUnique, PackingUnique, StatesUnique, TextUnique, CallsUnique, LentUnique, LentChannelsUnique, LentJoinerUnique, LentMessagesUnique, LentTablesUnique, LentPayloadsUnique, LentPlatformUnique, LentStatesUnique, LentHeardUnique, EnumsUnique, LeavesUnique, UniqueBelow}
+use Rattle.promises.specs.UniqueBelow.{WireUnique, ChannelsUnique, JoinerUnique, MessageUnique, ReactionsUnique, TableUnique, WalkUnique, UnpackingUnique, PackingUnique, StatesUnique, TextUnique, CallsUnique, LentUnique, LentChannelsUnique, LentJoinerUnique, LentMessagesUnique, LentTablesUnique, LentPayloadsUnique, LentPlatformUnique, LentReceivingUnique, LentStatesUnique, LentHeardUnique, EnumsUnique, LeavesUnique, UniqueBelow}
 
 leaves : LeavesUnique
 leaves =
@@ -49,6 +49,7 @@ message =
 reactions : ReactionsUnique
 reactions =
     record {
+      look-up = λ k a z z′ e e′ p q. p ∙ sym q;
       reaction-to = λ k a z z′ e e′ p q. p ∙ sym q;
       length-of = λ k a z z′ e e′ p q. p ∙ sym q;
       lay-out = λ k a z z′ e e′ p q. p ∙ sym q;
@@ -198,6 +199,8 @@ lent-tables =
     record {
       check = λ k a z z′ e e′ p q. p .0 ∙ sym (q .0);
       check-sections = λ k a z z′ e e′ p q. p .1 ∙ sym (q .1);
+      find = λ k a z z′ e e′ p q. p .0 ∙ sym (q .0);
+      find-answer = λ k a z z′ e e′ p q. p .1 ∙ sym (q .1);
       sections-in = λ k a z z′ e e′ p q. p ∙ sym q;
     }
 
@@ -225,10 +228,8 @@ lent-states =
       fresh-platform = λ k a z z′ e e′ p q. p .1 ∙ sym (q .1);
       is-up = λ k a z z′ e e′ p q. p ∙ sym q;
       how-many-up = λ k a z z′ e e′ p q. p ∙ sym q;
-      states-in = λ k a z z′ e e′ p q. p ∙ sym q;
       standing-in = λ k a z z′ e e′ p q. p ∙ sym q;
       put-standing-words = λ k a z z′ e e′ p q. p ∙ sym q;
-      keep-words = λ k a z z′ e e′ p q. p ∙ sym q;
     }
 
 lent-heard : LentHeardUnique
@@ -236,13 +237,7 @@ lent-heard =
     record {
       tell = λ k a z z′ e e′ p q. p .0 ∙ sym (q .0);
       tell-platform = λ k a z z′ e e′ p q. p .1 .0 ∙ sym (q .1 .0);
-      tell-answer = λ k a z z′ e e′ p q. p .1 .1 ∙ sym (q .1 .1);
-      put-value-answer = λ k a z z′ e e′ p q. p ∙ sym q;
-      put-entry-answer = λ k a z z′ e e′ p q. p ∙ sym q;
-      on-request = λ k a z z′ e e′ p q. p .numbered ∙ sym (q .numbered);
-      on-request-platform = λ k a z z′ e e′ p q. p .noted ∙ sym (q .noted);
-      on-request-out = λ k a z z′ e e′ p q. p .laid ∙ sym (q .laid);
-      on-request-answer = λ k a z z′ e e′ p q. p .told ∙ sym (q .told);
+      tell-heard = λ k a z z′ e e′ p q. p .1 .1 ∙ sym (q .1 .1);
     }
 
 lent-platform : LentPlatformUnique
@@ -251,9 +246,17 @@ lent-platform =
       receive = λ k a z z′ e e′ p q. p .0 ∙ sym (q .0);
       receive-platform = λ k a z z′ e e′ p q. p .1 .0 ∙ sym (q .1 .0);
       receive-out = λ k a z z′ e e′ p q. p .1 .1 .0 ∙ sym (q .1 .1 .0);
-      receive-answer = λ k a z z′ e e′ p q. p .1 .1 .1 ∙ sym (q .1 .1 .1);
-      no-words = λ k a z z′ e e′ p q. p ∙ sym q;
+      receive-heard = λ k a z z′ e e′ p q. p .1 .1 .1 ∙ sym (q .1 .1 .1);
+    }
+
+lent-receiving : LentReceivingUnique
+lent-receiving =
+    record {
+      receive-in = λ k a z z′ e e′ p q. p .0 ∙ sym (q .0);
+      receive-in-platform = λ k a z z′ e e′ p q. p .1 .0 ∙ sym (q .1 .0);
+      receive-in-out = λ k a z z′ e e′ p q. p .1 .1 .0 ∙ sym (q .1 .1 .0);
+      receive-in-heard = λ k a z z′ e e′ p q. p .1 .1 .1 ∙ sym (q .1 .1 .1);
     }
 
 pub unique-below : UniqueBelow
-unique-below = record { wire = wire; channels = channels; joiner = joiner; message = message; reactions = reactions; table = table; walk = walk; unpacking = unpacking; packing = packing; states = states; text = text; calls = calls; lent = lent; lent-channels = lent-channels; lent-joiner = lent-joiner; lent-messages = lent-messages; lent-tables = lent-tables; lent-payloads = lent-payloads; lent-platform = lent-platform; lent-states = lent-states; lent-heard = lent-heard; enums = enums; leaves = leaves }
+unique-below = record { wire = wire; channels = channels; joiner = joiner; message = message; reactions = reactions; table = table; walk = walk; unpacking = unpacking; packing = packing; states = states; text = text; calls = calls; lent = lent; lent-channels = lent-channels; lent-joiner = lent-joiner; lent-messages = lent-messages; lent-tables = lent-tables; lent-payloads = lent-payloads; lent-platform = lent-platform; lent-receiving = lent-receiving; lent-states = lent-states; lent-heard = lent-heard; enums = enums; leaves = leaves }

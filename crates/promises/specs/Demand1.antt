@@ -8,7 +8,6 @@ use mathlib.Core.List.{List, [], _∷_, _++_}
 use lib.ListN.{length}
 use Rattle.wire.specs.Bytes.{Octets, number}
 use Rattle.table.specs.declared.Sections.{Sections}
-use Rattle.table.specs.declared.Found.{Found}
 use Rattle.table.specs.Layout.{within}
 use Rattle.message.specs.declared.Message.{Message}
 use Rattle.message.specs.Header.{headerLength, domainIn, idIn, payloadSizeIn, payloadIn, headerIn}
@@ -23,8 +22,8 @@ use Rattle.payload.specs.Calls.{unpackedIn, wordsIn, packedIn, bytesIn, unpacke
 use Rattle.reactions.specs.declared.Standing.{Standing}
 use Rattle.platform.specs.declared.Outcome.{Outcome}
 use Rattle.reactions.specs.Replies.{owedLength}
-use Rattle.reactions.specs.Reaction.{reactionTo}
-use Rattle.platform.specs.Receiving.{receivedOf, leftOf, Received, numberGiven as receiveNumber}
+use Rattle.reactions.specs.Reaction.{operationFor, reactionTo}
+use Rattle.platform.specs.Receiving.{receivedOf, leftOf, sectionsOutcome, sectionsOutput, numberGiven as receiveNumber}
 use Rattle.promises.specs.Checks.{Check, _when_, Answers, Keeps}
 use Rattle.promises.specs.Order.{readChecks, InOrder}
 use Rattle.promises.specs.TableOrder.{sectionsIn, tableChecks, TableInOrder}
@@ -53,8 +52,8 @@ pub record ChangesNothing : Type 0 where
       Keeps (numberOf (packedIn t s i ws (length out))) out (bytesIn t s i ws out)
   pub receive : (own : ℕ) (t : List ℕ) (p : Standing) (m out : List ℕ) →
       Kept p out (receivedOf own t p m (length out)) (leftOf own t p m out)
-  pub receive-checked : (own : ℕ) (t : List ℕ) (s : Sections) (p : Standing) (m out : List ℕ) (r : Outcome) (left : List ℕ) →
-      Received own t s p m out r left → Kept p out r left
+  pub receive-checked : (own : ℕ) (t : List ℕ) (s : Sections) (p : Standing) (m out : List ℕ) →
+      Kept p out (sectionsOutcome own t s p m (length out)) (sectionsOutput own t s p m out)
 
 -- one call for one message: 30 to 33 for the table, 1 to 9 for the message, and "where they don't all fit it is 10"
 abbrev pub kindIn : List ℕ → Message
@@ -69,15 +68,17 @@ ReceiveInOrder =
     (own : ℕ) (t : List ℕ) (p : Standing) (m : List ℕ) (room : ℕ) → own < platforms → p .next < 2 ^ 32 → Octets m
     → Answers (λ n. n) 0 (receiveChecks own t p m room) (receiveNumber (receivedOf own t p m room .answer))
 
--- how many bytes of replies are owed, with the operation that was found for the message
-abbrev pub owedIn : ℕ → List ℕ → Sections → Found → Standing → List ℕ → ℕ
-owedIn own t s f p m = owedLength (reactionTo own t s f p (headerIn m) (kindIn m) headerLength (payloadSizeIn m) .owed)
+-- how many bytes of replies are owed, with the operation that is found for the message
+abbrev pub owedIn : ℕ → List ℕ → Sections → Standing → List ℕ → ℕ
+owedIn own t s p m =
+    owedLength (reactionTo own t s (operationFor t s (headerIn m) (kindIn m)) p (headerIn m) (kindIn m) headerLength (payloadSizeIn m) .owed)
 
--- the same on sections, whatever was found in them: 30 where these do not lie in the bytes
+-- the same on any sections: 30 where these do not lie in the bytes
 abbrev pub ReceiveCheckedInOrder : Type 1
 ReceiveCheckedInOrder =
-    (own : ℕ) (t : List ℕ) (s : Sections) (p : Standing) (m out : List ℕ) (r : Outcome) (left : List ℕ) (x : Received own t s p m out r left)
-    → Answers (λ n. n) 0 (30 when (within t s ≡ false) ∷ (readChecks own m ++ (10 when (length out < owedIn own t s (x .found) p m) ∷ []))) (receiveNumber (r .answer))
+    (own : ℕ) (t : List ℕ) (s : Sections) (p : Standing) (m : List ℕ) (room : ℕ)
+    → Answers (λ n. n) 0 (30 when (within t s ≡ false) ∷ (readChecks own m ++ (10 when (room < owedIn own t s p m) ∷ [])))
+    (receiveNumber (sectionsOutcome own t s p m room .answer))
 
 pub record Demand1 : Type 1 where
   -- "a fixed order of checks": what each call answers is the first of its checks that applies

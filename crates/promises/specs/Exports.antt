@@ -31,7 +31,7 @@ use Rattle.nyrkovash.proofs.nyr_unpack.Reads.{Post as nyr-unpack}
 use Rattle.nyrkovash.proofs.nyr_unpack_in.Reads.{Post as nyr-unpack-in}
 use Rattle.nyrkovash.proofs.nyr_pack.Reads.{Post as nyr-pack}
 use Rattle.nyrkovash.proofs.nyr_pack_in.Reads.{Post as nyr-pack-in}
-use Rattle.nyrkovash.proofs.nyr_platform.Reads.{Post as nyr-platform}
+use Rattle.nyrkovash.proofs.nyr_start.Reads.{Post as nyr-start}
 use Rattle.nyrkovash.proofs.nyr_receive.Reads.{Post as nyr-receive}
 use Rattle.nyrkovash.proofs.nyr_receive_in.Reads.{Post as nyr-receive-in}
 use Rattle.nyrkovash.proofs.nyr_is_up.Reads.{Post as nyr-is-up}
@@ -50,7 +50,7 @@ pub record Exports : Type 1 where
   pub unpack-in : nyr-unpack-in ≡ lent-unpack-in
   pub pack : nyr-pack ≡ lent-pack
   pub pack-in : nyr-pack-in ≡ lent-pack-in
-  pub platform : nyr-platform ≡ lent-fresh
+  pub start : nyr-start ≡ lent-fresh
   pub receive : nyr-receive ≡ lent-receive
   pub receive-in : nyr-receive-in ≡ lent-receive-in
   pub is-up : nyr-is-up ≡ lent-is-up

@@ -1,21 +1,19 @@
 -- 01, "What the promises have to say": "Show that two outcomes allowed by one promise are equal." For each public function, over
 -- its very contract (`Post`: what its `ensures` says of arguments, result and lent slices): whatever two outcomes it allows for
 -- the same arguments, the answers are the same, and so is what each lent slice holds. A contract that allows a choice has no
--- proof here. The two that allow one, on tables that `check` did not accept, stand last, with what they promise on those that
--- it did. The theorem is in proofs/Unique.antt.
+-- proof here. Beside them stands what the look-up and the call on sections come to on a table that `check` accepts. The theorem is
+-- in proofs/Unique.antt.
 use Prim.Native.Nat.{ℕ}
 use mathlib.Core.Path.{_≡_}
-use mathlib.Core.Bool.{true}
 use mathlib.Core.List.{List}
-use lib.ListN.{length}
 use denote.Ref.{now}
 use Rattle.table.specs.declared.Sections.{Sections}
 use Rattle.table.specs.declared.Checked.the-variants.{Table}
-use Rattle.table.specs.Operations.{idsRise}
+use Rattle.table.specs.Operations.{operationOf}
 use Rattle.types.specs.Table.{checked}
 use Rattle.reactions.specs.declared.Standing.{Standing}
-use Rattle.platform.specs.declared.Outcome.{Outcome}
-use Rattle.platform.specs.Receiving.{receivedOf, leftOf, Received}
+use Rattle.lookup.specs.Search.{lookedUp}
+use Rattle.platform.specs.Receiving.{receivedOf, leftOf, sectionsOutcome, sectionsOutput}
 use Rattle.wire.proofs.u8_at.Reads.{Post as wire-u8-at}
 use Rattle.wire.proofs.u16_at.Reads.{Post as wire-u16-at}
 use Rattle.wire.proofs.u32_at.Reads.{Post as wire-u32-at}
@@ -85,10 +83,6 @@ Answer post = Same post (λ k z e. z)
 abbrev pub Lent : {K : Type 0} {A Z E : K → Type 0} {B : Type 0} → ((k : K) → A k → Z k → E k → Type 0) → ((k : K) → E k → B) → Type 0
 Lent post left = Same post (λ k z e. left k e)
 
--- the same, where something holds of the arguments
-abbrev pub SameWhere : {K : Type 0} {A Z E : K → Type 0} {B : Type 0} → ((k : K) → A k → Z k → E k → Type 0) → ((k : K) → A k → Type 0) → ((k : K) → Z k → E k → B) → Type 0
-SameWhere {K} {A} {Z} {E} post holds seen = (k : K) (a : A k) (z z′ : Z k) (e e′ : E k) → holds k a → post k a z e → post k a z′ e′ → seen k z e ≡ seen k z′ e′
-
 pub record WireUnique : Type 0 where
   pub u8-at : Answer wire-u8-at
   pub u16-at : Answer wire-u16-at
@@ -136,6 +130,7 @@ pub record TypesUnique : Type 0 where
   pub allowed : Answer codes-allowed
   pub fields-ok : Answer entry-rules-fields-ok
   pub largest : Answer types-sizes-largest
+  pub find : Answer lookup-find
 
 pub record LeavesUnique : Type 0 where
   pub word-at : Answer leaves-word-at
@@ -158,6 +153,8 @@ pub record PlatformUnique : Type 0 where
   pub how-many-up : Answer platform-how-many-up
   pub receive : Answer platform-receive
   pub receive-out : Lent platform-receive (λ k e. now (e .1 .1 .1 .1 .0))
+  pub receive-checked : Answer platform-receive-checked
+  pub receive-checked-out : Lent platform-receive-checked (λ k e. now (e .1 .1 .1 .1 .1 .0))
   pub payload : Same platform-payload (λ k z e. now z)
 
 pub record RecordingUnique : Type 0 where
@@ -171,16 +168,14 @@ pub record RecordingUnique : Type 0 where
   pub put-ending : Answer lines-put-ending
   pub put-ending-output : Lent lines-put-ending (λ k e. now (e .0))
 
--- the exceptions (docs/DECISIONS.md, 20): an operation looked up in sections that `check` did not give may be any entry that bears
--- the ID. Where the IDs rise, as they do on a table that `check` accepts, there is one, and the call on sections answers and
--- leaves what the call on the bytes does
-pub record WhereIDsRise : Type 0 where
-  pub find : SameWhere lookup-find (λ k a. idsRise (now (a .0)) (a .1 .0) ≡ true) (λ k z e. z)
-  pub receive-checked : SameWhere platform-receive-checked (λ k a. idsRise (now (a .1 .0)) (a .1 .1 .0) ≡ true) (λ k z e. z)
-  pub receive-checked-out : SameWhere platform-receive-checked (λ k a. idsRise (now (a .1 .0)) (a .1 .1 .0) ≡ true) (λ k z e. now (e .1 .1 .1 .1 .1 .0))
-  pub accepted-rise : (t : List ℕ) (s : Sections) → checked t ≡ Table s → idsRise t s ≡ true
-  pub as-receive : (own : ℕ) (t : List ℕ) (s : Sections) (p : Standing) (m out : List ℕ) (r : Outcome) (left : List ℕ) →
-      checked t ≡ Table s → Received own t s p m out r left → (r ≡ receivedOf own t p m (length out)) × (left ≡ leftOf own t p m out)
+-- docs/DECISIONS.md, 20: on a table that `check` accepts, what is found is the operation of that ID, the first that a plain scan
+-- meets, or none where there is none; and the call on sections answers and leaves what the call on the bytes does
+pub record OnAccepted : Type 0 where
+  pub find : (t : List ℕ) (s : Sections) (id : ℕ) → checked t ≡ Table s → lookedUp t s id ≡ operationOf t s id
+  pub receive-checked : (own : ℕ) (t : List ℕ) (s : Sections) (p : Standing) (m : List ℕ) (room : ℕ) →
+      checked t ≡ Table s → sectionsOutcome own t s p m room ≡ receivedOf own t p m room
+  pub receive-checked-out : (own : ℕ) (t : List ℕ) (s : Sections) (p : Standing) (m out : List ℕ) →
+      checked t ≡ Table s → sectionsOutput own t s p m out ≡ leftOf own t p m out
 
 pub record Unique : Type 0 where
   pub wire : WireUnique
@@ -192,4 +187,4 @@ pub record Unique : Type 0 where
   pub payload : PayloadUnique
   pub platform : PlatformUnique
   pub recording : RecordingUnique
-  pub exceptions : WhereIDsRise
+  pub on-accepted : OnAccepted

@@ -1,7 +1,6 @@
 -- Demand 1 and 01, "What the promises have to say": two outcomes that one promise allows are equal, for the functions that the
 -- calls of specs/Unique are made of, and for the calls in lent words, as programs in C have them. The theorem is in
--- proofs/UniqueBelow.antt. `look_up`, `lent_tables::find` and `receive_in` are exceptions, as what they are made of
--- (`WhereIDsRise`).
+-- proofs/UniqueBelow.antt.
 use denote.Ref.{now}
 use Rattle.promises.specs.Unique.{Same, Answer, Lent}
 use Rattle.wire.proofs.whole_u16.Reads.{Post as wire-whole-u16}
@@ -23,6 +22,7 @@ use Rattle.message.proofs.address_refusal.Reads.{Post as message-address-refusa
 use Rattle.message.proofs.contents_refusal.Reads.{Post as message-contents-refusal}
 use Rattle.message.proofs.behind_header.Reads.{Post as message-behind-header}
 use Rattle.writer.proofs.put_header.Reads.{Post as writer-put-header}
+use Rattle.reactions.proofs.look_up.Reads.{Post as reactions-look-up}
 use Rattle.reactions.proofs.reaction_to.Reads.{Post as reactions-reaction-to}
 use Rattle.reactions.proofs.length_of.Reads.{Post as reactions-length-of}
 use Rattle.reactions.proofs.lay.Reads.{Post as reactions-lay}
@@ -74,6 +74,7 @@ use Rattle.lent_messages.proofs.cut.Reads.{Post as lent-messages-cut}
 use Rattle.lent_messages.proofs.read.Reads.{Post as lent-messages-read}
 use Rattle.lent_messages.proofs.write.Reads.{Post as lent-messages-write}
 use Rattle.lent_tables.proofs.check.Reads.{Post as lent-tables-check}
+use Rattle.lent_tables.proofs.find.Reads.{Post as lent-tables-find}
 use Rattle.sections.proofs.sections_in.Reads.{Post as sections-sections-in}
 use Rattle.lent_payloads.proofs.unpack.Reads.{Post as lent-payloads-unpack}
 use Rattle.lent_payloads.proofs.unpack_in.Reads.{Post as lent-payloads-unpack-in}
@@ -82,16 +83,11 @@ use Rattle.lent_payloads.proofs.pack_in.Reads.{Post as lent-payloads-pack-in}
 use Rattle.lent_states.proofs.fresh.Reads.{Post as lent-states-fresh}
 use Rattle.lent_states.proofs.is_up.Reads.{Post as lent-states-is-up}
 use Rattle.lent_states.proofs.how_many_up.Reads.{Post as lent-states-how-many-up}
-use Rattle.lent_states.proofs.states_in.Reads.{Post as lent-states-states-in}
 use Rattle.lent_states.proofs.standing_in.Reads.{Post as lent-states-standing-in}
 use Rattle.lent_states.proofs.put_standing.Reads.{Post as lent-states-put-standing}
-use Rattle.lent_states.proofs.keep.Reads.{Post as lent-states-keep}
 use Rattle.lent_heard.proofs.tell.Reads.{Post as lent-heard-tell}
-use Rattle.lent_heard.proofs.put_value.Reads.{Post as lent-heard-put-value}
-use Rattle.lent_heard.proofs.put_entry.Reads.{Post as lent-heard-put-entry}
-use Rattle.lent_heard.proofs.on_request.Reads.{Post as lent-heard-on-request}
 use Rattle.lent_platform.proofs.receive.Reads.{Post as lent-platform-receive}
-use Rattle.lent_platform.proofs.no_words.Reads.{Post as lent-platform-no-words}
+use Rattle.lent_receiving.proofs.receive_in.Reads.{Post as lent-receiving-receive-in}
 
 pub record WireUnique : Type 0 where
   pub whole-u16 : Answer wire-whole-u16
@@ -123,6 +119,7 @@ pub record MessageUnique : Type 0 where
   pub put-header-out : Lent writer-put-header (λ k e. now (e .0))
 
 pub record ReactionsUnique : Type 0 where
+  pub look-up : Answer reactions-look-up
   pub reaction-to : Answer reactions-reaction-to
   pub length-of : Answer reactions-length-of
   pub lay-out : Lent reactions-lay (λ k e. now (e .1 .1 .0))
@@ -220,6 +217,8 @@ pub record LentMessagesUnique : Type 0 where
 pub record LentTablesUnique : Type 0 where
   pub check : Answer lent-tables-check
   pub check-sections : Lent lent-tables-check (λ k e. now (e .1 .0))
+  pub find : Answer lent-tables-find
+  pub find-answer : Lent lent-tables-find (λ k e. now (e .1 .1 .1 .0))
   pub sections-in : Answer sections-sections-in
 
 pub record LentPayloadsUnique : Type 0 where
@@ -241,28 +240,25 @@ pub record LentStatesUnique : Type 0 where
   pub fresh-platform : Lent lent-states-fresh (λ k e. now (e .1 .0))
   pub is-up : Answer lent-states-is-up
   pub how-many-up : Answer lent-states-how-many-up
-  pub states-in : Answer lent-states-states-in
   pub standing-in : Answer lent-states-standing-in
   pub put-standing-words : Lent lent-states-put-standing (λ k e. now (e .0))
-  pub keep-words : Lent lent-states-keep (λ k e. now (e .0))
 
 pub record LentHeardUnique : Type 0 where
   pub tell : Answer lent-heard-tell
   pub tell-platform : Lent lent-heard-tell (λ k e. now (e .1 .0))
-  pub tell-answer : Lent lent-heard-tell (λ k e. now (e .1 .1 .0))
-  pub put-value-answer : Lent lent-heard-put-value (λ k e. now (e .0))
-  pub put-entry-answer : Lent lent-heard-put-entry (λ k e. now (e .0))
-  pub on-request : Answer lent-heard-on-request
-  pub on-request-platform : Lent lent-heard-on-request (λ k e. now (e .1 .0))
-  pub on-request-out : Lent lent-heard-on-request (λ k e. now (e .1 .1 .1 .0))
-  pub on-request-answer : Lent lent-heard-on-request (λ k e. now (e .1 .1 .1 .1 .0))
+  pub tell-heard : Lent lent-heard-tell (λ k e. now (e .1 .1 .0))
 
 pub record LentPlatformUnique : Type 0 where
   pub receive : Answer lent-platform-receive
   pub receive-platform : Lent lent-platform-receive (λ k e. now (e .1 .0))
   pub receive-out : Lent lent-platform-receive (λ k e. now (e .1 .1 .1 .1 .0))
-  pub receive-answer : Lent lent-platform-receive (λ k e. now (e .1 .1 .1 .1 .1 .0))
-  pub no-words : Answer lent-platform-no-words
+  pub receive-heard : Lent lent-platform-receive (λ k e. now (e .1 .1 .1 .1 .1 .0))
+
+pub record LentReceivingUnique : Type 0 where
+  pub receive-in : Answer lent-receiving-receive-in
+  pub receive-in-platform : Lent lent-receiving-receive-in (λ k e. now (e .1 .0))
+  pub receive-in-out : Lent lent-receiving-receive-in (λ k e. now (e .1 .1 .1 .1 .1 .0))
+  pub receive-in-heard : Lent lent-receiving-receive-in (λ k e. now (e .1 .1 .1 .1 .1 .1 .0))
 
 pub record UniqueBelow : Type 0 where
   pub wire : WireUnique
@@ -288,3 +284,4 @@ pub record UniqueBelow : Type 0 where
   pub lent-states : LentStatesUnique
   pub lent-heard : LentHeardUnique
   pub lent-platform : LentPlatformUnique
+  pub lent-receiving : LentReceivingUnique

@@ -11,7 +11,7 @@ use Rattle.table.specs.declared.Found.{Found}
 use Rattle.table.specs.declared.Found.the-variants as found
 use Rattle.table.specs.All.{allBelow}
 use Rattle.table.specs.Entries.{operationAt}
-use Rattle.table.specs.Operations.{Answers}
+use Rattle.lookup.specs.Search.{lookedUp}
 use Rattle.table.proofs.AllBelow.{none-below, next-below, stop-below, done-below}
 use Rattle.message.specs.declared.Header.{Header}
 use Rattle.message.specs.declared.Status.{Status}
@@ -32,37 +32,37 @@ use Rattle.reactions.specs.declared.Owed.the-variants as owed
 use Rattle.reactions.specs.declared.Reaction.{Reaction}
 use Rattle.states.specs.States.{isUp, turned}
 use Rattle.reactions.specs.Replies.{allData, drawn}
-use Rattle.reactions.specs.Reaction.{LookedFor, Looked, isData, notData, noData, silent, replied, noted, cameUp, onStatus, notVersioned, onPullAll, onPullOne, onPull, onOperation, reactionTo}
+use Rattle.reactions.specs.Reaction.{operationFor, operationIn, isData, notData, noData, silent, replied, noted, cameUp, onStatus, notVersioned, onPullAll, onPullOne, onPull, onOperation, reactionTo}
 
 -- what is looked up
 module _ (t : List ℕ) (s : Sections) (h : Header) (m : Message) where
-  pub none-for-status : (x : Status) → m ≡ message.PlatformStatus x → LookedFor t s h m found.Nothing
-  unfolding LookedFor
+  pub none-for-status : (x : Status) → m ≡ message.PlatformStatus x → found.Nothing ≡ operationFor t s h m
+  unfolding operationFor
   none-for-status x e = rw e refl
 
-  pub none-for-request : m ≡ message.PlatformStatusRequest → LookedFor t s h m found.Nothing
-  unfolding LookedFor
+  pub none-for-request : m ≡ message.PlatformStatusRequest → found.Nothing ≡ operationFor t s h m
+  unfolding operationFor
   none-for-request e = rw e refl
 
-  pub none-for-unknown : (id : ℕ) → m ≡ message.UnknownOperation id → LookedFor t s h m found.Nothing
-  unfolding LookedFor
+  pub none-for-unknown : (id : ℕ) → m ≡ message.UnknownOperation id → found.Nothing ≡ operationFor t s h m
+  unfolding operationFor
   none-for-unknown id e = rw e refl
 
-  pub for-pull : (id : ℕ) (f : Found) → m ≡ message.VersionedDataPull id → Answers t s id f → LookedFor t s h m f
-  unfolding LookedFor
+  pub for-pull : (id : ℕ) (f : Found) → m ≡ message.VersionedDataPull id → f ≡ lookedUp t s id → f ≡ operationFor t s h m
+  unfolding operationFor
   for-pull id f e a = rw e a
 
-  pub for-operation : (f : Found) → m ≡ message.Operation → Answers t s (h .id) f → LookedFor t s h m f
-  unfolding LookedFor
+  pub for-operation : (f : Found) → m ≡ message.Operation → f ≡ lookedUp t s (h .id) → f ≡ operationFor t s h m
+  unfolding operationFor
   for-operation f e a = rw e a
 
 module _ (t : List ℕ) (s : Sections) (x : Reading) where
-  pub none-looked : (n : ℕ) → x ≡ reading.Refused n → Looked t s x found.Nothing
-  unfolding Looked
+  pub none-looked : (n : ℕ) → x ≡ reading.Refused n → found.Nothing ≡ operationIn t s x
+  unfolding operationIn
   none-looked n e = rw e refl
 
-  pub is-looked : (h : Header) (m : Message) (start len : ℕ) (f : Found) → x ≡ reading.Read h m start len → LookedFor t s h m f → Looked t s x f
-  unfolding Looked
+  pub is-looked : (h : Header) (m : Message) (start len : ℕ) (f : Found) → x ≡ reading.Read h m start len → f ≡ operationFor t s h m → f ≡ operationIn t s x
+  unfolding operationIn
   is-looked h m start len f e a = rw e a
 
 -- versioned data

@@ -2,7 +2,6 @@
 -- replies that are owed to its sender.
 use Prim.Native.Nat.{ℕ}
 use mathlib.Core.Bool.{Bool, true, false, cond, not}
-use mathlib.Core.Path.{_≡_}
 use mathlib.Core.List.{List}
 use lib.Dec.{eqb}
 use Rattle.table.specs.declared.Sections.{Sections}
@@ -10,7 +9,7 @@ use Rattle.table.specs.declared.Found.{Found}
 use Rattle.table.specs.declared.Found.the-variants as found
 use Rattle.table.specs.All.{allBelow}
 use Rattle.table.specs.Entries.{dataKind, operationAt}
-use Rattle.table.specs.Operations.{Answers, operationOf}
+use Rattle.lookup.specs.Search.{lookedUp}
 use Rattle.message.specs.declared.Header.{Header}
 use Rattle.message.specs.declared.Status.{Status}
 use Rattle.message.specs.declared.Status.the-variants.{Down, Up}
@@ -29,26 +28,14 @@ use Rattle.reactions.specs.declared.Reaction.{Reaction}
 use Rattle.states.specs.States.{isUp, turned}
 use Rattle.reactions.specs.Replies.{allData, drawn}
 
--- the operation that a message asks for, looked up: a pull's ID, or the ID of a message of domain 1. docs/DECISIONS.md, 20: an entry
--- that bears the ID, or none. No other message, and none that was refused, has anything looked up
-unfoldable pub LookedFor : List ℕ → Sections → Header → Message → Found → Type 0
-LookedFor t s h (message.PlatformStatus x) f = f ≡ found.Nothing
-LookedFor t s h message.PlatformStatusRequest f = f ≡ found.Nothing
-LookedFor t s h (message.UnknownOperation id) f = f ≡ found.Nothing
-LookedFor t s h (message.VersionedDataPull id) f = Answers t s id f
-LookedFor t s h message.Operation f = Answers t s (h .id) f
-
-unfoldable pub Looked : List ℕ → Sections → Reading → Found → Type 0
-Looked t s (reading.Refused n) f = f ≡ found.Nothing
-Looked t s (reading.Read h m start len) f = LookedFor t s h m f
-
--- where the IDs rise there is one answer: the operation of that ID
+-- the operation that a message asks for, looked up: a pull's ID, or the ID of a message of domain 1. No other message, and none that
+-- was refused, has anything looked up
 unfoldable pub operationFor : List ℕ → Sections → Header → Message → Found
 operationFor t s h (message.PlatformStatus x) = found.Nothing
 operationFor t s h message.PlatformStatusRequest = found.Nothing
 operationFor t s h (message.UnknownOperation id) = found.Nothing
-operationFor t s h (message.VersionedDataPull id) = operationOf t s id
-operationFor t s h message.Operation = operationOf t s (h .id)
+operationFor t s h (message.VersionedDataPull id) = lookedUp t s id
+operationFor t s h message.Operation = lookedUp t s (h .id)
 
 unfoldable pub operationIn : List ℕ → Sections → Reading → Found
 operationIn t s (reading.Refused n) = found.Nothing

@@ -13,14 +13,14 @@ use message::Status;
 use table::Found;
 use table::Sections;
 ghost use mathlib.Core.Path.{_≡_};
-ghost use Rattle.reactions.specs.Reaction.{Looked, LookedFor, isData, notData, noData, silent, replied, noted, cameUp, onStatus, notVersioned, onPullAll, onPullOne, onPull, onOperation, reactionTo};
+ghost use Rattle.reactions.specs.Reaction.{operationFor, operationIn, isData, notData, noData, silent, replied, noted, cameUp, onStatus, notVersioned, onPullAll, onPullOne, onPull, onOperation, reactionTo};
 
 // The kind of an operation that is versioned data.
 const DATA_KIND: u16 = 1;
 
 // The operation that the message asks for, if it asks for one.
 pub fn look_up(table: &[u8], s: Sections, reading: Reading) -> Found
-    ensures { λ r. ⌜ Looked (now (table .entry)) s reading r ⌝ }
+    ensures { λ r. ⌜ r ≡ operationIn (now (table .entry)) s reading ⌝ }
 {
     match reading {
         Reading::Refused(_) => Found::Nothing,
@@ -62,7 +62,7 @@ pub fn reaction_to(
 }
 
 fn looked_for(table: &[u8], s: Sections, header: Header, message: Message) -> Found
-    ensures { λ r. ⌜ LookedFor (now (table .entry)) s header message r ⌝ }
+    ensures { λ r. ⌜ r ≡ operationFor (now (table .entry)) s header message ⌝ }
 {
     match message {
         Message::PlatformStatus(_) => Found::Nothing,

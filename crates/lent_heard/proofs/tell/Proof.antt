@@ -1,7 +1,7 @@
 -- `lent_heard::tell` meets its contract.
 -- Assumes nothing.
 use borrow.Author.Needs.{needs}
-use Rattle.lent_heard.proofs.Telling.{refused-number, refused-nothing, refused-standing, noted-number, noted-answer, noted-standing}
+use Rattle.lent_heard.proofs.Telling.{refused-number, refused-standing, refused-nothing, noted-number, noted-standing, noted-answer}
 use Rattle.lent_heard.proofs.tell.Statement.{statement}
 use Rattle.lent_heard.proofs.tell.Tie as tie
 
@@ -14,6 +14,4 @@ tell-spec =
     (λ c κs. search needs)
     (λ c κs. search needs)
     (λ c. (search refused-number, (search refused-standing, search refused-nothing)))
-    (λ c. search needs)
-    (λ c. search needs)
     (λ c. (search noted-number, (search noted-standing, search noted-answer))))

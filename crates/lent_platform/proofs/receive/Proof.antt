@@ -1,7 +1,7 @@
 -- `lent_platform::receive` meets its contract.
 -- Assumes nothing.
 use borrow.Author.Needs.{needs}
-use Rattle.lent_platform.proofs.Calling.{no-words, received-number, received-words, received-output, received-answer}
+use Rattle.lent_platform.proofs.Calling.{received-number, received-words, received-output, received-heard}
 use Rattle.lent_platform.proofs.receive.Statement.{statement}
 use Rattle.lent_platform.proofs.receive.Tie as tie
 
@@ -10,11 +10,7 @@ receive-spec =
     tie.close
     (tie.spec
     (λ c κs. search needs)
-    (λ c. (search no-words, (search no-words, (search no-words, search no-words))))
-    (λ c κs. search needs)
     (λ c κs. search needs)
     (λ c κs. search needs)
     (λ c. search needs)
-    (λ c. search needs)
-    (λ c. search needs)
-    (λ c. (search received-number, (search received-words, (search received-output, search received-answer)))))
+    (λ c. (search received-number, (search received-words, (search received-output, search received-heard)))))

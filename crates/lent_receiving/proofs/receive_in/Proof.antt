@@ -1,7 +1,7 @@
 -- `lent_receiving::receive_in` meets its contract.
 -- Assumes nothing.
 use borrow.Author.Needs.{needs}
-use Rattle.lent_receiving.proofs.OnSections.{no-words-in, on-sections, outside, inside, enough-words}
+use Rattle.lent_receiving.proofs.OnSections.{received-number, received-words, received-output, received-heard}
 use Rattle.lent_receiving.proofs.receive_in.Statement.{statement}
 use Rattle.lent_receiving.proofs.receive_in.Tie as tie
 
@@ -10,12 +10,8 @@ receive-in-spec =
     tie.close
     (tie.spec
     (λ c κs. search needs)
-    (λ c. search no-words-in)
     (λ c κs. search needs)
     (λ c κs. search needs)
-    (λ c κs. search (inside, enough-words))
+    (λ c κs. search needs)
     (λ c. search needs)
-    (λ c. search needs)
-    (λ c. search needs)
-    (λ c. search on-sections)
-    (λ c. search outside))
+    (λ c. (search received-number, (search received-words, (search received-output, search received-heard)))))

@@ -1,7 +1,6 @@
 -- `lent_states::fresh` meets its contract.
 -- Assumes nothing.
 use borrow.Author.Needs.{needs}
-use Rattle.lent.proofs.Answers.{short, long}
 use Rattle.lent_states.proofs.Storing.{fresh-words}
 use Rattle.lent_states.proofs.fresh.Statement.{statement}
 use Rattle.lent_states.proofs.fresh.Tie as tie
@@ -10,8 +9,6 @@ pub fresh-spec : {M : Type 1} → statement M
 fresh-spec =
     tie.close
     (tie.spec
-    (λ c. (search short, search short))
     (λ c κs. search needs)
     (λ c κs. search needs)
-    (λ c. search needs)
-    (λ c. (search long, search (long, fresh-words))))
+    (λ c. (search needs, search fresh-words)))

@@ -1,7 +1,7 @@
 -- `lent_states::is_up` meets its contract.
 -- Assumes nothing.
 use borrow.Author.Needs.{needs}
-use Rattle.lent_states.proofs.Storing.{is-up, is-down}
+use Rattle.lent_states.proofs.Storing.{is-up, is-down, no-platform}
 use Rattle.lent_states.proofs.is_up.Statement.{statement}
 use Rattle.lent_states.proofs.is_up.Tie as tie
 
@@ -12,4 +12,5 @@ is-up-spec =
     (λ c κs. search needs)
     (λ c κs. search needs)
     (λ c. search is-up)
-    (λ c. search is-down))
+    (λ c. search is-down)
+    (λ c. search no-platform))

@@ -1,8 +1,7 @@
 -- `lent_tables::find` meets its contract.
 -- Assumes nothing.
 use borrow.Author.Needs.{needs}
-use Rattle.lent.proofs.Answers.{short}
-use Rattle.lent_tables.proofs.Calling.{short-find, not-within-number, not-within, within-number, found-there, found-none}
+use Rattle.lent_tables.proofs.Calling.{inside-number, found-there, found-none, outside-number, outside-answer}
 use Rattle.lent_tables.proofs.find.Statement.{statement}
 use Rattle.lent_tables.proofs.find.Tie as tie
 
@@ -10,7 +9,6 @@ pub find-spec : {M : Type 1} → statement M
 find-spec =
     tie.close
     (tie.spec
-    (λ c. (search short, search short-find))
     (λ c κs. search needs)
     (λ c κs. search needs)
     (λ c κs. search needs)
@@ -19,12 +17,6 @@ find-spec =
     (λ c. search needs)
     (λ c. search needs)
     (λ c. search needs)
-    (λ c κs. search needs)
-    (λ c. search needs)
-    (λ c. search needs)
-    (λ c κs. search needs)
-    (λ c. search needs)
-    (λ c. (search within-number, search found-there))
-    (λ c. search needs)
-    (λ c. (search within-number, search found-none))
-    (λ c. (search not-within-number, search not-within)))
+    (λ c. (search inside-number, search found-there))
+    (λ c. (search inside-number, search found-none))
+    (λ c. (search outside-number, search outside-answer)))

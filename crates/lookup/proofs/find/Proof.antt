@@ -1,4 +1,4 @@
--- `lookup::find` meets its contract: where the IDs rise, the ID is at no entry below low, nor from high on.
+-- `lookup::find` meets its contract: what is left between low and high finds what the whole search does.
 -- Assumes nothing.
 use borrow.Author.Needs.{needs}
 use mathlib.Core.Path.{_≡_}
@@ -6,13 +6,13 @@ use Prim.Native.Nat.{_-_, _≤_}
 use lib.Dec.{leb}
 use lib.ListN.{length}
 use Rattle.table.specs.Layout.{operationPlace}
-use Rattle.lookup.proofs.Halving.{Between, middle-in, whole-is, anywhere, found-at, nowhere, upper, lower}
+use Rattle.lookup.proofs.Halving.{Left, middle-in, whole-is, all-left, found-at, nowhere, upper, lower}
 use Rattle.lookup.proofs.find.Statement.{statement}
 use Rattle.lookup.proofs.find.Tie as tie
 
 abbrev Inv-loop : tie.InvT-loop
 Inv-loop table s id whole low₀ high₀ low high =
-    (high ≤ s .operations .count) × ((whole ≡ leb (operationPlace s (s .operations .count)) (length table)) × Between table s id low high)
+    (high ≤ s .operations .count) × ((whole ≡ leb (operationPlace s (s .operations .count)) (length table)) × Left table s id low high)
 
 abbrev μ-loop : tie.MeasureT-loop
 μ-loop table s id whole low₀ high₀ low high = high - low
@@ -25,14 +25,14 @@ find-spec =
     μ-loop
     (λ c κs. search needs)
     (λ c. search needs)
-    (λ c. (search needs, (search whole-is, search anywhere)))
+    (λ c. (search needs, (search whole-is, search all-left)))
     (λ c. search needs)
     (λ c κs. (search middle-in, search needs))
     (λ c. search needs)
-    (λ c. search (found-at, middle-in))
+    (λ c. search found-at)
     (λ c. search needs)
     (λ c. search needs)
-    (λ c. (search needs, (search needs, search (upper, middle-in))))
+    (λ c. (search needs, (search needs, search upper)))
     (λ c. search needs)
-    (λ c. (search needs, (search needs, search (lower, middle-in))))
+    (λ c. (search needs, (search needs, search lower)))
     (λ c. search nowhere))

@@ -1,7 +1,7 @@
--- `platform::receive` meets its contract: the table is judged first, and on a good one the look-up has one answer.
+-- `platform::receive` meets its contract: the table is judged first.
 -- Assumes nothing.
 use borrow.Author.Needs.{needs}
-use Rattle.platform.proofs.Receipts.{checked-within, bad-table, bad-table-output, good-table, good-table-output}
+use Rattle.platform.proofs.Receipts.{bad-table, bad-table-output, good-table, good-table-output}
 use Rattle.platform.proofs.receive.Statement.{statement}
 use Rattle.platform.proofs.receive.Tie as tie
 
@@ -13,7 +13,7 @@ receive-spec =
     (λ c. search needs)
     (λ c κs. search needs)
     (λ c. search needs)
-    (λ c κs. search checked-within)
+    (λ c κs. search needs)
     (λ c. (search bad-table, search bad-table-output))
     (λ c. search needs)
     (λ c. (search good-table, search good-table-output)))

@@ -1,7 +1,7 @@
 -- `platform::receive_checked` meets its contract: sections that do not lie in the bytes are refused.
 -- Assumes nothing.
 use borrow.Author.Needs.{needs}
-use Rattle.platform.proofs.Receipts.{is-in, not-within}
+use Rattle.platform.proofs.Receipts.{inside, inside-output, outside, outside-output}
 use Rattle.platform.proofs.receive_checked.Statement.{statement}
 use Rattle.platform.proofs.receive_checked.Tie as tie
 
@@ -10,8 +10,8 @@ receive-checked-spec =
     tie.close
     (tie.spec
     (λ c κs. search needs)
-    (λ c κs. search is-in)
+    (λ c κs. search needs)
     (λ c κs. search needs)
     (λ c. search needs)
-    (λ c. search needs)
-    (λ c. search not-within))
+    (λ c. (search inside, search inside-output))
+    (λ c. (search outside, search outside-output)))

@@ -1,7 +1,7 @@
 -- `platform::received` meets its contract: the message is read, and what it asks for is looked up.
 -- Assumes nothing.
 use borrow.Author.Needs.{needs}
-use Rattle.platform.proofs.Receipts.{received-is}
+use Rattle.platform.proofs.Receipts.{looked-up, looked-up-output}
 use Rattle.platform.proofs.received.Statement.{statement}
 use Rattle.platform.proofs.received.Tie as tie
 
@@ -13,4 +13,4 @@ received-spec =
     (λ c κs. search needs)
     (λ c κs. search needs)
     (λ c. search needs)
-    (λ c. search received-is))
+    (λ c. (search looked-up, search looked-up-output)))
