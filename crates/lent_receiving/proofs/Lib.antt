@@ -1,1 +1,2 @@
 mod OnSections
+mod Straight

@@ -1,31 +1,60 @@
--- What the call for one message on sections shows at its return: what it was given for an outcome is the one that is meant.
+-- What the call for one message on sections shows at its returns: these lie in the table, or not.
 -- Assumes nothing.
 use Prim.Native.Nat.{ℕ}
-use mathlib.Core.Path.{_≡_, ap, ap₂, _∙_}
+use mathlib.Core.Path.{_≡_, sym, ap, _∙_}
+use mathlib.Core.Bool.{Bool, true, false}
 use mathlib.Core.List.{List}
-use lib.ListN.{length}
+use Rattle.wire.proofs.Cond.{yes-if, no-if}
 use Rattle.table.specs.declared.Sections.{Sections}
+use Rattle.table.specs.Layout.{cutShort, within}
 use Rattle.sections.specs.Words.{sectionsIn}
-use Rattle.reactions.specs.declared.Standing.{Standing}
 use Rattle.platform.specs.declared.Outcome.{Outcome}
-use Rattle.platform.specs.Receiving.{numberGiven, sectionsOutcome, sectionsOutput}
+use Rattle.platform.specs.Receiving.{refused, numberGiven, sectionsOutcome, sectionsOutput}
 use Rattle.lent_states.specs.Words.{standingIn}
 use Rattle.lent_heard.specs.Words.{heardAfter, platformAfter}
+use Rattle.lent_receiving.specs.Within.{outcomeWithin, numberWithin, wordsWithin, outputWithin, heardWithin}
 use Rattle.lent_receiving.specs.Calls.{outcomeWith, receiveInNumber, receiveInWords, receiveInOutput, receiveInHeard}
 
-module _ {s : Sections} {p : Standing} (own : ℕ) (ws t ss m out : List ℕ) (es : s ≡ sectionsIn ss) (ep : p ≡ standingIn ws) where
-  module _ {o : Outcome} (eo : o ≡ sectionsOutcome own t s p m (length out)) where
-    is-meant : o ≡ outcomeWith own ws t ss m out
-    is-meant = eo ∙ ap₂ (λ (x : Sections) (y : Standing). sectionsOutcome own t x y m (length out)) es ep
+module _ {s : Sections} {b : Bool} (own : ℕ) (ws t ss m out : List ℕ) (es : s ≡ sectionsIn ss) (eb : b ≡ within t s) where
+  is-within : within t (sectionsIn ss) ≡ b
+  is-within = ap (within t) (sym es) ∙ sym eb
 
-    pub received-number : {n : ℕ} → n ≡ numberGiven (o .answer) → n ≡ receiveInNumber own ws t ss m out
-    received-number f = f ∙ ap (λ (x : Outcome). numberGiven (x .answer)) is-meant
+  module _ (yes : b ≡ true) where
+    is-meant : outcomeWithin own ws t s m out ≡ outcomeWith own ws t ss m out
+    unfolding sectionsOutcome
+    is-meant =
+        ap (λ (x : Sections). outcomeWithin own ws t x m out) es
+        ∙ sym (yes-if {A = Outcome} (outcomeWithin own ws t (sectionsIn ss) m out) (refused (standingIn ws) cutShort) (is-within ∙ yes))
 
-    pub received-words : {x : List ℕ} → x ≡ platformAfter o ws → x ≡ receiveInWords own ws t ss m out
-    received-words f = f ∙ ap (λ (y : Outcome). platformAfter y ws) is-meant
+    pub inside-number : {n : ℕ} → n ≡ numberWithin own ws t s m out → n ≡ receiveInNumber own ws t ss m out
+    inside-number f = f ∙ ap (λ (x : Outcome). numberGiven (x .answer)) is-meant
 
-    pub received-heard : {x : List ℕ} (heard : List ℕ) → x ≡ heardAfter o heard → x ≡ receiveInHeard own ws t ss m out heard
-    received-heard heard f = f ∙ ap (λ (y : Outcome). heardAfter y heard) is-meant
+    pub inside-words : {x : List ℕ} → x ≡ wordsWithin own ws t s m out → x ≡ receiveInWords own ws t ss m out
+    inside-words f = f ∙ ap (λ (y : Outcome). platformAfter y ws) is-meant
 
-  pub received-output : {x : List ℕ} → x ≡ sectionsOutput own t s p m out → x ≡ receiveInOutput own ws t ss m out
-  received-output f = f ∙ ap₂ (λ (x : Sections) (y : Standing). sectionsOutput own t x y m out) es ep
+    pub inside-heard : {x : List ℕ} (heard : List ℕ) → x ≡ heardWithin own ws t s m out heard → x ≡ receiveInHeard own ws t ss m out heard
+    inside-heard heard f = f ∙ ap (λ (y : Outcome). heardAfter y heard) is-meant
+
+    pub inside-output : {x : List ℕ} → x ≡ outputWithin own ws t s m out → x ≡ receiveInOutput own ws t ss m out
+    unfolding sectionsOutput
+    inside-output f =
+        f ∙ ap (λ (x : Sections). outputWithin own ws t x m out) es
+        ∙ sym (yes-if (outputWithin own ws t (sectionsIn ss) m out) out (is-within ∙ yes))
+
+  module _ (no : b ≡ false) where
+    is-refused : refused (standingIn ws) cutShort ≡ outcomeWith own ws t ss m out
+    unfolding sectionsOutcome
+    is-refused = sym (no-if {A = Outcome} (outcomeWithin own ws t (sectionsIn ss) m out) (refused (standingIn ws) cutShort) (is-within ∙ no))
+
+    pub outside-number : cutShort ≡ receiveInNumber own ws t ss m out
+    outside-number = ap (λ (x : Outcome). numberGiven (x .answer)) is-refused
+
+    pub outside-words : ws ≡ receiveInWords own ws t ss m out
+    outside-words = ap (λ (y : Outcome). platformAfter y ws) is-refused
+
+    pub outside-output : out ≡ receiveInOutput own ws t ss m out
+    unfolding sectionsOutput
+    outside-output = sym (no-if (outputWithin own ws t (sectionsIn ss) m out) out (is-within ∙ no))
+
+    pub outside-heard : (heard : List ℕ) → heard ≡ receiveInHeard own ws t ss m out heard
+    outside-heard heard = ap (λ (y : Outcome). heardAfter y heard) is-refused

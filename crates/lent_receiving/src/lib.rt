@@ -2,10 +2,14 @@
 // has it.
 ghost use mathlib.Core.Path.{_≡_};
 ghost use Rattle.lent_receiving.specs.Calls.{receiveInNumber, receiveInWords, receiveInOutput, receiveInHeard};
+ghost use Rattle.lent_receiving.specs.Within.{numberWithin, wordsWithin, outputWithin, heardWithin, operationHeard, operationWords};
 use lent_heard::HEARD_WORDS;
 use lent_states::PLATFORM_WORDS;
+use message::Header;
 use message::Own;
 use sections::SECTIONS_WORDS;
+use table::Found;
+use table::Sections;
 
 // `lent_platform::receive` by the sections that a check gave: 30 where these do not lie in the table.
 pub fn receive_in(
@@ -23,14 +27,76 @@ pub fn receive_in(
     ensures { λ _. ⌜ now (heard .exit) ≡ receiveInHeard own (now (platform .entry)) (now (table .entry)) (now (sections .entry)) (now (message .entry)) (now (out .entry)) (now (heard .entry)) ⌝ }
 {
     let s = sections::sections_in(sections);
-    let standing = lent_states::standing_in(platform);
-    let outcome = platform::receive_checked(
-        Own { platform: own },
-        table,
-        s,
-        standing,
-        message,
-        out,
-    );
-    lent_heard::tell(outcome, platform, heard)
+    if sections::within(table, s) {
+        received(
+            Own { platform: own },
+            platform,
+            table,
+            s,
+            message,
+            out,
+            heard,
+        )
+    } else {
+        table::CUT_SHORT
+    }
+}
+
+// An operation of the table, which comes most often, is told straight from its bytes; all else as `platform` answers it.
+fn received(
+    own: Own,
+    platform: &mut [u64; PLATFORM_WORDS],
+    table: &[u8],
+    s: Sections,
+    message: &[u8],
+    out: &mut [u8],
+    heard: &mut [u64; HEARD_WORDS],
+) -> u32
+    ensures { λ r. ⌜ r ≡ numberWithin (own .platform) (now (platform .entry)) (now (table .entry)) s (now (message .entry)) (now (out .entry)) ⌝ }
+    ensures { λ _. ⌜ now (platform .exit) ≡ wordsWithin (own .platform) (now (platform .entry)) (now (table .entry)) s (now (message .entry)) (now (out .entry)) ⌝ }
+    ensures { λ _. ⌜ now (out .exit) ≡ outputWithin (own .platform) (now (platform .entry)) (now (table .entry)) s (now (message .entry)) (now (out .entry)) ⌝ }
+    ensures { λ _. ⌜ now (heard .exit) ≡ heardWithin (own .platform) (now (platform .entry)) (now (table .entry)) s (now (message .entry)) (now (out .entry)) (now (heard .entry)) ⌝ }
+{
+    match operation_heard(own, table, s, message) {
+        Found::At(entry) => {
+            let standing = lent_states::standing_in(platform);
+            lent_states::put_standing(platform, standing);
+            put_operation(heard, message, entry);
+            0
+        }
+        Found::Nothing => {
+            let standing = lent_states::standing_in(platform);
+            let outcome = platform::receive_within(own, table, s, standing, message, out);
+            lent_heard::tell(outcome, platform, heard)
+        }
+    }
+}
+
+// The operation of the table that the message is, where nothing refuses it.
+fn operation_heard(own: Own, table: &[u8], s: Sections, message: &[u8]) -> Found
+    ensures { λ r. ⌜ r ≡ operationHeard (own .platform) (now (table .entry)) s (now (message .entry)) ⌝ }
+{
+    if wire::u8_at(message, Header::DOMAIN_AT) == Header::PLATFORM_DOMAIN {
+        return Found::Nothing;
+    }
+    if message::read_refusal(own, message) == 0 {
+        lookup::find(table, s, wire::u32_at(message, Header::ID_AT))
+    } else {
+        Found::Nothing
+    }
+}
+
+fn put_operation(words: &mut [u64; HEARD_WORDS], message: &[u8], entry: u16)
+    ensures { λ _. ⌜ now (words .exit) ≡ operationWords (now (message .entry)) entry ⌝ }
+{
+    *words = [
+        lent_heard::OPERATION,
+        wire::u32_at(message, Header::ID_AT) as u64,
+        wire::u32_at(message, Header::PLATFORM_AT) as u64,
+        wire::u32_at(message, Header::SEQUENCE_AT) as u64,
+        entry as u64,
+        Header::LENGTH as u64,
+        wire::u32_at(message, Header::PAYLOAD_SIZE_AT) as u64,
+        0,
+    ];
 }

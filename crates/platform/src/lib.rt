@@ -70,7 +70,7 @@ pub fn receive(
 {
     match types::check(table) {
         Checked::Refused(number) => refused(standing, number),
-        Checked::Table(s) => received(own, table, s, standing, message, out),
+        Checked::Table(s) => receive_within(own, table, s, standing, message, out),
     }
 }
 
@@ -87,10 +87,27 @@ pub fn receive_checked(
     ensures output { λ r. ⌜ now (out .exit) ≡ sectionsOutput (own .platform) (now (table .entry)) s standing (now (message .entry)) (now (out .entry)) ⌝ }
 {
     if sections::within(table, s) {
-        received(own, table, s, standing, message, out)
+        receive_within(own, table, s, standing, message, out)
     } else {
         refused(standing, CUT_SHORT)
     }
+}
+
+// The same where the sections are known to lie in the table: it does not ask.
+pub fn receive_within(
+    own: Own,
+    table: &[u8],
+    s: Sections,
+    standing: Standing,
+    message: &[u8],
+    out: &mut [u8],
+) -> Outcome
+    ensures answer { λ r. ⌜ r ≡ outcomeIn (own .platform) (now (table .entry)) s standing (now (message .entry)) (length (now (out .entry))) ⌝ }
+    ensures output { λ r. ⌜ now (out .exit) ≡ outputIn (own .platform) (now (table .entry)) s standing (now (message .entry)) (now (out .entry)) ⌝ }
+{
+    let reading = reader::read(own, message);
+    let found = reactions::look_up(table, s, reading);
+    settled(own, table, s, found, standing, reading, out)
 }
 
 // The payload of an operation that was heard, as a part of its message; empty for anything else.
@@ -105,22 +122,6 @@ pub fn payload(message: &[u8], heard: Heard) -> &[u8]
         } => wire::part(message, start, length),
         _ => &message[..0],
     }
-}
-
-fn received(
-    own: Own,
-    table: &[u8],
-    s: Sections,
-    standing: Standing,
-    message: &[u8],
-    out: &mut [u8],
-) -> Outcome
-    ensures answer { λ r. ⌜ r ≡ outcomeIn (own .platform) (now (table .entry)) s standing (now (message .entry)) (length (now (out .entry))) ⌝ }
-    ensures output { λ r. ⌜ now (out .exit) ≡ outputIn (own .platform) (now (table .entry)) s standing (now (message .entry)) (now (out .entry)) ⌝ }
-{
-    let reading = reader::read(own, message);
-    let found = reactions::look_up(table, s, reading);
-    settled(own, table, s, found, standing, reading, out)
 }
 
 fn settled(

@@ -100,6 +100,8 @@ platform =
       receive-out = λ k a z z′ e e′ p q. p .1 ∙ sym (q .1);
       receive-checked = λ k a z z′ e e′ p q. p .0 ∙ sym (q .0);
       receive-checked-out = λ k a z z′ e e′ p q. p .1 ∙ sym (q .1);
+      receive-within = λ k a z z′ e e′ p q. p .0 ∙ sym (q .0);
+      receive-within-out = λ k a z z′ e e′ p q. p .1 ∙ sym (q .1);
       payload = λ k a z z′ e e′ p q. p ∙ sym q;
     }
 

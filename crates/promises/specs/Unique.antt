@@ -70,6 +70,7 @@ use Rattle.lines.proofs.put_ending.Reads.{Post as lines-put-ending}
 use Rattle.recording.specs.Play.{stateOf}
 use Rattle.lookup.proofs.find.Reads.{Post as lookup-find}
 use Rattle.platform.proofs.receive_checked.Reads.{Post as platform-receive-checked}
+use Rattle.platform.proofs.receive_within.Reads.{Post as platform-receive-within}
 
 -- two outcomes for the same arguments agree on what is seen of them
 abbrev pub Same : {K : Type 0} {A Z E : K → Type 0} {B : Type 0} → ((k : K) → A k → Z k → E k → Type 0) → ((k : K) → Z k → E k → B) → Type 0
@@ -155,6 +156,8 @@ pub record PlatformUnique : Type 0 where
   pub receive-out : Lent platform-receive (λ k e. now (e .1 .1 .1 .1 .0))
   pub receive-checked : Answer platform-receive-checked
   pub receive-checked-out : Lent platform-receive-checked (λ k e. now (e .1 .1 .1 .1 .1 .0))
+  pub receive-within : Answer platform-receive-within
+  pub receive-within-out : Lent platform-receive-within (λ k e. now (e .1 .1 .1 .1 .1 .0))
   pub payload : Same platform-payload (λ k z e. now z)
 
 pub record RecordingUnique : Type 0 where

@@ -1,7 +1,7 @@
--- `lent_receiving::receive_in` meets its contract.
+-- `lent_receiving::receive_in` meets its contract: the sections lie in the table, or not.
 -- Assumes nothing.
 use borrow.Author.Needs.{needs}
-use Rattle.lent_receiving.proofs.OnSections.{received-number, received-words, received-output, received-heard}
+use Rattle.lent_receiving.proofs.OnSections.{inside-number, inside-words, inside-output, inside-heard, outside-number, outside-words, outside-output, outside-heard}
 use Rattle.lent_receiving.proofs.receive_in.Statement.{statement}
 use Rattle.lent_receiving.proofs.receive_in.Tie as tie
 
@@ -12,6 +12,6 @@ receive-in-spec =
     (λ c κs. search needs)
     (λ c κs. search needs)
     (λ c κs. search needs)
-    (λ c κs. search needs)
     (λ c. search needs)
-    (λ c. (search received-number, (search received-words, (search received-output, search received-heard)))))
+    (λ c. (search inside-number, (search inside-words, (search inside-output, search inside-heard))))
+    (λ c. (search outside-number, (search outside-words, (search outside-output, search outside-heard)))))

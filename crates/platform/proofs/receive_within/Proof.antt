@@ -1,12 +1,12 @@
--- `platform::received` meets its contract: the message is read, and what it asks for is looked up.
+-- `platform::receive_within` meets its contract: the message is read, and what it asks for is looked up.
 -- Assumes nothing.
 use borrow.Author.Needs.{needs}
 use Rattle.platform.proofs.Receipts.{looked-up, looked-up-output}
-use Rattle.platform.proofs.received.Statement.{statement}
-use Rattle.platform.proofs.received.Tie as tie
+use Rattle.platform.proofs.receive_within.Statement.{statement}
+use Rattle.platform.proofs.receive_within.Tie as tie
 
-pub received-spec : {M : Type 1} → statement M
-received-spec =
+pub receive-within-spec : {M : Type 1} → statement M
+receive-within-spec =
     tie.close
     (tie.spec
     (λ c κs. search needs)
