@@ -25,7 +25,8 @@ use Rattle.lent_channels.proofs.Stored.{records-length, stored-at, none
 use Rattle.lent_channels.proofs.Storing.{seen-back, seen-small, words-some, words-none}
 
 -- the words of a joiner
-record-word : (chs : List Channel) (i m : ℕ) → i < length chs → m < 4 → getD (recordsWords chs) (4 * i + m) 0 ≡ getD (recordWords (getD chs i (newChannel 0))) m 0
+record-word : (chs : List Channel) (i m : ℕ) → i < length chs → m < 4 →
+    getD (recordsWords chs) (4 * i + m) 0 ≡ getD (recordWords (getD chs i (newChannel 0))) m 0
 record-word [] i m h l = absurd (omega arith)
 record-word (c ∷ cs) zero m h l =
     let e : 4 * 0 + m ≡ m = omega arith in
@@ -114,7 +115,10 @@ module _ (j : Joiner) (w : length (j .channels) ≡ channelLimit) (h : j .count 
       small : (i : ℕ) → i < j .count → channelAt j i .sender < senderLimit
       small i l =
           let ch : Channel = channelAt j i in
-          let e : goodChannel (j .room) ch ≡ true = ap (goodChannel (j .room)) (sym (channels-at j h w i l)) ∙ every-at (goodChannel (j .room)) (newChannel 0) (channelsOf j) i each (omega (arith, channels-length j h w)) in
+          let ok : Channel → Bool = goodChannel (j .room) in
+          let f : getD (channelsOf j) i (newChannel 0) ≡ ch = channels-at j h w i l in
+          let q : i < length (channelsOf j) = omega (arith, channels-length j h w) in
+          let e : goodChannel (j .room) ch ≡ true = ap ok (sym f) ∙ every-at ok (newChannel 0) (channelsOf j) i each q in
           omega (arith, ltb-true (ch .sender) senders (and-left (ltb (ch .sender) senders) (leb (ch .held) (j .room) && ltb (ch .last) counters) e))
 
   found-stored : (b x : ℕ) → foundOf (joinerIn ws) b x ≡ foundOf j b x
@@ -131,7 +135,8 @@ module _ (j : Joiner) (w : length (j .channels) ≡ channelLimit) (h : j .count 
               omega arith
 
   -- the joiner of j's channels; where the records past the count are fresh, as after a set-up, it is j itself
-  pub words-back : ((i : ℕ) → i < j .count → channelAt j i .sender < senderLimit) → joinerIn (wordsOf j) ≡ record { channels = channelsOf j ++ replicate (channelLimit - j .count) (newChannel 0); count = j .count; room = j .room }
+  pub words-back : ((i : ℕ) → i < j .count → channelAt j i .sender < senderLimit) →
+      joinerIn (wordsOf j) ≡ record { channels = channelsOf j ++ replicate (channelLimit - j .count) (newChannel 0); count = j .count; room = j .room }
   words-back s =
       let c : areRecords ws (j .count) ≡ true = all-records (j .count) (j .room) (j .channels) (j .count) (omega arith) s in
       let i : isJoiner ws ≡ true = rw (le-leb (j .count) channelLimit h, c) in
@@ -164,5 +169,6 @@ found-back j b x w = go (leb (j .count) channelLimit) refl
         ∙ none-in b x
         ∙ sym (none-found j b x (too-many j b q))
 
-pub looked : {f : Found} {ws : List ℕ} (j : Joiner) (b x : ℕ) → length (j .channels) ≡ channelLimit → ws ≡ wordsOf j → f ≡ foundOf (joinerIn ws) b x → f ≡ foundOf j b x
+pub looked : {f : Found} {ws : List ℕ} (j : Joiner) (b x : ℕ) → length (j .channels) ≡ channelLimit → ws ≡ wordsOf j →
+    f ≡ foundOf (joinerIn ws) b x → f ≡ foundOf j b x
 looked j b x w ew ef = ef ∙ ap (λ (v : List ℕ). foundOf (joinerIn v) b x) ew ∙ found-back j b x w

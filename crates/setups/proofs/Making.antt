@@ -52,7 +52,9 @@ unfolding freshOf
 no-channels e = rw e
 
 -- `is_good`
-module _ {f : Found} {ws : List ℕ} (j : Joiner) (b x : ℕ) (w : length (j .channels) ≡ channelLimit) (ew : ws ≡ wordsOf j) (ef : f ≡ foundOf (joinerIn ws) b x) where
+module _
+    {f : Found} {ws : List ℕ} (j : Joiner) (b x : ℕ) (w : length (j .channels) ≡ channelLimit)
+    (ew : ws ≡ wordsOf j) (ef : f ≡ foundOf (joinerIn ws) b x) where
   pub bad-look : f ≡ Bad → false ≡ good j b
   bad-look m = found-bad j b x (looked j b x w ew ef) m
 
