@@ -121,18 +121,28 @@ module _ (j : Joiner) (w : length (j .channels) ≡ channelLimit) (h : j .count 
           let e : goodChannel (j .room) ch ≡ true = ap ok (sym f) ∙ every-at ok (newChannel 0) (channelsOf j) i each q in
           omega (arith, ltb-true (ch .sender) senders (and-left (ltb (ch .sender) senders) (leb (ch .held) (j .room) && ltb (ch .last) counters) e))
 
+  not-joiner : (b : ℕ) → isJoiner ws ≡ false → good j b ≡ false
+  not-joiner b q = not-true-false (good j b) no
+    where
+      no : good j b ≡ true → ⊥
+      no g =
+          let y : true ≡ false = sym (good-joiner b g) ∙ q in
+          let z : _≡_ {A = ℕ} 0 1 = cc in
+          omega arith
+
   found-stored : (b x : ℕ) → foundOf (joinerIn ws) b x ≡ foundOf j b x
   found-stored b x = go (isJoiner ws) refl
     where
       go : (t : Bool) → isJoiner ws ≡ t → foundOf (joinerIn ws) b x ≡ foundOf j b x
       go true q = ap (λ (i : Joiner). foundOf i b x) (stored-joiner ws q) ∙ same-found b x
-      go false q = none-found (joinerIn ws) b x (none-good ws b q) ∙ sym (none-found j b x (not-true-false (good j b) no))
-        where
-          no : good j b ≡ true → ⊥
-          no g =
-              let y : true ≡ false = sym (good-joiner b g) ∙ q in
-              let z : _≡_ {A = ℕ} 0 1 = cc in
-              omega arith
+      go false q = none-found (joinerIn ws) b x (none-good ws b q) ∙ sym (none-found j b x (not-joiner b q))
+
+  good-stored : (b : ℕ) → good (joinerIn ws) b ≡ good j b
+  good-stored b = go (isJoiner ws) refl
+    where
+      go : (t : Bool) → isJoiner ws ≡ t → good (joinerIn ws) b ≡ good j b
+      go true q = ap (λ (i : Joiner). good i b) (stored-joiner ws q) ∙ same-good b
+      go false q = none-good ws b q ∙ sym (not-joiner b q)
 
   -- the joiner of j's channels; where the records past the count are fresh, as after a set-up, it is j itself
   pub words-back : ((i : ℕ) → i < j .count → channelAt j i .sender < senderLimit) →
@@ -144,9 +154,9 @@ module _ (j : Joiner) (w : length (j .channels) ≡ channelLimit) (h : j .count 
       ∙ ap (λ (l : List Channel). record { channels = l ++ replicate (channelLimit - j .count) (newChannel 0); count = j .count; room = j .room }) records-of
 
 -- one of more channels than there can be
-none-in : (b x : ℕ) → foundOf (joinerIn (replicate joinerWords 0)) b x ≡ Bad
-unfolding foundOf joinerIn good goodSizes
-none-in b x = refl
+none-in : (b : ℕ) → good (joinerIn (replicate joinerWords 0)) b ≡ false
+unfolding joinerIn good goodSizes
+none-in b = refl
 
 too-many : (j : Joiner) (b : ℕ) → leb (j .count) channelLimit ≡ false → good j b ≡ false
 unfolding good goodSizes
@@ -156,7 +166,16 @@ too-many j b q = go (leb 1 (j .count)) refl
     go true p = rw (p, q)
     go false p = rw p
 
--- the law of the one look
+-- the laws of the one look
+pub good-back : (j : Joiner) (b : ℕ) → length (j .channels) ≡ channelLimit → good (joinerIn (wordsOf j)) b ≡ good j b
+good-back j b w = go (leb (j .count) channelLimit) refl
+  where
+    go : (t : Bool) → leb (j .count) channelLimit ≡ t → good (joinerIn (wordsOf j)) b ≡ good j b
+    go true q =
+        let h : j .count ≤ channelLimit = leb-true (j .count) channelLimit q in
+        ap (λ (v : List ℕ). good (joinerIn v) b) (words-some j h) ∙ good-stored j w h b
+    go false q = ap (λ (v : List ℕ). good (joinerIn v) b) (sym (words-none j (leb-false (j .count) channelLimit q))) ∙ none-in b ∙ sym (too-many j b q)
+
 pub found-back : (j : Joiner) (b x : ℕ) → length (j .channels) ≡ channelLimit → foundOf (joinerIn (wordsOf j)) b x ≡ foundOf j b x
 found-back j b x w = go (leb (j .count) channelLimit) refl
   where
@@ -166,7 +185,7 @@ found-back j b x w = go (leb (j .count) channelLimit) refl
         ap (λ (v : List ℕ). foundOf (joinerIn v) b x) (words-some j h) ∙ found-stored j w h b x
     go false q =
         ap (λ (v : List ℕ). foundOf (joinerIn v) b x) (sym (words-none j (leb-false (j .count) channelLimit q)))
-        ∙ none-in b x
+        ∙ none-found (joinerIn (replicate joinerWords 0)) b x (none-in b)
         ∙ sym (none-found j b x (too-many j b q))
 
 pub looked : {f : Found} {ws : List ℕ} (j : Joiner) (b x : ℕ) → length (j .channels) ≡ channelLimit → ws ≡ wordsOf j →
