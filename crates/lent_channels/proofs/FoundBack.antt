@@ -25,7 +25,8 @@ use Rattle.lent_channels.proofs.Stored.{records-length, stored-at, none
 use Rattle.lent_channels.proofs.Storing.{seen-back, seen-small, words-some, words-none}
 
 -- the words of a joiner
-record-word : (chs : List Channel) (i m : ℕ) → i < length chs → m < 4 → getD (recordsWords chs) (4 * i + m) 0 ≡ getD (recordWords (getD chs i (newChannel 0))) m 0
+record-word : (chs : List Channel) (i m : ℕ) → i < length chs → m < 4 →
+    getD (recordsWords chs) (4 * i + m) 0 ≡ getD (recordWords (getD chs i (newChannel 0))) m 0
 record-word [] i m h l = absurd (omega arith)
 record-word (c ∷ cs) zero m h l =
     let e : 4 * 0 + m ≡ m = omega arith in
@@ -114,24 +115,38 @@ module _ (j : Joiner) (w : length (j .channels) ≡ channelLimit) (h : j .count 
       small : (i : ℕ) → i < j .count → channelAt j i .sender < senderLimit
       small i l =
           let ch : Channel = channelAt j i in
-          let e : goodChannel (j .room) ch ≡ true = ap (goodChannel (j .room)) (sym (channels-at j h w i l)) ∙ every-at (goodChannel (j .room)) (newChannel 0) (channelsOf j) i each (omega (arith, channels-length j h w)) in
+          let ok : Channel → Bool = goodChannel (j .room) in
+          let f : getD (channelsOf j) i (newChannel 0) ≡ ch = channels-at j h w i l in
+          let q : i < length (channelsOf j) = omega (arith, channels-length j h w) in
+          let e : goodChannel (j .room) ch ≡ true = ap ok (sym f) ∙ every-at ok (newChannel 0) (channelsOf j) i each q in
           omega (arith, ltb-true (ch .sender) senders (and-left (ltb (ch .sender) senders) (leb (ch .held) (j .room) && ltb (ch .last) counters) e))
+
+  not-joiner : (b : ℕ) → isJoiner ws ≡ false → good j b ≡ false
+  not-joiner b q = not-true-false (good j b) no
+    where
+      no : good j b ≡ true → ⊥
+      no g =
+          let y : true ≡ false = sym (good-joiner b g) ∙ q in
+          let z : _≡_ {A = ℕ} 0 1 = cc in
+          omega arith
 
   found-stored : (b x : ℕ) → foundOf (joinerIn ws) b x ≡ foundOf j b x
   found-stored b x = go (isJoiner ws) refl
     where
       go : (t : Bool) → isJoiner ws ≡ t → foundOf (joinerIn ws) b x ≡ foundOf j b x
       go true q = ap (λ (i : Joiner). foundOf i b x) (stored-joiner ws q) ∙ same-found b x
-      go false q = none-found (joinerIn ws) b x (none-good ws b q) ∙ sym (none-found j b x (not-true-false (good j b) no))
-        where
-          no : good j b ≡ true → ⊥
-          no g =
-              let y : true ≡ false = sym (good-joiner b g) ∙ q in
-              let z : _≡_ {A = ℕ} 0 1 = cc in
-              omega arith
+      go false q = none-found (joinerIn ws) b x (none-good ws b q) ∙ sym (none-found j b x (not-joiner b q))
+
+  good-stored : (b : ℕ) → good (joinerIn ws) b ≡ good j b
+  good-stored b = go (isJoiner ws) refl
+    where
+      go : (t : Bool) → isJoiner ws ≡ t → good (joinerIn ws) b ≡ good j b
+      go true q = ap (λ (i : Joiner). good i b) (stored-joiner ws q) ∙ same-good b
+      go false q = none-good ws b q ∙ sym (not-joiner b q)
 
   -- the joiner of j's channels; where the records past the count are fresh, as after a set-up, it is j itself
-  pub words-back : ((i : ℕ) → i < j .count → channelAt j i .sender < senderLimit) → joinerIn (wordsOf j) ≡ record { channels = channelsOf j ++ replicate (channelLimit - j .count) (newChannel 0); count = j .count; room = j .room }
+  pub words-back : ((i : ℕ) → i < j .count → channelAt j i .sender < senderLimit) →
+      joinerIn (wordsOf j) ≡ record { channels = channelsOf j ++ replicate (channelLimit - j .count) (newChannel 0); count = j .count; room = j .room }
   words-back s =
       let c : areRecords ws (j .count) ≡ true = all-records (j .count) (j .room) (j .channels) (j .count) (omega arith) s in
       let i : isJoiner ws ≡ true = rw (le-leb (j .count) channelLimit h, c) in
@@ -139,9 +154,9 @@ module _ (j : Joiner) (w : length (j .channels) ≡ channelLimit) (h : j .count 
       ∙ ap (λ (l : List Channel). record { channels = l ++ replicate (channelLimit - j .count) (newChannel 0); count = j .count; room = j .room }) records-of
 
 -- one of more channels than there can be
-none-in : (b x : ℕ) → foundOf (joinerIn (replicate joinerWords 0)) b x ≡ Bad
-unfolding foundOf joinerIn good goodSizes
-none-in b x = refl
+none-in : (b : ℕ) → good (joinerIn (replicate joinerWords 0)) b ≡ false
+unfolding joinerIn good goodSizes
+none-in b = refl
 
 too-many : (j : Joiner) (b : ℕ) → leb (j .count) channelLimit ≡ false → good j b ≡ false
 unfolding good goodSizes
@@ -151,7 +166,16 @@ too-many j b q = go (leb 1 (j .count)) refl
     go true p = rw (p, q)
     go false p = rw p
 
--- the law of the one look
+-- the laws of the one look
+pub good-back : (j : Joiner) (b : ℕ) → length (j .channels) ≡ channelLimit → good (joinerIn (wordsOf j)) b ≡ good j b
+good-back j b w = go (leb (j .count) channelLimit) refl
+  where
+    go : (t : Bool) → leb (j .count) channelLimit ≡ t → good (joinerIn (wordsOf j)) b ≡ good j b
+    go true q =
+        let h : j .count ≤ channelLimit = leb-true (j .count) channelLimit q in
+        ap (λ (v : List ℕ). good (joinerIn v) b) (words-some j h) ∙ good-stored j w h b
+    go false q = ap (λ (v : List ℕ). good (joinerIn v) b) (sym (words-none j (leb-false (j .count) channelLimit q))) ∙ none-in b ∙ sym (too-many j b q)
+
 pub found-back : (j : Joiner) (b x : ℕ) → length (j .channels) ≡ channelLimit → foundOf (joinerIn (wordsOf j)) b x ≡ foundOf j b x
 found-back j b x w = go (leb (j .count) channelLimit) refl
   where
@@ -161,8 +185,9 @@ found-back j b x w = go (leb (j .count) channelLimit) refl
         ap (λ (v : List ℕ). foundOf (joinerIn v) b x) (words-some j h) ∙ found-stored j w h b x
     go false q =
         ap (λ (v : List ℕ). foundOf (joinerIn v) b x) (sym (words-none j (leb-false (j .count) channelLimit q)))
-        ∙ none-in b x
+        ∙ none-found (joinerIn (replicate joinerWords 0)) b x (none-in b)
         ∙ sym (none-found j b x (too-many j b q))
 
-pub looked : {f : Found} {ws : List ℕ} (j : Joiner) (b x : ℕ) → length (j .channels) ≡ channelLimit → ws ≡ wordsOf j → f ≡ foundOf (joinerIn ws) b x → f ≡ foundOf j b x
+pub looked : {f : Found} {ws : List ℕ} (j : Joiner) (b x : ℕ) → length (j .channels) ≡ channelLimit → ws ≡ wordsOf j →
+    f ≡ foundOf (joinerIn ws) b x → f ≡ foundOf j b x
 looked j b x w ew ef = ef ∙ ap (λ (v : List ℕ). foundOf (joinerIn v) b x) ew ∙ found-back j b x w

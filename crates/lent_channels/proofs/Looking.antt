@@ -185,7 +185,7 @@ module _ (ws : List ℕ) (k : ℕ) where
     unfolding foundAt
     found-no-one h = let l : getD ws 0 0 ≤ k = omega arith in rw (le-ltb k (getD ws 0 0) l)
 
--- `are_good`
+-- `are_good` and `are_each_good`
 pub good-rising : {t : Bool} (ws : List ℕ) → (t ≡ true → areGood ws ≡ true) → t ≡ true → true ≡ areGood ws
 good-rising ws f e = sym (f e)
 
@@ -212,8 +212,8 @@ module _ (ws : List ℕ) (b x : ℕ) where
   bad e = rw e
 
   module _ {t : Bool} (e : t ≡ goodSizes (getD ws 0 0) (getD ws 1 0) b) where
-    pub bad-sizes : t ≡ false → Bad ≡ foundOf (joinerIn ws) b x
-    bad-sizes f = bad (not-true-false (good (joinerIn ws) b) no)
+    none-sized : t ≡ false → good (joinerIn ws) b ≡ false
+    none-sized f = not-true-false (good (joinerIn ws) b) no
       where
         no : good (joinerIn ws) b ≡ true → ⊥
         no g =
@@ -224,12 +224,21 @@ module _ (ws : List ℕ) (b x : ℕ) where
             let z : _≡_ {A = ℕ} 0 1 = cc in
             omega arith
 
+    pub not-sized : t ≡ false → false ≡ good (joinerIn ws) b
+    not-sized f = sym (none-sized f)
+
+    pub bad-sizes : t ≡ false → Bad ≡ foundOf (joinerIn ws) b x
+    bad-sizes f = bad (none-sized f)
+
     module _ (f : t ≡ true) (w : length ws ≡ joinerWords) where
       pub sized : Sized ws
       sized = record { words = w; few = few-channels (getD ws 0 0) (getD ws 1 0) b (sym e ∙ f) }
 
       well : good (joinerIn ws) b ≡ areGood ws
       well = good-well ws b sized (sym e ∙ f)
+
+      pub records-good : {u : Bool} → u ≡ areGood ws → u ≡ good (joinerIn ws) b
+      records-good g = g ∙ sym well
 
       pub bad-records : {u : Bool} → u ≡ areGood ws → u ≡ false → Bad ≡ foundOf (joinerIn ws) b x
       bad-records g h = bad (well ∙ sym g ∙ h)

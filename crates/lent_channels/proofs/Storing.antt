@@ -79,7 +79,8 @@ module _ (chs : List Channel) (l : length chs ≡ channelLimit) where
   pub write-none : (s : List ℕ) → s ≡ over s 2 (recordsWords (take 0 chs))
   write-none s = over-none s 2 []
 
-  pub write-more : {x u : List ℕ} (s : List ℕ) (i : ℕ) → length s ≡ joinerWords → u ≡ over s 2 (recordsWords (take i chs)) → i < channelLimit → x ≡ written u (recordAt i) (recordWords (getD chs i (newChannel 0))) → x ≡ over s 2 (recordsWords (take (i + 1) chs))
+  pub write-more : {x u : List ℕ} (s : List ℕ) (i : ℕ) → length s ≡ joinerWords → u ≡ over s 2 (recordsWords (take i chs)) → i < channelLimit →
+      x ≡ written u (recordAt i) (recordWords (getD chs i (newChannel 0))) → x ≡ over s 2 (recordsWords (take (i + 1) chs))
   write-more {x} {u} s i w e h f =
       let ch : Channel = getD chs i (newChannel 0) in
       let old : List ℕ = recordsWords (take i chs) in
@@ -96,7 +97,8 @@ module _ (chs : List Channel) (l : length chs ≡ channelLimit) where
       ∙ over-over s 2 old (recordWords ch) (omega arith)
       ∙ ap (over s 2) (sym t)
 
-pub write-all : {u : List ℕ} (j : Joiner) (i : ℕ) → length (j .channels) ≡ channelLimit → j .count ≤ channelLimit → u ≡ over (sized (j .count) (j .room)) 2 (recordsWords (take i (j .channels))) → channelLimit ≤ i → u ≡ wordsOf j
+pub write-all : {u : List ℕ} (j : Joiner) (i : ℕ) → length (j .channels) ≡ channelLimit → j .count ≤ channelLimit →
+    u ≡ over (sized (j .count) (j .room)) 2 (recordsWords (take i (j .channels))) → channelLimit ≤ i → u ≡ wordsOf j
 write-all j i l few e h =
     let chs : List Channel = j .channels in
     let s : List ℕ = sized (j .count) (j .room) in
@@ -106,5 +108,6 @@ write-all j i l few e h =
     let r : drop (2 + length (recordsWords chs)) s ≡ [] = ap (λ (k : ℕ). drop k s) q ∙ drop-length s in
     e ∙ ap (λ (y : List Channel). over s 2 (recordsWords y)) t ∙ whole r ∙ sym (words-some j few)
   where
-    whole : drop (2 + length (recordsWords (j .channels))) (sized (j .count) (j .room)) ≡ [] → over (sized (j .count) (j .room)) 2 (recordsWords (j .channels)) ≡ j .count ∷ j .room ∷ recordsWords (j .channels)
+    whole : drop (2 + length (recordsWords (j .channels))) (sized (j .count) (j .room)) ≡ [] →
+        over (sized (j .count) (j .room)) 2 (recordsWords (j .channels)) ≡ j .count ∷ j .room ∷ recordsWords (j .channels)
     whole r = rw (r, append-nil (recordsWords (j .channels)))

@@ -4,7 +4,7 @@ mod in_words;
 mod records;
 
 ghost use mathlib.Core.Path.{_≡_};
-ghost use Rattle.channels.specs.Setup.{foundOf};
+ghost use Rattle.channels.specs.Setup.{good, foundOf};
 ghost use Rattle.lent_channels.specs.Words.{joinerIn};
 use channels::CHANNELS;
 use channels::Found;
@@ -32,4 +32,16 @@ pub fn look(state: &[u32; JOINER_WORDS], rooms: usize, sender: u16) -> Found
         return Found::Bad;
     }
     Found::Bad
+}
+
+// The same verdict for a set-up, whose IDs need not rise.
+pub fn is_good(state: &[u32; JOINER_WORDS], rooms: usize) -> bool
+    ensures { λ r. ⌜ r ≡ good (joinerIn (now (state .entry))) rooms ⌝ }
+{
+    let words: &[u32] = state;
+    let count = words[0] as usize;
+    if channels::has_good_sizes(count, words[1], rooms) {
+        return records::are_each_good(words);
+    }
+    false
 }

@@ -16,8 +16,8 @@ use channels::Found;
 // Seen is 0 or 1.
 const SEEN_LIMIT: u32 = 2;
 
-// Whether every record is good and no ID stands twice. Only where the IDs do not rise, as they do in most set-ups, is each
-// looked at by itself.
+// Whether every record is good and no ID stands twice, with every datagram: only where the IDs do not rise, as they do in most
+// set-ups, is each looked at by itself.
 pub(crate) fn are_good(state: &[u32]) -> bool
     requires { ⌜ Sized (now state) ⌝ }
     ensures { λ r. ⌜ r ≡ areGood (now (state .entry)) ⌝ }
@@ -25,6 +25,13 @@ pub(crate) fn are_good(state: &[u32]) -> bool
     if rise(state) {
         return true;
     }
+    are_each_good(state)
+}
+
+pub(crate) fn are_each_good(state: &[u32]) -> bool
+    requires { ⌜ Sized (now state) ⌝ }
+    ensures { λ r. ⌜ r ≡ areGood (now (state .entry)) ⌝ }
+{
     if each_is_good(state) {
         return are_distinct(state);
     }

@@ -72,7 +72,9 @@ module _ {o : Outcome} (out : List ℕ) where
     told-too-long m e f = rw e f
 
 -- `take`
-module _ (ws rooms d : List ℕ) {f : Found} {r : Heard} {y R : ℕ} {x : Judged} (eR : R ≡ getD ws 1 0) (er : r ≡ heardIn d) (ey : y ≡ senderBy r) (ef : f ≡ foundOf (joinerIn ws) (length rooms) y) (ex : x ≡ judgedBy f R r (length d)) where
+module _
+    (ws rooms d : List ℕ) {f : Found} {r : Heard} {y R : ℕ} {x : Judged}
+    (eR : R ≡ getD ws 1 0) (er : r ≡ heardIn d) (ey : y ≡ senderBy r) (ef : f ≡ foundOf (joinerIn ws) (length rooms) y) (ex : x ≡ judgedBy f R r (length d)) where
   abbrev taken : Taken
   taken = takenOf (joinerIn ws) rooms d
 
@@ -133,6 +135,7 @@ module _ (ws rooms d : List ℕ) {f : Found} {r : Heard} {y R : ℕ} {x : Judged
       unfolding takeAnswer
       moved-answer e = e ∙ ap (λ (o : Outcome). outcomeWords o out) (sym outcome-is)
 
-      pub moved-all : {u v w : List ℕ} → u ≡ written ws (recordAt k) (recordWords (s .channel)) → v ≡ putBy rooms (s .put) d → w ≡ outcomeWords (s .outcome) out →
+      pub moved-all : {u v w : List ℕ} → u ≡ written ws (recordAt k) (recordWords (s .channel)) →
+          v ≡ putBy rooms (s .put) d → w ≡ outcomeWords (s .outcome) out →
           (0 ≡ takeNumber ws rooms d) × ((u ≡ takeWords ws rooms d) × ((v ≡ takeRooms ws rooms d) × (w ≡ takeAnswer ws rooms d out)))
       moved-all eu ev ew = (moved-take, (moved-state eu, (moved-rooms ev, moved-answer ew)))

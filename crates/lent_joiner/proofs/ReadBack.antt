@@ -97,7 +97,8 @@ module _ (ws : List ℕ) (k : ℕ) (ch : Channel) (w : length ws ≡ joinerWords
       ∙ sym (set-append-left (recordsIn ws n) (replicate (channelLimit - n) (newChannel 0)) k ch (omega (arith, records-length ws n)))
 
 -- words of a joiner with one record written are the words of the joiner with that record
-pub record-back : (ws : List ℕ) (k : ℕ) (ch : Channel) → length ws ≡ joinerWords → isJoiner ws ≡ true → k < getD ws 0 0 → ch .sender < senderLimit → joinerIn (written ws (recordAt k) (recordWords ch)) ≡ changed (joinerIn ws) k ch
+pub record-back : (ws : List ℕ) (k : ℕ) (ch : Channel) → length ws ≡ joinerWords → isJoiner ws ≡ true → k < getD ws 0 0 → ch .sender < senderLimit →
+    joinerIn (written ws (recordAt k) (recordWords ch)) ≡ changed (joinerIn ws) k ch
 unfolding joinerIn
 record-back ws k ch w e h s =
     let n : ℕ = getD ws 0 0 in

@@ -64,6 +64,7 @@ use Rattle.lent.proofs.u64_at.Reads.{Post as lent-u64-at}
 use Rattle.lent.proofs.u32_at.Reads.{Post as lent-u32-at}
 use Rattle.lent.proofs.put_u64.Reads.{Post as lent-put-u64}
 use Rattle.lent.proofs.put_u32.Reads.{Post as lent-put-u32}
+use Rattle.lent_channels.proofs.is_good.Reads.{Post as lent-channels-is-good}
 use Rattle.lent_channels.proofs.look.Reads.{Post as lent-channels-look}
 use Rattle.lent_channels.proofs.put_record.Reads.{Post as lent-channels-put-record}
 use Rattle.lent_channels.proofs.words_of.Reads.{Post as lent-channels-words-of}
@@ -190,6 +191,7 @@ pub record LentUnique : Type 0 where
   pub put-u32-words : Lent lent-put-u32 (λ k e. now (e .0))
 
 pub record LentChannelsUnique : Type 0 where
+  pub is-good : Answer lent-channels-is-good
   pub look : Answer lent-channels-look
   pub put-record-state : Lent lent-channels-put-record (λ k e. now (e .0))
   pub words-of : Answer lent-channels-words-of

@@ -13,12 +13,9 @@ use Rattle.channels.specs.declared.Channel.{Channel}
 use Rattle.channels.specs.declared.Joiner.{Joiner}
 use Rattle.channels.specs.declared.NewJoiner.{NewJoiner}
 use Rattle.channels.specs.declared.Answer.the-variants.{Accepted, Refused}
-use Rattle.channels.specs.declared.Found.{Found}
-use Rattle.channels.specs.declared.Found.the-variants.{Bad, Nobody, Somebody}
-use Rattle.channels.specs.Setup.{channelLimit, badSetup, newChannel, good, foundOf, freshOf, refusedSetup, setupOf}
-use Rattle.channels.proofs.Lookups.{found-bad, found-nobody, found-somebody}
+use Rattle.channels.specs.Setup.{channelLimit, badSetup, newChannel, good, freshOf, refusedSetup, setupOf}
 use Rattle.lent_channels.specs.Words.{joinerIn, wordsOf}
-use Rattle.lent_channels.proofs.FoundBack.{looked}
+use Rattle.lent_channels.proofs.FoundBack.{good-back}
 
 -- the records when those of the first i IDs are made
 abbrev pub madeOf : List ℕ → ℕ → List Channel
@@ -52,15 +49,8 @@ unfolding freshOf
 no-channels e = rw e
 
 -- `is_good`
-module _ {f : Found} {ws : List ℕ} (j : Joiner) (b x : ℕ) (w : length (j .channels) ≡ channelLimit) (ew : ws ≡ wordsOf j) (ef : f ≡ foundOf (joinerIn ws) b x) where
-  pub bad-look : f ≡ Bad → false ≡ good j b
-  bad-look m = found-bad j b x (looked j b x w ew ef) m
-
-  pub nobody-look : f ≡ Nobody → true ≡ good j b
-  nobody-look m = sym (found-nobody j b x (looked j b x w ew ef) m .0)
-
-  pub somebody-look : (k : ℕ) (ch : Channel) → f ≡ Somebody k ch → true ≡ good j b
-  somebody-look k ch m = sym (found-somebody j b x (looked j b x w ew ef) k ch m .well)
+pub judged-good : {t : Bool} {ws : List ℕ} (j : Joiner) (b : ℕ) → length (j .channels) ≡ channelLimit → ws ≡ wordsOf j → t ≡ good (joinerIn ws) b → t ≡ good j b
+judged-good j b w ew e = e ∙ ap (λ (v : List ℕ). good (joinerIn v) b) ew ∙ good-back j b w
 
 module _ (ids : List ℕ) (R b : ℕ) where
   pub set-up : {t : Bool} {j : Joiner} → length ids ≤ channelLimit → j ≡ freshOf ids R → t ≡ good j b → t ≡ true → record { answer = Accepted; joiner = j } ≡ setupOf ids R b

@@ -7,7 +7,6 @@ use channels::Answer;
 use channels::BAD_SETUP;
 use channels::CHANNELS;
 use channels::Channel;
-use channels::Found;
 use channels::Joiner;
 use channels::NewJoiner;
 
@@ -28,16 +27,11 @@ pub fn setup(ids: &[u16], room: u32, buffer: usize) -> NewJoiner
     refused_setup()
 }
 
-// Whether it is good, as every joiner has to be, whatever sender ID is looked for.
 fn is_good(joiner: Joiner, buffer: usize) -> bool
     ensures { λ r. ⌜ r ≡ good joiner buffer ⌝ }
 {
     let words = lent_channels::words_of(joiner);
-    match lent_channels::look(&words, buffer, 0) {
-        Found::Bad => false,
-        Found::Nobody => true,
-        Found::Somebody { at: _, channel: _ } => true,
-    }
+    lent_channels::is_good(&words, buffer)
 }
 
 fn refused_setup() -> NewJoiner

@@ -75,17 +75,23 @@ not-delivered (Stray m) d rooms t = refl
 not-delivered (TooLong m) d rooms t = refl
 
 -- `take`
-module _ {f : Found} {r : Heard} {ws : List ℕ} {y : ℕ} {x : Judged} (j : Joiner) (rooms d : List ℕ) (w : length (j .channels) ≡ channelLimit) (er : r ≡ heardIn d) (ey : y ≡ senderBy r) (ew : ws ≡ wordsOf j) (ef : f ≡ foundOf (joinerIn ws) (length rooms) y) (ex : x ≡ judgedBy f (j .room) r (length d)) where
+module _
+    {f : Found} {r : Heard} {ws : List ℕ} {y : ℕ} {x : Judged} (j : Joiner) (rooms d : List ℕ) (w : length (j .channels) ≡ channelLimit)
+    (er : r ≡ heardIn d) (ey : y ≡ senderBy r) (ew : ws ≡ wordsOf j) (ef : f ≡ foundOf (joinerIn ws) (length rooms) y) (ex : x ≡ judgedBy f (j .room) r (length d)) where
   judged : x ≡ judgedOf j (length rooms) d
   judged = judged-by j (length rooms) d w er ey (looked j (length rooms) y w ew ef) ex
 
-  pub refused-taken : (n : ℕ) → x ≡ Refusal n → record { outcome = Refused n; joiner = j } ≡ takenOf j rooms d
-  unfolding takenOf takenBy
-  refused-taken n m = rw (sym judged ∙ m)
+  module _ (n : ℕ) (m : x ≡ Refusal n) where
+    refused-taken : record { outcome = Refused n; joiner = j } ≡ takenOf j rooms d
+    unfolding takenOf takenBy
+    refused-taken = rw (sym judged ∙ m)
 
-  pub refused-rooms : (n : ℕ) → x ≡ Refusal n → rooms ≡ roomsAfter j rooms d
-  unfolding roomsAfter roomsBy
-  refused-rooms n m = rw (sym judged ∙ m)
+    refused-rooms : rooms ≡ roomsAfter j rooms d
+    unfolding roomsAfter roomsBy
+    refused-rooms = rw (sym judged ∙ m)
+
+    pub refused : (record { outcome = Refused n; joiner = j } ≡ takenOf j rooms d) × (rooms ≡ roomsAfter j rooms d)
+    refused = (refused-taken, refused-rooms)
 
   module _ (k : ℕ) (s : Step) (m : x ≡ Move k s) where
     pub moved-known : k < channelLimit
@@ -96,10 +102,14 @@ module _ {f : Found} {r : Heard} {ws : List ℕ} {y : ℕ} {x : Judged} (j : Joi
     pub moved-fits : Fits w64 (k * 12)
     moved-fits = record { fits = omega (arith, moved-known) }
 
-    pub moved-taken : record { outcome = s .outcome; joiner = changed j k (s .channel) } ≡ takenOf j rooms d
+    moved-taken : record { outcome = s .outcome; joiner = changed j k (s .channel) } ≡ takenOf j rooms d
     unfolding takenOf takenBy
     moved-taken = rw (sym judged ∙ m)
 
-    pub moved-rooms : {after : List ℕ} → after ≡ putBy rooms (s .put) d → after ≡ roomsAfter j rooms d
-    unfolding roomsAfter roomsBy
-    moved-rooms g = rw (sym judged ∙ m) g
+    module _ {after : List ℕ} (g : after ≡ putBy rooms (s .put) d) where
+      moved-rooms : after ≡ roomsAfter j rooms d
+      unfolding roomsAfter roomsBy
+      moved-rooms = rw (sym judged ∙ m) g
+
+      pub moved : (record { outcome = s .outcome; joiner = changed j k (s .channel) } ≡ takenOf j rooms d) × (after ≡ roomsAfter j rooms d)
+      moved = (moved-taken, moved-rooms)

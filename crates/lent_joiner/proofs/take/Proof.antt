@@ -30,7 +30,8 @@ take-spec =
     let rooms = start .args .rooms .now in
     let d = start .args .datagram .now in
     let out = start .args .answer .now in
-    refused-all ws rooms d refl (heard .read .ensures) (sought .sender-of .ensures) (looked .look .ensures) (judged .judge .ensures) _ (c .before .number .given .1) out)
+    refused-all ws rooms d refl (heard .read .ensures) (sought .sender-of .ensures) (looked .look .ensures) (judged .judge .ensures)
+    _ (c .before .number .given .1) out)
     (λ c. search needs)
     (λ c.
     let written = c .before .before in
@@ -46,4 +47,5 @@ take-spec =
     let rooms = start .args .rooms .now in
     let d = start .args .datagram .now in
     let out = start .args .answer .now in
-    moved-all ws rooms d refl (heard .read .ensures) (sought .sender-of .ensures) (looked .look .ensures) (judged .judge .ensures) _ _ (found .at .given .1) out (stored .put-record .ensures) (written .write-piece .ensures) (told .put-outcome .ensures)))
+    moved-all ws rooms d refl (heard .read .ensures) (sought .sender-of .ensures) (looked .look .ensures) (judged .judge .ensures)
+    _ _ (found .at .given .1) out (stored .put-record .ensures) (written .write-piece .ensures) (told .put-outcome .ensures)))

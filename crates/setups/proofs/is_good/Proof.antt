@@ -1,10 +1,10 @@
--- `setups::is_good` meets its contract: the look at its words found it bad, or not.
+-- `setups::is_good` meets its contract: it is judged in its words.
 -- Assumes nothing.
 use mathlib.Core.Path.{_≡_}
 use borrow.Author.Needs.{needs}
 use lib.ListN.{length, length-map}
 use Rattle.channels.specs.Setup.{channelLimit}
-use Rattle.setups.proofs.Making.{bad-look, nobody-look, somebody-look}
+use Rattle.setups.proofs.Making.{judged-good}
 use Rattle.setups.proofs.is_good.Statement.{statement}
 use Rattle.setups.proofs.is_good.Tie as tie
 
@@ -14,18 +14,7 @@ is-good-spec =
     (tie.spec
     (λ c κs. search needs)
     (λ c κs. search needs)
-    (λ c. search needs)
-    (λ c. search needs)
-    (λ c. search needs)
     (λ c.
-    let start = c .before .before .before .before .before in
+    let start = c .before .before .before in
     let w : length (start .args .joiner .channels) ≡ channelLimit = simp length-map at (start .good .0 .1 .1 .0 .1 .0 .1) in
-    search bad-look)
-    (λ c.
-    let start = c .before .before .before .before .before in
-    let w : length (start .args .joiner .channels) ≡ channelLimit = simp length-map at (start .good .0 .1 .1 .0 .1 .0 .1) in
-    search nobody-look)
-    (λ c.
-    let start = c .before .before .before .before .before in
-    let w : length (start .args .joiner .channels) ≡ channelLimit = simp length-map at (start .good .0 .1 .1 .0 .1 .0 .1) in
-    search somebody-look))
+    search judged-good))

@@ -4,7 +4,7 @@ use mathlib.Core.Path.{_≡_}
 use borrow.Author.Needs.{needs}
 use lib.ListN.{length, length-map}
 use Rattle.channels.specs.Setup.{channelLimit}
-use Rattle.taking.proofs.Taking.{moved-known, moved-fits, refused-taken, refused-rooms, moved-taken, moved-rooms}
+use Rattle.taking.proofs.Taking.{moved-known, moved-fits, refused, moved}
 use Rattle.taking.proofs.take.Statement.{statement}
 use Rattle.taking.proofs.take.Tie as tie
 
@@ -32,7 +32,8 @@ take-spec =
     let rooms = start .args .rooms .now in
     let d = start .args .datagram .now in
     let w : length (j .channels) ≡ channelLimit = simp length-map at (start .good .0 .1 .1 .0 .1 .0 .1) in
-    moved-fits j rooms d w (heard .read .ensures) (sought .sender-of .ensures) (stored .words-of .ensures) (looked .look .ensures) (judged .judge .ensures) _ _ (found .moved .given .1))
+    moved-fits j rooms d w (heard .read .ensures) (sought .sender-of .ensures) (stored .words-of .ensures) (looked .look .ensures) (judged .judge .ensures)
+    _ _ (found .moved .given .1))
     (λ c.
     let found = c .before .before .before .before .before .before in
     let judged = found .before .before in
@@ -45,7 +46,8 @@ take-spec =
     let rooms = start .args .rooms .now in
     let d = start .args .datagram .now in
     let w : length (j .channels) ≡ channelLimit = simp length-map at (start .good .0 .1 .1 .0 .1 .0 .1) in
-    moved-known j rooms d w (heard .read .ensures) (sought .sender-of .ensures) (stored .words-of .ensures) (looked .look .ensures) (judged .judge .ensures) _ _ (found .moved .given .1))
+    moved-known j rooms d w (heard .read .ensures) (sought .sender-of .ensures) (stored .words-of .ensures) (looked .look .ensures) (judged .judge .ensures)
+    _ _ (found .moved .given .1))
     (λ c.
     let judged = c .before .before .before in
     let looked = judged .before in
@@ -57,8 +59,8 @@ take-spec =
     let rooms = start .args .rooms .now in
     let d = start .args .datagram .now in
     let w : length (j .channels) ≡ channelLimit = simp length-map at (start .good .0 .1 .1 .0 .1 .0 .1) in
-    let refusal = c .before .number .given .1 in
-    (refused-taken j rooms d w (heard .read .ensures) (sought .sender-of .ensures) (stored .words-of .ensures) (looked .look .ensures) (judged .judge .ensures) _ refusal, refused-rooms j rooms d w (heard .read .ensures) (sought .sender-of .ensures) (stored .words-of .ensures) (looked .look .ensures) (judged .judge .ensures) _ refusal))
+    refused j rooms d w (heard .read .ensures) (sought .sender-of .ensures) (stored .words-of .ensures) (looked .look .ensures) (judged .judge .ensures)
+    _ (c .before .number .given .1))
     (λ c. search needs)
     (λ c.
     let found = c .before .before .before .before .before .before in
@@ -72,5 +74,5 @@ take-spec =
     let rooms = start .args .rooms .now in
     let d = start .args .datagram .now in
     let w : length (j .channels) ≡ channelLimit = simp length-map at (start .good .0 .1 .1 .0 .1 .0 .1) in
-    let move = found .moved .given .1 in
-    (moved-taken j rooms d w (heard .read .ensures) (sought .sender-of .ensures) (stored .words-of .ensures) (looked .look .ensures) (judged .judge .ensures) _ _ move, moved-rooms j rooms d w (heard .read .ensures) (sought .sender-of .ensures) (stored .words-of .ensures) (looked .look .ensures) (judged .judge .ensures) _ _ move (c .before .before .write-piece .ensures))))
+    moved j rooms d w (heard .read .ensures) (sought .sender-of .ensures) (stored .words-of .ensures) (looked .look .ensures) (judged .judge .ensures)
+    _ _ (found .moved .given .1) (c .before .before .write-piece .ensures)))

@@ -1,7 +1,7 @@
--- `lent_channels::records::are_good` meets its contract: by one pass, or by two.
+-- `lent_channels::records::are_good` meets its contract: by one pass, or each by itself.
 -- Assumes nothing.
 use borrow.Author.Needs.{needs}
-use Rattle.lent_channels.proofs.Looking.{good-rising, good-apart, not-good}
+use Rattle.lent_channels.proofs.Looking.{good-rising}
 use Rattle.lent_channels.proofs.records.are_good.Statement.{statement}
 use Rattle.lent_channels.proofs.records.are_good.Tie as tie
 
@@ -12,6 +12,4 @@ are-good-spec =
     (λ c κs. search needs)
     (λ c. search good-rising)
     (λ c κs. search needs)
-    (λ c κs. search needs)
-    (λ c. search good-apart)
-    (λ c. search not-good))
+    (λ c. search needs))
