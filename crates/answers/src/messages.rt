@@ -12,7 +12,7 @@ pub(crate) fn read(call: &[u8], output: &mut [u8], at: usize) -> usize {
         platform: fields::n8(call, 0),
     };
     let bytes = calls::argument(call, 1);
-    let reading = reader::read(own, bytes);
+    let reading = message::read(own, bytes);
     match reading {
         Reading::Refused(number) => fields::put_refused(output, at, number),
         Reading::Read {
@@ -21,7 +21,7 @@ pub(crate) fn read(call: &[u8], output: &mut [u8], at: usize) -> usize {
             start: _,
             length: _,
         } => {
-            let payload = reader::payload(bytes, reading);
+            let payload = message::payload(bytes, reading);
             put_message(output, at, header, message, payload)
         }
     }
@@ -35,7 +35,7 @@ pub(crate) fn write(call: &[u8], out: &mut [u8], output: &mut [u8], at: usize) -
     let id = fields::n32(call, 2);
     let sequence = fields::n32(call, 3);
     let payload = calls::argument(call, 4);
-    let writing = writer::write(own, domain, id, sequence, payload, out);
+    let writing = message::write(own, domain, id, sequence, payload, out);
     put_written(output, at, writing, out)
 }
 

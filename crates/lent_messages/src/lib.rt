@@ -66,7 +66,7 @@ pub fn write(
     ensures { λ _. ⌜ now (out .exit) ≡ outputAfter own domain id sequence (now (payload .entry)) (now (out .entry)) ⌝ }
     ensures { λ _. ⌜ now (written .exit) ≡ writeGiven domain id (now (payload .entry)) (now (out .entry)) (now (written .entry)) ⌝ }
 {
-    match writer::write(Own { platform: own }, domain, id, sequence, payload, out) {
+    match message::write(Own { platform: own }, domain, id, sequence, payload, out) {
         Writing::Refused(number) => number,
         Writing::Written(length) => {
             *written = length;

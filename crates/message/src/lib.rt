@@ -1,12 +1,19 @@
 // ELI messages: the generic header of 000, Table 2, the platform-level messages of Tables 3 and 4, and the numbers 1 to 9
 // that refuse bytes. `reader` reads a message and `writer` writes one: what both answer is declared here.
+mod kind;
+mod reader;
 mod refusal;
+mod writer;
 
+pub use reader::payload;
+pub use reader::read;
 pub use refusal::address_refusal;
 pub use refusal::behind_header;
 pub use refusal::contents_refusal;
 pub use refusal::frame_refusal;
 pub use refusal::read_refusal;
+pub use writer::put_header;
+pub use writer::write;
 ghost use mathlib.Core.Path.{_≡_};
 ghost use Rattle.message.specs.Header.{headerIn};
 

@@ -105,7 +105,7 @@ pub fn receive_within(
     ensures answer { λ r. ⌜ r ≡ outcomeIn (own .platform) (now (table .entry)) s standing (now (message .entry)) (length (now (out .entry))) ⌝ }
     ensures output { λ r. ⌜ now (out .exit) ≡ outputIn (own .platform) (now (table .entry)) s standing (now (message .entry)) (now (out .entry)) ⌝ }
 {
-    let reading = reader::read(own, message);
+    let reading = message::read(own, message);
     let found = reactions::look_up(table, s, reading);
     settled(own, table, s, found, standing, reading, out)
 }

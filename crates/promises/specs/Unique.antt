@@ -27,9 +27,9 @@ use Rattle.wire.proofs.part.Reads.{Post as wire-part}
 use Rattle.wire.proofs.has_room.Reads.{Post as wire-has-room}
 use Rattle.message.proofs.Header.new.Reads.{Post as message-Header-new}
 use Rattle.message.proofs.Header.of_bytes.Reads.{Post as message-Header-of-bytes}
-use Rattle.reader.proofs.read.Reads.{Post as reader-read}
-use Rattle.reader.proofs.payload.Reads.{Post as reader-payload}
-use Rattle.writer.proofs.write.Reads.{Post as writer-write}
+use Rattle.message.proofs.read.Reads.{Post as reader-read}
+use Rattle.message.proofs.payload.Reads.{Post as reader-payload}
+use Rattle.message.proofs.write.Reads.{Post as writer-write}
 use Rattle.binding.proofs.BindingHeader.new.Reads.{Post as binding-BindingHeader-new}
 use Rattle.binding.proofs.BindingHeader.read.Reads.{Post as binding-BindingHeader-read}
 use Rattle.cutter.proofs.pieces.Reads.{Post as cutter-pieces}

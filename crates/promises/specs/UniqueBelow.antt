@@ -21,7 +21,7 @@ use Rattle.message.proofs.frame_refusal.Reads.{Post as message-frame-refusal}
 use Rattle.message.proofs.address_refusal.Reads.{Post as message-address-refusal}
 use Rattle.message.proofs.contents_refusal.Reads.{Post as message-contents-refusal}
 use Rattle.message.proofs.behind_header.Reads.{Post as message-behind-header}
-use Rattle.writer.proofs.put_header.Reads.{Post as writer-put-header}
+use Rattle.message.proofs.put_header.Reads.{Post as writer-put-header}
 use Rattle.reactions.proofs.look_up.Reads.{Post as reactions-look-up}
 use Rattle.reactions.proofs.reaction_to.Reads.{Post as reactions-reaction-to}
 use Rattle.reactions.proofs.length_of.Reads.{Post as reactions-length-of}

@@ -70,7 +70,7 @@ pub fn put_reply(own: Own, reply: Reply, out: &mut [u8])
             FIELD_LENGTH,
             number_of(reply),
         );
-        writer::put_header(out, header);
+        message::put_header(out, header);
         wire::put_u32(out, Header::LENGTH, field_of(reply));
     }
 }
