@@ -1,7 +1,7 @@
 // Cutting: one piece (code 3), and how many there are (code 12).
 use crate::fields;
-use cutter::Counted;
-use cutter::Made;
+use binding::Counted;
+use binding::Made;
 
 pub(crate) fn cut(call: &[u8], out: &mut [u8], output: &mut [u8], at: usize) -> usize {
     let message = calls::argument(call, 0);
@@ -9,7 +9,7 @@ pub(crate) fn cut(call: &[u8], out: &mut [u8], output: &mut [u8], at: usize) -> 
     let sender = fields::size(call, 2);
     let first = fields::size(call, 3);
     let piece = fields::size(call, 4);
-    let made = cutter::cut(message, size, sender, first, piece, out);
+    let made = binding::cut(message, size, sender, first, piece, out);
     put_made(output, at, made, out)
 }
 
@@ -21,7 +21,7 @@ fn put_made(output: &mut [u8], at: usize, made: Made, out: &[u8]) -> usize {
 }
 
 pub(crate) fn pieces(call: &[u8], output: &mut [u8], at: usize) -> usize {
-    match cutter::pieces(fields::size(call, 0), fields::size(call, 1)) {
+    match binding::pieces(fields::size(call, 0), fields::size(call, 1)) {
         Counted::Refused(number) => fields::put_refused(output, at, number),
         Counted::Pieces(n) => {
             let behind = text::put_text(output, at, b"pieces");

@@ -1,3 +1,6 @@
 pub mod Headers
 mod Reading
 mod Examples
+pub mod Cutting
+mod Cuts
+mod CutExamples

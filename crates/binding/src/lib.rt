@@ -1,4 +1,14 @@
 // The UDP binding header of 000, annex A: what stands before each piece of a message, and how it is read.
+mod cutter;
+
+pub use cutter::CANNOT_CUT;
+pub use cutter::Counted;
+pub use cutter::LARGEST_MESSAGE;
+pub use cutter::Made;
+pub use cutter::NO_ROOM_FOR_DATAGRAM;
+pub use cutter::NO_SUCH_PIECE;
+pub use cutter::cut;
+pub use cutter::pieces;
 ghost use mathlib.Core.Path.{_≡_};
 ghost use Rattle.binding.specs.Header.{partOfCode, headerOf, heardIn};
 

@@ -3,11 +3,11 @@
 use Prim.Native.Nat.{ℕ}
 use mathlib.Core.List.{List}
 use lib.ListN.{length}
-use Rattle.cutter.specs.Cutting.{countedOf, countRefusal, madeOf, cutRefusal}
-use Rattle.cutter.specs.declared.Counted.{Counted}
-use Rattle.cutter.specs.declared.Counted.the-variants as counted
-use Rattle.cutter.specs.declared.Made.{Made}
-use Rattle.cutter.specs.declared.Made.the-variants as made
+use Rattle.binding.specs.Cutting.{countedOf, countRefusal, madeOf, cutRefusal}
+use Rattle.binding.specs.declared.cutter.Counted.{Counted}
+use Rattle.binding.specs.declared.cutter.Counted.the-variants as counted
+use Rattle.binding.specs.declared.cutter.Made.{Made}
+use Rattle.binding.specs.declared.cutter.Made.the-variants as made
 
 abbrev pub countLeft : ℕ → Counted → ℕ
 countLeft was (counted.Refused n) = was

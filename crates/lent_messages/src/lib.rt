@@ -5,12 +5,12 @@ mod reading;
 pub use reading::READING_WORDS;
 pub use reading::read;
 ghost use mathlib.Core.Path.{_≡_};
-ghost use Rattle.cutter.specs.Cutting.{cutInto};
+ghost use Rattle.binding.specs.Cutting.{cutInto};
 ghost use Rattle.message.specs.Writing.{outputAfter};
 ghost use Rattle.lent_messages.specs.Pieces.{piecesNumber, piecesGiven, cutNumber, cutGiven};
 ghost use Rattle.lent_messages.specs.Messages.{writeNumber, writeGiven};
-use cutter::Counted;
-use cutter::Made;
+use binding::Counted;
+use binding::Made;
 use message::Own;
 use message::Writing;
 
@@ -19,7 +19,7 @@ pub fn pieces(total: usize, size: usize, given: &mut usize) -> u32
     ensures { λ r. ⌜ r ≡ piecesNumber total size ⌝ }
     ensures { λ _. ⌜ now (given .exit) ≡ piecesGiven total size (now (given .entry)) ⌝ }
 {
-    match cutter::pieces(total, size) {
+    match binding::pieces(total, size) {
         Counted::Refused(number) => number,
         Counted::Pieces(count) => {
             *given = count;
@@ -42,7 +42,7 @@ pub fn cut(
     ensures { λ _. ⌜ now (out .exit) ≡ cutInto (now (message .entry)) size sender first piece (now (out .entry)) ⌝ }
     ensures { λ _. ⌜ now (written .exit) ≡ cutGiven (now (message .entry)) size sender first piece (now (out .entry)) (now (written .entry)) ⌝ }
 {
-    match cutter::cut(message, size, sender, first, piece, out) {
+    match binding::cut(message, size, sender, first, piece, out) {
         Made::Refused(number) => number,
         Made::Datagram(length) => {
             *written = length;

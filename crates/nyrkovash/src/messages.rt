@@ -1,6 +1,6 @@
 // Cutting, and messages read and written (`lent_messages`).
 ghost use mathlib.Core.Path.{_≡_};
-ghost use Rattle.cutter.specs.Cutting.{cutInto};
+ghost use Rattle.binding.specs.Cutting.{cutInto};
 ghost use Rattle.message.specs.Writing.{outputAfter};
 ghost use Rattle.lent_messages.specs.Pieces.{piecesNumber, piecesGiven, cutNumber, cutGiven};
 ghost use Rattle.lent_messages.specs.Messages.{readNumber, readAnswer, writeNumber, writeGiven};

@@ -18,9 +18,9 @@ use Rattle.binding.specs.declared.MessagePart.{MessagePart}
 use Rattle.binding.specs.declared.MessagePart.the-variants.{Begin, Middle, End, Whole}
 use Rattle.binding.specs.Header.{senders, counters, largestPiece, headerOf, headerBytes}
 use Rattle.binding.specs.declared.BindingHeader.{BindingHeader}
-use Rattle.cutter.specs.Cutting.{pieceCount, pieceAt, partOfPiece, counterOf, headerOfPiece, datagramOf}
+use Rattle.binding.specs.Cutting.{pieceCount, pieceAt, partOfPiece, counterOf, headerOfPiece, datagramOf}
 use Rattle.binding.proofs.Headers.{Headed, heard-headed, header-octets}
-use Rattle.cutter.proofs.Cutting.{Cuttable, cuttable, covered, count-some, one-piece, piece-some, piece-most, counter-lt, datagram-heard}
+use Rattle.binding.proofs.Cutting.{Cuttable, cuttable, covered, count-some, one-piece, piece-some, piece-most, counter-lt, datagram-heard}
 use Rattle.promises.specs.Senders.{Piece, Message, Sender, markOf, sentFrom, after, arriving, arrives, lossesWithin, together, allArrived, goodPieces, goodMessage}
 use Rattle.promises.specs.Traffic.{Datagram, isOf, ofChannel, AreBytes, none, more}
 use Rattle.joiner.proofs.Setups.{accepted}

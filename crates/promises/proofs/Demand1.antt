@@ -21,9 +21,9 @@ use Rattle.message.specs.Refusal.{platforms, noRoom, writeRefusal}
 use Rattle.message.specs.Reading.{readOut, readOf}
 use Rattle.message.specs.Writing.{messageBytes, unlessRefused, numberGiven as writeNumber}
 use Rattle.message.specs.Writing as writes
-use Rattle.cutter.specs.declared.Made.{Made}
-use Rattle.cutter.specs.declared.Made.the-variants as made
-use Rattle.cutter.specs.Cutting.{outAfter, cutRefusal, madeOf, datagramOf}
+use Rattle.binding.specs.declared.cutter.Made.{Made}
+use Rattle.binding.specs.declared.cutter.Made.the-variants as made
+use Rattle.binding.specs.Cutting.{outAfter, cutRefusal, madeOf, datagramOf}
 use Rattle.joiner.specs.declared.Outcome.{Outcome}
 use Rattle.joiner.specs.declared.Outcome.the-variants as outcome
 use Rattle.joiner.specs.Take.{takenOf}

@@ -5,11 +5,11 @@ use mathlib.Core.Path.{_≡_, refl, _∙_}
 use mathlib.Core.List.{List}
 use lib.ListN.{length}
 use denote.Ref.{now}
-use Rattle.cutter.specs.Cutting.{countedOf, countRefusal, madeOf, cutRefusal}
-use Rattle.cutter.specs.declared.Counted.{Counted}
-use Rattle.cutter.specs.declared.Counted.the-variants as counted
-use Rattle.cutter.specs.declared.Made.{Made}
-use Rattle.cutter.specs.declared.Made.the-variants as made
+use Rattle.binding.specs.Cutting.{countedOf, countRefusal, madeOf, cutRefusal}
+use Rattle.binding.specs.declared.cutter.Counted.{Counted}
+use Rattle.binding.specs.declared.cutter.Counted.the-variants as counted
+use Rattle.binding.specs.declared.cutter.Made.{Made}
+use Rattle.binding.specs.declared.cutter.Made.the-variants as made
 use Rattle.message.specs.Reading.{readOf, numberGiven as readNumber}
 use Rattle.message.specs.declared.Reading.{Reading}
 use Rattle.message.specs.declared.Reading.the-variants as reading

@@ -22,12 +22,12 @@ use Rattle.message.specs.Reading as reads
 use Rattle.message.specs.Writing.{writeOf}
 use Rattle.message.specs.Writing as writes
 use Rattle.binding.specs.declared.Heard.the-variants as heard
-use Rattle.cutter.specs.declared.Counted.the-variants as counted
-use Rattle.cutter.specs.declared.Made.{Made}
-use Rattle.cutter.specs.declared.Made.the-variants as made
+use Rattle.binding.specs.declared.cutter.Counted.the-variants as counted
+use Rattle.binding.specs.declared.cutter.Made.{Made}
+use Rattle.binding.specs.declared.cutter.Made.the-variants as made
 use Rattle.binding.specs.Header.{senders, counters, versionIn as versionOf, headerIn, heardIn}
-use Rattle.cutter.specs.Cutting.{canCut, canHead, pieceCount, datagramOf, countedOf, madeOf}
-use Rattle.cutter.proofs.Cutting.{Cuttable, cuttable, can-cut}
+use Rattle.binding.specs.Cutting.{canCut, canHead, pieceCount, datagramOf, countedOf, madeOf}
+use Rattle.binding.proofs.Cutting.{Cuttable, cuttable, can-cut}
 use Rattle.promises.specs.Checks.{Check, _when_, Answers, Outside, none, below, above}
 use Rattle.promises.specs.Order.{contentsChecks, readChecks, writeChecks, headerChecks, cutChecks}
 use Rattle.promises.proofs.Checks.{Decides, lt-decides, le-decides, eq-decides, not-decides, or-decides, and-decides, decides-same, flip-decides, where-is, not-outside, unless, by-number, passing}

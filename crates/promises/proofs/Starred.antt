@@ -4,8 +4,8 @@ use Prim.Native.Nat.{ℕ, zero, suc, _-_, _*_, min}
 use mathlib.Core.Path.{_≡_, refl, ap, ap₂, _∙_}
 use mathlib.Core.List.{List, [], _∷_}
 use lib.ListN.{length}
-use Rattle.cutter.specs.Cutting.{pieceCount, partOfPiece}
-use Rattle.cutter.proofs.Cutting.{piece-length}
+use Rattle.binding.specs.Cutting.{pieceCount, partOfPiece}
+use Rattle.binding.proofs.Cutting.{piece-length}
 use Rattle.joiner.specs.Channel.{missedOf, keeping, notedOf, begunOf, followedOf, placedOf, steppedOf}
 use Rattle.channels.specs.Setup.{goodSizes, good, freshOf, setupOf}
 use Rattle.joiner.specs.Take.{sentTo, heardBy, judgedOf, takenBy, takenOf, putBy, roomsBy, roomsAfter, messageOf}

@@ -6,7 +6,7 @@ use mathlib.Core.List.{List, [], _∷_, _++_}
 use lib.ListN.{length, replicate}
 use Rattle.binding.specs.declared.MessagePart.{MessagePart}
 use Rattle.binding.specs.Header.{headerOf, headerBytes}
-use Rattle.cutter.specs.Cutting.{pieceCount, pieceAt, partOfPiece}
+use Rattle.binding.specs.Cutting.{pieceCount, pieceAt, partOfPiece}
 use Rattle.joiner.specs.declared.Outcome.{Outcome}
 use Rattle.payload.specs.declared.Answer.{Answer}
 use Rattle.payload.specs.declared.Answer.the-variants.{Stopped, Gave}

@@ -7,7 +7,7 @@ use mathlib.Core.Logic.{_⊎_}
 use lib.ListN.{length, getD}
 use Rattle.wire.specs.Bytes.{Octets}
 use Rattle.binding.specs.Header.{counters}
-use Rattle.cutter.specs.Cutting.{canCut, pieceCount, datagramOf}
+use Rattle.binding.specs.Cutting.{canCut, pieceCount, datagramOf}
 use Rattle.channels.specs.declared.Answer.the-variants.{Accepted}
 use Rattle.channels.specs.Setup.{setupOf}
 use Rattle.promises.specs.Traffic.{Datagram, deliveredOn}

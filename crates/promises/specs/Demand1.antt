@@ -14,7 +14,7 @@ use Rattle.message.specs.Header.{headerLength, domainIn, idIn, payloadSizeIn, p
 use Rattle.message.specs.Platform.{messageOf}
 use Rattle.message.specs.Refusal.{platforms}
 use Rattle.message.specs.Writing.{writeOf, outputAfter, numberGiven as writeNumber}
-use Rattle.cutter.specs.Cutting.{madeOf, cutInto, cutRefusal}
+use Rattle.binding.specs.Cutting.{madeOf, cutInto, cutRefusal}
 use Rattle.channels.specs.declared.Joiner.{Joiner}
 use Rattle.joiner.specs.Take.{takenOf, roomsAfter}
 use Rattle.joiner.specs.Outcomes.{refusalIn}

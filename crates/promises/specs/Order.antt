@@ -13,10 +13,10 @@ use Rattle.message.specs.Platform.{payloadLength}
 use Rattle.message.specs.Reading.{readOut, readOf}
 use Rattle.message.specs.Writing.{writeOf}
 use Rattle.binding.specs.declared.Heard.the-variants as heard
-use Rattle.cutter.specs.declared.Counted.the-variants as counted
-use Rattle.cutter.specs.declared.Made.the-variants as made
+use Rattle.binding.specs.declared.cutter.Counted.the-variants as counted
+use Rattle.binding.specs.declared.cutter.Made.the-variants as made
 use Rattle.binding.specs.Header.{senders, counters, partIn, counterIn, pieceIn, headerIn, heardIn, senderIn as datagramSender, versionIn as datagramVersion}
-use Rattle.cutter.specs.Cutting.{pieceCount, datagramOf, countedOf, madeOf}
+use Rattle.binding.specs.Cutting.{pieceCount, datagramOf, countedOf, madeOf}
 use Rattle.channels.specs.declared.Joiner.{Joiner}
 use Rattle.joiner.specs.declared.Step.{Step}
 use Rattle.joiner.specs.declared.Taken.{Taken}

@@ -32,8 +32,8 @@ use Rattle.message.proofs.payload.Reads.{Post as reader-payload}
 use Rattle.message.proofs.write.Reads.{Post as writer-write}
 use Rattle.binding.proofs.BindingHeader.new.Reads.{Post as binding-BindingHeader-new}
 use Rattle.binding.proofs.BindingHeader.read.Reads.{Post as binding-BindingHeader-read}
-use Rattle.cutter.proofs.pieces.Reads.{Post as cutter-pieces}
-use Rattle.cutter.proofs.cut.Reads.{Post as cutter-cut}
+use Rattle.binding.proofs.pieces.Reads.{Post as cutter-pieces}
+use Rattle.binding.proofs.cut.Reads.{Post as cutter-cut}
 use Rattle.setups.proofs.setup.Reads.{Post as setups-setup}
 use Rattle.taking.proofs.take.Reads.{Post as taking-take}
 use Rattle.taking.proofs.message.Reads.{Post as taking-message}

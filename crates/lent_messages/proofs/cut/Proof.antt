@@ -2,7 +2,7 @@
 -- Assumes nothing.
 use borrow.Author.Needs.{needs}
 use Rattle.lent.proofs.Answers.{met, met-left}
-use Rattle.cutter.specs.Cutting.{cutRefusal}
+use Rattle.binding.specs.Cutting.{cutRefusal}
 use Rattle.lent_messages.specs.Pieces.{madeLeft}
 use Rattle.lent_messages.proofs.cut.Statement.{statement}
 use Rattle.lent_messages.proofs.cut.Tie as tie

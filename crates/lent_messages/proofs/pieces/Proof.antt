@@ -2,7 +2,7 @@
 -- Assumes nothing.
 use borrow.Author.Needs.{needs}
 use Rattle.lent.proofs.Answers.{met, met-left}
-use Rattle.cutter.specs.Cutting.{countRefusal}
+use Rattle.binding.specs.Cutting.{countRefusal}
 use Rattle.lent_messages.specs.Pieces.{countLeft}
 use Rattle.lent_messages.proofs.pieces.Statement.{statement}
 use Rattle.lent_messages.proofs.pieces.Tie as tie

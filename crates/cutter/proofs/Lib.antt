@@ -1,3 +1,0 @@
-pub mod Cutting
-mod Cuts
-mod Examples
