@@ -29,7 +29,7 @@ pub fn values_allowed(table: &[u8], s: Sections, e: Entry) -> bool
 fn value_ok(table: &[u8], s: Sections, e: Entry, k: u16) -> bool
     ensures { λ r. ⌜ r ≡ valueOk (now (table .entry)) s e k ⌝ }
 {
-    codes::allowed(e.of, value_of(table, s, e, k))
+    leaf::allowed(e.of, value_of(table, s, e, k))
 }
 
 // The k-th value of an enum.

@@ -155,7 +155,7 @@ fn begin(words: &[u64], out: &mut [u8], e: Entry, p: Place) -> Walked
     if p.from < words.len() {
         let count = word_at(words, p.from);
         if count <= e.count as u64 {
-            leaves::put(out, p.to, COUNT_CODE, count);
+            leaf::put(out, p.to, COUNT_CODE, count);
             Walked::Went(Place {
                 from: p.from + COUNT_WORDS,
                 to: p.to + COUNT_BYTES,
@@ -183,9 +183,9 @@ fn write_leaf(
 {
     if p.from < words.len() {
         let word = word_at(words, p.from);
-        if leaves::takes(table, s, e, word) {
-            let width = codes::width(e.of);
-            leaves::put(out, p.to, e.of, word);
+        if leaf::takes(table, s, e, word) {
+            let width = leaf::width(e.of);
+            leaf::put(out, p.to, e.of, word);
             Walked::Went(Place {
                 from: p.from + 1,
                 to: p.to + width,
@@ -251,7 +251,7 @@ fn write_run(words: &[u64], out: &mut [u8], code: u16, count: u64, p: Place) -> 
     let whole = count as usize;
     if runs::judged(words, p.from, code, whole) {
         packing_leaves::runs::store_run(words, out, code, whole, p);
-        let width = codes::width(code);
+        let width = leaf::width(code);
         Run {
             upto: count,
             at: Place {

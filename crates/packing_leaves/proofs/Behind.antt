@@ -12,7 +12,7 @@ use lib.Seq.{getD-take}
 use Rattle.wire.proofs.Cond.{both, and-true, yes-if, no-if}
 use Rattle.wire.proofs.Runs.{length-written}
 use Rattle.table.specs.Leaf.{width}
-use Rattle.leaves.specs.Forms.{formOf}
+use Rattle.leaf.specs.Forms.{formOf}
 use Rattle.walk.specs.declared.Place.{Place}
 use Rattle.walk.specs.Walk.{Step, on, through}
 use Rattle.walk.proofs.Walks.{few-bytes, through-more}

@@ -16,9 +16,9 @@ use Rattle.wire.specs.Bytes.{span, bytes, written}
 use Rattle.wire.proofs.Numbers.{length-bytes}
 use Rattle.wire.proofs.Runs.{written-in, written-out, over-none, set-over}
 use Rattle.table.specs.Leaf.{base, width}
-use Rattle.leaves.specs.Forms.{formOf}
-use Rattle.leaves.proofs.Leaves.{length-form}
-use Rattle.leaves.proofs.Returns.{put-form, put-whole}
+use Rattle.leaf.specs.Forms.{formOf}
+use Rattle.leaf.proofs.Leaves.{length-form}
+use Rattle.leaf.proofs.Returns.{put-form, put-whole}
 
 pub length-of : (code w : ℕ) → length (formOf code w) ≡ width code
 unfolding formOf width

@@ -16,9 +16,9 @@ use Rattle.wire.specs.Bytes.{written}
 use Rattle.wire.proofs.Cond.{yes-le, no-le}
 use Rattle.wire.proofs.Runs.{written-out, length-written}
 use Rattle.table.specs.Leaf.{Leaf, none, codes, base, bytesOf, width}
-use Rattle.leaves.specs.Forms.{formOf}
-use Rattle.leaves.proofs.Leaves.{form-is}
-use Rattle.leaves.proofs.Returns.{no-form}
+use Rattle.leaf.specs.Forms.{formOf}
+use Rattle.leaf.proofs.Leaves.{form-is}
+use Rattle.leaf.proofs.Returns.{no-form}
 use Rattle.walk.specs.declared.Place.{Place}
 use Rattle.packing_leaves.specs.OneCode.{storedAll}
 use Rattle.packing_leaves.proofs.Laid.{length-of}

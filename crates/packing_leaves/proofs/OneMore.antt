@@ -16,7 +16,7 @@ use Rattle.wire.specs.Bytes.{written}
 use Rattle.wire.proofs.Cond.{yes-if, no-if}
 use Rattle.wire.proofs.Runs.{length-written}
 use Rattle.table.specs.Leaf.{width, allowed}
-use Rattle.leaves.specs.Forms.{formOf}
+use Rattle.leaf.specs.Forms.{formOf}
 use Rattle.walk.specs.declared.Place.{Place}
 use Rattle.walk.proofs.Walks.{few-bytes}
 use Rattle.packing_leaves.specs.Stored.{isThere, takenCount, ends, laid}

@@ -7,7 +7,7 @@ use lib.Dec.{ltb}
 use lib.ListN.{length, getD}
 use Rattle.wire.specs.Bytes.{written}
 use Rattle.table.specs.Leaf.{width, allowed}
-use Rattle.leaves.specs.Forms.{formOf}
+use Rattle.leaf.specs.Forms.{formOf}
 use Rattle.walk.specs.declared.Place.{Place}
 use Rattle.walk.specs.Walk.{Step, on}
 

@@ -4,14 +4,14 @@ ghost use Prim.Native.Nat.{_+_, _≤_, _<_};
 ghost use lib.ListN.{length};
 ghost use Rattle.wire.specs.Bytes.{written};
 ghost use Rattle.table.specs.Leaf.{width};
-ghost use Rattle.leaves.specs.Forms.{formOf};
+ghost use Rattle.leaf.specs.Forms.{formOf};
 
 // Stores the bytes of a word, where there is room for them. Over no room the first test is all.
 pub(crate) fn put_base(out: &mut [u8], to: usize, code: u16, word: u64)
     ensures { λ _. ⌜ now (out .exit) ≡ written (now (out .entry)) to (formOf code word) ⌝ }
 {
     if to < out.len() {
-        if codes::width(code) <= out.len() - to {
+        if leaf::width(code) <= out.len() - to {
             set(out, to, code, word);
         }
     }
@@ -23,7 +23,7 @@ pub(crate) fn set(out: &mut [u8], at: usize, code: u16, word: u64)
     requires { ⌜ at + width code ≤ length (now out) ⌝ }
     ensures { λ _. ⌜ now (out .exit) ≡ written (now (out .entry)) at (formOf code word) ⌝ }
 {
-    let width = codes::width(code);
+    let width = leaf::width(code);
     match width {
         1 => out[at] = (word % 256) as u8,
         2 => wire::put_u16(&mut out[at..at + 2], 0, (word % 65536) as u16),

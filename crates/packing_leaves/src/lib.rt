@@ -27,8 +27,8 @@ pub fn judge_codes(words: &[u64], codes: &[u8], from: usize) -> Part
     let mut k: usize = 0;
     while k < n {
         let code = codes[k] as u16;
-        if codes::allowed(code, words[from + k]) {
-            bytes = bytes + codes::width(code);
+        if leaf::allowed(code, words[from + k]) {
+            bytes = bytes + leaf::width(code);
             k += 1;
         } else {
             return Part { count: k, bytes };
@@ -55,7 +55,7 @@ pub fn store_codes(words: &[u64], out: &mut [u8], codes: &[u8], p: Place)
         }
         let code = codes[k] as u16;
         bases::put_base(out, to, code, words[from + k]);
-        to = to + codes::width(code);
+        to = to + leaf::width(code);
         k += 1;
     }
 }

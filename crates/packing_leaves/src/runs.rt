@@ -29,7 +29,7 @@ pub fn store_run(words: &[u64], out: &mut [u8], code: u16, count: usize, p: Plac
     if words.len() - p.from < count {
         return;
     }
-    match codes::width(code) {
+    match leaf::width(code) {
         1 => store(words, out, ONE_BYTE, count, p),
         2 => store(words, out, TWO_BYTES, count, p),
         4 => store(words, out, FOUR_BYTES, count, p),
@@ -44,7 +44,7 @@ fn store(words: &[u64], out: &mut [u8], code: u16, count: usize, p: Place)
     ensures { λ _. ⌜ now (out .exit) ≡ storedAll (now (words .entry)) code p count (now (out .entry)) ⌝ }
 {
     if p.to < out.len() {
-        let room = (out.len() - p.to) / codes::width(code);
+        let room = (out.len() - p.to) / leaf::width(code);
         store_each(words, out, code, bases::least(room, count), p);
     }
 }
@@ -53,7 +53,7 @@ fn store_each(words: &[u64], out: &mut [u8], code: u16, count: usize, p: Place)
     requires { ⌜ (p .from + count ≤ length (now words)) × (p .to + count * width code ≤ length (now out)) ⌝ }
     ensures { λ _. ⌜ now (out .exit) ≡ storedAll (now (words .entry)) code p count (now (out .entry)) ⌝ }
 {
-    let width = codes::width(code);
+    let width = leaf::width(code);
     let mut k = 0;
     while k < count {
         let from = p.from + k;

@@ -6,10 +6,10 @@ use Rattle.promises.specs.Unique.{Same, Answer, Lent}
 use Rattle.wire.proofs.whole_u16.Reads.{Post as wire-whole-u16}
 use Rattle.wire.proofs.whole_u32.Reads.{Post as wire-whole-u32}
 use Rattle.wire.proofs.whole_u64.Reads.{Post as wire-whole-u64}
-use Rattle.leaves.proofs.truth.Reads.{Post as leaves-truth}
-use Rattle.leaves.proofs.signed8.Reads.{Post as leaves-signed8}
-use Rattle.leaves.proofs.signed16.Reads.{Post as leaves-signed16}
-use Rattle.leaves.proofs.signed32.Reads.{Post as leaves-signed32}
+use Rattle.leaf.proofs.truth.Reads.{Post as leaves-truth}
+use Rattle.leaf.proofs.signed8.Reads.{Post as leaves-signed8}
+use Rattle.leaf.proofs.signed16.Reads.{Post as leaves-signed16}
+use Rattle.leaf.proofs.signed32.Reads.{Post as leaves-signed32}
 use Rattle.channels.proofs.room_start.Reads.{Post as channels-room-start}
 use Rattle.channels.proofs.has_good_sizes.Reads.{Post as channels-has-good-sizes}
 use Rattle.joiner.proofs.moved.Reads.{Post as joiner-moved}

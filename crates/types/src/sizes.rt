@@ -90,8 +90,8 @@ fn size_of(table: &[u8], s: Sections, known: &[u32], e: Entry, kept: bool) -> u6
 {
     let kind = e.kind;
     match kind {
-        0 => codes::width(e.of) as u64,
-        1 => codes::width(e.of) as u64,
+        0 => leaf::width(e.of) as u64,
+        1 => leaf::width(e.of) as u64,
         2 => sum(table, s, known, e.first, e.count, kept),
         3 => times(e.count, known_at(known, e.of, false)),
         4 => times(e.count, known_at(known, e.of, false)) + 4,

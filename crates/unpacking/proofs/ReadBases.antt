@@ -15,7 +15,7 @@ use Rattle.wire.proofs.Cond.{both}
 use Rattle.table.specs.declared.Sections.{Sections}
 use Rattle.table.specs.Leaf.{width, allowed}
 use Rattle.table.proofs.AllBelow.{at-below}
-use Rattle.leaves.specs.Forms.{wordAt}
+use Rattle.leaf.specs.Forms.{wordAt}
 use Rattle.walk.specs.declared.Place.{Place}
 use Rattle.walk.specs.Tree.{child, baseAt}
 use Rattle.walk.specs.Walk.{Step, on, through, walk}

@@ -8,7 +8,7 @@ use Rattle.table.specs.declared.Sections.{Sections}
 use Rattle.table.specs.declared.Entry.{Entry}
 use Rattle.table.specs.Leaf.{width}
 use Rattle.table.specs.Entries.{memberAt}
-use Rattle.leaves.specs.Forms.{wordAt}
+use Rattle.leaf.specs.Forms.{wordAt}
 use Rattle.walk.specs.declared.Place.{Place}
 use Rattle.walk.specs.Tree.{child}
 use Rattle.walk.specs.Walk.{Step, on, through, Codec, walk}

@@ -179,10 +179,10 @@ fn read_leaf(
     ensures { λ r. ⌜ r ≡ answer (leafWalk (reader (now (payload .entry))) (now (table .entry)) s e p (now (words .entry))) ⌝ }
     ensures { λ _. ⌜ now (words .exit) ≡ left (leafWalk (reader (now (payload .entry))) (now (table .entry)) s e p (now (words .entry))) ⌝ }
 {
-    let width = codes::width(e.of);
+    let width = leaf::width(e.of);
     if wire::has_room(payload.len(), p.from, width) {
-        let word = leaves::word_at(payload, p.from, e.of);
-        if leaves::takes(table, s, e, word) {
+        let word = leaf::word_at(payload, p.from, e.of);
+        if leaf::takes(table, s, e, word) {
             put_word(words, p.to, word);
             Walked::Went(Place {
                 from: p.from + width,
@@ -258,7 +258,7 @@ fn read_run(payload: &[u8], words: &mut [u64], code: u16, count: u32, p: Place) 
         Run {
             upto: count,
             at: Place {
-                from: p.from + many * codes::width(code),
+                from: p.from + many * leaf::width(code),
                 to: p.to + many,
             },
         }

@@ -12,7 +12,7 @@ use lib.Seq.{take-length}
 use Rattle.wire.proofs.Cond.{and-left, and-right, and-true}
 use Rattle.wire.proofs.Runs.{length-written, written-out}
 use Rattle.table.specs.Leaf.{width}
-use Rattle.leaves.specs.Forms.{wordAt}
+use Rattle.leaf.specs.Forms.{wordAt}
 use Rattle.walk.specs.declared.Place.{Place}
 use Rattle.unpacking_leaves.specs.Leaves.{isThere, behind, stored, ends, allThere, laid, thereCount, wholeCount}
 use Rattle.unpacking_leaves.proofs.OneLeaf.{there-room, there-some}

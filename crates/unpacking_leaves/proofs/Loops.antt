@@ -15,7 +15,7 @@ use lib.ListN.{length, getD, set, take, drop, drop-of-length-le}
 use lib.Seq.{length-take-le, take-suc, drop-cons}
 use Rattle.wire.proofs.Cond.{yes-if, no-if}
 use Rattle.table.specs.Leaf.{width}
-use Rattle.leaves.specs.Forms.{wordAt}
+use Rattle.leaf.specs.Forms.{wordAt}
 use Rattle.walk.specs.declared.Place.{Place}
 use Rattle.unpacking_leaves.specs.Leaves.{isThere, stored, ends, laid, thereCount, wholeCount}
 use Rattle.unpacking_leaves.proofs.OneLeaf.{stored-word}

@@ -19,7 +19,7 @@ use Rattle.wire.proofs.Runs.{length-written, written-out}
 use Rattle.table.specs.All.{allBelow}
 use Rattle.table.specs.Leaf.{width, allowed}
 use Rattle.table.proofs.AllBelow.{all-below}
-use Rattle.leaves.specs.Forms.{wordAt}
+use Rattle.leaf.specs.Forms.{wordAt}
 use Rattle.walk.specs.declared.Place.{Place}
 use Rattle.walk.specs.Walk.{Step, on, through}
 use Rattle.walk.proofs.Walks.{through-none, through-more}

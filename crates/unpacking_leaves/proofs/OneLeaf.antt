@@ -12,8 +12,8 @@ use Rattle.wire.specs.Bytes.{span, number, written, Octets}
 use Rattle.wire.proofs.Numbers.{number-lt}
 use Rattle.wire.proofs.Cond.{and-left, and-right}
 use Rattle.table.specs.Leaf.{unsigned, base, inSigned, isValue, width, allowed}
-use Rattle.leaves.specs.Forms.{truth, extended, wordOf, wordAt}
-use Rattle.leaves.proofs.Leaves.{truth-small}
+use Rattle.leaf.specs.Forms.{truth, extended, wordOf, wordAt}
+use Rattle.leaf.proofs.Leaves.{truth-small}
 use Rattle.walk.proofs.Walks.{some-bytes}
 use Rattle.walk.proofs.Returns.{stored as put-in}
 use Rattle.unpacking_leaves.specs.Leaves.{isThere}

@@ -12,7 +12,7 @@ use lib.ListN.{length, set, take, drop, length-set}
 use Rattle.wire.specs.Bytes.{number, whole, Octets}
 use Rattle.wire.proofs.Numbers.{number-lt, read-in}
 use Rattle.table.specs.Leaf.{width, base, bytesOf}
-use Rattle.leaves.specs.Forms.{wordOf, wordAt}
+use Rattle.leaf.specs.Forms.{wordOf, wordAt}
 use Rattle.walk.specs.declared.Place.{Place}
 use Rattle.unpacking_leaves.specs.OneCode.{filled}
 use Rattle.unpacking_leaves.proofs.OneCode.{fewer-in, filled-more, filled-all}

@@ -16,7 +16,7 @@ use Rattle.table.specs.All.{allBelow}
 use Rattle.table.specs.Leaf.{Leaf, none, base, isValue, width, allowed}
 use Rattle.table.proofs.AllBelow.{at-below}
 use Rattle.table.proofs.Leaves.{no-base}
-use Rattle.leaves.specs.Forms.{wordAt}
+use Rattle.leaf.specs.Forms.{wordAt}
 use Rattle.walk.specs.declared.Place.{Place}
 use Rattle.walk.specs.Walk.{Step, on, through}
 use Rattle.walk.proofs.Walks.{width-few}

@@ -6,7 +6,7 @@ use lib.Dec.{leb}
 use lib.ListN.{length}
 use Rattle.table.specs.All.{allBelow}
 use Rattle.table.specs.Leaf.{width, allowed}
-use Rattle.leaves.specs.Forms.{wordAt}
+use Rattle.leaf.specs.Forms.{wordAt}
 use Rattle.walk.specs.declared.Place.{Place}
 use Rattle.unpacking_leaves.specs.Leaves.{stored}
 

@@ -4,7 +4,7 @@ ghost use Prim.Native.Nat.{_+_, _≤_};
 ghost use lib.ListN.{length};
 ghost use Rattle.wire.specs.Bytes.{number};
 ghost use Rattle.table.specs.Leaf.{width};
-ghost use Rattle.leaves.specs.Forms.{wordAt};
+ghost use Rattle.leaf.specs.Forms.{wordAt};
 ghost use Rattle.unpacking_leaves.specs.Leaves.{isThere};
 
 // float32 and, behind it, double64: the codes of which not every word is allowed.
@@ -15,13 +15,13 @@ pub(crate) fn is_there(payload: &[u8], from: usize, code: u16) -> bool
     requires { ⌜ from ≤ length (now payload) ⌝ }
     ensures { λ r. ⌜ r ≡ isThere (now (payload .entry)) code from ⌝ }
 {
-    if payload.len() - from < codes::width(code) {
+    if payload.len() - from < leaf::width(code) {
         return false;
     }
     if code < FLOAT32 {
         return true;
     }
-    codes::allowed(code, word_in(payload, from, code))
+    leaf::allowed(code, word_in(payload, from, code))
 }
 
 // The word of a leaf that is there.
@@ -30,11 +30,11 @@ pub(crate) fn word_in(s: &[u8], at: usize, code: u16) -> u64
     ensures { λ r. ⌜ r ≡ wordAt code (now (s .entry)) at ⌝ }
 {
     match code {
-        0 => leaves::truth(u8_in(s, at)),
-        1 => leaves::signed8(u8_in(s, at)),
+        0 => leaf::truth(u8_in(s, at)),
+        1 => leaf::signed8(u8_in(s, at)),
         2 => u8_in(s, at) as u64,
-        3 => leaves::signed16(u16_in(s, at)),
-        4 => leaves::signed32(u32_in(s, at)),
+        3 => leaf::signed16(u16_in(s, at)),
+        4 => leaf::signed32(u32_in(s, at)),
         5 => u64_in(s, at),
         6 => u8_in(s, at) as u64,
         7 => u8_in(s, at) as u64,

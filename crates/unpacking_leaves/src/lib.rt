@@ -40,7 +40,7 @@ fn judge_within(payload: &[u8], codes: &[u8], first: usize) -> Part
     while k < codes.len() {
         let code = codes[k] as u16;
         if bases::is_there(payload, from, code) {
-            from = from + codes::width(code);
+            from = from + leaf::width(code);
             k += 1;
         } else {
             return Part { count: k, from };
@@ -71,7 +71,7 @@ fn store_within(payload: &[u8], words: &mut [u64], codes: &[u8], p: Place)
     let mut k: usize = 0;
     while k < codes.len() {
         let code = codes[k] as u16;
-        let width = codes::width(code);
+        let width = leaf::width(code);
         if payload.len() - from < width {
             return;
         }

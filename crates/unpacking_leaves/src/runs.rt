@@ -38,7 +38,7 @@ fn judge_each(payload: &[u8], from: usize, code: u16, count: u32) -> bool
     ensures { λ r. ⌜ r ≡ runThere (now (payload .entry)) code from count ⌝ }
 {
     let many = count as usize;
-    if wire::has_room(payload.len(), from, many * codes::width(code)) {
+    if wire::has_room(payload.len(), from, many * leaf::width(code)) {
         judged(payload, from, code, many)
     } else {
         false
@@ -54,7 +54,7 @@ fn judged(payload: &[u8], from: usize, code: u16, count: usize) -> bool
     if code < bases::FLOAT32 {
         return true;
     }
-    let width = codes::width(code);
+    let width = leaf::width(code);
     let mut bad: u32 = 0;
     let mut seen: usize = 0;
     while seen < count {
@@ -67,7 +67,7 @@ fn judged(payload: &[u8], from: usize, code: u16, count: usize) -> bool
 fn refused(code: u16, word: u64) -> u32
     ensures { λ r. ⌜ (r ≤ 1) × (r ≡ cond (allowed code word) 0 1) ⌝ }
 {
-    if codes::allowed(code, word) { 0 } else { 1 }
+    if leaf::allowed(code, word) { 0 } else { 1 }
 }
 
 // Stores the words of so many leaves of one code where all their bytes are there, each word where there is room for it.
@@ -96,7 +96,7 @@ fn store_each(payload: &[u8], words: &mut [u64], code: u16, count: u32, p: Place
     ensures { λ _. ⌜ now (words .exit) ≡ cond (leb (p .from + count * width code) (length (now (payload .entry)))) (filled (now (payload .entry)) code p count (now (words .entry))) (now (words .entry)) ⌝ }
 {
     let many = count as usize;
-    if wire::has_room(payload.len(), p.from, many * codes::width(code)) {
+    if wire::has_room(payload.len(), p.from, many * leaf::width(code)) {
         put_run(payload, words, code, many, p);
     }
 }
@@ -120,7 +120,7 @@ fn store(payload: &[u8], words: &mut [u64], code: u16, count: usize, p: Place)
     requires { ⌜ (p .from + count * width code ≤ length (now payload)) × (p .to + count ≤ length (now words)) ⌝ }
     ensures { λ _. ⌜ now (words .exit) ≡ filled (now (payload .entry)) code p count (now (words .entry)) ⌝ }
 {
-    let width = codes::width(code);
+    let width = leaf::width(code);
     let mut done: usize = 0;
     while done < count {
         words[p.to + done] = bases::word_in(payload, p.from + done * width, code);

@@ -21,7 +21,7 @@ use Rattle.table.specs.Leaf.{allowed}
 use Rattle.entry_rules.specs.Fields.{fieldsOk}
 use Rattle.types.specs.Table.{checked}
 use Rattle.types.proofs.Accepted.{Accepted, accepted, is-within, fields-keep, kind-known, record-is, fixed-is, array-is}
-use Rattle.leaves.specs.Choice.{choice}
+use Rattle.leaf.specs.Choice.{choice}
 use Rattle.walk.specs.declared.Place.{Place}
 use Rattle.walk.specs.declared.Met.{Met}
 use Rattle.walk.specs.declared.Met.the-variants.{Leaf, Members, Elements, Broken}

@@ -12,8 +12,8 @@ use lib.ListN.{length, getD, take, drop, length-append, length-drop, take-append
 use lib.Seq.{drop-cons, drop-drop, length-take-le, getD-drop}
 use Rattle.wire.specs.Bytes.{Octets}
 use Rattle.table.specs.Leaf.{Leaf, base, bytesOf, width, allowed}
-use Rattle.leaves.specs.Forms.{wordOf, form, wordAt, formOf, Says}
-use Rattle.leaves.proofs.Leaves.{real, length-form, length-said, word-said, word-append, said-there}
+use Rattle.leaf.specs.Forms.{wordOf, form, wordAt, formOf, Says}
+use Rattle.leaf.proofs.Leaves.{real, length-form, length-said, word-said, word-append, said-there}
 use Rattle.walk.specs.declared.Place.{Place}
 use Rattle.walk.specs.Tree.{leaf}
 use Rattle.walk.specs.Walk.{left}

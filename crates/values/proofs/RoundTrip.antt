@@ -12,8 +12,8 @@ use lib.Seq.{take-at}
 use Rattle.wire.specs.Bytes.{over, Octets}
 use Rattle.table.specs.declared.Sections.{Sections}
 use Rattle.table.specs.Leaf.{Leaf, boolean, signed, unsigned, float, none, base, allowed}
-use Rattle.leaves.specs.Forms.{form, formOf, Says}
-use Rattle.leaves.proofs.Leaves.{length-form, length-said, form-says, truth-small}
+use Rattle.leaf.specs.Forms.{form, formOf, Says}
+use Rattle.leaf.proofs.Leaves.{length-form, length-said, form-says, truth-small}
 use Rattle.payload.specs.declared.Answer.the-variants.{Gave}
 use Rattle.walk.specs.Tree.{Tree, leaf, row, array, broken, tree}
 use Rattle.walk.specs.Walk.{countCode}

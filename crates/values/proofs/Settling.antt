@@ -11,8 +11,8 @@ use lib.ListN.{length, getD, take, drop, length-append}
 use Rattle.wire.specs.Bytes.{over, Octets}
 use Rattle.table.specs.declared.Sections.{Sections}
 use Rattle.table.specs.Leaf.{Leaf, boolean, signed, unsigned, float, none, base, bytesOf, width, allowed}
-use Rattle.leaves.specs.Forms.{truth, form, wordAt, formOf, Says}
-use Rattle.leaves.proofs.Leaves.{length-form, length-said}
+use Rattle.leaf.specs.Forms.{truth, form, wordAt, formOf, Says}
+use Rattle.leaf.proofs.Leaves.{length-form, length-said}
 use Rattle.walk.specs.declared.Place.{Place}
 use Rattle.walk.specs.Tree.{Tree, tree}
 use Rattle.walk.specs.Walk.{Step, on, start, Codec, walk}

@@ -14,7 +14,7 @@ use Rattle.table.specs.declared.Entry.{Entry}
 use Rattle.table.specs.Entries.{typeAt}
 use Rattle.table.specs.Leaf.{base, isValue, allowed}
 use Rattle.entry_rules.specs.Fields.{fieldsOk}
-use Rattle.leaves.specs.Choice.{choice}
+use Rattle.leaf.specs.Choice.{choice}
 use Rattle.walk.specs.declared.Place.{Place}
 use Rattle.walk.specs.declared.Met.{Met}
 use Rattle.walk.specs.declared.Met.the-variants.{Leaf, Broken}

@@ -17,8 +17,8 @@ use Rattle.table.specs.declared.Sections.{Sections}
 use Rattle.table.specs.declared.Entry.{Entry}
 use Rattle.table.specs.Entries.{memberAt}
 use Rattle.table.specs.Leaf.{base, bytesOf, isValue, width, allowed}
-use Rattle.leaves.specs.Forms.{wordOf, wordAt}
-use Rattle.leaves.specs.Choice.{choice, takes}
+use Rattle.leaf.specs.Forms.{wordOf, wordAt}
+use Rattle.leaf.specs.Choice.{choice, takes}
 use Rattle.walk.specs.declared.Place.{Place}
 use Rattle.walk.specs.declared.Met.{Met}
 use Rattle.walk.specs.declared.Met.the-variants.{Leaf, Members, Elements, Broken}

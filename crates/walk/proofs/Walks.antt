@@ -14,7 +14,7 @@ use Rattle.wire.specs.Bytes.{written}
 use Rattle.table.specs.declared.Entry.{Entry}
 use Rattle.table.specs.Leaf.{Leaf, boolean, signed, unsigned, float, none, base, bytesOf, isValue, width, allowed}
 use Rattle.wire.proofs.Cond.{and-left}
-use Rattle.leaves.proofs.Leaves.{Real, real}
+use Rattle.leaf.proofs.Leaves.{Real, real}
 use Rattle.walk.specs.declared.Place.{Place}
 use Rattle.walk.specs.declared.Walked.{Walked}
 use Rattle.walk.specs.declared.Walked.the-variants.{Went, Stopped}

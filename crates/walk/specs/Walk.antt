@@ -10,7 +10,7 @@ use Rattle.table.specs.declared.Entry.{Entry}
 use Rattle.table.specs.Leaf.{allowed}
 use Rattle.table.specs.Entries.{fixedKind}
 use Rattle.types.specs.Table.{ruleBroken}
-use Rattle.leaves.specs.Choice.{choice}
+use Rattle.leaf.specs.Choice.{choice}
 use Rattle.walk.specs.declared.Met.{Met}
 use Rattle.walk.specs.declared.Place.{Place}
 use Rattle.walk.specs.declared.Walked.{Walked}

@@ -1,7 +1,7 @@
 -- `packing_leaves::bases::set` meets its contract: each arm writes the bytes of its width.
 -- Assumes nothing.
 use borrow.Author.Needs.{needs}
-use Rattle.leaves.proofs.Returns.{no-form}
+use Rattle.leaf.proofs.Returns.{no-form}
 use Rattle.packing_leaves.proofs.Laid.{set-byte, set-form, set-whole}
 use Rattle.packing_leaves.proofs.bases.set.Statement.{statement}
 use Rattle.packing_leaves.proofs.bases.set.Tie as tie

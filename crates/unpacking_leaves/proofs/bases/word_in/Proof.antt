@@ -4,8 +4,8 @@ use borrow.Author.Needs.{needs}
 use mathlib.Core.Path.{refl}
 use Rattle.wire.specs.Bytes.{number}
 use Rattle.table.specs.Leaf.{width, base, bytesOf}
-use Rattle.leaves.specs.Forms.{wordAt, wordOf}
-use Rattle.leaves.proofs.Returns.{at-truth, at-extended, at-number, all-bits, no-word}
+use Rattle.leaf.specs.Forms.{wordAt, wordOf}
+use Rattle.leaf.proofs.Returns.{at-truth, at-extended, at-number, all-bits, no-word}
 use Rattle.unpacking_leaves.proofs.OneLeaf.{room-of}
 use Rattle.unpacking_leaves.proofs.bases.word_in.Statement.{statement}
 use Rattle.unpacking_leaves.proofs.bases.word_in.Tie as tie

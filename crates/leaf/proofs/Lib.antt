@@ -1,0 +1,3 @@
+mod Limits
+pub mod Leaves
+pub mod Returns

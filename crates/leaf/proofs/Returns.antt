@@ -1,0 +1,151 @@
+-- What the returns of reading and of writing a leaf come to: each arm is the rule of its code.
+-- Assumes nothing.
+use Prim.Native.Nat.{ℕ, zero, suc, _+_, _-_, _*_, _%_, _^_, _≤_, _<_}
+use mathlib.Core.Path.{_≡_, refl, sym, ap, ap₂, subst, _∙_}
+use mathlib.Core.Bool.{Bool, true, false, _&&_, not, cond}
+use mathlib.Core.List.{List, [], _∷_}
+use native.Mathlib.Nat.{add-zero, mod-eq-of-lt}
+use native.Mathlib.Omega.{arith}
+use borrow.Author.Tests.{eq-eqb, ne-eqb, leb-true}
+use mir.Syntax.{w64}
+use mir.Val.{Fits}
+use lib.Dec.{ltb, leb, eqb}
+use lib.ListN.{length}
+use Rattle.wire.specs.Bytes.{span, number, whole, bytes, written}
+use Rattle.wire.proofs.Cond.{yes-lt, no-lt, yes-eq, no-eq}
+use Rattle.wire.proofs.Numbers.{whole-in}
+use Rattle.wire.proofs.Runs.{over-none}
+use Rattle.table.specs.declared.Sections.{Sections}
+use Rattle.table.specs.declared.Entry.{Entry}
+use Rattle.table.specs.All.{allBelow}
+use Rattle.table.specs.Leaf.{Leaf, none, base, width, allowed}
+use Rattle.table.specs.Entries.{valueAt}
+use Rattle.table.proofs.Leaves.{no-base}
+use Rattle.leaf.specs.Forms.{truth, extended, wordOf, wordAt, formOf}
+use Rattle.leaf.proofs.Leaves.{Other, form-is, no-bytes}
+use Rattle.leaf.specs.Choice.{other, otherAt, among, choice, takes}
+
+-- reading: the arm of code n
+pub at-truth : (s : List ℕ) (p x r code : ℕ) → x ≡ number 0 s p → r ≡ truth x → code ≡ 0 → r ≡ wordAt code s p
+unfolding wordAt base wordOf
+at-truth s p x r code e h c = rw (c, ← e) h
+
+module _ (n k : ℕ) where
+  pub at-extended : (half : ℕ) → ((s : List ℕ) (p : ℕ) → extended half (number k s p) ≡ wordAt n s p) → (s : List ℕ) (p x r code : ℕ) → x ≡ number k s p → r ≡ extended half x → code ≡ n → r ≡ wordAt code s p
+  at-extended half is s p x r code e h c = h ∙ ap (extended half) e ∙ is s p ∙ ap (λ (m : ℕ). wordAt m s p) (sym c)
+
+  pub at-number : ((s : List ℕ) (p : ℕ) → number k s p ≡ wordAt n s p) → (s : List ℕ) (p x code : ℕ) → x ≡ number k s p → code ≡ n → x ≡ wordAt code s p
+  at-number is s p x code e c = e ∙ is s p ∙ ap (λ (m : ℕ). wordAt m s p) (sym c)
+
+above : (n x : ℕ) → n ≤ x → (x ≡ n → ⊥) → n + 1 ≤ x
+above n x h d = omega arith
+
+-- no base code at all
+module _ (x : ℕ) (d0 : x ≡ 0 → ⊥) (d1 : x ≡ 1 → ⊥) (d2 : x ≡ 2 → ⊥) (d3 : x ≡ 3 → ⊥) (d4 : x ≡ 4 → ⊥) (d5 : x ≡ 5 → ⊥) (d6 : x ≡ 6 → ⊥) (d7 : x ≡ 7 → ⊥) (d8 : x ≡ 8 → ⊥) (d9 : x ≡ 9 → ⊥) (d10 : x ≡ 10 → ⊥) (d11 : x ≡ 11 → ⊥) (d12 : x ≡ 12 → ⊥) where
+  not-base : base x ≡ none
+  not-base =
+      let h4 : 4 ≤ x = above 3 x (above 2 x (above 1 x (above 0 x (omega arith) d0) d1) d2) d3 in
+      let h8 : 8 ≤ x = above 7 x (above 6 x (above 5 x (above 4 x h4 d4) d5) d6) d7 in
+      no-base x (above 12 x (above 11 x (above 10 x (above 9 x (above 8 x h8 d8) d9) d10) d11) d12)
+
+  pub no-word : (s : List ℕ) (p : ℕ) → 0 ≡ wordAt x s p
+  unfolding wordAt wordOf
+  no-word s p = sym (ap (λ (l : Leaf). wordOf l s p) not-base)
+
+-- nothing written changes nothing
+nothing : (s : List ℕ) (p : ℕ) → s ≡ written s p []
+nothing s p = go (leb (p + 0) (length s)) refl
+  where
+    go : (b : Bool) → leb (p + 0) (length s) ≡ b → s ≡ written s p []
+    go true e = rw e (over-none s p [])
+    go false e = rw e refl
+
+-- writing: the arm of 2 ^ k bytes
+pub put-form : (k : ℕ) (s : List ℕ) (p x w n : ℕ) {e : List ℕ} → n ≡ width x → n ≡ 2 ^ k → e ≡ written s p (bytes k (w % span k)) → e ≡ written s p (formOf x w)
+put-form k s p x w n h q r = r ∙ ap (written s p) (sym (form-is k x w (sym h ∙ q)))
+
+pub put-whole : (s : List ℕ) (p x w n : ℕ) {e : List ℕ} → n ≡ width x → n ≡ 8 → Fits w64 w → e ≡ written s p (bytes 3 w) → e ≡ written s p (formOf x w)
+put-whole s p x w n h q f r = put-form 3 s p x w n h q (r ∙ ap (λ (m : ℕ). written s p (bytes 3 m)) (sym (mod-eq-of-lt {n = w} {m = span 3} (omega arith))))
+
+pub no-form : (s : List ℕ) (p x w n : ℕ) → n ≡ width x → (n ≡ 1 → ⊥) → (n ≡ 2 → ⊥) → (n ≡ 4 → ⊥) → (n ≡ 8 → ⊥) → s ≡ written s p (formOf x w)
+no-form s p x w n h a b c d = nothing s p ∙ ap (written s p) (sym (no-bytes x w (subst Other h (a, b, c, d))))
+
+pub sign-clear : (x half : ℕ) → x < half → x ≡ extended half x
+unfolding extended
+sign-clear x half h = sym (yes-lt x (x + (2 ^ 64 - 2 * half)) x half h)
+
+pub sign-set : (x half : ℕ) → half ≤ x → 1 ≤ half → half ≤ 2 ^ 63 → x + (18446744073709551615 - (half - 1) - half) ≡ extended half x
+unfolding extended
+sign-set x half h a b = ap (λ (n : ℕ). x + n) (omega arith) ∙ sym (no-lt x (x + (2 ^ 64 - 2 * half)) x half h)
+
+-- of 64 bits nothing is left to carry
+pub all-bits : (x : ℕ) → x ≡ extended 9223372036854775808 x
+unfolding extended
+all-bits x = go (ltb x 9223372036854775808) refl
+  where
+    go : (b : Bool) → ltb x 9223372036854775808 ≡ b → x ≡ extended 9223372036854775808 x
+    go true e = rw e refl
+    go false e = rw e (sym (add-zero x))
+
+pub is-false : (x : ℕ) → x ≡ 0 → 0 ≡ truth x
+unfolding truth
+is-false x h = sym (yes-eq 0 1 x 0 h)
+
+pub is-true : (x : ℕ) → (x ≡ 0 → ⊥) → 1 ≡ truth x
+unfolding truth
+is-true x h = sym (no-eq 0 1 x 0 h)
+
+-- the values of an enum
+module _ (t : List ℕ) (s : Sections) (e : Entry) (w : ℕ) where
+  pub compared : (k v : ℕ) → v ≡ valueAt t s (e .first + k) → not (eqb v w) ≡ other t s e w k
+  unfolding other
+  compared k v h = ap (λ (n : ℕ). not (eqb n w)) h
+
+  pub same-other : (k : ℕ) → otherAt t (s .values .at + 8 * e .first) w k ≡ other t s e w k
+  unfolding other otherAt valueAt
+  same-other k = ap (λ (n : ℕ). not (eqb (number 3 t n) w)) (omega arith)
+
+  all-same : (n : ℕ) → allBelow (otherAt t (s .values .at + 8 * e .first) w) n ≡ allBelow (other t s e w) n
+  unfolding allBelow
+  all-same zero = refl
+  all-same (suc n) = ap₂ _&&_ (all-same n) (same-other n)
+
+  pub all-there : {r : Bool} → r ≡ not (allBelow (otherAt t (s .values .at + 8 * e .first) w) (e .count)) → r ≡ among t s e w
+  unfolding among
+  all-there h = h ∙ ap not (all-same (e .count))
+
+  pub found : false ≡ allBelow (other t s e w) (e .count) → true ≡ among t s e w
+  unfolding among
+  found h = ap not h
+
+  pub not-found : true ≡ allBelow (other t s e w) (e .count) → false ≡ among t s e w
+  unfolding among
+  not-found h = ap not h
+
+-- a value that stands there
+pub compared-at : (t : List ℕ) (p w k v : ℕ) → p + 8 * k + 8 ≤ length t → v ≡ whole 3 t (p + 8 * k) → not (eqb v w) ≡ otherAt t p w k
+unfolding otherAt
+compared-at t p w k v i h = ap (λ (n : ℕ). not (eqb n w)) (h ∙ whole-in 3 t (p + 8 * k) i)
+
+pub values-there : {r : Bool} (n m : ℕ) → r ≡ leb n m → r ≡ true → n ≤ m
+values-there n m e t = leb-true n m (sym e ∙ t)
+
+-- one of them is the word, or none is
+pub hit : {b : Bool} → false ≡ b → true ≡ not b
+hit h = ap not h
+
+pub missed : {b : Bool} → true ≡ b → false ≡ not b
+missed h = ap not h
+
+module _ (t : List ℕ) (s : Sections) (e : Entry) (w : ℕ) {a : Bool} (p : a ≡ allowed (e .of) w) where
+  pub outside : a ≡ false → false ≡ takes t s e w
+  unfolding takes
+  outside h = rw (← p, h) refl
+
+  pub of-enum : {r : Bool} → a ≡ true → e .kind ≡ 1 → r ≡ among t s e w → r ≡ takes t s e w
+  unfolding takes choice
+  of-enum h k q = rw (← p, h, eq-eqb (e .kind) 1 k) q
+
+  pub of-base : a ≡ true → (e .kind ≡ 1 → ⊥) → true ≡ takes t s e w
+  unfolding takes choice
+  of-base h k = rw (← p, h, ne-eqb (e .kind) 1 k) refl

@@ -1,0 +1,32 @@
+-- `leaf::among_cut` meets its contract: the word is none of the first k values.
+-- Assumes nothing.
+use borrow.Author.Needs.{needs}
+use Prim.Native.Nat.{_-_, _≤_}
+use mathlib.Core.Path.{_≡_}
+use mathlib.Core.Bool.{true}
+use Rattle.table.specs.All.{allBelow}
+use Rattle.table.proofs.AllBelow.{none-below, next-below, stop-below, done-below}
+use Rattle.leaf.specs.Choice.{other}
+use Rattle.leaf.proofs.Returns.{found, not-found}
+use Rattle.leaf.proofs.words.among_cut.Statement.{statement}
+use Rattle.leaf.proofs.words.among_cut.Tie as tie
+
+abbrev Inv-loop : tie.InvT-loop
+Inv-loop table s e word count k₀ k = (k ≤ e .count) × (allBelow (other table s e word) k ≡ true)
+
+abbrev μ-loop : tie.MeasureT-loop
+μ-loop table s e word count k₀ k = e .count - k
+
+pub among-cut-spec : {M : Type 1} → statement M
+among-cut-spec =
+    tie.close
+    (tie.spec
+    Inv-loop
+    μ-loop
+    (λ c. (search needs, search none-below))
+    (λ c κs. search needs)
+    (λ c. search needs)
+    (λ c. search needs)
+    (λ c. (search needs, search next-below))
+    (λ c. search (found, stop-below))
+    (λ c. search (not-found, done-below)))

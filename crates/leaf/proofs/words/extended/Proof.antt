@@ -1,0 +1,17 @@
+-- `leaf::extended` meets its contract.
+-- Assumes nothing.
+use borrow.Author.Needs.{needs}
+use Rattle.leaf.proofs.Returns.{sign-clear, sign-set}
+use Rattle.leaf.proofs.words.extended.Statement.{statement}
+use Rattle.leaf.proofs.words.extended.Tie as tie
+
+pub extended-spec : {M : Type 1} → statement M
+extended-spec =
+    tie.close
+    (tie.spec
+    (λ c. search needs)
+    (λ c. search needs)
+    (λ c. search needs)
+    (λ c. search needs)
+    (λ c. search sign-clear)
+    (λ c. search sign-set))
