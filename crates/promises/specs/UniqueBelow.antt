@@ -29,8 +29,8 @@ use Rattle.reactions.proofs.lay.Reads.{Post as reactions-lay}
 use Rattle.reactions.proofs.put_reply.Reads.{Post as reactions-put-reply}
 use Rattle.table.proofs.layout.end.Reads.{Post as table-layout-end}
 use Rattle.sections.proofs.read.Reads.{Post as sections-read}
-use Rattle.enums.proofs.values_allowed.Reads.{Post as enums-values-allowed}
-use Rattle.enums.proofs.all_distinct.Reads.{Post as enums-all-distinct}
+use Rattle.types.proofs.values_allowed.Reads.{Post as enums-values-allowed}
+use Rattle.types.proofs.all_distinct.Reads.{Post as enums-all-distinct}
 use Rattle.table.proofs.layout.type_place.Reads.{Post as table-layout-type-place}
 use Rattle.table.proofs.layout.member_place.Reads.{Post as table-layout-member-place}
 use Rattle.walk.proofs.meet.Reads.{Post as walk-meet}

@@ -20,7 +20,7 @@ use Rattle.table.specs.Layout.{mostTypes, sectionsOf, within}
 use Rattle.table.specs.Entries.{noId, noType, typeAt, memberAt, valueAt, idAt, operationAt}
 use Rattle.entry_rules.specs.Fields.{baseFields, enumFields, recordFields, elementFields, fieldsOk}
 use Rattle.types.specs.Rules.{memberOk, membersOk, pointedOk, typeOk}
-use Rattle.enums.specs.Values.{valueOf, valueOk, unlike, unlikeBefore, distinct, valuesOk}
+use Rattle.types.specs.Values.{valueOf, valueOk, unlike, unlikeBefore, distinct, valuesOk}
 use Rattle.table.specs.Operations.{idsRise}
 use Rattle.types.specs.Operations.{fieldsOk as operationFields, operationOk}
 use Rattle.types.specs.Sizes.{mostBytes, largest, sizeFits, bytesUpTo, largestBelow, largestOf}

@@ -6,3 +6,5 @@ pub mod OperationRules
 pub mod SizeLaws
 pub mod Tables
 pub mod Accepted
+pub mod OneValue
+pub mod Distinctness

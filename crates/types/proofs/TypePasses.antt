@@ -16,9 +16,9 @@ use Rattle.table.specs.declared.Entry.{Entry}
 use Rattle.table.specs.All.{allBelow}
 use Rattle.table.specs.Layout.{mostValues}
 use Rattle.table.specs.Entries.{typeAt, memberAt}
-use Rattle.enums.specs.Values.{valueOk, distinct, valuesOk}
-use Rattle.enums.specs.Alike.{valuesApart, enumApart, allApart}
-use Rattle.enums.proofs.Distinctness.{same-below}
+use Rattle.types.specs.Values.{valueOk, distinct, valuesOk}
+use Rattle.types.specs.Alike.{valuesApart, enumApart, allApart}
+use Rattle.types.proofs.Distinctness.{same-below}
 use Rattle.types.specs.Rules.{memberOk, membersOk, pointedOk, typeOk}
 use Rattle.entry_rules.specs.Fields.{fieldsOk}
 use Rattle.types.specs.Inside.{Lying}

@@ -10,7 +10,7 @@ use Rattle.table.specs.declared.Sections.{Sections}
 use Rattle.table.specs.declared.Entry.{Entry}
 use Rattle.table.specs.All.{allBelow}
 use Rattle.table.specs.Entries.{memberAt}
-use Rattle.enums.specs.Values.{valuesOk}
+use Rattle.types.specs.Values.{valuesOk}
 use Rattle.types.specs.Rules.{memberOk, membersOk, pointedOk}
 use Rattle.table.proofs.AllBelow.{next-below, stop-below}
 

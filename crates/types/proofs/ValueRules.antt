@@ -14,7 +14,7 @@ use Rattle.table.specs.Leaf.{isEnumBase, base, inSigned, isValue, allowed}
 use Rattle.wire.specs.Bytes.{Octets}
 use Rattle.table.specs.Layout.{valuePlace}
 use Rattle.table.specs.Entries.{valueAt}
-use Rattle.enums.specs.Values.{valueOf, valueOk, unlike, unlikeBefore, distinct, valuesOk}
+use Rattle.types.specs.Values.{valueOf, valueOk, unlike, unlikeBefore, distinct, valuesOk}
 use Rattle.types.specs.Passes.{offset, top, rank, next, inOrder}
 use Rattle.wire.proofs.Cond.{and-left, and-right}
 use Rattle.wire.proofs.Numbers.{number-lt}

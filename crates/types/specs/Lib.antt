@@ -5,3 +5,5 @@ pub mod Kept
 pub mod Operations
 pub mod Sizes
 pub mod Table
+pub mod Values
+pub mod Alike

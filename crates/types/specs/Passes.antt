@@ -8,7 +8,7 @@ use Rattle.table.specs.declared.Sections.{Sections}
 use Rattle.table.specs.declared.Entry.{Entry}
 use Rattle.table.specs.All.{allBelow, above}
 use Rattle.table.specs.Entries.{enumKind, recordKind, typeAt}
-use Rattle.enums.specs.Values.{valueOf, valueOk, distinct}
+use Rattle.types.specs.Values.{valueOf, valueOk, distinct}
 use Rattle.entry_rules.specs.Fields.{fieldsOk}
 use Rattle.types.specs.Rules.{membersOk}
 

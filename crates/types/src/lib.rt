@@ -1,12 +1,16 @@
 // The rules of a type table (01, "The type table"): checked once, which answers its sections, and looked up ever after by its
 // bytes and those sections. A bad table is refused: 30 and 31 by its sections, 32 for an entry that breaks a rule, 33 for a
 // type that can exceed 65,536 bytes.
+mod alike;
+mod enums;
 mod inside;
 mod operations;
 mod rules;
 pub mod sizes;
 mod values;
 
+pub use alike::all_distinct;
+pub use enums::values_allowed;
 use table::Checked;
 use table::Sections;
 ghost use mathlib.Core.Path.{_≡_};

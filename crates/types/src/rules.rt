@@ -10,6 +10,8 @@ ghost use Rattle.table.specs.All.{allBelow};
 ghost use Rattle.types.specs.Inside.{Lying};
 ghost use Rattle.types.specs.Rules.{typeOk, membersOk};
 ghost use Rattle.types.specs.Passes.{quickOk, enumOk};
+use crate::alike;
+use crate::enums;
 
 // Every type of the table keeps its rule. The values of most enums rise, and then they are distinct; where some do not, all are
 // compared at the end.
@@ -33,7 +35,7 @@ pub(crate) fn types_ok(table: &[u8], s: Sections) -> bool
     if rise {
         true
     } else {
-        enums::all_distinct(table, s)
+        alike::all_distinct(table, s)
     }
 }
 

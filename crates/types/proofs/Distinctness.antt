@@ -17,8 +17,8 @@ use Rattle.table.specs.declared.Entry.{Entry}
 use Rattle.table.specs.All.{allBelow}
 use Rattle.table.specs.Layout.{mostValues}
 use Rattle.table.specs.Entries.{typeAt, valueAt}
-use Rattle.enums.specs.Values.{valueOf, unlike, unlikeBefore, distinct}
-use Rattle.enums.specs.Alike.{lastEqual, lastAlike, Alikes, unlikeIn, valuesApart, enumApart, allApart}
+use Rattle.types.specs.Values.{valueOf, unlike, unlikeBefore, distinct}
+use Rattle.types.specs.Alike.{lastEqual, lastAlike, Alikes, unlikeIn, valuesApart, enumApart, allApart}
 use Rattle.table.proofs.AllBelow.{next-below, stop-below}
 
 -- looking for the last one alike from behind

@@ -1,14 +1,11 @@
 // The values of the enums of a table (01, "The type table"): each is allowed in its base, and no two of one enum are alike.
 // Number 32.
-mod alike;
-
-pub use alike::all_distinct;
 use table::Entry;
 use table::Sections;
 use table::entries;
 ghost use mathlib.Core.Path.{_≡_};
 ghost use Rattle.table.specs.All.{allBelow};
-ghost use Rattle.enums.specs.Values.{valueOf, valueOk};
+ghost use Rattle.types.specs.Values.{valueOf, valueOk};
 
 // Each value of an enum is allowed in its base.
 pub fn values_allowed(table: &[u8], s: Sections, e: Entry) -> bool

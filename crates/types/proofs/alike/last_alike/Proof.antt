@@ -1,13 +1,13 @@
--- `enums::alike::last_alike` meets its contract: none from the j-th on is alike.
+-- `types::alike::last_alike` meets its contract: none from the j-th on is alike.
 -- Assumes nothing.
 use borrow.Author.Needs.{needs}
 use Prim.Native.Nat.{_≤_}
 use mathlib.Core.Path.{_≡_}
 use Rattle.table.specs.Entries.{valueAt}
-use Rattle.enums.specs.Alike.{lastEqual, lastAlike}
-use Rattle.enums.proofs.Distinctness.{from-behind, alike-here, not-here, none-left}
-use Rattle.enums.proofs.alike.last_alike.Statement.{statement}
-use Rattle.enums.proofs.alike.last_alike.Tie as tie
+use Rattle.types.specs.Alike.{lastEqual, lastAlike}
+use Rattle.types.proofs.Distinctness.{from-behind, alike-here, not-here, none-left}
+use Rattle.types.proofs.alike.last_alike.Statement.{statement}
+use Rattle.types.proofs.alike.last_alike.Tie as tie
 
 abbrev Inv-loop : tie.InvT-loop
 Inv-loop table s k word j₀ j = (j ≤ k) × (lastEqual (valueAt table s) word j ≡ lastAlike table s k)

@@ -10,7 +10,7 @@ use Rattle.table.specs.declared.Entry.{Entry}
 use Rattle.table.specs.All.{allBelow}
 use Rattle.table.specs.Layout.{mostValues}
 use Rattle.table.specs.Entries.{enumKind, typeAt, valueAt}
-use Rattle.enums.specs.Values.{distinct}
+use Rattle.types.specs.Values.{distinct}
 
 -- the number behind that of the last below n with this word, or 0
 unfoldable pub lastEqual : (ℕ → ℕ) → ℕ → ℕ → ℕ

@@ -1,23 +1,23 @@
--- `enums::alike::enums_distinct` meets its contract: the first i types have passed.
+-- `types::values_allowed` meets its contract: the first k values have passed.
 -- Assumes nothing.
 use borrow.Author.Needs.{needs}
 use Prim.Native.Nat.{_-_, _≤_}
 use mathlib.Core.Path.{_≡_}
 use mathlib.Core.Bool.{true}
 use Rattle.table.specs.All.{allBelow}
-use Rattle.enums.specs.Alike.{enumApart}
+use Rattle.types.specs.Values.{valueOk}
 use Rattle.table.proofs.AllBelow.{none-below, next-below, stop-below, done-below}
-use Rattle.enums.proofs.alike.enums_distinct.Statement.{statement}
-use Rattle.enums.proofs.alike.enums_distinct.Tie as tie
+use Rattle.types.proofs.enums.values_allowed.Statement.{statement}
+use Rattle.types.proofs.enums.values_allowed.Tie as tie
 
 abbrev Inv-loop : tie.InvT-loop
-Inv-loop table s room count i₀ i = (i ≤ s .types .count) × (allBelow (enumApart table s) i ≡ true)
+Inv-loop table s e count k₀ k = (k ≤ e .count) × (allBelow (valueOk table s e) k ≡ true)
 
 abbrev μ-loop : tie.MeasureT-loop
-μ-loop table s room count i₀ i = s .types .count - i
+μ-loop table s e count k₀ k = e .count - k
 
-pub enums-distinct-spec : {M : Type 1} → statement M
-enums-distinct-spec =
+pub values-allowed-spec : {M : Type 1} → statement M
+values-allowed-spec =
     tie.close
     (tie.spec
     Inv-loop

@@ -1,14 +1,14 @@
--- `enums::alike::fill` meets its contract: the room holds the last ones alike of the first k values.
+-- `types::alike::fill` meets its contract: the room holds the last ones alike of the first k values.
 -- Assumes nothing.
 use borrow.Author.Needs.{needs}
 use Prim.Native.Nat.{_-_, _≤_}
 use mathlib.Core.Path.{_≡_}
 use native.Mathlib.Omega.{arith}
 use lib.ListN.{length, length-set}
-use Rattle.enums.specs.Alike.{Alikes}
-use Rattle.enums.proofs.Distinctness.{fill-alikes, alikes-done}
-use Rattle.enums.proofs.alike.fill.Statement.{statement}
-use Rattle.enums.proofs.alike.fill.Tie as tie
+use Rattle.types.specs.Alike.{Alikes}
+use Rattle.types.proofs.Distinctness.{fill-alikes, alikes-done}
+use Rattle.types.proofs.alike.fill.Statement.{statement}
+use Rattle.types.proofs.alike.fill.Tie as tie
 
 abbrev Inv-loop : tie.InvT-loop
 Inv-loop table s room₀ count k₀ room k = (k ≤ s .values .count) × (length room ≡ length room₀) × Alikes table s k room

@@ -7,7 +7,7 @@ use mathlib.Core.List.{List}
 use Rattle.table.specs.declared.Sections.{Sections}
 use Rattle.table.specs.declared.Entry.{Entry}
 use Rattle.table.specs.Leaf.{allowed}
-use Rattle.enums.specs.Values.{valueOf, valueOk}
+use Rattle.types.specs.Values.{valueOf, valueOk}
 
 -- the value as it is read
 pub judged-value : (t : List ℕ) (s : Sections) (e : Entry) (k v : ℕ) (r : Bool) → v ≡ valueOf t s e k → r ≡ allowed (e .of) v → r ≡ valueOk t s e k

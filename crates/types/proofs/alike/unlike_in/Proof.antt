@@ -1,15 +1,15 @@
--- `enums::alike::unlike_in` meets its contract: the first k are unlike the ones before them from first on.
+-- `types::alike::unlike_in` meets its contract: the first k are unlike the ones before them from first on.
 -- Assumes nothing.
 use borrow.Author.Needs.{needs}
 use Prim.Native.Nat.{_-_, _≤_}
 use mathlib.Core.Path.{_≡_}
 use mathlib.Core.Bool.{true}
 use Rattle.table.specs.All.{allBelow}
-use Rattle.enums.specs.Alike.{unlikeIn}
+use Rattle.types.specs.Alike.{unlikeIn}
 use Rattle.table.proofs.AllBelow.{none-below, done-below}
-use Rattle.enums.proofs.Distinctness.{unlike-next, unlike-ends}
-use Rattle.enums.proofs.alike.unlike_in.Statement.{statement}
-use Rattle.enums.proofs.alike.unlike_in.Tie as tie
+use Rattle.types.proofs.Distinctness.{unlike-next, unlike-ends}
+use Rattle.types.proofs.alike.unlike_in.Statement.{statement}
+use Rattle.types.proofs.alike.unlike_in.Tie as tie
 
 abbrev Inv-loop : tie.InvT-loop
 Inv-loop room first count k₀ k = (k ≤ count) × (allBelow (unlikeIn room first) k ≡ true)

@@ -7,7 +7,7 @@ ghost use Prim.Native.Nat.{_+_, _≤_};
 ghost use lib.ListN.{length};
 ghost use Rattle.table.specs.All.{allBelow};
 ghost use Rattle.table.specs.Layout.{mostValues};
-ghost use Rattle.enums.specs.Alike.{lastAlike, Alikes, unlikeIn, enumApart, allApart};
+ghost use Rattle.types.specs.Alike.{lastAlike, Alikes, unlikeIn, enumApart, allApart};
 
 // How many values a table has at most.
 const MOST_VALUES: u16 = 1024;

@@ -1,9 +1,9 @@
--- `enums::alike::enum_distinct` meets its contract: its values as the room has them, and nothing of another kind.
+-- `types::alike::enum_distinct` meets its contract: its values as the room has them, and nothing of another kind.
 -- Assumes nothing.
 use borrow.Author.Needs.{needs}
-use Rattle.enums.proofs.Distinctness.{enum-compared, enum-outside, no-enum}
-use Rattle.enums.proofs.alike.enum_distinct.Statement.{statement}
-use Rattle.enums.proofs.alike.enum_distinct.Tie as tie
+use Rattle.types.proofs.Distinctness.{enum-compared, enum-outside, no-enum}
+use Rattle.types.proofs.alike.enum_distinct.Statement.{statement}
+use Rattle.types.proofs.alike.enum_distinct.Tie as tie
 
 pub enum-distinct-spec : {M : Type 1} → statement M
 enum-distinct-spec =
