@@ -26,7 +26,7 @@ fn put_counts(output: &mut [u8], at: usize, s: Sections) -> usize {
 }
 
 fn put_operation(output: &mut [u8], at: usize, table: &[u8], s: Sections, id: u32) -> usize {
-    match lookup::find(table, s, id) {
+    match table::find(table, s, id) {
         Found::Nothing => text::put_text(output, at, b"none"),
         Found::At(i) => {
             let operation = table::entries::operation_at(table, s, i);

@@ -3,7 +3,7 @@
 use Prim.Native.Nat.{ℕ}
 use mathlib.Core.List.{List}
 use lib.ListN.{length}
-use Rattle.sections.specs.Words.{sectionsIn}
+use Rattle.table.specs.Words.{sectionsIn}
 use Rattle.payload.specs.declared.Answer.{Answer}
 use Rattle.payload.specs.declared.Answer.the-variants.{Refused, Stopped, Gave}
 use Rattle.payload.specs.Calls.{unpacked, unpackedIn, packed, packedIn}

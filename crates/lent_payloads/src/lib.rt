@@ -1,11 +1,11 @@
 // Payloads unpacked and packed, as the C interface has them: a refusal's number, or 0 and how many words or bytes were given.
 ghost use mathlib.Core.Path.{_≡_};
 ghost use Rattle.payload.specs.Calls.{wordsAfter, wordsIn, bytesAfter, bytesIn};
-ghost use Rattle.sections.specs.Words.{sectionsIn};
+ghost use Rattle.table.specs.Words.{sectionsIn};
 ghost use Rattle.lent_payloads.specs.Calls.{unpackNumber, unpackGiven, unpackNumberIn, unpackGivenIn};
 ghost use Rattle.lent_payloads.specs.Calls.{packNumber, packGiven, packNumberIn, packGivenIn, refusalIn, givenLeft};
 use payload::Answer;
-use sections::SECTIONS_WORDS;
+use table::SECTIONS_WORDS;
 
 // Unpacks a payload of the table's type of that number: 30 to 33, 40 to 45, or 0 and how many words were given.
 pub fn unpack(
@@ -37,7 +37,7 @@ pub fn unpack_in(
     ensures { λ _. ⌜ now (given .exit)
         ≡ unpackGivenIn (now (table .entry)) (now (sections .entry)) number (now (payload .entry)) (now (words .entry)) (now (given .entry)) ⌝ }
 {
-    let s = sections::sections_in(sections);
+    let s = table::sections_in(sections);
     let answer = payload::unpack_in(table, s, number, payload, words);
     told(answer, given)
 }
@@ -66,7 +66,7 @@ pub fn pack_in(
     ensures { λ _. ⌜ now (given .exit)
         ≡ packGivenIn (now (table .entry)) (now (sections .entry)) number (now (words .entry)) (now (out .entry)) (now (given .entry)) ⌝ }
 {
-    let s = sections::sections_in(sections);
+    let s = table::sections_in(sections);
     let answer = payload::pack_in(table, s, number, words, out);
     told(answer, given)
 }

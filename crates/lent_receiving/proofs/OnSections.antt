@@ -7,7 +7,7 @@ use mathlib.Core.List.{List}
 use Rattle.wire.proofs.Cond.{yes-if, no-if}
 use Rattle.table.specs.declared.Sections.{Sections}
 use Rattle.table.specs.Layout.{cutShort, within}
-use Rattle.sections.specs.Words.{sectionsIn}
+use Rattle.table.specs.Words.{sectionsIn}
 use Rattle.platform.specs.declared.Outcome.{Outcome}
 use Rattle.platform.specs.Receiving.{refused, numberGiven, sectionsOutcome, sectionsOutput}
 use Rattle.lent_states.specs.Words.{standingIn}

@@ -14,7 +14,7 @@ use Rattle.wire.proofs.Runs.{over-none}
 use Rattle.table.specs.declared.Sections.{Sections}
 use Rattle.table.specs.declared.Found.{Found}
 use Rattle.table.specs.declared.Found.the-variants as found
-use Rattle.lookup.specs.Search.{lookedUp}
+use Rattle.table.specs.Search.{lookedUp}
 use Rattle.message.specs.declared.Header.{Header}
 use Rattle.message.specs.declared.Message.{Message}
 use Rattle.message.specs.declared.Message.the-variants as message

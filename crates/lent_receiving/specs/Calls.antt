@@ -2,7 +2,7 @@
 use Prim.Native.Nat.{ℕ}
 use mathlib.Core.List.{List}
 use lib.ListN.{length}
-use Rattle.sections.specs.Words.{sectionsIn}
+use Rattle.table.specs.Words.{sectionsIn}
 use Rattle.platform.specs.declared.Outcome.{Outcome}
 use Rattle.platform.specs.Receiving.{sectionsOutcome, sectionsOutput, numberGiven}
 use Rattle.lent_states.specs.Words.{standingIn}

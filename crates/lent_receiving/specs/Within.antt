@@ -7,7 +7,7 @@ use lib.ListN.{length}
 use Rattle.table.specs.declared.Sections.{Sections}
 use Rattle.table.specs.declared.Found.{Found}
 use Rattle.table.specs.declared.Found.the-variants.{Nothing}
-use Rattle.lookup.specs.Search.{lookedUp}
+use Rattle.table.specs.Search.{lookedUp}
 use Rattle.message.specs.Header.{headerLength, platformDomain, domainIn, senderIn, idIn, payloadSizeIn, sequenceIn}
 use Rattle.message.specs.Refusal.{readRefusal}
 use Rattle.platform.specs.declared.Outcome.{Outcome}

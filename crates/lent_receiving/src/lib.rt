@@ -7,8 +7,8 @@ use lent_heard::HEARD_WORDS;
 use lent_states::PLATFORM_WORDS;
 use message::Header;
 use message::Own;
-use sections::SECTIONS_WORDS;
 use table::Found;
+use table::SECTIONS_WORDS;
 use table::Sections;
 
 // `lent_platform::receive` by the sections that a check gave: 30 where these do not lie in the table.
@@ -26,8 +26,8 @@ pub fn receive_in(
     ensures { λ _. ⌜ now (out .exit) ≡ receiveInOutput own (now (platform .entry)) (now (table .entry)) (now (sections .entry)) (now (message .entry)) (now (out .entry)) ⌝ }
     ensures { λ _. ⌜ now (heard .exit) ≡ receiveInHeard own (now (platform .entry)) (now (table .entry)) (now (sections .entry)) (now (message .entry)) (now (out .entry)) (now (heard .entry)) ⌝ }
 {
-    let s = sections::sections_in(sections);
-    if sections::within(table, s) {
+    let s = table::sections_in(sections);
+    if table::within(table, s) {
         received(
             Own { platform: own },
             platform,
@@ -80,7 +80,7 @@ fn operation_heard(own: Own, table: &[u8], s: Sections, message: &[u8]) -> Found
         return Found::Nothing;
     }
     if message::read_refusal(own, message) == 0 {
-        lookup::find(table, s, wire::u32_at(message, Header::ID_AT))
+        table::find(table, s, wire::u32_at(message, Header::ID_AT))
     } else {
         Found::Nothing
     }

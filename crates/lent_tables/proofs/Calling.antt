@@ -11,7 +11,7 @@ use Rattle.table.specs.declared.Found.{Found}
 use Rattle.table.specs.declared.Found.the-variants.{At, Nothing}
 use Rattle.table.specs.Layout.{cutShort, within}
 use Rattle.table.specs.Entries.{operationAt}
-use Rattle.lookup.specs.Search.{lookedUp}
+use Rattle.table.specs.Search.{lookedUp}
 use Rattle.lent_tables.specs.Calls.{operationWords, foundWords, findNumber, findAnswer}
 
 -- `find`

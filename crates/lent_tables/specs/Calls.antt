@@ -10,9 +10,9 @@ use Rattle.table.specs.declared.Found.{Found}
 use Rattle.table.specs.declared.Found.the-variants.{At, Nothing}
 use Rattle.table.specs.Layout.{cutShort, within}
 use Rattle.table.specs.Entries.{operationAt}
-use Rattle.lookup.specs.Search.{lookedUp}
+use Rattle.table.specs.Search.{lookedUp}
 use Rattle.types.specs.Table.{checked}
-use Rattle.sections.specs.Words.{wordsOf}
+use Rattle.table.specs.Words.{wordsOf}
 
 -- 30 to 33, 0 where the table is good
 abbrev pub checkRefusal : Checked → ℕ

@@ -1,10 +1,10 @@
 // A table checked and its operations looked up, with the sections and the answers in lent words: as the C interface has them.
 ghost use mathlib.Core.Path.{_≡_};
-ghost use Rattle.sections.specs.Words.{sectionsIn, wordsOf};
+ghost use Rattle.table.specs.Words.{sectionsIn, wordsOf};
 ghost use Rattle.lent_tables.specs.Calls.{checkNumber, checkAnswer, findNumber, findAnswer};
-use sections::SECTIONS_WORDS;
 use table::Checked;
 use table::Found;
+use table::SECTIONS_WORDS;
 use table::Sections;
 
 // How many words an operation that was looked up is.
@@ -37,9 +37,9 @@ pub fn find(
     ensures { λ r. ⌜ r ≡ findNumber (now (table .entry)) (sectionsIn (now (sections .entry))) ⌝ }
     ensures { λ _. ⌜ now (answer .exit) ≡ findAnswer (now (table .entry)) (sectionsIn (now (sections .entry))) id (now (answer .entry)) ⌝ }
 {
-    let s = sections::sections_in(sections);
-    if sections::within(table, s) {
-        match lookup::find(table, s, id) {
+    let s = table::sections_in(sections);
+    if table::within(table, s) {
+        match table::find(table, s, id) {
             Found::At(i) => {
                 let operation = table::entries::operation_at(table, s, i);
                 *answer = [FOUND, operation.kind as u64, operation.carries as u64];

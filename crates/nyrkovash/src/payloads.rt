@@ -1,10 +1,10 @@
 // Payloads unpacked and packed (`lent_payloads`).
 ghost use mathlib.Core.Path.{_≡_};
 ghost use Rattle.payload.specs.Calls.{wordsAfter, wordsIn, bytesAfter, bytesIn};
-ghost use Rattle.sections.specs.Words.{sectionsIn};
+ghost use Rattle.table.specs.Words.{sectionsIn};
 ghost use Rattle.lent_payloads.specs.Calls.{unpackNumber, unpackGiven, unpackNumberIn, unpackGivenIn};
 ghost use Rattle.lent_payloads.specs.Calls.{packNumber, packGiven, packNumberIn, packGivenIn};
-use sections::SECTIONS_WORDS;
+use table::SECTIONS_WORDS;
 
 // Unpacks a payload of the table's type of that number: 30 to 33, 40 to 45, or 0 and how many words were given.
 #[no_mangle]

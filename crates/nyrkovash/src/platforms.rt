@@ -8,7 +8,7 @@ ghost use Rattle.lent_platform.specs.Calls.{receiveNumber, receiveWords, receiv
 ghost use Rattle.lent_receiving.specs.Calls.{receiveInNumber, receiveInWords, receiveInOutput, receiveInHeard};
 use lent_heard::HEARD_WORDS;
 use lent_states::PLATFORM_WORDS;
-use sections::SECTIONS_WORDS;
+use table::SECTIONS_WORDS;
 
 // A fresh platform.
 #[no_mangle]

@@ -1,9 +1,9 @@
 // A table checked and its operations looked up. Sections are eight words, an answer three (`lent_tables`).
 ghost use mathlib.Core.Path.{_≡_};
-ghost use Rattle.sections.specs.Words.{sectionsIn};
+ghost use Rattle.table.specs.Words.{sectionsIn};
 ghost use Rattle.lent_tables.specs.Calls.{checkNumber, checkAnswer, findNumber, findAnswer};
 use lent_tables::FOUND_WORDS;
-use sections::SECTIONS_WORDS;
+use table::SECTIONS_WORDS;
 
 // Checks a table: 30 to 33, or 0 and its sections.
 #[no_mangle]

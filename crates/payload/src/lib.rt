@@ -45,7 +45,7 @@ pub fn unpack_in(
     ensures { λ r. ⌜ r ≡ unpackedIn (now (table .entry)) s number (now (payload .entry)) (length (now (words .entry))) ⌝ }
     ensures { λ _. ⌜ now (words .exit) ≡ wordsIn (now (table .entry)) s number (now (payload .entry)) (now (words .entry)) ⌝ }
 {
-    if sections::within(table, s) {
+    if table::within(table, s) {
         if table::entries::is_type(s, number) {
             unpack_type(table, s, number, payload, words)
         } else {
@@ -72,7 +72,7 @@ pub fn pack_in(table: &[u8], s: Sections, number: u16, words: &[u64], out: &mut 
     ensures { λ r. ⌜ r ≡ packedIn (now (table .entry)) s number (now (words .entry)) (length (now (out .entry))) ⌝ }
     ensures { λ _. ⌜ now (out .exit) ≡ bytesIn (now (table .entry)) s number (now (words .entry)) (now (out .entry)) ⌝ }
 {
-    if sections::within(table, s) {
+    if table::within(table, s) {
         if table::entries::is_type(s, number) {
             pack_type(table, s, number, words, out)
         } else {

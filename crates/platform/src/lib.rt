@@ -86,7 +86,7 @@ pub fn receive_checked(
     ensures answer { λ r. ⌜ r ≡ sectionsOutcome (own .platform) (now (table .entry)) s standing (now (message .entry)) (length (now (out .entry))) ⌝ }
     ensures output { λ r. ⌜ now (out .exit) ≡ sectionsOutput (own .platform) (now (table .entry)) s standing (now (message .entry)) (now (out .entry)) ⌝ }
 {
-    if sections::within(table, s) {
+    if table::within(table, s) {
         receive_within(own, table, s, standing, message, out)
     } else {
         refused(standing, CUT_SHORT)

@@ -19,7 +19,7 @@ use Rattle.message.specs.declared.Writing.the-variants as writing
 use Rattle.table.specs.declared.Checked.{Checked}
 use Rattle.table.specs.declared.Checked.the-variants as check
 use Rattle.types.specs.Table.{checked}
-use Rattle.sections.specs.Words.{sectionsIn}
+use Rattle.table.specs.Words.{sectionsIn}
 use Rattle.payload.specs.declared.Answer.{Answer}
 use Rattle.payload.specs.declared.Answer.the-variants as answer
 use Rattle.payload.specs.Calls.{unpacked, unpackedIn, packed, packedIn}

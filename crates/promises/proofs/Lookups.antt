@@ -10,8 +10,8 @@ use Rattle.table.specs.Layout.{mostOperations}
 use Rattle.table.specs.Operations.{operationOf}
 use Rattle.types.specs.Table.{checked}
 use Rattle.types.proofs.Accepted.{Accepted, accepted, ids-rise}
-use Rattle.lookup.specs.Search.{lookedUp}
-use Rattle.lookup.proofs.WhereIDsRise.{found-is}
+use Rattle.table.specs.Search.{lookedUp}
+use Rattle.table.proofs.WhereIDsRise.{found-is}
 
 pub accepted-find : (t : List ℕ) (s : Sections) (id : ℕ) → checked t ≡ Table s → lookedUp t s id ≡ operationOf t s id
 accepted-find t s id e =

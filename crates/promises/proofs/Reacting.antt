@@ -15,7 +15,7 @@ use Rattle.table.specs.declared.Sections.{Sections}
 use Rattle.table.specs.declared.Found.{Found}
 use Rattle.table.specs.declared.Found.the-variants as found
 use Rattle.table.specs.Operations.{operationOf}
-use Rattle.lookup.specs.Search.{lookedUp}
+use Rattle.table.specs.Search.{lookedUp}
 use Rattle.message.specs.declared.Header.{Header}
 use Rattle.message.specs.declared.Status.the-variants.{Down, Up}
 use Rattle.message.specs.declared.Message.{Message}

@@ -12,7 +12,7 @@ use Rattle.table.specs.declared.Checked.the-variants.{Table}
 use Rattle.table.specs.Operations.{operationOf}
 use Rattle.types.specs.Table.{checked}
 use Rattle.reactions.specs.declared.Standing.{Standing}
-use Rattle.lookup.specs.Search.{lookedUp}
+use Rattle.table.specs.Search.{lookedUp}
 use Rattle.platform.specs.Receiving.{receivedOf, leftOf, sectionsOutcome, sectionsOutput}
 use Rattle.wire.proofs.u8_at.Reads.{Post as wire-u8-at}
 use Rattle.wire.proofs.u16_at.Reads.{Post as wire-u16-at}
@@ -44,10 +44,10 @@ use Rattle.table.proofs.entries.member_at.Reads.{Post as table-entries-member-a
 use Rattle.table.proofs.entries.value_at.Reads.{Post as table-entries-value-at}
 use Rattle.table.proofs.entries.operation_at.Reads.{Post as table-entries-operation-at}
 use Rattle.table.proofs.entries.id_at.Reads.{Post as table-entries-id-at}
-use Rattle.sections.proofs.within.Reads.{Post as sections-within}
+use Rattle.table.proofs.within.Reads.{Post as sections-within}
 use Rattle.leaf.proofs.width.Reads.{Post as codes-width}
 use Rattle.leaf.proofs.allowed.Reads.{Post as codes-allowed}
-use Rattle.entry_rules.proofs.fields_ok.Reads.{Post as entry-rules-fields-ok}
+use Rattle.table.proofs.fields_ok.Reads.{Post as entry-rules-fields-ok}
 use Rattle.types.proofs.sizes.largest.Reads.{Post as types-sizes-largest}
 use Rattle.leaf.proofs.word_at.Reads.{Post as leaves-word-at}
 use Rattle.leaf.proofs.put.Reads.{Post as leaves-put}
@@ -68,7 +68,7 @@ use Rattle.blocks.proofs.keep.Reads.{Post as blocks-keep}
 use Rattle.lines.proofs.put_line.Reads.{Post as lines-put-line}
 use Rattle.lines.proofs.put_ending.Reads.{Post as lines-put-ending}
 use Rattle.recording.specs.Play.{stateOf}
-use Rattle.lookup.proofs.find.Reads.{Post as lookup-find}
+use Rattle.table.proofs.find.Reads.{Post as lookup-find}
 use Rattle.platform.proofs.receive_checked.Reads.{Post as platform-receive-checked}
 use Rattle.platform.proofs.receive_within.Reads.{Post as platform-receive-within}
 

@@ -28,7 +28,7 @@ use Rattle.reactions.proofs.length_of.Reads.{Post as reactions-length-of}
 use Rattle.reactions.proofs.lay.Reads.{Post as reactions-lay}
 use Rattle.reactions.proofs.put_reply.Reads.{Post as reactions-put-reply}
 use Rattle.table.proofs.layout.end.Reads.{Post as table-layout-end}
-use Rattle.sections.proofs.read.Reads.{Post as sections-read}
+use Rattle.table.proofs.read.Reads.{Post as sections-read}
 use Rattle.types.proofs.values_allowed.Reads.{Post as enums-values-allowed}
 use Rattle.types.proofs.all_distinct.Reads.{Post as enums-all-distinct}
 use Rattle.table.proofs.layout.type_place.Reads.{Post as table-layout-type-place}
@@ -76,7 +76,7 @@ use Rattle.lent_messages.proofs.read.Reads.{Post as lent-messages-read}
 use Rattle.lent_messages.proofs.write.Reads.{Post as lent-messages-write}
 use Rattle.lent_tables.proofs.check.Reads.{Post as lent-tables-check}
 use Rattle.lent_tables.proofs.find.Reads.{Post as lent-tables-find}
-use Rattle.sections.proofs.sections_in.Reads.{Post as sections-sections-in}
+use Rattle.table.proofs.sections_in.Reads.{Post as sections-sections-in}
 use Rattle.lent_payloads.proofs.unpack.Reads.{Post as lent-payloads-unpack}
 use Rattle.lent_payloads.proofs.unpack_in.Reads.{Post as lent-payloads-unpack-in}
 use Rattle.lent_payloads.proofs.pack.Reads.{Post as lent-payloads-pack}

@@ -9,7 +9,7 @@ use Rattle.table.specs.declared.Found.{Found}
 use Rattle.table.specs.declared.Found.the-variants as found
 use Rattle.table.specs.All.{allBelow}
 use Rattle.table.specs.Entries.{dataKind, operationAt}
-use Rattle.lookup.specs.Search.{lookedUp}
+use Rattle.table.specs.Search.{lookedUp}
 use Rattle.message.specs.declared.Header.{Header}
 use Rattle.message.specs.declared.Status.{Status}
 use Rattle.message.specs.declared.Status.the-variants.{Down, Up}

@@ -68,8 +68,8 @@ fn looked_for(table: &[u8], s: Sections, header: Header, message: Message) -> Fo
         Message::PlatformStatus(_) => Found::Nothing,
         Message::PlatformStatusRequest => Found::Nothing,
         Message::UnknownOperation(_) => Found::Nothing,
-        Message::VersionedDataPull(id) => lookup::find(table, s, id),
-        Message::Operation => lookup::find(table, s, header.id),
+        Message::VersionedDataPull(id) => table::find(table, s, id),
+        Message::Operation => table::find(table, s, header.id),
     }
 }
 

@@ -5,3 +5,7 @@ pub mod Places
 pub mod Lookups
 pub mod Chain
 pub mod Unique
+pub mod Storing
+pub mod Halving
+pub mod WhereIDsRise
+pub mod Fields

@@ -3,3 +3,6 @@ pub mod All
 pub mod Layout
 pub mod Entries
 pub mod Operations
+pub mod Words
+pub mod Search
+pub mod Fields

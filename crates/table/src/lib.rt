@@ -1,8 +1,19 @@
 // The bytes of a type table (01, "The type table"): where the entries of its four sections stand, and what stands in each.
 // Nothing here judges an entry. All definitions of such bytes are here, and crates of their own have what is made of them:
 // `sections` reads where the sections lie, `codes` the base codes, `lookup` an operation by its ID.
+mod bounds;
 pub mod entries;
 pub mod layout;
+mod lookup;
+mod rules;
+mod stored;
+
+pub use bounds::read;
+pub use bounds::within;
+pub use lookup::find;
+pub use rules::fields_ok;
+pub use stored::SECTIONS_WORDS;
+pub use stored::sections_in;
 
 // 01, Numbers given back.
 pub const CUT_SHORT: u32 = 30;

@@ -18,7 +18,7 @@ use Rattle.table.specs.All.{allBelow, above}
 use Rattle.table.specs.Leaf.{isBase, isEnumBase, allowed}
 use Rattle.table.specs.Layout.{mostTypes, sectionsOf, within}
 use Rattle.table.specs.Entries.{noId, noType, typeAt, memberAt, valueAt, idAt, operationAt}
-use Rattle.entry_rules.specs.Fields.{baseFields, enumFields, recordFields, elementFields, fieldsOk}
+use Rattle.table.specs.Fields.{baseFields, enumFields, recordFields, elementFields, fieldsOk}
 use Rattle.types.specs.Rules.{memberOk, membersOk, pointedOk, typeOk}
 use Rattle.types.specs.Values.{valueOf, valueOk, unlike, unlikeBefore, distinct, valuesOk}
 use Rattle.table.specs.Operations.{idsRise}
@@ -27,7 +27,7 @@ use Rattle.types.specs.Sizes.{mostBytes, largest, sizeFits, bytesUpTo, l
 use Rattle.types.specs.Table.{ruleBroken, tooLarge, entriesOk, sizesOk, judged, judging, checked}
 use Rattle.wire.proofs.Cond.{and-left, and-right}
 use Rattle.table.proofs.AllBelow.{at-below, all-below}
-use Rattle.entry_rules.proofs.Fields.{three, base-entry, enum-entry, record-entry, fixed-entry, array-entry, no-entry}
+use Rattle.table.proofs.Fields.{three, base-entry, enum-entry, record-entry, fixed-entry, array-entry, no-entry}
 use Rattle.types.proofs.TypeRules.{points-to-values, points-to-members}
 use Rattle.table.proofs.Chain.{Chain, chain, finished, chain-within}
 

@@ -20,7 +20,7 @@ use Rattle.types.specs.Values.{valueOk, distinct, valuesOk}
 use Rattle.types.specs.Alike.{valuesApart, enumApart, allApart}
 use Rattle.types.proofs.Distinctness.{same-below}
 use Rattle.types.specs.Rules.{memberOk, membersOk, pointedOk, typeOk}
-use Rattle.entry_rules.specs.Fields.{fieldsOk}
+use Rattle.table.specs.Fields.{fieldsOk}
 use Rattle.types.specs.Inside.{Lying}
 use Rattle.types.specs.Kept.{Kept, Smaller}
 use Rattle.types.specs.Operations.{operationOk}
@@ -29,7 +29,7 @@ use Rattle.types.specs.Passes.{inOrder, quickOk, enumOk, looseOk, enumDi
 use Rattle.wire.proofs.Cond.{and-left, and-right}
 use Rattle.table.proofs.AllBelow.{at-below, next-below, stop-below, done-below}
 use Rattle.types.proofs.ValueRules.{order-ok}
-use Rattle.entry_rules.proofs.Fields.{enum-code, enum-inside, record-inside}
+use Rattle.table.proofs.Fields.{enum-code, enum-inside, record-inside}
 use Rattle.types.proofs.TypeRules.{points-to-members}
 
 -- one type, as `quick_ok` and `enum_ok` see it

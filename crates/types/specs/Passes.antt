@@ -9,7 +9,7 @@ use Rattle.table.specs.declared.Entry.{Entry}
 use Rattle.table.specs.All.{allBelow, above}
 use Rattle.table.specs.Entries.{enumKind, recordKind, typeAt}
 use Rattle.types.specs.Values.{valueOf, valueOk, distinct}
-use Rattle.entry_rules.specs.Fields.{fieldsOk}
+use Rattle.table.specs.Fields.{fieldsOk}
 use Rattle.types.specs.Rules.{membersOk}
 
 -- the values of an enum's base, from its smallest on, counted from 0: its zero, and its largest

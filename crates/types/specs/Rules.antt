@@ -7,7 +7,7 @@ use Rattle.table.specs.declared.Sections.{Sections}
 use Rattle.table.specs.declared.Entry.{Entry}
 use Rattle.table.specs.All.{allBelow}
 use Rattle.table.specs.Entries.{enumKind, recordKind, typeAt, memberAt}
-use Rattle.entry_rules.specs.Fields.{fieldsOk}
+use Rattle.table.specs.Fields.{fieldsOk}
 use Rattle.types.specs.Values.{valuesOk}
 
 -- a record's k-th member has a smaller number than the record

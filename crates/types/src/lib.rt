@@ -31,7 +31,7 @@ pub enum Largest {
 pub fn check(table: &[u8]) -> Checked
     ensures { λ r. ⌜ r ≡ checked (now (table .entry)) ⌝ }
 {
-    match sections::read(table) {
+    match table::read(table) {
         Checked::Refused(n) => Checked::Refused(n),
         Checked::Table(s) => judged(table, s),
     }

@@ -45,7 +45,7 @@ fn quick_ok(table: &[u8], s: Sections, i: u16) -> bool
     ensures { λ r. ⌜ r ≡ quickOk (now (table .entry)) s i ⌝ }
 {
     let e = inside::type_in(table, s, i);
-    if entry_rules::fields_ok(s, i, e) {
+    if table::fields_ok(s, i, e) {
         let kind = e.kind;
         match kind {
             1 => values::in_order(table, s, e),
@@ -63,7 +63,7 @@ fn enum_ok(table: &[u8], s: Sections, i: u16) -> bool
     ensures { λ r. ⌜ r ≡ enumOk (now (table .entry)) s i ⌝ }
 {
     let e = inside::type_in(table, s, i);
-    if entry_rules::fields_ok(s, i, e) & (e.kind == 1) {
+    if table::fields_ok(s, i, e) & (e.kind == 1) {
         enums::values_allowed(table, s, e)
     } else {
         false

@@ -18,7 +18,7 @@ use Rattle.table.specs.declared.Checked.the-variants as check
 use Rattle.table.specs.Layout.{within}
 use Rattle.table.specs.Entries.{typeAt, memberAt, isType}
 use Rattle.table.specs.Leaf.{allowed}
-use Rattle.entry_rules.specs.Fields.{fieldsOk}
+use Rattle.table.specs.Fields.{fieldsOk}
 use Rattle.types.specs.Table.{checked}
 use Rattle.types.proofs.Accepted.{Accepted, accepted, is-within, fields-keep, kind-known, record-is, fixed-is, array-is}
 use Rattle.leaf.specs.Choice.{choice}

@@ -13,7 +13,7 @@ use Rattle.table.specs.declared.Sections.{Sections}
 use Rattle.table.specs.declared.Entry.{Entry}
 use Rattle.table.specs.Entries.{typeAt}
 use Rattle.table.specs.Leaf.{base, isValue, allowed}
-use Rattle.entry_rules.specs.Fields.{fieldsOk}
+use Rattle.table.specs.Fields.{fieldsOk}
 use Rattle.leaf.specs.Choice.{choice}
 use Rattle.walk.specs.declared.Place.{Place}
 use Rattle.walk.specs.declared.Met.{Met}

@@ -18,7 +18,7 @@ use Rattle.wire.proofs.Cond.{yes-if, no-if, yes-lt, no-lt, yes-le, no-le, yes-e
 use Rattle.table.specs.declared.Sections.{Sections}
 use Rattle.table.specs.declared.Entry.{Entry}
 use Rattle.table.specs.Entries.{typeAt}
-use Rattle.entry_rules.specs.Fields.{fieldsOk}
+use Rattle.table.specs.Fields.{fieldsOk}
 use Rattle.walk.specs.declared.Met.{Met}
 use Rattle.walk.specs.declared.Met.the-variants.{Leaf, Members, Elements, Broken}
 use Rattle.walk.specs.Tree.{Tree, broken, byKind, entryIn, metIn, look, meet, treeOf, trees, tree, child}

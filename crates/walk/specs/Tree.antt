@@ -8,7 +8,7 @@ use lib.ListN.{getD}
 use Rattle.table.specs.declared.Sections.{Sections}
 use Rattle.table.specs.declared.Entry.{Entry}
 use Rattle.table.specs.Entries.{baseKind, enumKind, recordKind, fixedKind, typeAt, memberAt}
-use Rattle.entry_rules.specs.Fields.{fieldsOk}
+use Rattle.table.specs.Fields.{fieldsOk}
 use Rattle.leaf.specs.Choice.{choice}
 use Rattle.walk.specs.declared.Met.{Met}
 use Rattle.walk.specs.declared.Met.the-variants.{Leaf, Members, Elements, Broken}

@@ -72,7 +72,7 @@ fn looked(table: &[u8], s: Sections, i: u16) -> u64
     ensures { λ r. ⌜ metIn r ≡ look (now (table .entry)) s i ⌝ }
 {
     let e = table::entries::type_at(table, s, i);
-    if entry_rules::fields_ok(s, i, e) {
+    if table::fields_ok(s, i, e) {
         packed(e)
     } else {
         NO_ENTRY

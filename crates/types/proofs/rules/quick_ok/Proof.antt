@@ -1,7 +1,7 @@
 -- `types::rules::quick_ok` meets its contract: the fields first, and then what they point to.
 -- Assumes nothing.
 use borrow.Author.Needs.{needs}
-use Rattle.entry_rules.proofs.Fields.{enum-inside, record-inside}
+use Rattle.table.proofs.Fields.{enum-inside, record-inside}
 use Rattle.types.proofs.TypePasses.{quick-enum, quick-record, quick-rest, quick-bad}
 use Rattle.types.proofs.rules.quick_ok.Statement.{statement}
 use Rattle.types.proofs.rules.quick_ok.Tie as tie
