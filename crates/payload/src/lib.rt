@@ -88,7 +88,7 @@ fn unpack_type(table: &[u8], s: Sections, number: u16, payload: &[u8], words: &m
     ensures { λ r. ⌜ now (words .exit) ≡ leftBy r (now (words .entry)) (left (typeWalk (reader (now (payload .entry))) (now (table .entry)) s number start (now (words .entry)))) ⌝ }
 {
     let room = words.len();
-    let walked = whole_unpacking::read_type(table, s, number, payload, words);
+    let walked = unpack::read_type(table, s, number, payload, words);
     answered(payload.len(), room, walked)
 }
 
@@ -121,6 +121,6 @@ fn pack_type(table: &[u8], s: Sections, number: u16, words: &[u64], out: &mut [u
     ensures { λ r. ⌜ now (out .exit) ≡ leftBy r (now (out .entry)) (left (typeWalk (writer (now (words .entry))) (now (table .entry)) s number start (now (out .entry)))) ⌝ }
 {
     let room = out.len();
-    let walked = whole_packing::write_type(table, s, number, words, out);
+    let walked = pack::write_type(table, s, number, words, out);
     answered(words.len(), room, walked)
 }

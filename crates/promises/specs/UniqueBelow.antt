@@ -42,13 +42,13 @@ use Rattle.unpacking_leaves.proofs.judge_codes.Reads.{Post as unpacking-leaves-
 use Rattle.unpacking_leaves.proofs.store_codes.Reads.{Post as unpacking-leaves-store-codes}
 use Rattle.unpacking_leaves.proofs.runs.judge_run.Reads.{Post as unpacking-leaves-judge-run}
 use Rattle.unpacking_leaves.proofs.runs.store_run.Reads.{Post as unpacking-leaves-store-run}
-use Rattle.unpacking.proofs.read_type.Reads.{Post as unpacking-read-type}
-use Rattle.whole_unpacking.proofs.read_type.Reads.{Post as whole-unpacking-read-type}
+use Rattle.unpacking.proofs.read_once.Reads.{Post as unpacking-read-type}
+use Rattle.unpack.proofs.read_type.Reads.{Post as whole-unpacking-read-type}
 use Rattle.packing_leaves.proofs.judge_codes.Reads.{Post as packing-leaves-judge-codes}
 use Rattle.packing_leaves.proofs.store_codes.Reads.{Post as packing-leaves-store-codes}
 use Rattle.packing_leaves.proofs.runs.store_run.Reads.{Post as packing-leaves-store-run}
-use Rattle.packing.proofs.write_type.Reads.{Post as packing-write-type}
-use Rattle.whole_packing.proofs.write_type.Reads.{Post as whole-packing-write-type}
+use Rattle.packing.proofs.write_once.Reads.{Post as packing-write-type}
+use Rattle.pack.proofs.write_type.Reads.{Post as whole-packing-write-type}
 use Rattle.states.proofs.fresh.Reads.{Post as states-fresh}
 use Rattle.states.proofs.is_up.Reads.{Post as states-is-up}
 use Rattle.states.proofs.how_many_up.Reads.{Post as states-how-many-up}

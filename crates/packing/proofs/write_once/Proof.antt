@@ -1,13 +1,13 @@
--- `packing::write_type` meets its contract: by what stands at the entry.
+-- `packing::write_once` meets its contract: by what stands at the entry.
 -- Assumes nothing.
 use borrow.Author.Needs.{needs}
 use native.Mathlib.Omega.{arith}
 use Rattle.walk.proofs.Returns.{tree-looked, type-did, met-leaf, met-members, met-elements, met-broken}
-use Rattle.packing.proofs.write_type.Statement.{statement}
-use Rattle.packing.proofs.write_type.Tie as tie
+use Rattle.packing.proofs.write_once.Statement.{statement}
+use Rattle.packing.proofs.write_once.Tie as tie
 
-pub write-type-spec : {M : Type 1} → statement M
-write-type-spec =
+pub write-once-spec : {M : Type 1} → statement M
+write-once-spec =
     tie.close
     (tie.spec
     (λ c κs. search needs)

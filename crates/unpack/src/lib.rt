@@ -20,7 +20,7 @@ pub fn read_type(table: &[u8], s: Sections, i: u16, payload: &[u8], words: &mut 
         Walked::Stopped(n, q) => Walked::Stopped(n, q),
         Walked::Went(q) => {
             if walk::fits(q, payload.len(), words.len()) {
-                unpacking::read_type(table, s, i, payload, words)
+                unpacking::read_once(table, s, i, payload, words)
             } else {
                 Walked::Went(q)
             }
@@ -34,5 +34,5 @@ fn first_read(table: &[u8], s: Sections, i: u16, payload: &[u8], words: &mut [u6
     ensures { λ r. ⌜ r ≡ answer (typeWalk (reader (now (payload .entry))) (now (table .entry)) s i start []) ⌝ }
 {
     let no_word = 0;
-    unpacking::read_type(table, s, i, payload, &mut words[..no_word])
+    unpacking::read_once(table, s, i, payload, &mut words[..no_word])
 }

@@ -1,9 +1,9 @@
--- `whole_packing::write_type` meets its contract: the second walk ends as the first.
+-- `pack::write_type` meets its contract: the second walk ends as the first.
 -- Assumes nothing.
 use borrow.Author.Needs.{needs}
 use Rattle.walk.proofs.Whole.{refused, not-whole, all-stored}
-use Rattle.whole_packing.proofs.write_type.Statement.{statement}
-use Rattle.whole_packing.proofs.write_type.Tie as tie
+use Rattle.pack.proofs.write_type.Statement.{statement}
+use Rattle.pack.proofs.write_type.Tie as tie
 
 pub write-type-spec : {M : Type 1} → statement M
 write-type-spec =
@@ -17,6 +17,6 @@ write-type-spec =
     (λ c. search needs)
     (λ c. refused _ _ _ _ _ _ _ (c .before .before .before .before .before .first-write .ensures .1) _ (c .before .before .before .before .before .first-write .ensures .0) _ _ (c .before .n .given .1))
     (λ c. search needs)
-    (λ c. all-stored _ _ _ _ _ _ _ (c .before .before .before .before .before .before .before .before .before .before .before .first-write .ensures .1) _ (c .before .before .before .before .before .before .before .before .before .before .before .first-write .ensures .0) _ (c .before .before .before .before .before .before .before .q .given .1) _ (c .before .before .before .before .before .fits2 .ensures) _ _ (c .before .before .before .before .if1 .taken) (c .before .before .write-type .ensures .0) (c .before .before .write-type .ensures .1))
+    (λ c. all-stored _ _ _ _ _ _ _ (c .before .before .before .before .before .before .before .before .before .before .before .first-write .ensures .1) _ (c .before .before .before .before .before .before .before .before .before .before .before .first-write .ensures .0) _ (c .before .before .before .before .before .before .before .q .given .1) _ (c .before .before .before .before .before .fits2 .ensures) _ _ (c .before .before .before .before .if1 .taken) (c .before .before .write-once .ensures .0) (c .before .before .write-once .ensures .1))
     (λ c. search needs)
     (λ c. not-whole _ _ _ _ _ _ _ (c .before .before .before .before .before .before .before .first-write .ensures .1) _ (c .before .before .before .before .before .before .before .first-write .ensures .0) _ (c .before .before .before .q .given .1) _ (c .before .fits2 .ensures) (c .if1 .left)))

@@ -1,13 +1,13 @@
--- `unpacking::read_type` meets its contract: by what stands at the entry.
+-- `unpacking::read_once` meets its contract: by what stands at the entry.
 -- Assumes nothing.
 use borrow.Author.Needs.{needs}
 use native.Mathlib.Omega.{arith}
 use Rattle.walk.proofs.Returns.{tree-looked, type-did, met-leaf, met-members, met-elements, met-broken}
-use Rattle.unpacking.proofs.read_type.Statement.{statement}
-use Rattle.unpacking.proofs.read_type.Tie as tie
+use Rattle.unpacking.proofs.read_once.Statement.{statement}
+use Rattle.unpacking.proofs.read_once.Tie as tie
 
-pub read-type-spec : {M : Type 1} → statement M
-read-type-spec =
+pub read-once-spec : {M : Type 1} → statement M
+read-once-spec =
     tie.close
     (tie.spec
     (λ c κs. search needs)

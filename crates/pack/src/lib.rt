@@ -19,7 +19,7 @@ pub fn write_type(table: &[u8], s: Sections, i: u16, words: &[u64], out: &mut [u
         Walked::Stopped(n, q) => Walked::Stopped(n, q),
         Walked::Went(q) => {
             if walk::fits(q, words.len(), out.len()) {
-                packing::write_type(table, s, i, words, out)
+                packing::write_once(table, s, i, words, out)
             } else {
                 Walked::Went(q)
             }
@@ -33,5 +33,5 @@ fn first_write(table: &[u8], s: Sections, i: u16, words: &[u64], out: &mut [u8])
     ensures { λ r. ⌜ r ≡ answer (typeWalk (writer (now (words .entry))) (now (table .entry)) s i start []) ⌝ }
 {
     let no_byte = 0;
-    packing::write_type(table, s, i, words, &mut out[..no_byte])
+    packing::write_once(table, s, i, words, &mut out[..no_byte])
 }

@@ -1,0 +1,19 @@
+-- `pack::first_write` meets its contract: there is no room to store in.
+-- Assumes nothing.
+use borrow.Author.Needs.{needs}
+use mathlib.Core.Path.{sym}
+use native.Mathlib.Omega.{arith}
+use lib.Seq.{length-take-le}
+use Rattle.walk.proofs.Whole.{nothing-left}
+use Rattle.pack.proofs.first_write.Statement.{statement}
+use Rattle.pack.proofs.first_write.Tie as tie
+
+pub first-write-spec : {M : Type 1} → statement M
+first-write-spec =
+    tie.close
+    (tie.spec
+    (λ c. search needs)
+    (λ c. sym (length-take-le _ (c .before .before .before .before .args .out .now) (omega arith)))
+    (λ c κs. search needs)
+    (λ c. search needs)
+    (λ c. (nothing-left (c .before .before .write-once .last .1 .1 .1 .1 .0) (c .before .before .before .before .before .before .before .args .out .now) (c .before .before .write-once .kept .1 .1 .1 .1 .0), c .before .before .write-once .ensures .0)))
