@@ -17,7 +17,7 @@ use Rattle.walk.specs.declared.Walked.the-variants as walked
 use Rattle.payload.specs.declared.Answer.{Answer}
 use Rattle.payload.specs.declared.Answer.the-variants.{Refused, Stopped, Gave}
 use Rattle.walk.specs.Walk.{Codec, start, leftOver, answer, left, typeWalk}
-use Rattle.unpacking.specs.Reading.{reader}
+use Rattle.unpack.specs.Reading.{reader}
 use Rattle.packing.specs.Writing.{writer}
 
 abbrev pub noSuchType : ℕ

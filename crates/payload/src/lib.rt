@@ -6,7 +6,7 @@ ghost use mathlib.Core.Path.{_≡_};
 ghost use mathlib.Core.List.{[]};
 ghost use lib.ListN.{length};
 ghost use Rattle.walk.specs.Walk.{start, answer, left, typeWalk};
-ghost use Rattle.unpacking.specs.Reading.{reader};
+ghost use Rattle.unpack.specs.Reading.{reader};
 ghost use Rattle.packing.specs.Writing.{writer};
 ghost use Rattle.payload.specs.Calls.{answered, answeredType, leftBy, unpackedIn, wordsIn, unpacked, wordsAfter, packedIn, bytesIn, packed, bytesAfter};
 

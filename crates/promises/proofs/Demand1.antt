@@ -32,7 +32,7 @@ use Rattle.joiner.proofs.Standing.{refusal-keeps-joiner, refusal-keeps-rooms}
 use Rattle.payload.specs.declared.Answer.{Answer}
 use Rattle.payload.specs.declared.Answer.the-variants as answer
 use Rattle.walk.specs.Walk.{Codec, left, typeWalk}
-use Rattle.unpacking.specs.Reading.{reader}
+use Rattle.unpack.specs.Reading.{reader}
 use Rattle.packing.specs.Writing.{writer}
 use Rattle.walk.specs.Walk.{start}
 use Rattle.payload.specs.Calls.{answeredIn, leftBy, leftIn, answeredIf, leftIf}

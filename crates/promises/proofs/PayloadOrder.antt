@@ -19,7 +19,7 @@ use Rattle.types.proofs.Accepted.{accepted, is-within}
 use Rattle.payload.specs.declared.Answer.the-variants.{Refused, Stopped, Gave}
 use Rattle.walk.specs.Tree.{Tree, leaf, row, array, broken, tree}
 use Rattle.walk.specs.Walk.{Step, on, stop, answer, next as goOn, through, Codec, item, counted, countCode, walk, typeWalk}
-use Rattle.unpacking.specs.Reading.{reader}
+use Rattle.unpack.specs.Reading.{reader}
 use Rattle.packing.specs.Writing.{writer}
 use Rattle.walk.specs.Walk.{start}
 use Rattle.payload.specs.Calls.{answered, answeredType, answeredIn, answeredIf}

@@ -10,7 +10,7 @@ use Rattle.table.specs.declared.Sections.{Sections}
 use Rattle.types.proofs.Accepted.{accepted, is-within}
 use Rattle.payload.specs.declared.Answer.the-variants.{Gave}
 use Rattle.values.specs.Values.{Value, Spoken, BooleansAsOne, exact}
-use Rattle.unpacking.specs.Reading.{reader}
+use Rattle.unpack.specs.Reading.{reader}
 use Rattle.packing.specs.Writing.{writer}
 use Rattle.payload.specs.Calls.{unpackedIn, wordsIn, packedIn, bytesIn, unpacked, wordsAfter, packed, bytesAfter}
 use Rattle.values.proofs.Exactly.{Callable, Calls, packs-values, values-pack, Unpacks, unpacks-forms, forms-unpack}

@@ -38,11 +38,11 @@ use Rattle.walk.proofs.look.Reads.{Post as walk-look}
 use Rattle.walk.proofs.base_at.Reads.{Post as walk-base-at}
 use Rattle.walk.proofs.fits.Reads.{Post as walk-fits}
 use Rattle.walk.proofs.runs.base_codes.Reads.{Post as walk-runs-base-codes}
-use Rattle.unpacking_leaves.proofs.judge_codes.Reads.{Post as unpacking-leaves-judge-codes}
-use Rattle.unpacking_leaves.proofs.store_codes.Reads.{Post as unpacking-leaves-store-codes}
-use Rattle.unpacking_leaves.proofs.runs.judge_run.Reads.{Post as unpacking-leaves-judge-run}
-use Rattle.unpacking_leaves.proofs.runs.store_run.Reads.{Post as unpacking-leaves-store-run}
-use Rattle.unpacking.proofs.read_once.Reads.{Post as unpacking-read-type}
+use Rattle.unpack.proofs.judge_codes.Reads.{Post as unpacking-leaves-judge-codes}
+use Rattle.unpack.proofs.store_codes.Reads.{Post as unpacking-leaves-store-codes}
+use Rattle.unpack.proofs.runs.judge_run.Reads.{Post as unpacking-leaves-judge-run}
+use Rattle.unpack.proofs.runs.store_run.Reads.{Post as unpacking-leaves-store-run}
+use Rattle.unpack.proofs.read_once.Reads.{Post as unpacking-read-type}
 use Rattle.unpack.proofs.read_type.Reads.{Post as whole-unpacking-read-type}
 use Rattle.packing_leaves.proofs.judge_codes.Reads.{Post as packing-leaves-judge-codes}
 use Rattle.packing_leaves.proofs.store_codes.Reads.{Post as packing-leaves-store-codes}

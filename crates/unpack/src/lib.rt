@@ -1,14 +1,22 @@
 // A payload is unpacked whole or not at all: what is refused, even at its end, changes nothing. So it is judged before any word is
 // stored.
+mod bases;
+mod by_codes;
+pub mod runs;
+mod walking;
 
+pub use by_codes::Part;
+pub use by_codes::judge_codes;
+pub use by_codes::store_codes;
 use table::Sections;
 use walk::Walked;
+pub use walking::read_once;
 ghost use mathlib.Core.Path.{_≡_};
 ghost use mathlib.Core.List.{[]};
 ghost use lib.ListN.{length};
 ghost use Rattle.walk.specs.Walk.{start, answer, typeWalk};
 ghost use Rattle.walk.specs.Whole.{allOrNothing};
-ghost use Rattle.unpacking.specs.Reading.{reader};
+ghost use Rattle.unpack.specs.Reading.{reader};
 
 // Unpacks a payload as type i, and stores its words where all of it was read and there is room for all of them. Walks
 // twice: over no room, to judge, and once more to store. Answers what the walk comes to.
@@ -20,7 +28,7 @@ pub fn read_type(table: &[u8], s: Sections, i: u16, payload: &[u8], words: &mut 
         Walked::Stopped(n, q) => Walked::Stopped(n, q),
         Walked::Went(q) => {
             if walk::fits(q, payload.len(), words.len()) {
-                unpacking::read_once(table, s, i, payload, words)
+                walking::read_once(table, s, i, payload, words)
             } else {
                 Walked::Went(q)
             }
@@ -34,5 +42,5 @@ fn first_read(table: &[u8], s: Sections, i: u16, payload: &[u8], words: &mut [u6
     ensures { λ r. ⌜ r ≡ answer (typeWalk (reader (now (payload .entry))) (now (table .entry)) s i start []) ⌝ }
 {
     let no_word = 0;
-    unpacking::read_once(table, s, i, payload, &mut words[..no_word])
+    walking::read_once(table, s, i, payload, &mut words[..no_word])
 }

@@ -17,7 +17,7 @@ use Rattle.leaf.proofs.Leaves.{real, length-form, length-said, word-said, word-
 use Rattle.walk.specs.declared.Place.{Place}
 use Rattle.walk.specs.Tree.{leaf}
 use Rattle.walk.specs.Walk.{left}
-use Rattle.unpacking.specs.Reading.{reader}
+use Rattle.unpack.specs.Reading.{reader}
 use Rattle.packing.specs.Writing.{writer}
 use Rattle.values.specs.Values.{exact, loose}
 use Rattle.walk.proofs.Walks.{value-bytes}

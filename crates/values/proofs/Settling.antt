@@ -16,7 +16,7 @@ use Rattle.leaf.proofs.Leaves.{length-form, length-said}
 use Rattle.walk.specs.declared.Place.{Place}
 use Rattle.walk.specs.Tree.{Tree, tree}
 use Rattle.walk.specs.Walk.{Step, on, start, Codec, walk}
-use Rattle.unpacking.specs.Reading.{reader}
+use Rattle.unpack.specs.Reading.{reader}
 use Rattle.payload.specs.declared.Answer.the-variants.{Gave}
 use Rattle.payload.specs.Calls.{unpackedIn, wordsIn, bytesIn}
 use Rattle.values.specs.Values.{Over, settled, Settled, AsOne, BooleansAsOne}

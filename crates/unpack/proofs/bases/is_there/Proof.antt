@@ -1,0 +1,19 @@
+-- `unpack::bases::is_there` meets its contract: the three ends of a base's leaf.
+-- Assumes nothing.
+use borrow.Author.Needs.{needs}
+use native.Mathlib.Omega.{arith}
+use Rattle.unpack.proofs.OneLeaf.{cut-off, all-there, surely, judged}
+use Rattle.unpack.proofs.bases.is_there.Statement.{statement}
+use Rattle.unpack.proofs.bases.is_there.Tie as tie
+
+pub is-there-spec : {M : Type 1} → statement M
+is-there-spec =
+    tie.close
+    (tie.spec
+    (λ c. search needs)
+    (λ c κs. search needs)
+    (λ c. search cut-off)
+    (λ c. surely _ _ _ _ (c .before .before .before .before .pre) (c .before .before .width .ensures) (c .before .if1 .left) (λ k. omega (arith, c .before .before .before .shared-slice-known .given k)) (c .if2 .taken))
+    (λ c κs. search all-there)
+    (λ c κs. search needs)
+    (λ c. search judged))

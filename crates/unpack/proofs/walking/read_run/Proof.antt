@@ -1,0 +1,23 @@
+-- `unpack::read_run` meets its contract: all elements, or none of them.
+-- Assumes nothing.
+use borrow.Author.Needs.{needs}
+use mathlib.Core.Path.{refl}
+use Rattle.walk.proofs.Walks.{through-none}
+use Rattle.unpack.proofs.WholeRuns.{bytes-fit}
+use Rattle.unpack.proofs.ReadBases.{run-reading, run-from-fits, run-to-fits, run-many, run-goes}
+use Rattle.unpack.proofs.walking.read_run.Statement.{statement}
+use Rattle.unpack.proofs.walking.read_run.Tie as tie
+
+pub read-run-spec : {M : Type 1} → statement M
+read-run-spec =
+    tie.close
+    (tie.spec
+    (λ c κs. search needs)
+    (λ c κs. search needs)
+    (λ c κs. search needs)
+    (λ c. search bytes-fit)
+    (λ c. search run-from-fits)
+    (λ c. search run-to-fits)
+    (λ c. search run-many)
+    (λ c. ((search needs, search run-reading), (search run-many, λ f g. search run-goes)))
+    (λ c. ((search needs, search needs), (refl, λ f g. through-none f _ _))))

@@ -1,0 +1,4 @@
+pub mod Reading
+pub mod Leaves
+pub mod OneCode
+pub mod Steps

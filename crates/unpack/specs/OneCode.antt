@@ -1,0 +1,26 @@
+-- Leaves of one base code, one behind another.
+use Prim.Native.Nat.{ℕ, zero, suc, _+_, _*_}
+use mathlib.Core.Bool.{Bool, _&&_}
+use mathlib.Core.List.{List}
+use lib.Dec.{leb}
+use lib.ListN.{length}
+use Rattle.table.specs.All.{allBelow}
+use Rattle.table.specs.Leaf.{width, allowed}
+use Rattle.leaf.specs.Forms.{wordAt}
+use Rattle.walk.specs.declared.Place.{Place}
+use Rattle.unpack.specs.Leaves.{stored}
+
+-- where the k-th stands, whether its word is allowed, and what is left of the words behind k of them
+abbrev pub along : ℕ → Place → ℕ → Place
+along code p k = record { from = p .from + k * width code; to = p .to + k }
+
+abbrev pub isGood : List ℕ → ℕ → ℕ → ℕ → Bool
+isGood b code from k = allowed code (wordAt code b (from + k * width code))
+
+unfoldable pub filled : List ℕ → ℕ → Place → ℕ → List ℕ → List ℕ
+filled b code p zero x = x
+filled b code p (suc k) x = stored b code (along code p k) (filled b code p k x)
+
+-- so many are all there and allowed
+unfoldable pub runThere : List ℕ → ℕ → ℕ → ℕ → Bool
+runThere b code from n = leb (from + n * width code) (length b) && allBelow (isGood b code from) n

@@ -1,0 +1,77 @@
+// A leaf of a base code whose bytes are there.
+ghost use mathlib.Core.Path.{_≡_};
+ghost use Prim.Native.Nat.{_+_, _≤_};
+ghost use lib.ListN.{length};
+ghost use Rattle.wire.specs.Bytes.{number};
+ghost use Rattle.table.specs.Leaf.{width};
+ghost use Rattle.leaf.specs.Forms.{wordAt};
+ghost use Rattle.unpack.specs.Leaves.{isThere};
+
+// float32 and, behind it, double64: the codes of which not every word is allowed.
+pub(crate) const FLOAT32: u16 = 11;
+
+// Whether a leaf of the base code is there, and its word is allowed: of all but the floats every word is.
+pub(crate) fn is_there(payload: &[u8], from: usize, code: u16) -> bool
+    requires { ⌜ from ≤ length (now payload) ⌝ }
+    ensures { λ r. ⌜ r ≡ isThere (now (payload .entry)) code from ⌝ }
+{
+    if payload.len() - from < leaf::width(code) {
+        return false;
+    }
+    if code < FLOAT32 {
+        return true;
+    }
+    leaf::allowed(code, word_in(payload, from, code))
+}
+
+// The word of a leaf that is there.
+pub(crate) fn word_in(s: &[u8], at: usize, code: u16) -> u64
+    requires { ⌜ at + width code ≤ length (now s) ⌝ }
+    ensures { λ r. ⌜ r ≡ wordAt code (now (s .entry)) at ⌝ }
+{
+    match code {
+        0 => leaf::truth(u8_in(s, at)),
+        1 => leaf::signed8(u8_in(s, at)),
+        2 => u8_in(s, at) as u64,
+        3 => leaf::signed16(u16_in(s, at)),
+        4 => leaf::signed32(u32_in(s, at)),
+        5 => u64_in(s, at),
+        6 => u8_in(s, at) as u64,
+        7 => u8_in(s, at) as u64,
+        8 => u16_in(s, at) as u64,
+        9 => u32_in(s, at) as u64,
+        10 => u64_in(s, at),
+        11 => u32_in(s, at) as u64,
+        12 => u64_in(s, at),
+        _ => 0,
+    }
+}
+
+fn u8_in(s: &[u8], at: usize) -> u8
+    requires { ⌜ at + 1 ≤ length (now s) ⌝ }
+    ensures { λ r. ⌜ r ≡ number 0 (now (s .entry)) at ⌝ }
+{
+    s[at]
+}
+
+// Numbers that are there: in a part of just their length the compiler sees that they are, and makes one load of each.
+fn u16_in(s: &[u8], at: usize) -> u16
+    requires { ⌜ at + 2 ≤ length (now s) ⌝ }
+    ensures { λ r. ⌜ r ≡ number 1 (now (s .entry)) at ⌝ }
+{
+    wire::whole_u16(&s[at..at + 2], 0)
+}
+
+fn u32_in(s: &[u8], at: usize) -> u32
+    requires { ⌜ at + 4 ≤ length (now s) ⌝ }
+    ensures { λ r. ⌜ r ≡ number 2 (now (s .entry)) at ⌝ }
+{
+    wire::whole_u32(&s[at..at + 4], 0)
+}
+
+fn u64_in(s: &[u8], at: usize) -> u64
+    requires { ⌜ at + 8 ≤ length (now s) ⌝ }
+    ensures { λ r. ⌜ r ≡ number 3 (now (s .entry)) at ⌝ }
+{
+    wire::whole_u64(&s[at..at + 8], 0)
+}

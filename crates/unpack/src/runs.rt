@@ -1,0 +1,171 @@
+// The leaves of an array of one base code, one behind another: judged in one loop and stored in another, neither with a test of
+// its own inside, so that the compiler takes several leaves at once. A call for each code, so that it makes loops for each.
+use crate::bases;
+use walk::Place;
+ghost use mathlib.Core.Path.{_≡_};
+ghost use mathlib.Core.Bool.{true, _||_, cond};
+ghost use Prim.Native.Nat.{_+_, _*_, _/_, _%_, _≤_, _<_};
+ghost use lib.Dec.{leb, eqb};
+ghost use lib.ListN.{length};
+ghost use Rattle.wire.specs.Bytes.{number};
+ghost use Rattle.table.specs.All.{allBelow};
+ghost use Rattle.table.specs.Leaf.{width, allowed};
+ghost use Rattle.unpack.specs.OneCode.{isGood, filled, runThere};
+
+// Whether so many leaves of one code are all there and allowed.
+pub fn judge_run(payload: &[u8], from: usize, code: u16, count: u32) -> bool
+    ensures { λ r. ⌜ r ≡ runThere (now (payload .entry)) code from count ⌝ }
+{
+    match code {
+        0 => judge_each(payload, from, 0, count),
+        1 => judge_each(payload, from, 1, count),
+        2 => judge_each(payload, from, 2, count),
+        3 => judge_each(payload, from, 3, count),
+        4 => judge_each(payload, from, 4, count),
+        5 => judge_each(payload, from, 5, count),
+        6 => judge_each(payload, from, 6, count),
+        7 => judge_each(payload, from, 7, count),
+        8 => judge_each(payload, from, 8, count),
+        9 => judge_each(payload, from, 9, count),
+        10 => judge_each(payload, from, 10, count),
+        11 => judge_each(payload, from, 11, count),
+        12 => judge_each(payload, from, 12, count),
+        _ => (count == 0) & (from <= payload.len()),
+    }
+}
+
+fn judge_each(payload: &[u8], from: usize, code: u16, count: u32) -> bool
+    ensures { λ r. ⌜ r ≡ runThere (now (payload .entry)) code from count ⌝ }
+{
+    let many = count as usize;
+    if wire::has_room(payload.len(), from, many * leaf::width(code)) {
+        judged(payload, from, code, many)
+    } else {
+        false
+    }
+}
+
+// Whether the words of so many leaves are allowed: of all but the floats every word is. The refused are counted, and not left
+// at the first.
+fn judged(payload: &[u8], from: usize, code: u16, count: usize) -> bool
+    requires { ⌜ (from + count * width code ≤ length (now payload)) × (count < 4294967296) ⌝ }
+    ensures { λ r. ⌜ r ≡ allBelow (isGood (now (payload .entry)) code from) count ⌝ }
+{
+    if code < bases::FLOAT32 {
+        return true;
+    }
+    let width = leaf::width(code);
+    let mut bad: u32 = 0;
+    let mut seen: usize = 0;
+    while seen < count {
+        bad += refused(code, bases::word_in(payload, from + seen * width, code));
+        seen += 1;
+    }
+    bad == 0
+}
+
+fn refused(code: u16, word: u64) -> u32
+    ensures { λ r. ⌜ (r ≤ 1) × (r ≡ cond (allowed code word) 0 1) ⌝ }
+{
+    if leaf::allowed(code, word) { 0 } else { 1 }
+}
+
+// Stores the words of so many leaves of one code where all their bytes are there, each word where there is room for it.
+pub fn store_run(payload: &[u8], words: &mut [u64], code: u16, count: u32, p: Place)
+    ensures { λ _. ⌜ now (words .exit) ≡ cond (leb (p .from + count * width code) (length (now (payload .entry)))) (filled (now (payload .entry)) code p count (now (words .entry))) (now (words .entry)) ⌝ }
+{
+    match code {
+        0 => store_each(payload, words, 0, count, p),
+        1 => store_each(payload, words, 1, count, p),
+        2 => store_each(payload, words, 2, count, p),
+        3 => store_each(payload, words, 3, count, p),
+        4 => store_each(payload, words, 4, count, p),
+        5 => store_each(payload, words, 5, count, p),
+        6 => store_each(payload, words, 6, count, p),
+        7 => store_each(payload, words, 7, count, p),
+        8 => store_each(payload, words, 8, count, p),
+        9 => store_each(payload, words, 9, count, p),
+        10 => store_each(payload, words, 10, count, p),
+        11 => store_each(payload, words, 11, count, p),
+        12 => store_each(payload, words, 12, count, p),
+        _ => store_each(payload, words, code, count, p),
+    }
+}
+
+fn store_each(payload: &[u8], words: &mut [u64], code: u16, count: u32, p: Place)
+    ensures { λ _. ⌜ now (words .exit) ≡ cond (leb (p .from + count * width code) (length (now (payload .entry)))) (filled (now (payload .entry)) code p count (now (words .entry))) (now (words .entry)) ⌝ }
+{
+    let many = count as usize;
+    if wire::has_room(payload.len(), p.from, many * leaf::width(code)) {
+        put_run(payload, words, code, many, p);
+    }
+}
+
+// As far as there is room for them.
+fn put_run(payload: &[u8], words: &mut [u64], code: u16, count: usize, p: Place)
+    requires { ⌜ p .from + count * width code ≤ length (now payload) ⌝ }
+    ensures { λ _. ⌜ now (words .exit) ≡ filled (now (payload .entry)) code p count (now (words .entry)) ⌝ }
+{
+    if p.to < words.len() {
+        let room = least(count, words.len() - p.to);
+        if is_whole4(code) {
+            store_pairs(payload, words, code, room, p);
+        } else {
+            store(payload, words, code, room, p);
+        }
+    }
+}
+
+fn store(payload: &[u8], words: &mut [u64], code: u16, count: usize, p: Place)
+    requires { ⌜ (p .from + count * width code ≤ length (now payload)) × (p .to + count ≤ length (now words)) ⌝ }
+    ensures { λ _. ⌜ now (words .exit) ≡ filled (now (payload .entry)) code p count (now (words .entry)) ⌝ }
+{
+    let width = leaf::width(code);
+    let mut done: usize = 0;
+    while done < count {
+        words[p.to + done] = bases::word_in(payload, p.from + done * width, code);
+        done += 1;
+    }
+}
+
+// The same for codes whose word is the number of four bytes itself: of two leaves one load. By itself the compiler takes more of
+// them at once, and loses that again by bringing them into order.
+fn store_pairs(payload: &[u8], words: &mut [u64], code: u16, count: usize, p: Place)
+    requires { ⌜ (p .from + count * 4 ≤ length (now payload)) × (p .to + count ≤ length (now words)) ⌝ }
+    requires { ⌜ (eqb code 9 || eqb code 11) ≡ true ⌝ }
+    ensures { λ _. ⌜ now (words .exit) ≡ filled (now (payload .entry)) code p count (now (words .entry)) ⌝ }
+{
+    let pairs = count / 2;
+    let mut k: usize = 0;
+    while k < pairs {
+        let to = p.to + 2 * k;
+        let two = two_in(payload, p.from + k * 8);
+        words[to] = two / 4294967296;
+        words[to + 1] = two % 4294967296;
+        k += 1;
+    }
+    if 2 * pairs < count {
+        words[p.to + 2 * pairs] = bases::word_in(payload, p.from + pairs * 8, code);
+    }
+}
+
+// Two numbers of four bytes, as the halves of one.
+fn two_in(payload: &[u8], at: usize) -> u64
+    requires { ⌜ at + 8 ≤ length (now payload) ⌝ }
+    ensures { λ r. ⌜ (r / 4294967296 ≡ number 2 (now (payload .entry)) at) × (r % 4294967296 ≡ number 2 (now (payload .entry)) (at + 4)) ⌝ }
+{
+    wire::whole_u64(&payload[at..at + 8], 0)
+}
+
+// uint32 and float32.
+fn is_whole4(code: u16) -> bool
+    ensures { λ r. ⌜ r ≡ (eqb code 9 || eqb code 11) ⌝ }
+{
+    (code == 9) | (code == 11)
+}
+
+pub(crate) fn least(a: usize, b: usize) -> usize
+    ensures { λ r. ⌜ (r ≤ a) × (r ≤ b) × (r < a → b ≤ r) ⌝ }
+{
+    if a < b { a } else { b }
+}

@@ -1,0 +1,270 @@
+// Reading a payload: the reader of a record's members and the reader of an array's elements call each other, each by the kind
+// of what it meets, and the type number falls at each entry.
+use table::Entry;
+use table::Sections;
+use walk::Met;
+use walk::Place;
+use walk::Walked;
+ghost use mathlib.Core.Path.{_≡_};
+ghost use Prim.Native.Nat.{ℕ, _+_, _≤_};
+ghost use lib.ListN.{length};
+ghost use Rattle.walk.specs.declared.Met.the-variants.{Members, Elements};
+ghost use Rattle.wire.specs.Bytes.{written};
+ghost use mathlib.Core.List.{List, [], _∷_};
+ghost use Rattle.walk.specs.declared.Place.{Place};
+ghost use Rattle.walk.specs.Walk.{Step, on, through, start, answer, left, begun, times, leafWalk, metWalk, typeWalk};
+ghost use Rattle.unpack.specs.Steps.{Reads, ReadsCodes};
+ghost use Rattle.unpack.specs.Reading.{reader, Reading, memberRead, Goes};
+use crate::by_codes;
+use crate::runs;
+
+// An array's count: its bytes on the wire, and its words.
+const COUNT_BYTES: usize = 4;
+
+const COUNT_WORDS: usize = 1;
+
+// How many base codes of a record's members are read at once.
+const MOST_CODES: usize = 64;
+
+// How far a run of leaves was read: up to which member or element, and where it ends.
+struct Run {
+    upto: u32,
+    at: Place,
+}
+
+// Unpacks a payload as type i, and stores each word where there is room for it.
+pub fn read_once(table: &[u8], s: Sections, i: u16, payload: &[u8], words: &mut [u64]) -> Walked
+    ensures { λ r. ⌜ r ≡ answer (typeWalk (reader (now (payload .entry))) (now (table .entry)) s i start (now (words .entry))) ⌝ }
+    ensures { λ _. ⌜ now (words .exit) ≡ left (typeWalk (reader (now (payload .entry))) (now (table .entry)) s i start (now (words .entry))) ⌝ }
+{
+    let p = Place { from: 0, to: 0 };
+    match walk::look(table, s, i) {
+        Met::Leaf(e) => read_leaf(table, s, e, payload, words, p),
+        Met::Members(e) => read_members(table, s, i, e, payload, words, p),
+        Met::Elements(e) => read_elements(table, s, i, e, payload, words, p),
+        Met::Broken => Walked::Stopped(types::RULE_BROKEN, p),
+    }
+}
+
+// Reads the members of a record, whose type number is i and entry e.
+fn read_members(
+    table: &[u8],
+    s: Sections,
+    i: u16,
+    e: Entry,
+    payload: &[u8],
+    words: &mut [u64],
+    p: Place,
+) -> Walked
+    requires { ⌜ Reading (now payload) p ⌝ }
+    ensures { λ r. ⌜ r ≡ answer (metWalk (reader (now (payload .entry))) (now (table .entry)) s i (Members e) p (now (words .entry))) ⌝ }
+    ensures { λ _. ⌜ now (words .exit) ≡ left (metWalk (reader (now (payload .entry))) (now (table .entry)) s i (Members e) p (now (words .entry))) ⌝ }
+{
+    let count = e.count as u32;
+    let mut at = p;
+    let mut k: u32 = 0;
+    while k < count {
+        let run = read_bases(table, s, i, e, k, payload, words, at);
+        let next = run.upto;
+        let here = run.at;
+        if next == count {
+            return Walked::Went(here);
+        }
+        let child = table::entries::member_at(table, s, e.first as u32 + next);
+        let step = match walk::meet(table, s, i, child) {
+            Met::Leaf(c) => read_leaf(table, s, c, payload, words, here),
+            Met::Members(c) => read_members(table, s, child, c, payload, words, here),
+            Met::Elements(c) => read_elements(table, s, child, c, payload, words, here),
+            Met::Broken => Walked::Stopped(types::RULE_BROKEN, here),
+        };
+        match step {
+            Walked::Went(q) => {
+                at = q;
+                k = next + 1;
+            }
+            Walked::Stopped(n, q) => return Walked::Stopped(n, q),
+        }
+    }
+    Walked::Went(at)
+}
+
+// Reads the elements of an array, whose type number is i and entry e, behind its count where it has one.
+fn read_elements(
+    table: &[u8],
+    s: Sections,
+    i: u16,
+    e: Entry,
+    payload: &[u8],
+    words: &mut [u64],
+    p: Place,
+) -> Walked
+    requires { ⌜ Reading (now payload) p ⌝ }
+    ensures { λ r. ⌜ r ≡ answer (metWalk (reader (now (payload .entry))) (now (table .entry)) s i (Elements e) p (now (words .entry))) ⌝ }
+    ensures { λ _. ⌜ now (words .exit) ≡ left (metWalk (reader (now (payload .entry))) (now (table .entry)) s i (Elements e) p (now (words .entry))) ⌝ }
+{
+    let child = e.of;
+    let met = walk::meet(table, s, i, child);
+    let count = times(payload, e, p);
+    match begin(payload, words, e, p) {
+        Walked::Stopped(n, q) => Walked::Stopped(n, q),
+        Walked::Went(q) => {
+            let code = walk::base_at(table, s, i, child);
+            let run = read_run(payload, words, code, count, q);
+            let mut at = run.at;
+            let mut k = run.upto;
+            while k < count {
+                let step = match met {
+                    Met::Leaf(c) => read_leaf(table, s, c, payload, words, at),
+                    Met::Members(c) => read_members(table, s, child, c, payload, words, at),
+                    Met::Elements(c) => read_elements(table, s, child, c, payload, words, at),
+                    Met::Broken => Walked::Stopped(types::RULE_BROKEN, at),
+                };
+                match step {
+                    Walked::Went(q) => {
+                        at = q;
+                        k += 1;
+                    }
+                    Walked::Stopped(n, q) => return Walked::Stopped(n, q),
+                }
+            }
+            Walked::Went(at)
+        }
+    }
+}
+
+// How many elements there are: a fixed array's length, or the count that stands at the place.
+fn times(payload: &[u8], e: Entry, p: Place) -> u32
+    ensures { λ r. ⌜ r ≡ times (reader (now (payload .entry))) e p ⌝ }
+{
+    if e.kind == table::FIXED {
+        e.count as u32
+    } else {
+        wire::u32_at(payload, p.from)
+    }
+}
+
+// What comes before the elements: nothing, or a count of at most the entry's.
+fn begin(payload: &[u8], words: &mut [u64], e: Entry, p: Place) -> Walked
+    requires { ⌜ Reading (now payload) p ⌝ }
+    ensures { λ r. ⌜ r ≡ answer (begun (reader (now (payload .entry))) e p (now (words .entry))) ⌝ }
+    ensures { λ _. ⌜ now (words .exit) ≡ left (begun (reader (now (payload .entry))) e p (now (words .entry))) ⌝ }
+{
+    if e.kind == table::FIXED {
+        return Walked::Went(p);
+    }
+    if wire::has_room(payload.len(), p.from, COUNT_BYTES) {
+        let count = wire::u32_at(payload, p.from);
+        if count <= e.count as u32 {
+            put_word(words, p.to, count as u64);
+            Walked::Went(Place {
+                from: p.from + COUNT_BYTES,
+                to: p.to + COUNT_WORDS,
+            })
+        } else {
+            Walked::Stopped(walk::COUNT_OVER, p)
+        }
+    } else {
+        Walked::Stopped(walk::ENDS_EARLY, p)
+    }
+}
+
+// A base or an enum.
+fn read_leaf(
+    table: &[u8],
+    s: Sections,
+    e: Entry,
+    payload: &[u8],
+    words: &mut [u64],
+    p: Place,
+) -> Walked
+    requires { ⌜ Reading (now payload) p ⌝ }
+    ensures { λ r. ⌜ r ≡ answer (leafWalk (reader (now (payload .entry))) (now (table .entry)) s e p (now (words .entry))) ⌝ }
+    ensures { λ _. ⌜ now (words .exit) ≡ left (leafWalk (reader (now (payload .entry))) (now (table .entry)) s e p (now (words .entry))) ⌝ }
+{
+    let width = leaf::width(e.of);
+    if wire::has_room(payload.len(), p.from, width) {
+        let word = leaf::word_at(payload, p.from, e.of);
+        if leaf::takes(table, s, e, word) {
+            put_word(words, p.to, word);
+            Walked::Went(Place {
+                from: p.from + width,
+                to: p.to + 1,
+            })
+        } else {
+            Walked::Stopped(walk::NOT_ALLOWED, p)
+        }
+    } else {
+        Walked::Stopped(walk::ENDS_EARLY, p)
+    }
+}
+
+// Stores the word where there is room for it.
+fn put_word(words: &mut [u64], at: usize, word: u64)
+    ensures { λ _. ⌜ now (words .exit) ≡ written (now (words .entry)) at (word ∷ []) ⌝ }
+{
+    if at < words.len() {
+        words[at] = word;
+    }
+}
+
+// Reads a record's members from the k-th on, up to one that is no base, or whose leaf is refused, and no more at once than there
+// is room for their codes: most members are bases.
+fn read_bases(
+    table: &[u8],
+    s: Sections,
+    i: u16,
+    e: Entry,
+    from: u32,
+    payload: &[u8],
+    words: &mut [u64],
+    p: Place,
+) -> Run
+    requires { ⌜ Reading (now payload) p × (from ≤ e .count) ⌝ }
+    ensures { λ r. ⌜ (from ≤ r .upto) × (r .upto ≤ e .count) × Reading (now (payload .entry)) (r .at) ⌝ }
+    ensures { λ _. ⌜ length (now (words .exit)) ≡ length (now (words .entry)) ⌝ }
+    ensures { λ r. ⌜ Goes (memberRead (now (payload .entry)) (now (table .entry)) s i e) from p (now (words .entry)) (r .upto) (r .at) (now (words .exit)) ⌝ }
+{
+    let mut codes = [0u8; MOST_CODES];
+    let n = walk::runs::base_codes(table, s, i, e, from, &mut codes);
+    read_codes(payload, words, &codes[..n], from, p)
+}
+
+// Reads leaves of these base codes, up to one that is refused: they are the codes of members from the k-th on.
+fn read_codes(payload: &[u8], words: &mut [u64], codes: &[u8], from: u32, p: Place) -> Run
+    requires { ⌜ Reading (now payload) p × (from + length (now codes) ≤ 65535) ⌝ }
+    ensures { λ r. ⌜ (from ≤ r .upto) × (r .upto ≤ from + length (now (codes .entry))) × Reading (now (payload .entry)) (r .at) ⌝ }
+    ensures { λ _. ⌜ length (now (words .exit)) ≡ length (now (words .entry)) ⌝ }
+    ensures { λ r. ⌜ ((f : ℕ → Place → List ℕ → Step) → ReadsCodes (now (payload .entry)) (now (codes .entry)) from f → Goes f from p (now (words .entry)) (r .upto) (r .at) (now (words .exit))) ⌝ }
+{
+    let part = by_codes::judge_codes(payload, codes, p.from);
+    by_codes::store_codes(payload, words, &codes[..part.count], p);
+    Run {
+        upto: from + part.count as u32,
+        at: Place {
+            from: part.from,
+            to: p.to + part.count,
+        },
+    }
+}
+
+// Reads elements of one base code: all of them, or none where one is not there or not allowed.
+fn read_run(payload: &[u8], words: &mut [u64], code: u16, count: u32, p: Place) -> Run
+    requires { ⌜ Reading (now payload) p ⌝ }
+    ensures { λ r. ⌜ (r .upto ≤ count) × Reading (now (payload .entry)) (r .at) ⌝ }
+    ensures { λ _. ⌜ length (now (words .exit)) ≡ length (now (words .entry)) ⌝ }
+    ensures { λ r. ⌜ ((f : ℕ → Place → List ℕ → Step) → Reads (now (payload .entry)) code f → through (r .upto) f p (now (words .entry)) ≡ on (r .at) (now (words .exit))) ⌝ }
+{
+    if runs::judge_run(payload, p.from, code, count) {
+        runs::store_run(payload, words, code, count, p);
+        let many = count as usize;
+        Run {
+            upto: count,
+            at: Place {
+                from: p.from + many * leaf::width(code),
+                to: p.to + many,
+            },
+        }
+    } else {
+        Run { upto: 0, at: p }
+    }
+}

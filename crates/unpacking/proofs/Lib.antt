@@ -1,3 +1,0 @@
-pub mod ReadReturns
-pub mod ReadBases
-pub mod ReadCodes

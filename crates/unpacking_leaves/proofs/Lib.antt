@@ -1,7 +1,0 @@
-pub mod OneLeaf
-pub mod InTurn
-pub mod Counts
-pub mod OneCode
-mod Pairs
-pub mod WholeRuns
-pub mod Loops
