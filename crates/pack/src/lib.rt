@@ -1,13 +1,23 @@
 // Words are packed whole or not at all: what is refused, even at its end, changes nothing. So they are judged before any byte is
 // stored.
+mod bases;
+mod by_codes;
+mod limits;
+pub mod runs;
+mod walking;
+
+pub use by_codes::Part;
+pub use by_codes::judge_codes;
+pub use by_codes::store_codes;
 use table::Sections;
 use walk::Walked;
+pub use walking::write_once;
 ghost use mathlib.Core.Path.{_≡_};
 ghost use mathlib.Core.List.{[]};
 ghost use lib.ListN.{length};
 ghost use Rattle.walk.specs.Walk.{start, answer, typeWalk};
 ghost use Rattle.walk.specs.Whole.{allOrNothing};
-ghost use Rattle.packing.specs.Writing.{writer};
+ghost use Rattle.pack.specs.Writing.{writer};
 
 // Packs the words as a payload of type i, and stores its bytes where all of them were read and there is room for all of it. Answers
 // what the walk comes to.
@@ -19,7 +29,7 @@ pub fn write_type(table: &[u8], s: Sections, i: u16, words: &[u64], out: &mut [u
         Walked::Stopped(n, q) => Walked::Stopped(n, q),
         Walked::Went(q) => {
             if walk::fits(q, words.len(), out.len()) {
-                packing::write_once(table, s, i, words, out)
+                walking::write_once(table, s, i, words, out)
             } else {
                 Walked::Went(q)
             }
@@ -33,5 +43,5 @@ fn first_write(table: &[u8], s: Sections, i: u16, words: &[u64], out: &mut [u8])
     ensures { λ r. ⌜ r ≡ answer (typeWalk (writer (now (words .entry))) (now (table .entry)) s i start []) ⌝ }
 {
     let no_byte = 0;
-    packing::write_once(table, s, i, words, &mut out[..no_byte])
+    walking::write_once(table, s, i, words, &mut out[..no_byte])
 }

@@ -18,7 +18,7 @@ use Rattle.payload.specs.declared.Answer.{Answer}
 use Rattle.payload.specs.declared.Answer.the-variants.{Refused, Stopped, Gave}
 use Rattle.walk.specs.Walk.{Codec, start, leftOver, answer, left, typeWalk}
 use Rattle.unpack.specs.Reading.{reader}
-use Rattle.packing.specs.Writing.{writer}
+use Rattle.pack.specs.Writing.{writer}
 
 abbrev pub noSuchType : ℕ
 noSuchType = 44

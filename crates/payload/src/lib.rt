@@ -7,7 +7,7 @@ ghost use mathlib.Core.List.{[]};
 ghost use lib.ListN.{length};
 ghost use Rattle.walk.specs.Walk.{start, answer, left, typeWalk};
 ghost use Rattle.unpack.specs.Reading.{reader};
-ghost use Rattle.packing.specs.Writing.{writer};
+ghost use Rattle.pack.specs.Writing.{writer};
 ghost use Rattle.payload.specs.Calls.{answered, answeredType, leftBy, unpackedIn, wordsIn, unpacked, wordsAfter, packedIn, bytesIn, packed, bytesAfter};
 
 // 01, Numbers given back. 40 to 43 are the walk's, 30 to 33 the table's.

@@ -33,7 +33,7 @@ use Rattle.payload.specs.declared.Answer.{Answer}
 use Rattle.payload.specs.declared.Answer.the-variants as answer
 use Rattle.walk.specs.Walk.{Codec, left, typeWalk}
 use Rattle.unpack.specs.Reading.{reader}
-use Rattle.packing.specs.Writing.{writer}
+use Rattle.pack.specs.Writing.{writer}
 use Rattle.walk.specs.Walk.{start}
 use Rattle.payload.specs.Calls.{answeredIn, leftBy, leftIn, answeredIf, leftIf}
 use Rattle.reactions.specs.declared.Standing.{Standing}

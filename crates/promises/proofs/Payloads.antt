@@ -11,7 +11,7 @@ use Rattle.types.proofs.Accepted.{accepted, is-within}
 use Rattle.payload.specs.declared.Answer.the-variants.{Gave}
 use Rattle.values.specs.Values.{Value, Spoken, BooleansAsOne, exact}
 use Rattle.unpack.specs.Reading.{reader}
-use Rattle.packing.specs.Writing.{writer}
+use Rattle.pack.specs.Writing.{writer}
 use Rattle.payload.specs.Calls.{unpackedIn, wordsIn, packedIn, bytesIn, unpacked, wordsAfter, packed, bytesAfter}
 use Rattle.values.proofs.Exactly.{Callable, Calls, packs-values, values-pack, Unpacks, unpacks-forms, forms-unpack}
 use Rattle.values.proofs.RoundTrip.{pack-then-unpack, PacksAgain, unpack-then-pack}

@@ -23,7 +23,7 @@ use Rattle.leaf.specs.Choice.{choice}
 use Rattle.walk.specs.Tree.{byKind, look, elementsOf, treeOf, trees, tree}
 use Rattle.walk.specs.Walk.{answer, left, next, through, item, counted, walk, typeWalk}
 use Rattle.unpack.specs.Reading.{reader}
-use Rattle.packing.specs.Writing.{writer}
+use Rattle.pack.specs.Writing.{writer}
 use Rattle.payload.specs.Calls.{answered, answeredType, answeredIn, leftBy, leftIn, answeredIf, leftIf}
 use Rattle.promises.specs.Cases.{Cut, piecesOf}
 use Rattle.promises.specs.Starred.{Starred}

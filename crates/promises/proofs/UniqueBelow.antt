@@ -3,7 +3,7 @@
 use Prim.Native.Nat.{ℕ}
 use mathlib.Core.Path.{_≡_, sym, ap₂, _∙_}
 use Rattle.unpack.specs.declared.by_codes.Part.{Part as Read}
-use Rattle.packing_leaves.specs.declared.Part.{Part as Written}
+use Rattle.pack.specs.declared.by_codes.Part.{Part as Written}
 use Rattle.promises.specs.UniqueBelow.{WireUnique, ChannelsUnique, JoinerUnique, MessageUnique, ReactionsUnique, TableUnique, WalkUnique, UnpackingUnique, PackingUnique, StatesUnique, TextUnique, CallsUnique, LentUnique, LentChannelsUnique, LentJoinerUnique, LentMessagesUnique, LentTablesUnique, LentPayloadsUnique, LentPlatformUnique, LentReceivingUnique, LentStatesUnique, LentHeardUnique, EnumsUnique, LeavesUnique, UniqueBelow}
 
 leaves : LeavesUnique

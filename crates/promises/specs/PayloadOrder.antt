@@ -17,7 +17,7 @@ use Rattle.walk.specs.declared.Place.{Place}
 use Rattle.walk.specs.Tree.{Tree, leaf, row, array, broken, tree}
 use Rattle.walk.specs.Walk.{Codec, countCode}
 use Rattle.unpack.specs.Reading.{reader}
-use Rattle.packing.specs.Writing.{writer}
+use Rattle.pack.specs.Writing.{writer}
 use Rattle.walk.specs.Walk.{start}
 use Rattle.payload.specs.Calls.{unpackedIn, packedIn, unpacked, packed}
 use Rattle.promises.specs.Checks.{Check, _when_, Answers}

@@ -44,10 +44,10 @@ use Rattle.unpack.proofs.runs.judge_run.Reads.{Post as unpacking-leaves-judge-r
 use Rattle.unpack.proofs.runs.store_run.Reads.{Post as unpacking-leaves-store-run}
 use Rattle.unpack.proofs.read_once.Reads.{Post as unpacking-read-type}
 use Rattle.unpack.proofs.read_type.Reads.{Post as whole-unpacking-read-type}
-use Rattle.packing_leaves.proofs.judge_codes.Reads.{Post as packing-leaves-judge-codes}
-use Rattle.packing_leaves.proofs.store_codes.Reads.{Post as packing-leaves-store-codes}
-use Rattle.packing_leaves.proofs.runs.store_run.Reads.{Post as packing-leaves-store-run}
-use Rattle.packing.proofs.write_once.Reads.{Post as packing-write-type}
+use Rattle.pack.proofs.judge_codes.Reads.{Post as packing-leaves-judge-codes}
+use Rattle.pack.proofs.store_codes.Reads.{Post as packing-leaves-store-codes}
+use Rattle.pack.proofs.runs.store_run.Reads.{Post as packing-leaves-store-run}
+use Rattle.pack.proofs.write_once.Reads.{Post as packing-write-type}
 use Rattle.pack.proofs.write_type.Reads.{Post as whole-packing-write-type}
 use Rattle.states.proofs.fresh.Reads.{Post as states-fresh}
 use Rattle.states.proofs.is_up.Reads.{Post as states-is-up}

@@ -14,7 +14,7 @@ use Rattle.table.specs.declared.Checked.the-variants as check
 use Rattle.types.specs.Table.{checked}
 use Rattle.walk.specs.Walk.{Codec, start, left, typeWalk}
 use Rattle.unpack.specs.Reading.{reader}
-use Rattle.packing.specs.Writing.{writer}
+use Rattle.pack.specs.Writing.{writer}
 use Rattle.payload.specs.Calls.{outputTooShort, packed, unpacked}
 use Rattle.promises.specs.Checks.{Keeps}
 use Rattle.promises.specs.PayloadOrder.{numberOf}

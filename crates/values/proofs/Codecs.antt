@@ -18,7 +18,7 @@ use Rattle.walk.specs.declared.Place.{Place}
 use Rattle.walk.specs.Tree.{leaf}
 use Rattle.walk.specs.Walk.{left}
 use Rattle.unpack.specs.Reading.{reader}
-use Rattle.packing.specs.Writing.{writer}
+use Rattle.pack.specs.Writing.{writer}
 use Rattle.values.specs.Values.{exact, loose}
 use Rattle.walk.proofs.Walks.{value-bytes}
 use Rattle.values.proofs.Belonging.{behind, Sound, Complete}

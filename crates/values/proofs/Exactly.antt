@@ -23,7 +23,7 @@ use Rattle.payload.specs.declared.Answer.the-variants.{Refused, Stopped, Gave}
 use Rattle.walk.specs.Tree.{tree}
 use Rattle.walk.specs.Walk.{start, Step, on, answer, left, Codec, walk, typeWalk}
 use Rattle.unpack.specs.Reading.{reader}
-use Rattle.packing.specs.Writing.{writer}
+use Rattle.pack.specs.Writing.{writer}
 use Rattle.payload.specs.Calls.{answered, answeredType, answeredIn, leftBy, leftIn, unpackedIn, wordsIn, packedIn, bytesIn}
 use Rattle.values.specs.Values.{Over, exact, loose, Value, Spoken}
 use Rattle.walk.proofs.Walks.{went, walk-same}

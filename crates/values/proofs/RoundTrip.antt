@@ -18,7 +18,7 @@ use Rattle.payload.specs.declared.Answer.the-variants.{Gave}
 use Rattle.walk.specs.Tree.{Tree, leaf, row, array, broken, tree}
 use Rattle.walk.specs.Walk.{countCode}
 use Rattle.unpack.specs.Reading.{reader}
-use Rattle.packing.specs.Writing.{writer}
+use Rattle.pack.specs.Writing.{writer}
 use Rattle.payload.specs.Calls.{unpackedIn, wordsIn, packedIn, bytesIn}
 use Rattle.values.specs.Values.{Behind, Row, One, Some, Over, exact, loose, settled, Value, Spoken, Settled, BooleansAsOne}
 use Rattle.values.proofs.Belonging.{over-map}

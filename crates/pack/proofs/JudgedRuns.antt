@@ -1,0 +1,58 @@
+-- A run of words of one base code that are there: what a walk over it comes to.
+-- Assumes nothing.
+use Prim.Native.Nat.{ℕ, zero, suc, _+_, _*_, _^_, _≤_, _<_}
+use mathlib.Core.Path.{_≡_, refl, sym, ap, ap₂, _∙_}
+use mathlib.Core.Bool.{cond}
+use mathlib.Core.List.{List}
+use native.Mathlib.Nat.{add-zero, zero-mul, suc-mul, mul-le-mul-left}
+use native.Mathlib.Omega.{arith}
+use mir.Syntax.{w64}
+use mir.Val.{Fits}
+use lib.Dec.{leb}
+use lib.ListN.{length}
+use Rattle.wire.proofs.Cond.{yes-le}
+use Rattle.table.specs.Leaf.{width}
+use Rattle.walk.specs.declared.Place.{Place}
+use Rattle.walk.specs.Walk.{Step, on, next, through}
+use Rattle.walk.proofs.Walks.{few-bytes}
+use Rattle.pack.specs.StoredRuns.{behindAll, storedAll}
+use Rattle.pack.proofs.StoredRuns.{as-long}
+use Rattle.pack.specs.Writing.{Writing, Writes}
+use Rattle.pack.specs.JudgedRuns.{AllThere}
+
+module _ (ws : List ℕ) (code : ℕ) (p : Place) (x : List ℕ) where
+  -- a walk over the run
+  run-on : (n : ℕ) → AllThere ws code (p .from) n → (f : ℕ → Place → List ℕ → Step) → Writes ws code f → through n f p x ≡ on (behindAll code p n) (storedAll ws code p n x)
+  unfolding through next storedAll
+  run-on zero h f g = ap₂ (λ (a b : ℕ). on (record { from = a; to = b }) x) (sym (add-zero (p .from))) (sym (ap (λ (m : ℕ). p .to + m) (zero-mul (width code)) ∙ add-zero (p .to)))
+  run-on (suc n) h f g =
+      let m : ℕ = n * width code in
+      let y : List ℕ = storedAll ws code p (suc n) x in
+      ap (λ (st : Step). next st (f n)) (run-on n (λ k l. h k (omega arith)) f g)
+      ∙ g n (behindAll code p n) (storedAll ws code p n x) (h n (omega arith))
+      ∙ ap₂ (λ (a b : ℕ). on (record { from = a; to = b }) y) (omega arith) (omega (arith, suc-mul n (width code)))
+
+  -- all of it was stored, since its words are there
+  module _ (n : ℕ) (y : List ℕ) (inside : p .from + n ≤ length ws) (is : y ≡ cond (leb (p .from + n) (length ws)) (storedAll ws code p n x) x) where
+    all-stored : y ≡ storedAll ws code p n x
+    all-stored = is ∙ yes-le (storedAll ws code p n x) x (p .from + n) (length ws) inside
+
+    pub run-long : length y ≡ length x
+    run-long = as-long ws code p x n all-stored
+
+    pub run-went : (w : ℕ) → w ≡ width code → AllThere ws code (p .from) n → (f : ℕ → Place → List ℕ → Step) → Writes ws code f → through n f p x ≡ on (record { from = p .from + n; to = p .to + n * w }) y
+    run-went w e there f g = run-on n there f g ∙ rw (← e, ← all-stored) refl
+
+-- a run's end is a place that writing can come to
+module _ (ws : List ℕ) (code w : ℕ) (p : Place) (n : ℕ) (is : w ≡ width code) (inside : p .from + n ≤ length ws) (so-far : Writing ws p) where
+  few : n * w ≤ n * 8
+  few = mul-le-mul-left n (omega (arith, few-bytes code))
+
+  pub writing-run : Writing ws (record { from = p .from + n; to = p .to + n * w })
+  writing-run = (omega (arith, few, so-far .0), inside)
+
+  pub run-times : length ws * 8 < 2 ^ 63 → Fits w64 (n * w)
+  run-times l = record { fits = omega (arith, few) }
+
+  pub run-end : length ws * 8 < 2 ^ 63 → Fits w64 (p .to + n * w)
+  run-end l = record { fits = omega (arith, few, so-far .0) }

@@ -1,0 +1,112 @@
+-- A word that a leaf of a base code takes: what a run of such leaves comes to.
+-- Assumes nothing.
+use Prim.Native.Nat.{ℕ, zero, suc, _+_, _-_, _*_, _^_, _≤_, _<_}
+use mathlib.Core.Path.{_≡_, refl, sym, ap, _∙_}
+use mathlib.Core.Bool.{true}
+use mathlib.Core.List.{List}
+use native.Mathlib.Omega.{arith}
+use mir.Syntax.{w64}
+use mir.Val.{Fits}
+use lib.Dec.{ltb}
+use lib.ListN.{length, getD, take}
+use lib.Seq.{length-take-le, take-all, take-take, getD-take}
+use Rattle.wire.specs.Bytes.{over}
+use Rattle.wire.proofs.Cond.{both}
+use Rattle.table.specs.declared.Sections.{Sections}
+use Rattle.table.specs.declared.Entry.{Entry}
+use Rattle.table.specs.Entries.{memberAt}
+use Rattle.table.specs.Leaf.{allowed}
+use Rattle.walk.specs.declared.Place.{Place}
+use Rattle.walk.specs.Tree.{child, baseAt}
+use Rattle.walk.specs.Walk.{on, through, walk}
+use Rattle.walk.specs.Codes.{codeCount, codesOf}
+use Rattle.walk.proofs.Bases.{base-on}
+use Rattle.walk.proofs.Codes.{codes-fit, codes-as-long, code-member, code-is}
+use Rattle.pack.specs.Stored.{isThere, behind, stored, takenCount, ends, laid, WritesEach}
+use Rattle.pack.proofs.Behind.{ends-near, ends-from, laid-length, count-codes, count-words, count-taken, written-over, fewer-written}
+use Rattle.pack.specs.Writing.{writer, Writing, Writes, memberWritten, Goes}
+
+-- a base among a record's members, and as an array's element
+module _ (ws t : List ℕ) (s : Sections) (i c code : ℕ) (is : code ≡ baseAt t s i c) (p : Place) (x : List ℕ) (there : isThere ws code (p .from) ≡ true) where
+  pub base-writes : walk (writer ws) (child t s i c) p x ≡ on (behind code p) (stored ws code p x)
+  unfolding isThere writer
+  base-writes =
+      let h : (ltb (p .from) (length ws) ≡ true) × (allowed code (getD ws (p .from) 0) ≡ true) = both (ltb (p .from) (length ws)) (allowed code (getD ws (p .from) 0)) there in
+      base-on t s i c (writer ws) code p x is (h .0) (h .1)
+
+-- the codes that were got of a record's members from the m-th on
+module _ (ws t : List ℕ) (s : Sections) (i : ℕ) (e : Entry) (m r : ℕ) (u v : List ℕ) (counts : r ≡ codeCount t s i e m (length u)) (got : v ≡ over u 0 (codesOf t s i e m (length u))) where
+  pub codes-in : r ≤ length v
+  codes-in = omega (arith, codes-fit t s i e m r u counts, codes-as-long t s i e m r u counts v got)
+
+  so-many : length (take r v) ≡ r
+  so-many = length-take-le r v codes-in
+
+  pub codes-end : m ≤ e .count → m + r ≤ e .count
+  codes-end h = go r refl
+    where
+      go : (k : ℕ) → r ≡ k → m + r ≤ e .count
+      go zero q = omega arith
+      go (suc k) q = omega (arith, code-member t s i e m r u counts k (omega arith))
+
+  pub codes-written : WritesEach ws (take r v) m (memberWritten ws t s i e)
+  codes-written k q y inside there =
+      let l : k < r = omega (arith, so-many) in
+      base-writes ws t s i (memberAt t s (e .first + (m + k))) (getD (take r v) k 0) (code-is t s i e m r u counts v got k (getD (take r v) k 0) l (getD-take r v k 0 l)) q y there
+
+  -- the first j of them take their words, and have b bytes
+  module _ (p : Place) (j b : ℕ) (many : j ≡ takenCount ws (take r v) (p .from)) (bytes : b ≡ ends (take (takenCount ws (take r v) (p .from)) (take r v)) 0) where
+    abbrev count : ℕ
+    count = takenCount ws (take r v) (p .from)
+
+    abbrev taken : List ℕ
+    taken = take count (take r v)
+
+    few : (j ≤ r) × (p .from ≤ length ws → p .from + j ≤ length ws)
+    few = (omega (arith, so-many, count-codes ws (take r v) (p .from)), λ h. omega (arith, count-words ws (take r v) (p .from)))
+
+    as-many : length taken ≡ j
+    as-many = length-take-le count (take r v) (count-codes ws (take r v) (p .from)) ∙ sym many
+
+    pub taken-in : j ≤ length v
+    taken-in = omega (arith, few .0, codes-in)
+
+    pub taken-end : m ≤ e .count → m + j ≤ e .count
+    taken-end h = omega (arith, few .0, codes-end h)
+
+    pub upto-fits : e .count < 2 ^ 16 → m ≤ e .count → Fits w64 (m + j)
+    upto-fits l h = record { fits = omega (arith, taken-end h) }
+
+    module _ (so-far : Writing ws p) where
+      pub writing-taken : Writing ws (record { from = p .from + j; to = p .to + b })
+      writing-taken = (omega (arith, so-far .0, ends-near taken 0, as-many), few .1 (so-far .1))
+
+      pub from-fits : length ws * 8 < 2 ^ 63 → Fits w64 (p .from + j)
+      from-fits l = record { fits = omega (arith, writing-taken .1) }
+
+      pub to-fits : length ws * 8 < 2 ^ 63 → Fits w64 (p .to + b)
+      to-fits l = record { fits = omega (arith, writing-taken .0, writing-taken .1) }
+
+    -- and they were stored
+    module _ (x y : List ℕ) (put : y ≡ laid ws (take (length ws - p .from) (take j v)) p x) where
+      pub taken-long : length y ≡ length x
+      taken-long = ap length put ∙ laid-length ws (take (length ws - p .from) (take j v)) p x
+
+      all-there : take (length ws - p .from) (take j v) ≡ taken
+      all-there =
+          let a : take j v ≡ taken = ap (λ (n : ℕ). take n v) many ∙ sym (take-take count r v (omega (arith, many, few .0))) in
+          ap (take (length ws - p .from)) a ∙ take-all (length ws - p .from) taken (omega (arith, as-many, many, count-words ws (take r v) (p .from)))
+
+      pub taken-written : Goes (memberWritten ws t s i e) m p x (m + j) (record { from = p .from + j; to = p .to + b }) y
+      taken-written p₀ x₀ h =
+          let f = memberWritten ws t s i e in
+          let w : through (m + length taken) f p₀ x₀ ≡ on (record { from = p .from + length taken; to = ends taken (p .to) }) (laid ws taken p x) = written-over ws taken m f (fewer-written ws (take r v) m f count codes-written) p (count-taken ws (take r v) (p .from)) x p₀ x₀ h in
+          let o : ends taken (p .to) ≡ p .to + b = ends-from taken (p .to) ∙ ap (λ (n : ℕ). p .to + n) (sym bytes) in
+          let q : laid ws taken p x ≡ y = sym (put ∙ ap (λ (cs : List ℕ). laid ws cs p x) all-there) in
+          rw (as-many, o, q) at w
+
+pub element-writes : (ws t : List ℕ) (s : Sections) (i c code : ℕ) → code ≡ baseAt t s i c → Writes ws code (λ k q y. walk (writer ws) (child t s i c) q y)
+element-writes ws t s i c code is k q y there = base-writes ws t s i c code is q y there
+
+pub next-below : (n m : ℕ) → n ≤ m → (n ≡ m → ⊥) → n < m
+next-below n m h d = omega arith

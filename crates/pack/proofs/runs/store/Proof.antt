@@ -1,0 +1,21 @@
+-- `pack::runs::store` meets its contract: as many leaves as there is room for, and those behind change nothing.
+-- Assumes nothing.
+use borrow.Author.Needs.{needs}
+use mathlib.Core.Path.{refl}
+use native.Mathlib.Omega.{arith}
+use Rattle.pack.proofs.StoredRuns.{has-width, fit-in, all-that-fit, none-fits}
+use Rattle.pack.proofs.runs.store.Statement.{statement}
+use Rattle.pack.proofs.runs.store.Tie as tie
+
+pub store-spec : {M : Type 1} → statement M
+store-spec =
+    tie.close
+    (tie.spec
+    (λ c. search needs)
+    (λ c κs. search needs)
+    (λ c. omega (arith, has-width _ (c .before .before .before .before .before .before .pre .0)))
+    (λ c κs. search needs)
+    (λ c κs. (search needs, search fit-in))
+    (λ c. search needs)
+    (λ c. all-that-fit _ _ _ _ (c .before .before .before .before .before .before .before .before .before .before .before .pre .0) _ _ _ _ (c .before .before .before .before .before .width .ensures) (c .before .before .before .before .before .before .before .if1 .taken) refl (c .before .before .before .least .ensures .1) (c .before .before .before .least .ensures .2) (c .before .before .store-each .ensures))
+    (λ c. search none-fits))

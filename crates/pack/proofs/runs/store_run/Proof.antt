@@ -1,0 +1,31 @@
+-- `pack::runs::store_run` meets its contract: each arm stores leaves of its width.
+-- Assumes nothing.
+use mathlib.Core.Path.{refl}
+use borrow.Author.Needs.{needs}
+use Rattle.table.specs.Leaf.{base, bytesOf, width}
+use Rattle.pack.proofs.StoredRuns.{run-short, run-few, run-stored, run-empty}
+use Rattle.pack.proofs.runs.store_run.Statement.{statement}
+use Rattle.pack.proofs.runs.store_run.Tie as tie
+
+pub store-run-spec : {M : Type 1} → statement M
+unfolding width base bytesOf
+store-run-spec =
+    tie.close
+    (tie.spec
+    (λ c. search run-short)
+    (λ c. search needs)
+    (λ c. search run-few)
+    (λ c κs. search needs)
+    (λ c κs. search needs)
+    (λ c κs. search needs)
+    (λ c κs. search needs)
+    (λ c κs. search needs)
+    (λ c. search needs)
+    (λ c. search (run-stored 0 6 refl))
+    (λ c. search needs)
+    (λ c. search (run-stored 1 8 refl))
+    (λ c. search needs)
+    (λ c. search (run-stored 2 9 refl))
+    (λ c. search needs)
+    (λ c. search (run-stored 3 10 refl))
+    (λ c. search run-empty))

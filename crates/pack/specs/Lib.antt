@@ -1,0 +1,4 @@
+pub mod Writing
+pub mod JudgedRuns
+pub mod Stored
+pub mod StoredRuns

@@ -1,0 +1,63 @@
+// A run of leaves of one base code, stored with no test inside, so that the compiler goes over several words at once.
+use crate::bases;
+use walk::Place;
+ghost use mathlib.Core.Path.{_≡_};
+ghost use mathlib.Core.Bool.{cond};
+ghost use Prim.Native.Nat.{_+_, _*_, _≤_, _<_};
+ghost use lib.Dec.{leb};
+ghost use lib.ListN.{length};
+ghost use Rattle.table.specs.Leaf.{width};
+ghost use Rattle.pack.specs.StoredRuns.{storedAll};
+
+// A code of each width: a leaf's bytes are the low ones of its word, whichever code of its width it has.
+const ONE_BYTE: u16 = 6;
+
+const TWO_BYTES: u16 = 8;
+
+const FOUR_BYTES: u16 = 9;
+
+const EIGHT_BYTES: u16 = 10;
+
+// Stores the words of so many leaves of one code, as many as there is room for; nothing where not all the words are there. A call
+// for each width, so that the compiler makes its own loop of each.
+pub fn store_run(words: &[u64], out: &mut [u8], code: u16, count: usize, p: Place)
+    ensures { λ _. ⌜ now (out .exit) ≡ cond (leb (p .from + count) (length (now (words .entry)))) (storedAll (now (words .entry)) code p count (now (out .entry))) (now (out .entry)) ⌝ }
+{
+    if words.len() < p.from {
+        return;
+    }
+    if words.len() - p.from < count {
+        return;
+    }
+    match leaf::width(code) {
+        1 => store(words, out, ONE_BYTE, count, p),
+        2 => store(words, out, TWO_BYTES, count, p),
+        4 => store(words, out, FOUR_BYTES, count, p),
+        8 => store(words, out, EIGHT_BYTES, count, p),
+        _ => {}
+    }
+}
+
+// Stores as many leaves as there is room for.
+fn store(words: &[u64], out: &mut [u8], code: u16, count: usize, p: Place)
+    requires { ⌜ (code < 13) × (p .from + count ≤ length (now words)) ⌝ }
+    ensures { λ _. ⌜ now (out .exit) ≡ storedAll (now (words .entry)) code p count (now (out .entry)) ⌝ }
+{
+    if p.to < out.len() {
+        let room = (out.len() - p.to) / leaf::width(code);
+        store_each(words, out, code, bases::least(room, count), p);
+    }
+}
+
+fn store_each(words: &[u64], out: &mut [u8], code: u16, count: usize, p: Place)
+    requires { ⌜ (p .from + count ≤ length (now words)) × (p .to + count * width code ≤ length (now out)) ⌝ }
+    ensures { λ _. ⌜ now (out .exit) ≡ storedAll (now (words .entry)) code p count (now (out .entry)) ⌝ }
+{
+    let width = leaf::width(code);
+    let mut k = 0;
+    while k < count {
+        let from = p.from + k;
+        bases::set(out, p.to + k * width, code, words[from]);
+        k += 1;
+    }
+}

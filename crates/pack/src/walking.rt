@@ -1,0 +1,266 @@
+// Writing a payload: the writer of a record's members and the writer of an array's elements call each other, each by the kind
+// of what it meets, and the type number falls at each entry.
+use table::Entry;
+use table::Sections;
+use walk::Met;
+use walk::Place;
+use walk::Walked;
+ghost use mathlib.Core.Path.{_≡_};
+ghost use mathlib.Core.List.{List};
+ghost use Prim.Native.Nat.{ℕ, _≤_};
+ghost use lib.ListN.{length, getD};
+ghost use Rattle.walk.specs.declared.Place.{Place};
+ghost use Rattle.walk.specs.declared.Met.the-variants.{Members, Elements};
+ghost use Rattle.walk.specs.Walk.{Step, on, through, start, answer, left, begun, times, leafWalk, metWalk, typeWalk};
+ghost use Rattle.pack.specs.Writing.{writer, Writing, Writes, memberWritten, Goes};
+use crate::by_codes;
+use crate::limits;
+use crate::runs;
+
+// An array's count: its base code, uint32, its bytes on the wire, and its words.
+const COUNT_CODE: u16 = 9;
+
+const COUNT_BYTES: usize = 4;
+
+const COUNT_WORDS: usize = 1;
+
+// How many members' codes are got at once.
+const CODES: usize = 64;
+
+// How far a run of leaves was written: up to which member or element, and where it ends.
+struct Run {
+    upto: u64,
+    at: Place,
+}
+
+// Packs the words as a payload of type i, and stores the bytes of each where there is room for them.
+pub fn write_once(table: &[u8], s: Sections, i: u16, words: &[u64], out: &mut [u8]) -> Walked
+    ensures { λ r. ⌜ r ≡ answer (typeWalk (writer (now (words .entry))) (now (table .entry)) s i start (now (out .entry))) ⌝ }
+    ensures { λ _. ⌜ now (out .exit) ≡ left (typeWalk (writer (now (words .entry))) (now (table .entry)) s i start (now (out .entry))) ⌝ }
+{
+    let p = Place { from: 0, to: 0 };
+    match walk::look(table, s, i) {
+        Met::Leaf(e) => write_leaf(table, s, e, words, out, p),
+        Met::Members(e) => write_members(table, s, i, e, words, out, p),
+        Met::Elements(e) => write_elements(table, s, i, e, words, out, p),
+        Met::Broken => Walked::Stopped(types::RULE_BROKEN, p),
+    }
+}
+
+// Writes the members of a record, whose type number is i and entry e.
+fn write_members(
+    table: &[u8],
+    s: Sections,
+    i: u16,
+    e: Entry,
+    words: &[u64],
+    out: &mut [u8],
+    p: Place,
+) -> Walked
+    requires { ⌜ Writing (now words) p ⌝ }
+    ensures { λ r. ⌜ r ≡ answer (metWalk (writer (now (words .entry))) (now (table .entry)) s i (Members e) p (now (out .entry))) ⌝ }
+    ensures { λ _. ⌜ now (out .exit) ≡ left (metWalk (writer (now (words .entry))) (now (table .entry)) s i (Members e) p (now (out .entry))) ⌝ }
+{
+    let count = e.count as u64;
+    let mut at = p;
+    let mut k: u64 = 0;
+    while k < count {
+        let run = write_bases(table, s, i, e, k, words, out, at);
+        let next = run.upto;
+        let here = run.at;
+        if next == count {
+            return Walked::Went(here);
+        }
+        let child = table::entries::member_at(table, s, e.first as u32 + next as u32);
+        let step = match walk::meet(table, s, i, child) {
+            Met::Leaf(c) => write_leaf(table, s, c, words, out, here),
+            Met::Members(c) => write_members(table, s, child, c, words, out, here),
+            Met::Elements(c) => write_elements(table, s, child, c, words, out, here),
+            Met::Broken => Walked::Stopped(types::RULE_BROKEN, here),
+        };
+        match step {
+            Walked::Went(q) => {
+                at = q;
+                k = next + 1;
+            }
+            Walked::Stopped(n, q) => return Walked::Stopped(n, q),
+        }
+    }
+    Walked::Went(at)
+}
+
+// Writes the elements of an array, whose type number is i and entry e, behind its count where it has one.
+fn write_elements(
+    table: &[u8],
+    s: Sections,
+    i: u16,
+    e: Entry,
+    words: &[u64],
+    out: &mut [u8],
+    p: Place,
+) -> Walked
+    requires { ⌜ Writing (now words) p ⌝ }
+    ensures { λ r. ⌜ r ≡ answer (metWalk (writer (now (words .entry))) (now (table .entry)) s i (Elements e) p (now (out .entry))) ⌝ }
+    ensures { λ _. ⌜ now (out .exit) ≡ left (metWalk (writer (now (words .entry))) (now (table .entry)) s i (Elements e) p (now (out .entry))) ⌝ }
+{
+    let child = e.of;
+    let met = walk::meet(table, s, i, child);
+    let count = times(words, e, p);
+    match begin(words, out, e, p) {
+        Walked::Stopped(n, q) => Walked::Stopped(n, q),
+        Walked::Went(q) => {
+            let code = walk::base_at(table, s, i, child);
+            let run = write_run(words, out, code, count, q);
+            let mut at = run.at;
+            let mut k = run.upto;
+            while k < count {
+                let step = match met {
+                    Met::Leaf(c) => write_leaf(table, s, c, words, out, at),
+                    Met::Members(c) => write_members(table, s, child, c, words, out, at),
+                    Met::Elements(c) => write_elements(table, s, child, c, words, out, at),
+                    Met::Broken => Walked::Stopped(types::RULE_BROKEN, at),
+                };
+                match step {
+                    Walked::Went(q) => {
+                        at = q;
+                        k += 1;
+                    }
+                    Walked::Stopped(n, q) => return Walked::Stopped(n, q),
+                }
+            }
+            Walked::Went(at)
+        }
+    }
+}
+
+// How many elements there are: a fixed array's length, or the count that stands at the place.
+fn times(words: &[u64], e: Entry, p: Place) -> u64
+    ensures { λ r. ⌜ r ≡ times (writer (now (words .entry))) e p ⌝ }
+{
+    if e.kind == table::FIXED {
+        e.count as u64
+    } else {
+        word_at(words, p.from)
+    }
+}
+
+// What comes before the elements: nothing, or a count of at most the entry's.
+fn begin(words: &[u64], out: &mut [u8], e: Entry, p: Place) -> Walked
+    requires { ⌜ Writing (now words) p ⌝ }
+    ensures { λ r. ⌜ r ≡ answer (begun (writer (now (words .entry))) e p (now (out .entry))) ⌝ }
+    ensures { λ _. ⌜ now (out .exit) ≡ left (begun (writer (now (words .entry))) e p (now (out .entry))) ⌝ }
+{
+    if e.kind == table::FIXED {
+        return Walked::Went(p);
+    }
+    if p.from < words.len() {
+        let count = word_at(words, p.from);
+        if count <= e.count as u64 {
+            leaf::put(out, p.to, COUNT_CODE, count);
+            Walked::Went(Place {
+                from: p.from + COUNT_WORDS,
+                to: p.to + COUNT_BYTES,
+            })
+        } else {
+            Walked::Stopped(walk::COUNT_OVER, p)
+        }
+    } else {
+        Walked::Stopped(walk::ENDS_EARLY, p)
+    }
+}
+
+// A base or an enum.
+fn write_leaf(
+    table: &[u8],
+    s: Sections,
+    e: Entry,
+    words: &[u64],
+    out: &mut [u8],
+    p: Place,
+) -> Walked
+    requires { ⌜ Writing (now words) p ⌝ }
+    ensures { λ r. ⌜ r ≡ answer (leafWalk (writer (now (words .entry))) (now (table .entry)) s e p (now (out .entry))) ⌝ }
+    ensures { λ _. ⌜ now (out .exit) ≡ left (leafWalk (writer (now (words .entry))) (now (table .entry)) s e p (now (out .entry))) ⌝ }
+{
+    if p.from < words.len() {
+        let word = word_at(words, p.from);
+        if leaf::takes(table, s, e, word) {
+            let width = leaf::width(e.of);
+            leaf::put(out, p.to, e.of, word);
+            Walked::Went(Place {
+                from: p.from + 1,
+                to: p.to + width,
+            })
+        } else {
+            Walked::Stopped(walk::NOT_ALLOWED, p)
+        }
+    } else {
+        Walked::Stopped(walk::ENDS_EARLY, p)
+    }
+}
+
+// A word, or 0 past the end.
+fn word_at(words: &[u64], at: usize) -> u64
+    ensures { λ r. ⌜ r ≡ getD (now (words .entry)) at 0 ⌝ }
+{
+    if at < words.len() { words[at] } else { 0 }
+}
+
+// Writes a record's members from the k-th on, up to one that is no base, or whose word is refused: most members are bases. Their
+// codes are got first, so that the loop over the words reads nothing of the table.
+fn write_bases(
+    table: &[u8],
+    s: Sections,
+    i: u16,
+    e: Entry,
+    from: u64,
+    words: &[u64],
+    out: &mut [u8],
+    p: Place,
+) -> Run
+    requires { ⌜ Writing (now words) p × (from ≤ e .count) ⌝ }
+    ensures { λ r. ⌜ (from ≤ r .upto) × (r .upto ≤ e .count) × Writing (now (words .entry)) (r .at) ⌝ }
+    ensures { λ _. ⌜ length (now (out .exit)) ≡ length (now (out .entry)) ⌝ }
+    ensures { λ r. ⌜ Goes (memberWritten (now (words .entry)) (now (table .entry)) s i e) from p (now (out .entry)) (r .upto) (r .at) (now (out .exit)) ⌝ }
+{
+    let mut codes = [0u8; CODES];
+    let n = walk::runs::base_codes(table, s, i, e, from as u32, &mut codes);
+    let part = by_codes::judge_codes(words, &codes[..n], p.from);
+    let count = part.count;
+    by_codes::store_codes(words, out, &codes[..count], p);
+    Run {
+        upto: from + count as u64,
+        at: Place {
+            from: p.from + count,
+            to: p.to + part.bytes,
+        },
+    }
+}
+
+// Writes the elements of an array of one base code, where all their words are there and taken, and else none: then it is for the
+// walk to say which is refused.
+fn write_run(words: &[u64], out: &mut [u8], code: u16, count: u64, p: Place) -> Run
+    requires { ⌜ Writing (now words) p ⌝ }
+    ensures { λ r. ⌜ (r .upto ≤ count) × Writing (now (words .entry)) (r .at) ⌝ }
+    ensures { λ _. ⌜ length (now (out .exit)) ≡ length (now (out .entry)) ⌝ }
+    ensures { λ r. ⌜ ((f : ℕ → Place → List ℕ → Step) → Writes (now (words .entry)) code f → through (r .upto) f p (now (out .entry)) ≡ on (r .at) (now (out .exit))) ⌝ }
+{
+    let left = words.len() - p.from;
+    if (left as u64) < count {
+        return Run { upto: 0, at: p };
+    }
+    let whole = count as usize;
+    if limits::judged(words, p.from, code, whole) {
+        runs::store_run(words, out, code, whole, p);
+        let width = leaf::width(code);
+        Run {
+            upto: count,
+            at: Place {
+                from: p.from + whole,
+                to: p.to + whole * width,
+            },
+        }
+    } else {
+        Run { upto: 0, at: p }
+    }
+}

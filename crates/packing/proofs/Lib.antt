@@ -1,4 +1,0 @@
-mod WriteReturns
-pub mod WriteBases
-mod Measures
-mod OneCode

@@ -1,5 +1,0 @@
-mod Laid
-pub mod There
-pub mod Behind
-mod OneMore
-pub mod OneCode
