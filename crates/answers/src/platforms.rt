@@ -6,8 +6,8 @@ use crate::messages;
 use message::Header;
 use message::Own;
 use platform::Answer;
-use reactions::Heard;
-use reactions::Standing;
+use platform::Heard;
+use platform::Standing;
 
 // The platform that the calls speak to.
 pub(crate) struct Kept {

@@ -4,7 +4,7 @@ use Prim.Native.Nat.{ℕ}
 use mathlib.Core.Path.{_≡_, ap, _∙_}
 use mathlib.Core.List.{List}
 use lib.ListN.{length}
-use Rattle.reactions.specs.declared.Standing.{Standing}
+use Rattle.platform.specs.declared.reactions.Standing.{Standing}
 use Rattle.platform.specs.declared.Outcome.{Outcome}
 use Rattle.platform.specs.Receiving.{numberGiven, receivedOf, leftOf}
 use Rattle.lent_states.specs.Words.{standingIn}

@@ -25,11 +25,11 @@ use Rattle.message.specs.Platform.{platformMessage}
 use Rattle.message.specs.Refusal.{noRoom, readRefusal}
 use Rattle.message.specs.Reading.{readOut, readOf}
 use Rattle.message.specs.Reading as read
-use Rattle.reactions.specs.declared.Standing.{Standing}
-use Rattle.reactions.specs.declared.Heard.the-variants as heard
-use Rattle.reactions.specs.declared.Reaction.{Reaction}
-use Rattle.reactions.specs.Replies.{owedBytes}
-use Rattle.reactions.specs.Reaction.{operationFor, operationIn, silent, onOperation, reactionTo}
+use Rattle.platform.specs.declared.reactions.Standing.{Standing}
+use Rattle.platform.specs.declared.reactions.Heard.the-variants as heard
+use Rattle.platform.specs.declared.reactions.Reaction.{Reaction}
+use Rattle.platform.specs.Replies.{owedBytes}
+use Rattle.platform.specs.Reaction.{operationFor, operationIn, silent, onOperation, reactionTo}
 use Rattle.platform.specs.declared.Outcome.{Outcome}
 use Rattle.platform.specs.Receiving.{refused, taken, answered, laidOut, outcomeOf, outputOf, outcomeIn, outputIn, numberGiven}
 use Rattle.lent_states.specs.Words.{standingIn, standingWords}

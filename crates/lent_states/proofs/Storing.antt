@@ -9,7 +9,7 @@ use lib.ListN.{getD}
 use Rattle.wire.proofs.Cond.{yes-lt, no-lt}
 use Rattle.message.specs.Refusal.{platforms}
 use Rattle.states.specs.declared.States.{States}
-use Rattle.reactions.specs.declared.Standing.{Standing}
+use Rattle.platform.specs.declared.reactions.Standing.{Standing}
 use Rattle.states.specs.States.{isUp, howManyUp}
 use Rattle.platform.specs.Receiving.{freshStanding}
 use Rattle.lent_states.specs.Calls.{upNumber}

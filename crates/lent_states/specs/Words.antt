@@ -4,7 +4,7 @@ use Prim.Native.Nat.{ℕ, _%_, _^_}
 use mathlib.Core.List.{List, [], _∷_}
 use lib.ListN.{getD}
 use Rattle.states.specs.declared.States.{States}
-use Rattle.reactions.specs.declared.Standing.{Standing}
+use Rattle.platform.specs.declared.reactions.Standing.{Standing}
 
 abbrev pub platformWords : ℕ
 platformWords = 5

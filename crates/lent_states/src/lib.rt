@@ -1,6 +1,6 @@
 // A platform in lent words: read, written, made fresh, and asked who is UP.
 use message::Own;
-use reactions::Standing;
+use platform::Standing;
 use states::States;
 ghost use mathlib.Core.Path.{_≡_};
 ghost use Rattle.states.specs.States.{howManyUp};

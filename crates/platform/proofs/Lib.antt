@@ -4,3 +4,5 @@ pub mod Silence
 pub mod Unchanged
 pub mod Unique
 pub mod Receipts
+pub mod ReactionLaws
+pub mod ReplyBytes

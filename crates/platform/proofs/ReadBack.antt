@@ -30,19 +30,19 @@ use Rattle.message.specs.Platform.{messageOf}
 use Rattle.message.specs.Refusal.{platforms}
 use Rattle.message.specs.Reading.{readOf}
 use Rattle.message.proofs.RoundTrip.{reads-back}
-use Rattle.reactions.specs.declared.Standing.{Standing}
-use Rattle.reactions.specs.declared.Heard.{Heard}
-use Rattle.reactions.specs.declared.Heard.the-variants as heard
-use Rattle.reactions.specs.declared.Reply.{Reply}
-use Rattle.reactions.specs.declared.Reply.the-variants.{StatusUp, PullAll, Unknown}
-use Rattle.reactions.specs.declared.Owed.{Owed}
-use Rattle.reactions.specs.declared.Owed.the-variants as owed
-use Rattle.reactions.specs.declared.Reaction.{Reaction}
+use Rattle.platform.specs.declared.reactions.Standing.{Standing}
+use Rattle.platform.specs.declared.reactions.Heard.{Heard}
+use Rattle.platform.specs.declared.reactions.Heard.the-variants as heard
+use Rattle.platform.specs.declared.reactions.Reply.{Reply}
+use Rattle.platform.specs.declared.reactions.Reply.the-variants.{StatusUp, PullAll, Unknown}
+use Rattle.platform.specs.declared.reactions.Owed.{Owed}
+use Rattle.platform.specs.declared.reactions.Owed.the-variants as owed
+use Rattle.platform.specs.declared.reactions.Reaction.{Reaction}
 use Rattle.states.specs.States.{isUp}
-use Rattle.reactions.specs.Replies.{allData, drawn, replyID, replyNumber, replyField, replyBytes, replyHeader, meant, Wide, replyLength, replies, Each, owedBytes, owedLength}
-use Rattle.reactions.specs.Reaction.{noData, isData, silent, replied, cameUp, onStatus, notVersioned, onPullAll, onPullOne, onPull, onOperation, reactionTo}
+use Rattle.platform.specs.Replies.{allData, drawn, replyID, replyNumber, replyField, replyBytes, replyHeader, meant, Wide, replyLength, replies, Each, owedBytes, owedLength}
+use Rattle.platform.specs.Reaction.{noData, isData, silent, replied, cameUp, onStatus, notVersioned, onPullAll, onPullOne, onPull, onOperation, reactionTo}
 use Rattle.platform.specs.Receiving.{laidOut}
-use Rattle.reactions.proofs.ReplyLaws.{reply-writable, length-owed}
+use Rattle.platform.proofs.ReplyBytes.{reply-writable, length-owed}
 
 -- at every platform but its sender a reply reads back as what it means
 means : (r : Reply) → replyField r < 2 ^ 32 → messageOf platformDomain (replyID r) (number 2 (bytes 2 (replyField r)) 0) ≡ meant r

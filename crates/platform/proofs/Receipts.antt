@@ -20,14 +20,14 @@ use Rattle.message.specs.declared.Message.{Message}
 use Rattle.message.specs.declared.Reading.{Reading}
 use Rattle.message.specs.declared.Reading.the-variants as reading
 use Rattle.message.specs.Reading.{readOf}
-use Rattle.reactions.specs.declared.Standing.{Standing}
-use Rattle.reactions.specs.declared.Heard.{Heard}
-use Rattle.reactions.specs.declared.Heard.the-variants as heard
+use Rattle.platform.specs.declared.reactions.Standing.{Standing}
+use Rattle.platform.specs.declared.reactions.Heard.{Heard}
+use Rattle.platform.specs.declared.reactions.Heard.the-variants as heard
 use Rattle.platform.specs.declared.Outcome.{Outcome}
-use Rattle.reactions.specs.declared.Reaction.{Reaction}
-use Rattle.reactions.specs.Reaction.{operationIn, reactionTo}
+use Rattle.platform.specs.declared.reactions.Reaction.{Reaction}
+use Rattle.platform.specs.Reaction.{operationIn, reactionTo}
 use Rattle.platform.specs.Receiving.{refused, answered, laidOut, outcomeOf, outputOf, outcomeIn, outputIn, receivedBy, receivedOf, leftBy, leftOf, sectionsOutcome, sectionsOutput, payloadHeard}
-use Rattle.reactions.proofs.Heard.{the-type}
+use Rattle.platform.proofs.reactions.Heard.{the-type}
 
 -- the message was refused, or read
 module _ (own : ℕ) (t : List ℕ) (s : Sections) (f : Found) (p : Standing) (x : Reading) where

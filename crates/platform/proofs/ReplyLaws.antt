@@ -11,10 +11,10 @@ use Rattle.wire.proofs.Cond.{yes-lt, no-lt}
 use Rattle.message.specs.declared.Header.{Header}
 use Rattle.states.specs.declared.States.{States}
 use Rattle.states.specs.States.{freshStates}
-use Rattle.reactions.specs.declared.Standing.{Standing}
-use Rattle.reactions.specs.declared.Reaction.{Reaction}
-use Rattle.reactions.specs.Replies.{owedBytes, owedLength}
-use Rattle.reactions.proofs.ReplyLaws.{length-owed}
+use Rattle.platform.specs.declared.reactions.Standing.{Standing}
+use Rattle.platform.specs.declared.reactions.Reaction.{Reaction}
+use Rattle.platform.specs.Replies.{owedBytes, owedLength}
+use Rattle.platform.proofs.ReplyBytes.{length-owed}
 use Rattle.platform.specs.declared.Outcome.{Outcome}
 use Rattle.platform.specs.Receiving.{freshStanding, refused, taken, answered, laidOut}
 

@@ -20,15 +20,15 @@ use Rattle.message.specs.declared.Reading.the-variants.{Read}
 use Rattle.message.specs.Header.{headerLength}
 use Rattle.message.specs.Refusal.{noRoom}
 use Rattle.message.specs.Reading.{readOf}
-use Rattle.reactions.specs.declared.Standing.{Standing}
-use Rattle.reactions.specs.declared.Heard.the-variants as heard
+use Rattle.platform.specs.declared.reactions.Standing.{Standing}
+use Rattle.platform.specs.declared.reactions.Heard.the-variants as heard
 use Rattle.platform.specs.declared.Outcome.{Outcome}
-use Rattle.reactions.specs.declared.Reply.{Reply}
-use Rattle.reactions.specs.declared.Reply.the-variants.{StatusUp, PullAll, Unknown}
-use Rattle.reactions.specs.declared.Reaction.{Reaction}
+use Rattle.platform.specs.declared.reactions.Reply.{Reply}
+use Rattle.platform.specs.declared.reactions.Reply.the-variants.{StatusUp, PullAll, Unknown}
+use Rattle.platform.specs.declared.reactions.Reaction.{Reaction}
 use Rattle.states.specs.States.{isUp}
-use Rattle.reactions.specs.Replies.{allData, drawn, replyBytes, replyHeader, meant, Wide, replies, Each, owedLength}
-use Rattle.reactions.specs.Reaction.{noData, silent, cameUp, onStatus, notVersioned, onPullAll, onPull, reactionTo}
+use Rattle.platform.specs.Replies.{allData, drawn, replyBytes, replyHeader, meant, Wide, replies, Each, owedLength}
+use Rattle.platform.specs.Reaction.{noData, silent, cameUp, onStatus, notVersioned, onPullAll, onPull, reactionTo}
 use Rattle.platform.specs.Receiving.{refused, taken, answered, outcomeOf}
 use Rattle.platform.specs.Exchange.{written, sentOf, Setting, keeps, sends, Pair, Step, Exchange, started, longestExchange}
 use Rattle.platform.specs.Exchange.Step.{arrives-at-a, arrives-at-b, lost-to-a, lost-to-b}

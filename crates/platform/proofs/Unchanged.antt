@@ -25,18 +25,18 @@ use Rattle.message.specs.Header.{headerLength, payloadSizeIn, payloadIn}
 use Rattle.message.specs.Refusal.{noRoom, readRefusal}
 use Rattle.message.specs.Reading.{readOf}
 use Rattle.message.proofs.Accepted.{Readable, readable}
-use Rattle.reactions.specs.declared.Standing.{Standing}
+use Rattle.platform.specs.declared.reactions.Standing.{Standing}
 use Rattle.platform.specs.declared.Answer.the-variants.{Refused, Noted}
 use Rattle.platform.specs.declared.Outcome.{Outcome}
-use Rattle.reactions.specs.declared.Reply.{Reply}
-use Rattle.reactions.specs.declared.Owed.{Owed}
-use Rattle.reactions.specs.declared.Owed.the-variants as owed
-use Rattle.reactions.specs.declared.Reaction.{Reaction}
-use Rattle.reactions.specs.Replies.{replyBytes, replies, owedBytes, owedLength}
-use Rattle.reactions.specs.Reaction.{operationIn, reactionTo}
+use Rattle.platform.specs.declared.reactions.Reply.{Reply}
+use Rattle.platform.specs.declared.reactions.Owed.{Owed}
+use Rattle.platform.specs.declared.reactions.Owed.the-variants as owed
+use Rattle.platform.specs.declared.reactions.Reaction.{Reaction}
+use Rattle.platform.specs.Replies.{replyBytes, replies, owedBytes, owedLength}
+use Rattle.platform.specs.Reaction.{operationIn, reactionTo}
 use Rattle.platform.specs.Receiving.{refused, taken, answered, laidOut, outcomeOf, outputOf, outcomeIn, outputIn, receivedBy, receivedOf, leftBy, leftOf, sectionsOutcome, sectionsOutput, bytesWritten}
 use Rattle.platform.specs.Exchange.{written, sentOf}
-use Rattle.reactions.proofs.ReplyLaws.{length-owed}
+use Rattle.platform.proofs.ReplyBytes.{length-owed}
 
 never : {n k : ℕ} {h : Header} {x : _} → Noted h x k ≡ Refused n → ⊥
 never e = let z : _≡_ {A = ℕ} 0 1 = cc in omega arith

@@ -10,7 +10,7 @@ use Rattle.table.specs.declared.Checked.the-variants as checked
 use Rattle.table.specs.Layout.{cutShort}
 use Rattle.types.specs.Table.{checked}
 use Rattle.types.proofs.Accepted.{accepted, is-within}
-use Rattle.reactions.specs.declared.Standing.{Standing}
+use Rattle.platform.specs.declared.reactions.Standing.{Standing}
 use Rattle.platform.specs.declared.Outcome.{Outcome}
 use Rattle.platform.specs.Receiving.{refused, outcomeIn, outputIn, receivedBy, receivedOf, leftBy, leftOf, sectionsOutcome, sectionsOutput}
 

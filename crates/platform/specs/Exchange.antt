@@ -9,13 +9,13 @@ use Rattle.table.specs.declared.Found.{Found}
 use Rattle.message.specs.declared.Reading.{Reading}
 use Rattle.message.specs.declared.Reading.the-variants as reading
 use Rattle.message.specs.Reading.{readOf}
-use Rattle.reactions.specs.declared.Standing.{Standing}
+use Rattle.platform.specs.declared.reactions.Standing.{Standing}
 use Rattle.platform.specs.declared.Outcome.{Outcome}
-use Rattle.reactions.specs.declared.Reply.{Reply}
-use Rattle.reactions.specs.declared.Reply.the-variants.{StatusUp}
-use Rattle.reactions.specs.declared.Reaction.{Reaction}
-use Rattle.reactions.specs.Replies.{replies, replyBytes, owedLength}
-use Rattle.reactions.specs.Reaction.{reactionTo}
+use Rattle.platform.specs.declared.reactions.Reply.{Reply}
+use Rattle.platform.specs.declared.reactions.Reply.the-variants.{StatusUp}
+use Rattle.platform.specs.declared.reactions.Reaction.{Reaction}
+use Rattle.platform.specs.Replies.{replies, replyBytes, owedLength}
+use Rattle.platform.specs.Reaction.{reactionTo}
 use Rattle.platform.specs.Receiving.{outcomeOf}
 
 -- the replies that a call writes: all that are owed, or none where they don't fit

@@ -1,2 +1,4 @@
 pub mod Receiving
 pub mod Exchange
+pub mod Replies
+pub mod Reaction

@@ -17,16 +17,16 @@ use Rattle.message.specs.declared.Reading.{Reading}
 use Rattle.message.specs.declared.Reading.the-variants as reading
 use Rattle.message.specs.Refusal.{noRoom}
 use Rattle.message.specs.Reading.{readOf}
-use Rattle.reactions.specs.declared.Standing.{Standing}
-use Rattle.reactions.specs.declared.Heard.{Heard}
-use Rattle.reactions.specs.declared.Heard.the-variants as heard
+use Rattle.platform.specs.declared.reactions.Standing.{Standing}
+use Rattle.platform.specs.declared.reactions.Heard.{Heard}
+use Rattle.platform.specs.declared.reactions.Heard.the-variants as heard
 use Rattle.platform.specs.declared.Answer.{Answer}
 use Rattle.platform.specs.declared.Answer.the-variants.{Refused, Noted}
 use Rattle.platform.specs.declared.Outcome.{Outcome}
-use Rattle.reactions.specs.declared.Reaction.{Reaction}
+use Rattle.platform.specs.declared.reactions.Reaction.{Reaction}
 use Rattle.states.specs.States.{freshStates}
-use Rattle.reactions.specs.Replies.{firstNumber, owedLength, owedBytes}
-use Rattle.reactions.specs.Reaction.{operationIn, reactionTo}
+use Rattle.platform.specs.Replies.{firstNumber, owedLength, owedBytes}
+use Rattle.platform.specs.Reaction.{operationIn, reactionTo}
 
 -- at the start: the other 255 are DOWN, and own numbers start at 0
 abbrev pub freshStanding : ℕ → Standing

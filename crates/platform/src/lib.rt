@@ -1,6 +1,21 @@
 // What a platform knows of the others, and what it owes them (01, "Platform states and replies"; 000, 6.3): one call reads
 // a message, notes the state it tells, and writes the owed replies one behind another. A refused call (1 to 10, and 30 to
 // 33 for the type table) changes no state, own number or output byte.
+mod reacting;
+mod reactions;
+mod replies;
+
+pub use reacting::look_up;
+pub use reacting::reaction_to;
+pub use reactions::Heard;
+pub use reactions::Owed;
+pub use reactions::REPLY_LENGTH;
+pub use reactions::Reaction;
+pub use reactions::Reply;
+pub use reactions::Standing;
+pub use replies::lay;
+pub use replies::length_of;
+pub use replies::put_reply;
 ghost use mathlib.Core.Path.{_≡_};
 ghost use lib.ListN.{length};
 ghost use Rattle.states.specs.States.{isUp, howManyUp};
@@ -8,9 +23,6 @@ ghost use Rattle.platform.specs.Receiving.{freshStanding, refused, taken
 use message::Header;
 use message::Own;
 use message::Reading;
-use reactions::Heard;
-use reactions::Reaction;
-use reactions::Standing;
 use states::States;
 use table::CUT_SHORT;
 use table::Checked;
@@ -106,7 +118,7 @@ pub fn receive_within(
     ensures output { λ r. ⌜ now (out .exit) ≡ outputIn (own .platform) (now (table .entry)) s standing (now (message .entry)) (now (out .entry)) ⌝ }
 {
     let reading = message::read(own, message);
-    let found = reactions::look_up(table, s, reading);
+    let found = reacting::look_up(table, s, reading);
     settled(own, table, s, found, standing, reading, out)
 }
 
@@ -144,7 +156,7 @@ fn settled(
             start,
             length,
         } => {
-            let reaction = reactions::reaction_to(
+            let reaction = reacting::reaction_to(
                 own,
                 table,
                 s,
@@ -172,11 +184,11 @@ fn answered(
     ensures output { λ r. ⌜ now (out .exit) ≡ laidOut (own .platform) reaction (now (out .entry)) ⌝ }
 {
     let owed = reaction.owed;
-    let written = reactions::length_of(owed);
+    let written = replies::length_of(owed);
     if out.len() < written {
         refused(standing, NO_ROOM)
     } else {
-        reactions::lay(own, owed, out);
+        replies::lay(own, owed, out);
         taken(header, reaction, written)
     }
 }

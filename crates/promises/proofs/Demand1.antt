@@ -36,12 +36,12 @@ use Rattle.unpack.specs.Reading.{reader}
 use Rattle.pack.specs.Writing.{writer}
 use Rattle.walk.specs.Walk.{start}
 use Rattle.payload.specs.Calls.{answeredIn, leftBy, leftIn, answeredIf, leftIf}
-use Rattle.reactions.specs.declared.Standing.{Standing}
+use Rattle.platform.specs.declared.reactions.Standing.{Standing}
 use Rattle.platform.specs.declared.Outcome.{Outcome as Received′}
 use Rattle.platform.specs.declared.Answer.{Answer as Noting}
 use Rattle.platform.specs.declared.Answer.the-variants as noting
-use Rattle.reactions.specs.Replies.{owedLength}
-use Rattle.reactions.specs.Reaction.{operationFor, operationIn, reactionTo}
+use Rattle.platform.specs.Replies.{owedLength}
+use Rattle.platform.specs.Reaction.{operationFor, operationIn, reactionTo}
 use Rattle.platform.specs.Receiving.{refused, taken, answered, outcomeOf, outcomeIn, receivedBy, receivedOf, leftOf, sectionsOutcome, sectionsOutput, numberGiven as receiveNumber}
 use Rattle.platform.proofs.Unchanged.{Unchanged, refusal-changes-nothing, sections-refusal-changes-nothing}
 use Rattle.promises.specs.Checks.{Check, _when_, Answers, Keeps, none, this, next}

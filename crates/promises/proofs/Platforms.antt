@@ -6,8 +6,8 @@ use Rattle.table.specs.declared.Section.{Section}
 use Rattle.table.specs.declared.Found.the-variants as found
 use Rattle.table.specs.All.{allBelow}
 use Rattle.states.specs.States.{wordOf, withWord, bitOf, isUp, turned, withOwn}
-use Rattle.reactions.specs.Replies.{replyBytes}
-use Rattle.reactions.specs.Reaction.{noData, cameUp, onStatus, onPullAll, onPull, reactionTo}
+use Rattle.platform.specs.Replies.{replyBytes}
+use Rattle.platform.specs.Reaction.{noData, cameUp, onStatus, onPullAll, onPull, reactionTo}
 use Rattle.platform.specs.Receiving.{freshStanding, answered, outcomeOf}
 use Rattle.platform.specs.Exchange.{sentOf, Setting, keeps, sends, Pair, Exchange, started, longestExchange}
 use Rattle.platform.specs.Exchange.Step.{arrives-at-a, arrives-at-b}

@@ -23,12 +23,12 @@ use Rattle.message.specs.declared.Message.the-variants as message
 use Rattle.message.specs.Platform.{messageOf}
 use Rattle.message.specs.Refusal.{platforms}
 use Rattle.states.specs.declared.States.{States}
-use Rattle.reactions.specs.declared.Standing.{Standing}
+use Rattle.platform.specs.declared.reactions.Standing.{Standing}
 use Rattle.states.specs.States.{isUp, turned}
-use Rattle.reactions.specs.Replies.{allData, replyNumber, meant, Wide, replies, Each, owedLength}
-use Rattle.reactions.specs.Reaction.{operationFor, isData, foundData, noData, cameUp, onStatus, onPullAll, onPullOne, onPull, onOperation, reactionTo}
-use Rattle.reactions.specs.declared.Reply.{Reply}
-use Rattle.reactions.specs.declared.Reaction.{Reaction}
+use Rattle.platform.specs.Replies.{allData, replyNumber, meant, Wide, replies, Each, owedLength}
+use Rattle.platform.specs.Reaction.{operationFor, isData, foundData, noData, cameUp, onStatus, onPullAll, onPullOne, onPull, onOperation, reactionTo}
+use Rattle.platform.specs.declared.reactions.Reply.{Reply}
+use Rattle.platform.specs.declared.reactions.Reaction.{Reaction}
 use Rattle.states.proofs.Ups.{noted-there, noted-elsewhere}
 use Rattle.promises.specs.Platforms.{Owed, owedFor, stateAfter, nextAfter, replyLength}
 

@@ -23,21 +23,21 @@ use Rattle.message.specs.Platform.{messageOf}
 use Rattle.message.specs.Refusal.{platforms, noRoom, readRefusal}
 use Rattle.message.specs.Reading.{readOut, readOf}
 use Rattle.message.proofs.Accepted.{Readable, readable}
-use Rattle.reactions.specs.declared.Standing.{Standing}
+use Rattle.platform.specs.declared.reactions.Standing.{Standing}
 use Rattle.platform.specs.declared.Answer.the-variants.{Refused, Noted}
 use Rattle.platform.specs.declared.Outcome.{Outcome}
 use Rattle.states.specs.States.{isUp}
-use Rattle.reactions.specs.Replies.{replyBytes, replyHeader, Wide, replies, Each, owedBytes, owedLength}
-use Rattle.reactions.specs.Reaction.{operationFor, operationIn}
+use Rattle.platform.specs.Replies.{replyBytes, replyHeader, Wide, replies, Each, owedBytes, owedLength}
+use Rattle.platform.specs.Reaction.{operationFor, operationIn}
 use Rattle.platform.specs.Receiving.{refused, taken, answered, laidOut, outcomeOf, outputOf, receivedBy, receivedOf, leftBy, leftOf, bytesWritten}
 use Rattle.platform.specs.Exchange.{sentOf}
-use Rattle.reactions.proofs.ReplyLaws.{length-reply, length-owed}
+use Rattle.platform.proofs.ReplyBytes.{length-reply, length-owed}
 use Rattle.platform.proofs.Unchanged.{allBytes, written-is-sent}
 use Rattle.platform.proofs.ReadBack.{reply-reads-back}
 use Rattle.promises.specs.Platforms.{owedFor, replyLength, AreReplies, Receives, Notes}
 use Rattle.promises.proofs.Headers.{was-read, headerRead}
-use Rattle.reactions.specs.declared.Reply.{Reply}
-use Rattle.reactions.specs.declared.Reaction.{Reaction}
+use Rattle.platform.specs.declared.reactions.Reply.{Reply}
+use Rattle.platform.specs.declared.reactions.Reaction.{Reaction}
 use Rattle.promises.proofs.Lookups.{accepted-find}
 use Rattle.promises.proofs.Reacting.{said, fieldOf, X, Reacts, reacts, field-le}
 

@@ -8,8 +8,8 @@ use Rattle.table.specs.declared.Section.{Section}
 use Rattle.table.specs.declared.Found.the-variants as found
 use Rattle.table.specs.All.{allBelow}
 use Rattle.states.specs.States.{wordOf, withWord, bitOf, isUp, turned, withOwn}
-use Rattle.reactions.specs.Replies.{replyBytes}
-use Rattle.reactions.specs.Reaction.{noData, cameUp, onStatus, onPullAll, onPull, reactionTo}
+use Rattle.platform.specs.Replies.{replyBytes}
+use Rattle.platform.specs.Reaction.{noData, cameUp, onStatus, onPullAll, onPull, reactionTo}
 use Rattle.platform.specs.Receiving.{freshStanding, answered}
 use Rattle.platform.specs.Exchange.{Setting, Pair, Step, Exchange, started}
 use Rattle.platform.specs.Exchange.Step.{arrives-at-a, arrives-at-b, lost-to-a, lost-to-b}

@@ -19,10 +19,10 @@ use Rattle.channels.specs.declared.Joiner.{Joiner}
 use Rattle.joiner.specs.Take.{takenOf, roomsAfter}
 use Rattle.joiner.specs.Outcomes.{refusalIn}
 use Rattle.payload.specs.Calls.{unpackedIn, wordsIn, packedIn, bytesIn, unpacked, wordsAfter, packed, bytesAfter}
-use Rattle.reactions.specs.declared.Standing.{Standing}
+use Rattle.platform.specs.declared.reactions.Standing.{Standing}
 use Rattle.platform.specs.declared.Outcome.{Outcome}
-use Rattle.reactions.specs.Replies.{owedLength}
-use Rattle.reactions.specs.Reaction.{operationFor, reactionTo}
+use Rattle.platform.specs.Replies.{owedLength}
+use Rattle.platform.specs.Reaction.{operationFor, reactionTo}
 use Rattle.platform.specs.Receiving.{receivedOf, leftOf, sectionsOutcome, sectionsOutput, numberGiven as receiveNumber}
 use Rattle.promises.specs.Checks.{Check, _when_, Answers, Keeps}
 use Rattle.promises.specs.Order.{readChecks, InOrder}

@@ -23,12 +23,12 @@ use Rattle.message.specs.Header.{headerLength}
 use Rattle.message.specs.Refusal.{platforms, noRoom}
 use Rattle.message.specs.Reading.{readOf}
 use Rattle.states.specs.declared.States.{States}
-use Rattle.reactions.specs.declared.Standing.{Standing}
-use Rattle.reactions.specs.declared.Heard.{Heard}
+use Rattle.platform.specs.declared.reactions.Standing.{Standing}
+use Rattle.platform.specs.declared.reactions.Heard.{Heard}
 use Rattle.platform.specs.declared.Answer.the-variants.{Refused, Noted}
 use Rattle.states.specs.States.{isUp, howManyUp, countBelow, Words}
-use Rattle.reactions.specs.Replies.{allData, drawn}
-use Rattle.reactions.specs.Reaction.{noData, foundData}
+use Rattle.platform.specs.Replies.{allData, drawn}
+use Rattle.platform.specs.Reaction.{noData, foundData}
 use Rattle.platform.specs.Receiving.{freshStanding, receivedOf, leftOf}
 use Rattle.platform.specs.Exchange.{Pair, Exchange, started, longestExchange}
 

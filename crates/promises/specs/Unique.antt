@@ -11,7 +11,7 @@ use Rattle.table.specs.declared.Sections.{Sections}
 use Rattle.table.specs.declared.Checked.the-variants.{Table}
 use Rattle.table.specs.Operations.{operationOf}
 use Rattle.types.specs.Table.{checked}
-use Rattle.reactions.specs.declared.Standing.{Standing}
+use Rattle.platform.specs.declared.reactions.Standing.{Standing}
 use Rattle.table.specs.Search.{lookedUp}
 use Rattle.platform.specs.Receiving.{receivedOf, leftOf, sectionsOutcome, sectionsOutput}
 use Rattle.wire.proofs.u8_at.Reads.{Post as wire-u8-at}

@@ -22,11 +22,11 @@ use Rattle.message.proofs.address_refusal.Reads.{Post as message-address-refusa
 use Rattle.message.proofs.contents_refusal.Reads.{Post as message-contents-refusal}
 use Rattle.message.proofs.behind_header.Reads.{Post as message-behind-header}
 use Rattle.message.proofs.put_header.Reads.{Post as writer-put-header}
-use Rattle.reactions.proofs.look_up.Reads.{Post as reactions-look-up}
-use Rattle.reactions.proofs.reaction_to.Reads.{Post as reactions-reaction-to}
-use Rattle.reactions.proofs.length_of.Reads.{Post as reactions-length-of}
-use Rattle.reactions.proofs.lay.Reads.{Post as reactions-lay}
-use Rattle.reactions.proofs.put_reply.Reads.{Post as reactions-put-reply}
+use Rattle.platform.proofs.look_up.Reads.{Post as reactions-look-up}
+use Rattle.platform.proofs.reaction_to.Reads.{Post as reactions-reaction-to}
+use Rattle.platform.proofs.length_of.Reads.{Post as reactions-length-of}
+use Rattle.platform.proofs.lay.Reads.{Post as reactions-lay}
+use Rattle.platform.proofs.put_reply.Reads.{Post as reactions-put-reply}
 use Rattle.table.proofs.layout.end.Reads.{Post as table-layout-end}
 use Rattle.table.proofs.read.Reads.{Post as sections-read}
 use Rattle.types.proofs.values_allowed.Reads.{Post as enums-values-allowed}

@@ -13,14 +13,14 @@ use Rattle.message.specs.declared.Reading.{Reading}
 use Rattle.message.specs.declared.Reading.the-variants as reading
 use Rattle.message.specs.Reading.{readOf}
 use Rattle.states.specs.States.{isUp}
-use Rattle.reactions.specs.declared.Standing.{Standing}
-use Rattle.reactions.specs.declared.Heard.the-variants as heard
-use Rattle.reactions.specs.declared.Reply.{Reply}
-use Rattle.reactions.specs.declared.Reply.the-variants.{StatusUp, PullAll}
-use Rattle.reactions.specs.declared.Owed.the-variants as owed
-use Rattle.reactions.specs.declared.Reaction.{Reaction}
-use Rattle.reactions.specs.Replies.{drawn, replyBytes}
-use Rattle.reactions.specs.Reaction.{cameUp, reactionTo}
+use Rattle.platform.specs.declared.reactions.Standing.{Standing}
+use Rattle.platform.specs.declared.reactions.Heard.the-variants as heard
+use Rattle.platform.specs.declared.reactions.Reply.{Reply}
+use Rattle.platform.specs.declared.reactions.Reply.the-variants.{StatusUp, PullAll}
+use Rattle.platform.specs.declared.reactions.Owed.the-variants as owed
+use Rattle.platform.specs.declared.reactions.Reaction.{Reaction}
+use Rattle.platform.specs.Replies.{drawn, replyBytes}
+use Rattle.platform.specs.Reaction.{cameUp, reactionTo}
 use Rattle.platform.specs.Receiving.{answered}
 use Rattle.platform.specs.Exchange.{written, Setting, keeps, sends, Pair, started, longestExchange}
 use Rattle.promises.specs.Platforms.{Starts}

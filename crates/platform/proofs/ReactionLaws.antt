@@ -1,0 +1,180 @@
+-- What the functions of `reacting` come to at their returns.
+-- Assumes nothing.
+use Prim.Native.Nat.{ℕ, _+_, _≤_, _<_}
+use mathlib.Core.Path.{_≡_, refl, sym, ap, ap₂, _∙_}
+use mathlib.Core.Bool.{Bool, true, false, not}
+use mathlib.Core.List.{List}
+use lib.Dec.{eqb}
+use Rattle.table.specs.declared.Sections.{Sections}
+use Rattle.table.specs.declared.Operation.{Operation}
+use Rattle.table.specs.declared.Found.{Found}
+use Rattle.table.specs.declared.Found.the-variants as found
+use Rattle.table.specs.All.{allBelow}
+use Rattle.table.specs.Entries.{operationAt}
+use Rattle.table.specs.Search.{lookedUp}
+use Rattle.table.proofs.AllBelow.{none-below, next-below, stop-below, done-below}
+use Rattle.message.specs.declared.Header.{Header}
+use Rattle.message.specs.declared.Status.{Status}
+use Rattle.message.specs.declared.Status.the-variants.{Down, Up}
+use Rattle.message.specs.declared.Message.{Message}
+use Rattle.message.specs.declared.Message.the-variants as message
+use Rattle.message.specs.declared.Reading.{Reading}
+use Rattle.message.specs.declared.Reading.the-variants as reading
+use Rattle.wire.proofs.Cond.{yes-if, no-if, yes-eq, no-eq}
+use Rattle.states.specs.declared.States.{States}
+use Rattle.platform.specs.declared.reactions.Standing.{Standing}
+use Rattle.platform.specs.declared.reactions.Heard.{Heard}
+use Rattle.platform.specs.declared.reactions.Heard.the-variants as heard
+use Rattle.platform.specs.declared.reactions.Reply.{Reply}
+use Rattle.platform.specs.declared.reactions.Reply.the-variants.{StatusUp, PullAll, Unknown}
+use Rattle.platform.specs.declared.reactions.Owed.{Owed}
+use Rattle.platform.specs.declared.reactions.Owed.the-variants as owed
+use Rattle.platform.specs.declared.reactions.Reaction.{Reaction}
+use Rattle.states.specs.States.{isUp, turned}
+use Rattle.platform.specs.Replies.{allData, drawn}
+use Rattle.platform.specs.Reaction.{operationFor, operationIn, isData, notData, noData, silent, replied, noted, cameUp, onStatus, notVersioned, onPullAll, onPullOne, onPull, onOperation, reactionTo}
+
+-- what is looked up
+module _ (t : List ℕ) (s : Sections) (h : Header) (m : Message) where
+  pub none-for-status : (x : Status) → m ≡ message.PlatformStatus x → found.Nothing ≡ operationFor t s h m
+  unfolding operationFor
+  none-for-status x e = rw e refl
+
+  pub none-for-request : m ≡ message.PlatformStatusRequest → found.Nothing ≡ operationFor t s h m
+  unfolding operationFor
+  none-for-request e = rw e refl
+
+  pub none-for-unknown : (id : ℕ) → m ≡ message.UnknownOperation id → found.Nothing ≡ operationFor t s h m
+  unfolding operationFor
+  none-for-unknown id e = rw e refl
+
+  pub for-pull : (id : ℕ) (f : Found) → m ≡ message.VersionedDataPull id → f ≡ lookedUp t s id → f ≡ operationFor t s h m
+  unfolding operationFor
+  for-pull id f e a = rw e a
+
+  pub for-operation : (f : Found) → m ≡ message.Operation → f ≡ lookedUp t s (h .id) → f ≡ operationFor t s h m
+  unfolding operationFor
+  for-operation f e a = rw e a
+
+module _ (t : List ℕ) (s : Sections) (x : Reading) where
+  pub none-looked : (n : ℕ) → x ≡ reading.Refused n → found.Nothing ≡ operationIn t s x
+  unfolding operationIn
+  none-looked n e = rw e refl
+
+  pub is-looked : (h : Header) (m : Message) (start len : ℕ) (f : Found) → x ≡ reading.Read h m start len → f ≡ operationFor t s h m → f ≡ operationIn t s x
+  unfolding operationIn
+  is-looked h m start len f e a = rw e a
+
+-- versioned data
+pub is-data : (t : List ℕ) (s : Sections) (i : ℕ) (o : Operation) → o ≡ operationAt t s i → eqb (o .kind) 1 ≡ isData t s i
+unfolding isData
+is-data t s i o e = rw e
+
+module _ (t : List ℕ) (s : Sections) where
+  pub nothing-yet : allBelow (notData t s) 0 ≡ true
+  nothing-yet = none-below (notData t s)
+
+  module _ (i : ℕ) (r : Bool) (e : r ≡ isData t s i) where
+    pub not-yet : allBelow (notData t s) i ≡ true → r ≡ false → allBelow (notData t s) (i + 1) ≡ true
+    unfolding notData
+    not-yet a f = next-below (notData t s) i (not r) a (ap not e) (ap not f)
+
+    pub some-data : r ≡ true → i < s .operations .count → false ≡ noData t s
+    unfolding noData notData
+    some-data f h = stop-below (notData t s) (s .operations .count) i (not r) (ap not e) (ap not f) h
+
+  pub never-data : (i : ℕ) → allBelow (notData t s) i ≡ true → i ≤ s .operations .count → s .operations .count ≤ i → true ≡ noData t s
+  unfolding noData
+  never-data i a h l = done-below (notData t s) (s .operations .count) i a h l
+
+-- a status
+pub noted-is : (p : Standing) (sender n : ℕ) (a : States) → a ≡ turned (p .states) sender → _≡_ {A = Standing} (record { states = a; next = n }) (noted p sender n)
+noted-is p sender n a e = ap (λ (x : States). record { states = x; next = n }) e
+
+pub came-up-is : (p q : Standing) (sender b d : ℕ) → b ≡ drawn (p .next) → d ≡ drawn b → q ≡ noted p sender d → _≡_ {A = Reaction} (record { standing = q; heard = heard.Status Up; owed = owed.Two (StatusUp (p .next)) (PullAll b) }) (cameUp p sender)
+unfolding cameUp
+came-up-is p q sender b d e f g =
+    let k : q ≡ noted p sender (drawn (drawn (p .next))) = g ∙ ap (noted p sender) (f ∙ ap drawn e) in
+    ap₂ (λ (x : Standing) (y : ℕ). record { standing = x; heard = heard.Status Up; owed = owed.Two (StatusUp (p .next)) (PullAll y) }) k e
+
+module _ (own : ℕ) (p : Standing) (sender : ℕ) (x : Status) (u : Bool) (e : u ≡ isUp own (p .states) sender) (r : Reaction) where
+  pub still-up : x ≡ Up → u ≡ true → r ≡ silent p (heard.Status Up) → r ≡ onStatus own p sender x
+  unfolding onStatus
+  still-up k t d = rw (k, ← e, t) d
+
+  pub down-to-up : x ≡ Up → u ≡ false → r ≡ cameUp p sender → r ≡ onStatus own p sender x
+  unfolding onStatus
+  down-to-up k t d = rw (k, ← e, t) d
+
+  pub up-to-down : (q : Standing) → x ≡ Down → u ≡ true → q ≡ noted p sender (p .next) → r ≡ silent q (heard.Status Down) → r ≡ onStatus own p sender x
+  unfolding onStatus
+  up-to-down q k t n d = rw (k, ← e, t) (d ∙ ap (λ (z : Standing). silent z (heard.Status Down)) n)
+
+  pub still-down : x ≡ Down → u ≡ false → r ≡ silent p (heard.Status Down) → r ≡ onStatus own p sender x
+  unfolding onStatus
+  still-down k t d = rw (k, ← e, t) d
+
+-- a pull
+module _ (t : List ℕ) (s : Sections) (p : Standing) (n : ℕ) (r : Reaction) where
+  module _ (b : Bool) (e : b ≡ noData t s) where
+    pub all-of-none : b ≡ true → r ≡ notVersioned p n allData → r ≡ onPullAll t s p n
+    unfolding onPullAll
+    all-of-none f d = rw (← e, f) d
+
+    pub all-of-some : b ≡ false → r ≡ silent p heard.PullOfAll → r ≡ onPullAll t s p n
+    unfolding onPullAll
+    all-of-some f d = rw (← e, f) d
+
+  module _ (f : Found) (id : ℕ) where
+    module _ (i : ℕ) (k : f ≡ found.At i) (b : Bool) (e : b ≡ isData t s i) where
+      pub one-data : b ≡ true → r ≡ silent p (heard.PullOfOne id i) → r ≡ onPullOne t s f p n id
+      unfolding onPullOne
+      one-data z d = rw (k, ← e, z) d
+
+      pub one-event : b ≡ false → r ≡ notVersioned p n id → r ≡ onPullOne t s f p n id
+      unfolding onPullOne
+      one-event z d = rw (k, ← e, z) d
+
+    pub one-missing : f ≡ found.Nothing → r ≡ notVersioned p n id → r ≡ onPullOne t s f p n id
+    unfolding onPullOne
+    one-missing k d = rw k d
+
+    pub pulls-all : id ≡ allData → r ≡ onPullAll t s p n → r ≡ onPull t s f p n id
+    unfolding onPull
+    pulls-all h d = d ∙ sym (yes-eq {A = Reaction} (onPullAll t s p n) (onPullOne t s f p n id) id allData h)
+
+    pub pulls-one : (id ≡ allData → ⊥) → r ≡ onPullOne t s f p n id → r ≡ onPull t s f p n id
+    unfolding onPull
+    pulls-one h d = d ∙ sym (no-eq {A = Reaction} (onPullAll t s p n) (onPullOne t s f p n id) id allData h)
+
+-- an operation
+module _ (f : Found) (p : Standing) (h : Header) (start len : ℕ) (r : Reaction) where
+  pub operation-in : (i : ℕ) → f ≡ found.At i → r ≡ silent p (heard.Operation i start len) → r ≡ onOperation f p h start len
+  unfolding onOperation
+  operation-in i k d = rw k d
+
+  pub operation-not-in : f ≡ found.Nothing → r ≡ replied p (heard.NotInTable (h .id)) (Unknown (h .sequence) (h .id)) → r ≡ onOperation f p h start len
+  unfolding onOperation
+  operation-not-in k d = rw k d
+
+-- each message
+module _ (own : ℕ) (t : List ℕ) (s : Sections) (f : Found) (p : Standing) (h : Header) (m : Message) (start len : ℕ) (r : Reaction) where
+  pub to-status : (x : Status) → m ≡ message.PlatformStatus x → r ≡ onStatus own p (h .platform) x → r ≡ reactionTo own t s f p h m start len
+  unfolding reactionTo
+  to-status x k d = rw k d
+
+  pub to-request : m ≡ message.PlatformStatusRequest → r ≡ replied p heard.Request (StatusUp (h .sequence)) → r ≡ reactionTo own t s f p h m start len
+  unfolding reactionTo
+  to-request k d = rw k d
+
+  pub to-unknown : (id : ℕ) → m ≡ message.UnknownOperation id → r ≡ silent p (heard.UnknownOperation id) → r ≡ reactionTo own t s f p h m start len
+  unfolding reactionTo
+  to-unknown id k d = rw k d
+
+  pub to-pull : (id : ℕ) → m ≡ message.VersionedDataPull id → r ≡ onPull t s f p (h .sequence) id → r ≡ reactionTo own t s f p h m start len
+  unfolding reactionTo
+  to-pull id k d = rw k d
+
+  pub to-operation : m ≡ message.Operation → r ≡ onOperation f p h start len → r ≡ reactionTo own t s f p h m start len
+  unfolding reactionTo
+  to-operation k d = rw k d

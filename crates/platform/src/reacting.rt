@@ -1,0 +1,249 @@
+// What a message comes to: what it was, the states and the own number after it, and the replies that are owed.
+use crate::reactions::Heard;
+use crate::reactions::Owed;
+use crate::reactions::Reaction;
+use crate::reactions::Reply;
+use crate::reactions::Standing;
+use crate::replies;
+use message::Header;
+use message::Message;
+use message::Own;
+use message::Reading;
+use message::Status;
+use table::Found;
+use table::Sections;
+ghost use mathlib.Core.Path.{_≡_};
+ghost use Rattle.platform.specs.Reaction.{operationFor, operationIn, isData, notData, noData, silent, replied, noted, cameUp, onStatus, notVersioned, onPullAll, onPullOne, onPull, onOperation, reactionTo};
+
+// The kind of an operation that is versioned data.
+const DATA_KIND: u16 = 1;
+
+// The operation that the message asks for, if it asks for one.
+pub fn look_up(table: &[u8], s: Sections, reading: Reading) -> Found
+    ensures { λ r. ⌜ r ≡ operationIn (now (table .entry)) s reading ⌝ }
+{
+    match reading {
+        Reading::Refused(_) => Found::Nothing,
+        Reading::Read {
+            header,
+            message,
+            start: _,
+            length: _,
+        } => looked_for(table, s, header, message),
+    }
+}
+
+pub fn reaction_to(
+    own: Own,
+    table: &[u8],
+    s: Sections,
+    found: Found,
+    standing: Standing,
+    header: Header,
+    message: Message,
+    start: usize,
+    length: usize,
+) -> Reaction
+    ensures { λ r. ⌜ r ≡ reactionTo (own .platform) (now (table .entry)) s found standing header message start length ⌝ }
+{
+    match message {
+        Message::PlatformStatus(status) => on_status(own, standing, header.platform, status),
+        Message::PlatformStatusRequest => replied(
+            standing,
+            Heard::Request,
+            Reply::StatusUp(header.sequence),
+        ),
+        Message::UnknownOperation(id) => silent(standing, Heard::UnknownOperation(id)),
+        Message::VersionedDataPull(id) => {
+            on_pull(table, s, found, standing, header.sequence, id)
+        }
+        Message::Operation => on_operation(found, standing, header, start, length),
+    }
+}
+
+fn looked_for(table: &[u8], s: Sections, header: Header, message: Message) -> Found
+    ensures { λ r. ⌜ r ≡ operationFor (now (table .entry)) s header message ⌝ }
+{
+    match message {
+        Message::PlatformStatus(_) => Found::Nothing,
+        Message::PlatformStatusRequest => Found::Nothing,
+        Message::UnknownOperation(_) => Found::Nothing,
+        Message::VersionedDataPull(id) => table::find(table, s, id),
+        Message::Operation => table::find(table, s, header.id),
+    }
+}
+
+// DOWN to UP is answered, UP to UP never is: two platforms would answer each other for ever.
+fn on_status(own: Own, standing: Standing, sender: u32, status: Status) -> Reaction
+    ensures { λ r. ⌜ r ≡ onStatus (own .platform) standing sender status ⌝ }
+{
+    let states = standing.states;
+    let up = states::is_up(own, states, sender);
+    match status {
+        Status::Up => {
+            if up {
+                silent(standing, Heard::Status(Status::Up))
+            } else {
+                came_up(standing, sender)
+            }
+        }
+        Status::Down => {
+            if up {
+                silent(
+                    noted(standing, sender, standing.next),
+                    Heard::Status(Status::Down),
+                )
+            } else {
+                silent(standing, Heard::Status(Status::Down))
+            }
+        }
+    }
+}
+
+fn came_up(standing: Standing, sender: u32) -> Reaction
+    ensures { λ r. ⌜ r ≡ cameUp standing sender ⌝ }
+{
+    let first = standing.next;
+    let second = replies::drawn(first);
+    Reaction {
+        standing: noted(standing, sender, replies::drawn(second)),
+        heard: Heard::Status(Status::Up),
+        owed: Owed::Two(Reply::StatusUp(first), Reply::PullAll(second)),
+    }
+}
+
+fn noted(standing: Standing, sender: u32, next: u32) -> Standing
+    ensures { λ r. ⌜ r ≡ noted standing sender next ⌝ }
+{
+    let states = standing.states;
+    Standing {
+        states: states::turned(states, sender),
+        next,
+    }
+}
+
+fn on_pull(
+    table: &[u8],
+    s: Sections,
+    found: Found,
+    standing: Standing,
+    number: u32,
+    id: u32,
+) -> Reaction
+    ensures { λ r. ⌜ r ≡ onPull (now (table .entry)) s found standing number id ⌝ }
+{
+    if id == replies::ALL_DATA {
+        on_pull_all(table, s, standing, number)
+    } else {
+        on_pull_one(table, s, found, standing, number, id)
+    }
+}
+
+fn on_pull_all(table: &[u8], s: Sections, standing: Standing, number: u32) -> Reaction
+    ensures { λ r. ⌜ r ≡ onPullAll (now (table .entry)) s standing number ⌝ }
+{
+    if no_data(table, s) {
+        not_versioned(standing, number, replies::ALL_DATA)
+    } else {
+        silent(standing, Heard::PullOfAll)
+    }
+}
+
+fn on_pull_one(
+    table: &[u8],
+    s: Sections,
+    found: Found,
+    standing: Standing,
+    number: u32,
+    id: u32,
+) -> Reaction
+    ensures { λ r. ⌜ r ≡ onPullOne (now (table .entry)) s found standing number id ⌝ }
+{
+    match found {
+        Found::At(i) => {
+            if is_data(table, s, i) {
+                silent(standing, Heard::PullOfOne(id, i))
+            } else {
+                not_versioned(standing, number, id)
+            }
+        }
+        Found::Nothing => not_versioned(standing, number, id),
+    }
+}
+
+fn on_operation(
+    found: Found,
+    standing: Standing,
+    header: Header,
+    start: usize,
+    length: usize,
+) -> Reaction
+    ensures { λ r. ⌜ r ≡ onOperation found standing header start length ⌝ }
+{
+    match found {
+        Found::At(entry) => silent(
+            standing,
+            Heard::Operation {
+                entry,
+                start,
+                length,
+            },
+        ),
+        Found::Nothing => replied(
+            standing,
+            Heard::NotInTable(header.id),
+            Reply::Unknown(header.sequence, header.id),
+        ),
+    }
+}
+
+fn not_versioned(standing: Standing, number: u32, id: u32) -> Reaction
+    ensures { λ r. ⌜ r ≡ notVersioned standing number id ⌝ }
+{
+    replied(
+        standing,
+        Heard::NotVersionedData(id),
+        Reply::Unknown(number, id),
+    )
+}
+
+// The table provides no versioned data.
+fn no_data(table: &[u8], s: Sections) -> bool
+    ensures { λ r. ⌜ r ≡ noData (now (table .entry)) s ⌝ }
+{
+    let count = s.operations.count;
+    let mut i: u16 = 0;
+    while i < count {
+        if is_data(table, s, i) {
+            return false;
+        }
+        i += 1;
+    }
+    true
+}
+
+fn is_data(table: &[u8], s: Sections, i: u16) -> bool
+    ensures { λ r. ⌜ r ≡ isData (now (table .entry)) s i ⌝ }
+{
+    table::entries::operation_at(table, s, i).kind == DATA_KIND
+}
+
+fn silent(standing: Standing, heard: Heard) -> Reaction
+    ensures { λ r. ⌜ r ≡ silent standing heard ⌝ }
+{
+    Reaction {
+        standing,
+        heard,
+        owed: Owed::Nothing,
+    }
+}
+
+fn replied(standing: Standing, heard: Heard, reply: Reply) -> Reaction
+    ensures { λ r. ⌜ r ≡ replied standing heard reply ⌝ }
+{
+    Reaction {
+        standing,
+        heard,
+        owed: Owed::One(reply),
+    }
+}

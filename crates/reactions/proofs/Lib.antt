@@ -1,2 +1,0 @@
-pub mod ReactionLaws
-pub mod ReplyLaws
