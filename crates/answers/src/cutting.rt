@@ -24,8 +24,8 @@ pub(crate) fn pieces(call: &[u8], output: &mut [u8], at: usize) -> usize {
     match binding::pieces(fields::size(call, 0), fields::size(call, 1)) {
         Counted::Refused(number) => fields::put_refused(output, at, number),
         Counted::Pieces(n) => {
-            let behind = text::put_text(output, at, b"pieces");
-            text::put_number(output, behind, n as u64)
+            let behind = recording::put_text(output, at, b"pieces");
+            recording::put_number(output, behind, n as u64)
         }
     }
 }

@@ -62,18 +62,18 @@ pub(crate) fn least(a: usize, b: usize) -> usize
 
 // `refused K`.
 pub(crate) fn put_refused(output: &mut [u8], at: usize, number: u32) -> usize {
-    let named = text::put_text(output, at, b"refused");
-    text::put_number(output, named, number as u64)
+    let named = recording::put_text(output, at, b"refused");
+    recording::put_number(output, named, number as u64)
 }
 
 // Bytes behind a space.
 pub(crate) fn put_bytes(output: &mut [u8], at: usize, bytes: &[u8]) -> usize {
-    let start = text::put_text(output, at, b" ");
-    text::put_hex(output, start, bytes)
+    let start = recording::put_text(output, at, b" ");
+    recording::put_hex(output, start, bytes)
 }
 
 // A name, and bytes behind it.
 pub(crate) fn put_named(output: &mut [u8], at: usize, name: &[u8], bytes: &[u8]) -> usize {
-    let behind = text::put_text(output, at, name);
+    let behind = recording::put_text(output, at, name);
     put_bytes(output, behind, bytes)
 }

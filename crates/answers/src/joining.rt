@@ -135,9 +135,9 @@ fn put_outcome(output: &mut [u8], at: usize, outcome: Outcome) -> usize {
 }
 
 fn put_counts(output: &mut [u8], at: usize, name: &[u8], missed: u32, bytes: usize) -> usize {
-    let named = text::put_text(output, at, name);
-    let behind = text::put_number(output, named, missed as u64);
-    text::put_number(output, behind, bytes as u64)
+    let named = recording::put_text(output, at, name);
+    let behind = recording::put_number(output, named, missed as u64);
+    recording::put_number(output, behind, bytes as u64)
 }
 
 fn joiner_of(records: &[u8], room: u32) -> Joiner {

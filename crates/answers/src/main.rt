@@ -108,7 +108,7 @@ fn answer_all(fd: i32, name: &[u8], input: &mut [u8], output: &mut [u8]) {
 fn refill(fd: i32, input: &mut [u8], at: usize, filled: usize) -> Refilled
     ensures { λ r. ⌜ r .filled ≤ length (now (input .entry)) ⌝ }
 {
-    let kept = blocks::keep(input, at, std::num::wrapping_sub_usize(filled, at));
+    let kept = recording::keep(input, at, std::num::wrapping_sub_usize(filled, at));
     match files::fill(fd, input, kept) {
         Came::More(n) => Refilled {
             kept,
@@ -160,15 +160,15 @@ fn answer_call(run: Run, input: &[u8], code: u16, end: usize, output: &mut [u8])
 
 // The call's number, before its answer.
 fn put_start(output: &mut [u8], at: usize, number: u64) -> usize {
-    let numbered = text::put_decimal(output, at, number);
-    text::put_text(output, numbered, b" ")
+    let numbered = recording::put_decimal(output, at, number);
+    recording::put_text(output, numbered, b" ")
 }
 
 fn finished(run: Run, answered: Answered, end: usize, output: &mut [u8]) -> Run {
     if answered.bad {
         return bad_call(run, output);
     }
-    let made = text::put_text(output, answered.end, b"\n");
+    let made = recording::put_text(output, answered.end, b"\n");
     let kept = answered.kept;
     let next = Run {
         kept,
@@ -262,8 +262,8 @@ fn failed(output: &[u8], made: usize) -> bool {
 
 fn bad_call(run: Run, output: &mut [u8]) -> Run {
     let mut run = run;
-    let numbered = text::put_decimal(output, run.made, run.number);
-    let made = text::put_text(output, numbered, b" bad call\n");
+    let numbered = recording::put_decimal(output, run.made, run.number);
+    let made = recording::put_text(output, numbered, b" bad call\n");
     files::flush(output, made);
     run.over = true;
     run
@@ -281,6 +281,6 @@ fn end(name: &[u8], output: &mut [u8], made: usize, kept: usize, failed: bool) {
         files::flush(output, made);
         return;
     }
-    let all = text::put_text(output, made, b"cut short\n");
+    let all = recording::put_text(output, made, b"cut short\n");
     files::flush(output, all);
 }

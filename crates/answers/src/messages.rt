@@ -59,7 +59,7 @@ fn put_message(
             put_origin(output, behind, header)
         }
         Message::PlatformStatusRequest => {
-            let behind = text::put_text(output, at, b"request");
+            let behind = recording::put_text(output, at, b"request");
             put_origin(output, behind, header)
         }
         Message::UnknownOperation(id) => put_id(output, at, b"unknown", id, header),
@@ -73,19 +73,19 @@ fn put_message(
 
 pub(crate) fn put_status(output: &mut [u8], at: usize, status: Status) -> usize {
     match status {
-        Status::Up => text::put_text(output, at, b"status up"),
-        Status::Down => text::put_text(output, at, b"status down"),
+        Status::Up => recording::put_text(output, at, b"status up"),
+        Status::Down => recording::put_text(output, at, b"status down"),
     }
 }
 
 fn put_id(output: &mut [u8], at: usize, name: &[u8], id: u32, header: Header) -> usize {
-    let named = text::put_text(output, at, name);
-    let behind = text::put_number(output, named, id as u64);
+    let named = recording::put_text(output, at, name);
+    let behind = recording::put_number(output, named, id as u64);
     put_origin(output, behind, header)
 }
 
 // The sender, and the sequence number.
 fn put_origin(output: &mut [u8], at: usize, header: Header) -> usize {
-    let behind = text::put_number(output, at, header.platform as u64);
-    text::put_number(output, behind, header.sequence as u64)
+    let behind = recording::put_number(output, at, header.platform as u64);
+    recording::put_number(output, behind, header.sequence as u64)
 }

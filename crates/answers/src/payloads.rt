@@ -89,9 +89,9 @@ fn put_words(output: &mut [u8], at: usize, answer: Answer, words: &[u64]) -> usi
         Answer::Refused(number) => fields::put_refused(output, at, number),
         Answer::Stopped(number) => fields::put_refused(output, at, number),
         Answer::Gave(count) => {
-            let named = text::put_text(output, at, b"words");
+            let named = recording::put_text(output, at, b"words");
             if count == 0 {
-                return text::put_text(output, named, b" -");
+                return recording::put_text(output, named, b" -");
             }
             put_each(output, named, words, count)
         }
@@ -104,7 +104,7 @@ fn put_each(output: &mut [u8], at: usize, words: &[u64], count: usize) -> usize 
     let mut i = 0;
     while i < words.len() {
         if i < count {
-            end = text::put_number(output, end, words[i]);
+            end = recording::put_number(output, end, words[i]);
             i += 1;
         } else {
             return end;

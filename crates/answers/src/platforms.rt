@@ -29,10 +29,10 @@ fn fresh(number: u8) -> Kept {
 
 pub(crate) fn start(call: &[u8], output: &mut [u8], at: usize) -> Answered {
     let number = fields::n8(call, 0);
-    let named = text::put_text(output, at, b"platform");
+    let named = recording::put_text(output, at, b"platform");
     Answered {
         kept: fresh(number),
-        end: text::put_number(output, named, number as u64),
+        end: recording::put_number(output, named, number as u64),
         bad: false,
     }
 }
@@ -69,9 +69,9 @@ pub(crate) fn ask(kept: Kept, call: &[u8], output: &mut [u8], at: usize) -> usiz
     };
     let states = kept.standing.states;
     if platform::is_up(own, states, fields::n8(call, 0)) {
-        text::put_text(output, at, b"up")
+        recording::put_text(output, at, b"up")
     } else {
-        text::put_text(output, at, b"down")
+        recording::put_text(output, at, b"down")
     }
 }
 
@@ -80,8 +80,8 @@ pub(crate) fn count(kept: Kept, output: &mut [u8], at: usize) -> usize {
         platform: kept.platform,
     };
     let states = kept.standing.states;
-    let named = text::put_text(output, at, b"count");
-    text::put_number(output, named, platform::how_many_up(own, states) as u64)
+    let named = recording::put_text(output, at, b"count");
+    recording::put_number(output, named, platform::how_many_up(own, states) as u64)
 }
 
 fn put_answer(output: &mut [u8], at: usize, answer: Answer, replies: &[u8]) -> usize {
@@ -101,9 +101,9 @@ fn put_answer(output: &mut [u8], at: usize, answer: Answer, replies: &[u8]) -> u
 fn put_heard(output: &mut [u8], at: usize, header: Header, heard: Heard) -> usize {
     match heard {
         Heard::Status(status) => messages::put_status(output, at, status),
-        Heard::Request => text::put_text(output, at, b"request"),
+        Heard::Request => recording::put_text(output, at, b"request"),
         Heard::UnknownOperation(id) => put_id(output, at, b"unknown", id),
-        Heard::PullOfAll => text::put_text(output, at, b"pull all"),
+        Heard::PullOfAll => recording::put_text(output, at, b"pull all"),
         Heard::PullOfOne(id, _) => put_id(output, at, b"pull", id),
         Heard::NotVersionedData(id) => put_id(output, at, b"pull unknown", id),
         Heard::Operation {
@@ -116,13 +116,13 @@ fn put_heard(output: &mut [u8], at: usize, header: Header, heard: Heard) -> usiz
 }
 
 fn put_id(output: &mut [u8], at: usize, name: &[u8], id: u32) -> usize {
-    let named = text::put_text(output, at, name);
-    text::put_number(output, named, id as u64)
+    let named = recording::put_text(output, at, name);
+    recording::put_number(output, named, id as u64)
 }
 
 // Who is owed what.
 fn put_owed(output: &mut [u8], at: usize, header: Header, replies: &[u8]) -> usize {
-    let named = text::put_text(output, at, b" from");
-    let behind = text::put_number(output, named, header.platform as u64);
+    let named = recording::put_text(output, at, b" from");
+    let behind = recording::put_number(output, named, header.platform as u64);
     fields::put_named(output, behind, b" owed", replies)
 }

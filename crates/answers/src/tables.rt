@@ -20,23 +20,23 @@ pub(crate) fn find(call: &[u8], output: &mut [u8], at: usize) -> usize {
 }
 
 fn put_counts(output: &mut [u8], at: usize, s: Sections) -> usize {
-    let named = text::put_text(output, at, b"table");
+    let named = recording::put_text(output, at, b"table");
     let behind = put_pair(output, named, s.types.count, s.members.count);
     put_pair(output, behind, s.values.count, s.operations.count)
 }
 
 fn put_operation(output: &mut [u8], at: usize, table: &[u8], s: Sections, id: u32) -> usize {
     match table::find(table, s, id) {
-        Found::Nothing => text::put_text(output, at, b"none"),
+        Found::Nothing => recording::put_text(output, at, b"none"),
         Found::At(i) => {
             let operation = table::entries::operation_at(table, s, i);
-            let named = text::put_text(output, at, b"entry");
+            let named = recording::put_text(output, at, b"entry");
             put_pair(output, named, operation.kind, operation.carries)
         }
     }
 }
 
 fn put_pair(output: &mut [u8], at: usize, a: u16, b: u16) -> usize {
-    let behind = text::put_number(output, at, a as u64);
-    text::put_number(output, behind, b as u64)
+    let behind = recording::put_number(output, at, a as u64);
+    recording::put_number(output, behind, b as u64)
 }

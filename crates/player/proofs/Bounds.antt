@@ -14,18 +14,18 @@ use lib.Seq.{length-take-le, getD-take}
 use Rattle.wire.specs.Bytes.{part, Octets}
 use Rattle.channels.specs.Setup.{badSetup}
 use Rattle.recording.specs.Datagrams.{nextIn}
-use Rattle.opening.specs.Opening.{openedIn}
+use Rattle.recording.specs.Opening.{openedIn}
 use Rattle.recording.specs.declared.Found.{Found}
 use Rattle.recording.specs.declared.Found.the-variants.{Unfinished}
-use Rattle.opening.specs.declared.Opening.the-variants as opening
-use Rattle.opening.specs.declared.Opened.{Opened}
+use Rattle.recording.specs.declared.start.Opening.the-variants as opening
+use Rattle.recording.specs.declared.start.Opened.{Opened}
 use Rattle.recording.proofs.Finding.{left-starts, left-short}
-use Rattle.opening.proofs.Starting.{open-rooms, refused-by-20}
+use Rattle.recording.proofs.Starting.{open-rooms, refused-by-20}
 use Rattle.files.specs.Reading.{Brought}
 use Rattle.files.specs.declared.Came.{Came}
 use Rattle.files.specs.declared.Came.the-variants.{More}
 use Rattle.player.specs.Bounds.{inputLength, roomsLength, RoomsFit}
-use Rattle.lines.specs.declared.Ending.{Ending}
+use Rattle.recording.specs.declared.lines.Ending.{Ending}
 use Rattle.player.specs.Endings.{Says20, RefusalIs20, NextWithin}
 use Rattle.player.specs.declared.Next.{Next}
 use Rattle.player.specs.declared.Next.the-variants.{Filled, End}

@@ -1,8 +1,8 @@
 -- What the program's own functions hand to one another: bounds, so that every part of a buffer lies in it.
 use Prim.Native.Nat.{ℕ, _≤_}
 use mathlib.Core.Path.{_≡_}
-use Rattle.opening.specs.declared.Opened.{Opened}
-use Rattle.opening.specs.declared.Opening.the-variants.{Open}
+use Rattle.recording.specs.declared.start.Opened.{Opened}
+use Rattle.recording.specs.declared.start.Opening.the-variants.{Open}
 
 abbrev pub inputLength : ℕ
 inputLength = 262144

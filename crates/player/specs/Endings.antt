@@ -3,10 +3,10 @@ use Prim.{Unit}
 use Prim.Native.Nat.{ℕ, _≤_}
 use mathlib.Core.Path.{_≡_}
 use Rattle.channels.specs.Setup.{badSetup}
-use Rattle.lines.specs.declared.Ending.{Ending}
-use Rattle.lines.specs.declared.Ending.the-variants.{Whole, CutShort, RefusedSetup}
-use Rattle.opening.specs.declared.Opened.{Opened}
-use Rattle.opening.specs.declared.Opening.the-variants.{Refused}
+use Rattle.recording.specs.declared.lines.Ending.{Ending}
+use Rattle.recording.specs.declared.lines.Ending.the-variants.{Whole, CutShort, RefusedSetup}
+use Rattle.recording.specs.declared.start.Opened.{Opened}
+use Rattle.recording.specs.declared.start.Opening.the-variants.{Refused}
 use Rattle.player.specs.Bounds.{inputLength}
 use Rattle.player.specs.declared.Next.{Next}
 use Rattle.player.specs.declared.Next.the-variants.{Write, Filled, End, Failed}

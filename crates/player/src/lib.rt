@@ -6,10 +6,10 @@ ghost use lib.ListN.{length};
 ghost use Rattle.player.specs.Bounds.{inputLength, roomsLength, RoomsFit};
 ghost use Rattle.player.specs.Endings.{Says20, Refuses20, RefusalIs20, NextWithin};
 use files::Came;
-use lines::Ending;
-use opening::Opened;
-use opening::Opening;
+use recording::Ending;
 use recording::Found;
+use recording::Opened;
+use recording::Opening;
 use recording::Run;
 
 // Some four of the longest datagrams.
@@ -84,7 +84,7 @@ fn begin(fd: i32, input: &mut [u8]) -> Begun
 {
     let mut filled: usize = 0;
     loop {
-        let opened = opening::open(&input[..filled]);
+        let opened = recording::open(&input[..filled]);
         let opening = opened.opening;
         match opening {
             Opening::Unfinished => match files::fill(fd, input, filled) {
@@ -182,7 +182,7 @@ fn read_on(fd: i32, input: &mut [u8], filled: usize, at: usize) -> Next
             length: _,
         } => Next::Write,
         Found::Unfinished => {
-            let kept = blocks::keep(input, at, filled - at);
+            let kept = recording::keep(input, at, filled - at);
             read_behind(fd, input, kept)
         }
         Found::Nothing => read_behind(fd, input, 0),
@@ -217,7 +217,7 @@ fn finish(output: &mut [u8], made: usize, ending: Ending) -> Replayed
     ensures { λ r. ⌜ Refuses20 r ⌝ }
 {
     if files::flush(output, made) {
-        let last = lines::put_ending(output, 0, ending);
+        let last = recording::put_ending(output, 0, ending);
         if files::flush(output, last) {
             return Replayed::Told(ending);
         }

@@ -61,12 +61,12 @@ use Rattle.platform.proofs.is_up.Reads.{Post as platform-is-up}
 use Rattle.platform.proofs.how_many_up.Reads.{Post as platform-how-many-up}
 use Rattle.platform.proofs.receive.Reads.{Post as platform-receive}
 use Rattle.platform.proofs.payload.Reads.{Post as platform-payload}
-use Rattle.opening.proofs.open.Reads.{Post as opening-open}
+use Rattle.recording.proofs.open.Reads.{Post as opening-open}
 use Rattle.recording.proofs.next.Reads.{Post as recording-next}
 use Rattle.recording.proofs.play.Reads.{Post as recording-play}
-use Rattle.blocks.proofs.keep.Reads.{Post as blocks-keep}
-use Rattle.lines.proofs.put_line.Reads.{Post as lines-put-line}
-use Rattle.lines.proofs.put_ending.Reads.{Post as lines-put-ending}
+use Rattle.recording.proofs.keep.Reads.{Post as blocks-keep}
+use Rattle.recording.proofs.put_line.Reads.{Post as lines-put-line}
+use Rattle.recording.proofs.put_ending.Reads.{Post as lines-put-ending}
 use Rattle.recording.specs.Play.{stateOf}
 use Rattle.table.proofs.find.Reads.{Post as lookup-find}
 use Rattle.platform.proofs.receive_checked.Reads.{Post as platform-receive-checked}

@@ -53,10 +53,10 @@ use Rattle.states.proofs.fresh.Reads.{Post as states-fresh}
 use Rattle.states.proofs.is_up.Reads.{Post as states-is-up}
 use Rattle.states.proofs.how_many_up.Reads.{Post as states-how-many-up}
 use Rattle.states.proofs.turned.Reads.{Post as states-turned}
-use Rattle.text.proofs.put_text.Reads.{Post as text-put-text}
-use Rattle.text.proofs.put_decimal.Reads.{Post as text-put-decimal}
-use Rattle.text.proofs.put_number.Reads.{Post as text-put-number}
-use Rattle.text.proofs.put_hex.Reads.{Post as text-put-hex}
+use Rattle.recording.proofs.put_text.Reads.{Post as text-put-text}
+use Rattle.recording.proofs.put_decimal.Reads.{Post as text-put-decimal}
+use Rattle.recording.proofs.put_number.Reads.{Post as text-put-number}
+use Rattle.recording.proofs.put_hex.Reads.{Post as text-put-hex}
 use Rattle.calls.proofs.next.Reads.{Post as calls-next}
 use Rattle.calls.proofs.argument.Reads.{Post as calls-argument}
 use Rattle.calls.proofs.number.Reads.{Post as calls-number}

@@ -11,8 +11,8 @@ use Rattle.wire.specs.Bytes.{written, part}
 use Rattle.wire.proofs.Cond.{yes-if, no-if}
 use Rattle.joiner.specs.Take.{takenOf, roomsAfter}
 use Rattle.joiner.specs.declared.Taken.{Taken}
-use Rattle.text.specs.Places.{behind}
-use Rattle.lines.specs.Line.{lineLimit, lineOf}
+use Rattle.recording.specs.Places.{behind}
+use Rattle.recording.specs.Line.{lineLimit, lineOf}
 use Rattle.recording.specs.Datagrams.{nextIn}
 use Rattle.recording.specs.Play.{State, stateOf, following, steppedOf, hasRoom, goingOn, playedFor, played}
 use Rattle.recording.proofs.Finding.{Within, nothing-next, found-within}

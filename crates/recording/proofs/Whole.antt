@@ -14,9 +14,9 @@ use Rattle.wire.proofs.Cond.{yes-if, no-if, yes-le}
 use Rattle.wire.proofs.Runs.{written-in, length-over, part-in}
 use Rattle.channels.specs.declared.Joiner.{Joiner}
 use Rattle.joiner.specs.Take.{takenOf, roomsAfter}
-use Rattle.text.specs.Places.{behind}
-use Rattle.lines.specs.Line.{lineLimit, lineOf}
-use Rattle.lines.proofs.Lines.{line-limit}
+use Rattle.recording.specs.Places.{behind}
+use Rattle.recording.specs.Line.{lineLimit, lineOf}
+use Rattle.recording.proofs.LineLaws.{line-limit}
 use Rattle.recording.specs.Datagrams.{nextIn}
 use Rattle.recording.specs.Play.{State, following, steppedOf, hasRoom, goingOn, playedFor, played}
 use Rattle.recording.specs.Whole.{behindIt, linesFor, linesFrom, told, emptied, atFront, Deed, plays, writes, reads, come, ran, Over}

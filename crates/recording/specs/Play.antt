@@ -7,8 +7,8 @@ use lib.ListN.{length}
 use Rattle.wire.specs.Bytes.{written, part}
 use Rattle.joiner.specs.Take.{takenOf, roomsAfter}
 use Rattle.joiner.specs.declared.Taken.{Taken}
-use Rattle.text.specs.Places.{behind}
-use Rattle.lines.specs.Line.{lineLimit, lineOf}
+use Rattle.recording.specs.Places.{behind}
+use Rattle.recording.specs.Line.{lineLimit, lineOf}
 use Rattle.recording.specs.Datagrams.{nextIn}
 use Rattle.recording.specs.declared.Run.{Run}
 use Rattle.recording.specs.declared.Found.{Found}

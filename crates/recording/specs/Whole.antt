@@ -7,7 +7,7 @@ use lib.ListN.{length, take, drop}
 use Rattle.wire.specs.Bytes.{part}
 use Rattle.channels.specs.declared.Joiner.{Joiner}
 use Rattle.joiner.specs.Take.{takenOf, roomsAfter}
-use Rattle.lines.specs.Line.{lineOf}
+use Rattle.recording.specs.Line.{lineOf}
 use Rattle.recording.specs.Datagrams.{nextIn}
 use Rattle.recording.specs.Play.{State, stateOf, following, played}
 use Rattle.recording.specs.declared.Found.{Found}

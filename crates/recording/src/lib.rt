@@ -1,10 +1,26 @@
 // A recording: where its datagrams stand, and how they are played, one after the other. It is read a block at a time: each call
 // is handed what has come so far and says what it needs more of. How it starts is `opening`'s.
+mod blocks;
+mod lines;
+mod start;
+mod text;
+
+pub use blocks::keep;
+pub use lines::Ending;
+pub use lines::LINE_LIMIT;
+pub use lines::put_ending;
+pub use lines::put_line;
+pub use start::Opened;
+pub use start::Opening;
+pub use start::open;
+pub use text::put_decimal;
+pub use text::put_hex;
+pub use text::put_number;
+pub use text::put_text;
 ghost use mathlib.Core.Path.{_≡_};
 ghost use Rattle.recording.specs.Datagrams.{nextIn};
 ghost use Rattle.recording.specs.Play.{stateOf, played, steppedOf};
 use channels::Joiner;
-use lines::LINE_LIMIT;
 
 // What stands at a place of the recording: a datagram that is all there, part of one, or nothing.
 pub enum Found {

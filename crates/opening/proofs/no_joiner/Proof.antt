@@ -1,9 +1,0 @@
--- `opening::no_joiner` meets its contract: a joiner of no channels.
--- Assumes nothing.
-use mathlib.Core.Path.{refl}
-use Rattle.opening.proofs.Starting.{no-channels}
-use Rattle.opening.proofs.no_joiner.Statement.{statement}
-use Rattle.opening.proofs.no_joiner.Tie as tie
-
-pub no-joiner-spec : {M : Type 1} → statement M
-no-joiner-spec = tie.close (tie.spec (λ c. no-channels refl))
