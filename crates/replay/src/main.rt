@@ -1,4 +1,6 @@
 // Replays the recording that its first argument names; with no argument, the one on standard input.
+mod player;
+
 use files::Source;
 use libc::STDIN_FILENO;
 

@@ -24,11 +24,11 @@ use Rattle.recording.proofs.Starting.{open-rooms, refused-by-20}
 use Rattle.files.specs.Reading.{Brought}
 use Rattle.files.specs.declared.Came.{Came}
 use Rattle.files.specs.declared.Came.the-variants.{More}
-use Rattle.player.specs.Bounds.{inputLength, roomsLength, RoomsFit}
+use Rattle.replay.specs.Bounds.{inputLength, roomsLength, RoomsFit}
 use Rattle.recording.specs.declared.lines.Ending.{Ending}
-use Rattle.player.specs.Endings.{Says20, RefusalIs20, NextWithin}
-use Rattle.player.specs.declared.Next.{Next}
-use Rattle.player.specs.declared.Next.the-variants.{Filled, End}
+use Rattle.replay.specs.Endings.{Says20, RefusalIs20, NextWithin}
+use Rattle.replay.specs.declared.player.Next.{Next}
+use Rattle.replay.specs.declared.player.Next.the-variants.{Filled, End}
 
 octets-take : (n : ℕ) (s : List ℕ) → Octets s → Octets (take n s)
 octets-take n s o i = go (leb (suc i) n) refl

@@ -7,11 +7,11 @@ use Rattle.recording.specs.declared.lines.Ending.{Ending}
 use Rattle.recording.specs.declared.lines.Ending.the-variants.{Whole, CutShort, RefusedSetup}
 use Rattle.recording.specs.declared.start.Opened.{Opened}
 use Rattle.recording.specs.declared.start.Opening.the-variants.{Refused}
-use Rattle.player.specs.Bounds.{inputLength}
-use Rattle.player.specs.declared.Next.{Next}
-use Rattle.player.specs.declared.Next.the-variants.{Write, Filled, End, Failed}
-use Rattle.player.specs.declared.Replayed.{Replayed}
-use Rattle.player.specs.declared.Replayed.the-variants.{Told, Unreadable, Unwritable}
+use Rattle.replay.specs.Bounds.{inputLength}
+use Rattle.replay.specs.declared.player.Next.{Next}
+use Rattle.replay.specs.declared.player.Next.the-variants.{Write, Filled, End, Failed}
+use Rattle.replay.specs.declared.player.Replayed.{Replayed}
+use Rattle.replay.specs.declared.player.Replayed.the-variants.{Told, Unreadable, Unwritable}
 
 abbrev pub Says20 : Ending → Type 0
 Says20 Whole = Unit {0}

@@ -1,13 +1,13 @@
--- `player::begin` meets its contract. The loop's invariant: what is filled lies in the input. Each turn fills more of it.
+-- `replay::begin` meets its contract. The loop's invariant: what is filled lies in the input. Each turn fills more of it.
 -- Assumes nothing.
 use borrow.Author.Needs.{needs}
 use Prim.Native.Nat.{_-_, _≤_}
 use mathlib.Core.Path.{_≡_}
 use lib.ListN.{length}
-use Rattle.player.specs.Bounds.{inputLength}
-use Rattle.player.proofs.Bounds.{filled-part, more-filled, more-left, more-counted, rooms-fit, refusal-is-20}
-use Rattle.player.proofs.begin.Statement.{statement}
-use Rattle.player.proofs.begin.Tie as tie
+use Rattle.replay.specs.Bounds.{inputLength}
+use Rattle.replay.proofs.Bounds.{filled-part, more-filled, more-left, more-counted, rooms-fit, refusal-is-20}
+use Rattle.replay.proofs.player.begin.Statement.{statement}
+use Rattle.replay.proofs.player.begin.Tie as tie
 
 abbrev Inv-loop : tie.InvT-loop
 Inv-loop fd input₀ filled₀ input filled = (length input ≡ inputLength) × (length input ≡ length input₀) × (filled ≤ inputLength)

@@ -1,13 +1,13 @@
--- `player::play_all` meets its contract: it is safe, and ends with its turns.
+-- `replay::play_all` meets its contract: it is safe, and ends with its turns.
 -- Assumes nothing.
 use borrow.Author.Needs.{needs}
 use Prim.Native.Nat.{_≤_}
 use mathlib.Core.Path.{_≡_}
 use lib.ListN.{length}
-use Rattle.player.specs.Bounds.{inputLength}
-use Rattle.player.proofs.Bounds.{filled-part, next-filled, next-ending}
-use Rattle.player.proofs.play_all.Statement.{statement}
-use Rattle.player.proofs.play_all.Tie as tie
+use Rattle.replay.specs.Bounds.{inputLength}
+use Rattle.replay.proofs.Bounds.{filled-part, next-filled, next-ending}
+use Rattle.replay.proofs.player.play_all.Statement.{statement}
+use Rattle.replay.proofs.player.play_all.Tie as tie
 
 abbrev Inv-loop : tie.InvT-loop
 Inv-loop fd name rooms₀ input₀ filled output₀ run₀ filled₀ turns₀ rooms input output run filled' turns =

@@ -1,9 +1,9 @@
--- `player::replay` meets its contract: every part that it lends lies in its buffer, and a set-up is refused with its own number.
+-- `replay::replay` meets its contract: every part that it lends lies in its buffer, and a set-up is refused with its own number.
 -- Assumes nothing.
 use borrow.Author.Needs.{needs}
-use Rattle.player.proofs.Bounds.{rooms-in, numbered-20}
-use Rattle.player.proofs.replay.Statement.{statement}
-use Rattle.player.proofs.replay.Tie as tie
+use Rattle.replay.proofs.Bounds.{rooms-in, numbered-20}
+use Rattle.replay.proofs.player.replay.Statement.{statement}
+use Rattle.replay.proofs.player.replay.Tie as tie
 
 pub replay-spec : {M : Type 1} → statement M
 replay-spec =

@@ -1,9 +1,9 @@
--- `player::play_in` meets its contract: the rooms lie in the program's.
+-- `replay::play_in` meets its contract: the rooms lie in the program's.
 -- Assumes nothing.
 use borrow.Author.Needs.{needs}
-use Rattle.player.proofs.Bounds.{rooms-part}
-use Rattle.player.proofs.play_in.Statement.{statement}
-use Rattle.player.proofs.play_in.Tie as tie
+use Rattle.replay.proofs.Bounds.{rooms-part}
+use Rattle.replay.proofs.player.play_in.Statement.{statement}
+use Rattle.replay.proofs.player.play_in.Tie as tie
 
 pub play-in-spec : {M : Type 1} → statement M
 play-in-spec =

@@ -3,8 +3,8 @@
 ghost use Prim.Native.Nat.{_≤_, _<_};
 ghost use mathlib.Core.Path.{_≡_};
 ghost use lib.ListN.{length};
-ghost use Rattle.player.specs.Bounds.{inputLength, roomsLength, RoomsFit};
-ghost use Rattle.player.specs.Endings.{Says20, Refuses20, RefusalIs20, NextWithin};
+ghost use Rattle.replay.specs.Bounds.{inputLength, roomsLength, RoomsFit};
+ghost use Rattle.replay.specs.Endings.{Says20, Refuses20, RefusalIs20, NextWithin};
 use files::Came;
 use recording::Ending;
 use recording::Found;

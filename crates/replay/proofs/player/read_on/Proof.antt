@@ -1,9 +1,9 @@
--- `player::read_on` meets its contract: what is left is shorter than the input.
+-- `replay::read_on` meets its contract: what is left is shorter than the input.
 -- Assumes nothing.
 use borrow.Author.Needs.{needs}
-use Rattle.player.proofs.Bounds.{filled-part, left-within, kept-room}
-use Rattle.player.proofs.read_on.Statement.{statement}
-use Rattle.player.proofs.read_on.Tie as tie
+use Rattle.replay.proofs.Bounds.{filled-part, left-within, kept-room}
+use Rattle.replay.proofs.player.read_on.Statement.{statement}
+use Rattle.replay.proofs.player.read_on.Tie as tie
 
 pub read-on-spec : {M : Type 1} → statement M
 read-on-spec =

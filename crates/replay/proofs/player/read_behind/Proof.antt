@@ -1,9 +1,9 @@
--- `player::read_behind` meets its contract: what came fits behind what is kept.
+-- `replay::read_behind` meets its contract: what came fits behind what is kept.
 -- Assumes nothing.
 use borrow.Author.Needs.{needs}
-use Rattle.player.proofs.Bounds.{more-filled, more-counted}
-use Rattle.player.proofs.read_behind.Statement.{statement}
-use Rattle.player.proofs.read_behind.Tie as tie
+use Rattle.replay.proofs.Bounds.{more-filled, more-counted}
+use Rattle.replay.proofs.player.read_behind.Statement.{statement}
+use Rattle.replay.proofs.player.read_behind.Tie as tie
 
 pub read-behind-spec : {M : Type 1} → statement M
 read-behind-spec =

@@ -1,8 +1,8 @@
--- `player::finish` meets its contract: it tells the ending that it was handed.
+-- `replay::finish` meets its contract: it tells the ending that it was handed.
 -- Assumes nothing.
 use borrow.Author.Needs.{needs}
-use Rattle.player.proofs.finish.Statement.{statement}
-use Rattle.player.proofs.finish.Tie as tie
+use Rattle.replay.proofs.player.finish.Statement.{statement}
+use Rattle.replay.proofs.player.finish.Tie as tie
 
 pub finish-spec : {M : Type 1} → statement M
 finish-spec =
