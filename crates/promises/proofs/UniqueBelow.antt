@@ -155,9 +155,6 @@ lent : LentUnique
 lent =
     record {
       u64-at = λ k a z z′ e e′ p q. p ∙ sym q;
-      u32-at = λ k a z z′ e e′ p q. p ∙ sym q;
-      put-u64-words = λ k a z z′ e e′ p q. p ∙ sym q;
-      put-u32-words = λ k a z z′ e e′ p q. p ∙ sym q;
     }
 
 lent-channels : LentChannelsUnique

@@ -60,10 +60,7 @@ use Rattle.recording.proofs.put_hex.Reads.{Post as text-put-hex}
 use Rattle.calls.proofs.next.Reads.{Post as calls-next}
 use Rattle.calls.proofs.argument.Reads.{Post as calls-argument}
 use Rattle.calls.proofs.number.Reads.{Post as calls-number}
-use Rattle.lent.proofs.u64_at.Reads.{Post as lent-u64-at}
-use Rattle.lent.proofs.u32_at.Reads.{Post as lent-u32-at}
-use Rattle.lent.proofs.put_u64.Reads.{Post as lent-put-u64}
-use Rattle.lent.proofs.put_u32.Reads.{Post as lent-put-u32}
+use Rattle.lent.proofs.word_at.Reads.{Post as lent-u64-at}
 use Rattle.lent_channels.proofs.is_good.Reads.{Post as lent-channels-is-good}
 use Rattle.lent_channels.proofs.look.Reads.{Post as lent-channels-look}
 use Rattle.lent_channels.proofs.put_record.Reads.{Post as lent-channels-put-record}
@@ -186,9 +183,6 @@ pub record CallsUnique : Type 0 where
 
 pub record LentUnique : Type 0 where
   pub u64-at : Answer lent-u64-at
-  pub u32-at : Answer lent-u32-at
-  pub put-u64-words : Lent lent-put-u64 (λ k e. now (e .0))
-  pub put-u32-words : Lent lent-put-u32 (λ k e. now (e .0))
 
 pub record LentChannelsUnique : Type 0 where
   pub is-good : Answer lent-channels-is-good
