@@ -55,7 +55,7 @@ pub fn standing_in(words: &[u64; PLATFORM_WORDS]) -> Standing
     let states = states_in(words);
     Standing {
         states,
-        next: (lent::word_at(words, 4) % NUMBERS) as u32,
+        next: (wire::word_at(words, 4) % NUMBERS) as u32,
     }
 }
 
@@ -75,9 +75,9 @@ fn states_in(words: &[u64]) -> States
     ensures { λ r. ⌜ r ≡ statesIn (now (words .entry)) ⌝ }
 {
     States {
-        w0: lent::word_at(words, 0),
-        w1: lent::word_at(words, 1),
-        w2: lent::word_at(words, 2),
-        w3: lent::word_at(words, 3),
+        w0: wire::word_at(words, 0),
+        w1: wire::word_at(words, 1),
+        w2: wire::word_at(words, 2),
+        w3: wire::word_at(words, 3),
     }
 }

@@ -60,7 +60,7 @@ use Rattle.recording.proofs.put_hex.Reads.{Post as text-put-hex}
 use Rattle.calls.proofs.next.Reads.{Post as calls-next}
 use Rattle.calls.proofs.argument.Reads.{Post as calls-argument}
 use Rattle.calls.proofs.number.Reads.{Post as calls-number}
-use Rattle.lent.proofs.word_at.Reads.{Post as lent-u64-at}
+use Rattle.wire.proofs.word_at.Reads.{Post as lent-u64-at}
 use Rattle.lent_channels.proofs.is_good.Reads.{Post as lent-channels-is-good}
 use Rattle.lent_channels.proofs.look.Reads.{Post as lent-channels-look}
 use Rattle.lent_channels.proofs.put_record.Reads.{Post as lent-channels-put-record}

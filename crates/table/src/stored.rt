@@ -63,7 +63,7 @@ fn is_section(words: &[u64], at: usize) -> bool
     requires { ⌜ at < sectionsWords ⌝ }
     ensures { λ r. ⌜ r ≡ isSection (now (words .entry)) at ⌝ }
 {
-    (lent::word_at(words, at) < WORD_LIMIT) & (lent::word_at(words, at + 1) < WORD_LIMIT)
+    (wire::word_at(words, at) < WORD_LIMIT) & (wire::word_at(words, at + 1) < WORD_LIMIT)
 }
 
 fn section_in(words: &[u64], at: usize) -> Section
@@ -72,7 +72,7 @@ fn section_in(words: &[u64], at: usize) -> Section
     ensures { λ r. ⌜ r ≡ sectionIn (now (words .entry)) at ⌝ }
 {
     Section {
-        at: lent::word_at(words, at) as u16,
-        count: lent::word_at(words, at + 1) as u16,
+        at: wire::word_at(words, at) as u16,
+        count: wire::word_at(words, at + 1) as u16,
     }
 }

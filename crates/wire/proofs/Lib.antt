@@ -3,3 +3,4 @@ pub mod Numbers
 pub mod Runs
 mod Swaps
 mod Writes
+pub mod MetCases

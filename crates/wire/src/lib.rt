@@ -8,6 +8,9 @@ ghost use Rattle.wire.specs.Bytes.{number, whole, bytes, over, written, 
 ghost use Rattle.wire.specs.Blocks.{blockLength};
 
 mod order;
+mod words;
+
+pub use words::word_at;
 
 // How many bytes are copied at once: more than a datagram has.
 const BLOCK: usize = 65536;

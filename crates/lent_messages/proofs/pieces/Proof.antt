@@ -1,7 +1,7 @@
 -- `lent_messages::pieces` meets its contract.
 -- Assumes nothing.
 use borrow.Author.Needs.{needs}
-use Rattle.lent.proofs.Answers.{met, met-left}
+use Rattle.wire.proofs.MetCases.{met, met-left}
 use Rattle.binding.specs.Cutting.{countRefusal}
 use Rattle.lent_messages.specs.Pieces.{countLeft}
 use Rattle.lent_messages.proofs.pieces.Statement.{statement}

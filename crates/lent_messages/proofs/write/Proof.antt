@@ -1,7 +1,7 @@
 -- `lent_messages::write` meets its contract.
 -- Assumes nothing.
 use borrow.Author.Needs.{needs}
-use Rattle.lent.proofs.Answers.{met, met-left}
+use Rattle.wire.proofs.MetCases.{met, met-left}
 use Rattle.message.specs.Writing.{numberGiven}
 use Rattle.lent_messages.specs.Messages.{writeLeft}
 use Rattle.lent_messages.proofs.write.Statement.{statement}

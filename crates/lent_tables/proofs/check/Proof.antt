@@ -1,7 +1,7 @@
 -- `lent_tables::check` meets its contract.
 -- Assumes nothing.
 use borrow.Author.Needs.{needs}
-use Rattle.lent.proofs.Answers.{met, met-left}
+use Rattle.wire.proofs.MetCases.{met, met-left}
 use Rattle.lent_tables.specs.Calls.{checkRefusal, sectionsLeft}
 use Rattle.lent_tables.proofs.check.Statement.{statement}
 use Rattle.lent_tables.proofs.check.Tie as tie

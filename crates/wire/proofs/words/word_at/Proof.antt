@@ -1,9 +1,9 @@
--- `lent::word_at` meets its contract: past the end it is 0.
+-- `wire::word_at` meets its contract: past the end it is 0.
 -- Assumes nothing.
 use borrow.Author.Needs.{needs}
 use Rattle.wire.proofs.Numbers.{past}
-use Rattle.lent.proofs.word_at.Statement.{statement}
-use Rattle.lent.proofs.word_at.Tie as tie
+use Rattle.wire.proofs.words.word_at.Statement.{statement}
+use Rattle.wire.proofs.words.word_at.Tie as tie
 
 pub word-at-spec : {M : Type 1} → statement M
 word-at-spec =
