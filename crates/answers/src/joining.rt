@@ -3,10 +3,10 @@ ghost use Prim.Native.Nat.{_≤_};
 use crate::Answered;
 use crate::fields;
 use crate::platforms::Kept;
-use channels::Channel;
-use channels::Joiner;
-use joiner::Outcome;
-use joiner::Place;
+use channel::Channel;
+use channel::Joiner;
+use channel::Outcome;
+use channel::Place;
 
 // The bytes of a record: sender 2, seen 1, last 4, held 4.
 const RECORD: usize = 11;
@@ -17,7 +17,7 @@ const LAST_AT: usize = 3;
 
 const HELD_AT: usize = 7;
 
-const MOST_BYTES: usize = RECORD * channels::CHANNELS;
+const MOST_BYTES: usize = RECORD * channel::CHANNELS;
 
 pub(crate) fn take(kept: Kept, call: &[u8], output: &mut [u8], at: usize) -> Answered {
     let records = calls::argument(call, 1);
@@ -50,7 +50,7 @@ fn seen_or_not(records: &[u8]) -> bool {
 
 fn take_by(call: &[u8], records: &[u8], output: &mut [u8], at: usize) -> usize {
     if records.len() > MOST_BYTES {
-        return fields::put_refused(output, at, channels::BAD_SETUP);
+        return fields::put_refused(output, at, channel::BAD_SETUP);
     }
     let joiner = joiner_of(records, fields::n32(call, 0));
     let mut space = fields::octet_buffer();
@@ -142,9 +142,9 @@ fn put_counts(output: &mut [u8], at: usize, name: &[u8], missed: u32, bytes: usi
 
 fn joiner_of(records: &[u8], room: u32) -> Joiner {
     let count = records.len() / RECORD;
-    let mut channels = [no_channel(); channels::CHANNELS];
+    let mut channels = [no_channel(); channel::CHANNELS];
     let mut i = 0;
-    while i < channels::CHANNELS {
+    while i < channel::CHANNELS {
         channels[i] = channel_of(records, RECORD * i);
         i += 1;
     }
@@ -179,7 +179,7 @@ fn put_records(output: &mut [u8], at: usize, joiner: Joiner) -> usize {
     let mut bytes = [0u8; MOST_BYTES];
     let channels = joiner.channels;
     let mut i = 0;
-    while i < channels::CHANNELS {
+    while i < channel::CHANNELS {
         put_record(&mut bytes, RECORD * i, channels[i]);
         i += 1;
     }
@@ -188,7 +188,7 @@ fn put_records(output: &mut [u8], at: usize, joiner: Joiner) -> usize {
 
 // The first `count` records.
 fn put_first(output: &mut [u8], at: usize, records: &[u8], count: usize) -> usize {
-    if count <= channels::CHANNELS {
+    if count <= channel::CHANNELS {
         fields::put_bytes(output, at, wire::part(records, 0, RECORD * count))
     } else {
         at

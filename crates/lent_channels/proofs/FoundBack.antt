@@ -12,13 +12,13 @@ use lib.ListN.{length, getD, take, replicate, List·getD-append}
 use lib.Seq.{take-suc, take-at, getD-append-add}
 use Rattle.wire.proofs.Cond.{and-left, and-right, and-true}
 use Rattle.binding.specs.Header.{senders, counters}
-use Rattle.channels.specs.Setup.{channelLimit, newChannel, senderOf, channelAt, channelsOf, sendersOf, placeOf, distinct, every, goodSizes, goodChannel, good, foundOf}
-use Rattle.channels.specs.declared.Channel.{Channel}
-use Rattle.channels.specs.declared.Joiner.{Joiner}
-use Rattle.channels.specs.declared.Found.{Found}
-use Rattle.channels.specs.declared.Found.the-variants.{Bad, Nobody, Somebody}
-use Rattle.channels.proofs.Places.{not-true-false, every-at}
-use Rattle.channels.proofs.Lookups.{channels-length, channels-at}
+use Rattle.channel.specs.Setup.{channelLimit, newChannel, senderOf, channelAt, channelsOf, sendersOf, placeOf, distinct, every, goodSizes, goodChannel, good, foundOf}
+use Rattle.channel.specs.declared.records.Channel.{Channel}
+use Rattle.channel.specs.declared.records.Joiner.{Joiner}
+use Rattle.channel.specs.declared.records.Found.{Found}
+use Rattle.channel.specs.declared.records.Found.the-variants.{Bad, Nobody, Somebody}
+use Rattle.channel.proofs.Places.{not-true-false, every-at}
+use Rattle.channel.proofs.Lookups.{channels-length, channels-at}
 use Rattle.lent_channels.specs.Words.{recordAt, joinerWords, senderLimit, recordIn, isRecord, areRecords, recordsIn, isJoiner, joinerIn, recordWords, recordsWords, wordsOf}
 use Rattle.lent_channels.specs.Records.{storedIn}
 use Rattle.lent_channels.proofs.Stored.{records-length, stored-at, none-good, stored-joiner}

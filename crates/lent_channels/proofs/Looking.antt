@@ -15,13 +15,13 @@ use lib.Dec.{leb, ltb}
 use lib.ListN.{length, getD}
 use Rattle.wire.proofs.Cond.{and-left, and-right, and-true}
 use Rattle.binding.specs.Header.{senders, counters}
-use Rattle.channels.specs.Setup.{channelLimit, placeOf, distinct, senderOf, sendersOf, channelsOf, channelAt, every, goodChannel, goodSizes, good, foundOf}
-use Rattle.channels.specs.declared.Channel.{Channel}
-use Rattle.channels.specs.declared.Joiner.{Joiner}
-use Rattle.channels.specs.declared.Found.{Found}
-use Rattle.channels.specs.declared.Found.the-variants.{Bad, Nobody, Somebody}
-use Rattle.channels.proofs.Places.{not-true-false, is-distinct}
-use Rattle.channels.proofs.Lookups.{few-channels, senders-length, senders-at, found-here, found-nowhere, twice, never-twice}
+use Rattle.channel.specs.Setup.{channelLimit, placeOf, distinct, senderOf, sendersOf, channelsOf, channelAt, every, goodChannel, goodSizes, good, foundOf}
+use Rattle.channel.specs.declared.records.Channel.{Channel}
+use Rattle.channel.specs.declared.records.Joiner.{Joiner}
+use Rattle.channel.specs.declared.records.Found.{Found}
+use Rattle.channel.specs.declared.records.Found.the-variants.{Bad, Nobody, Somebody}
+use Rattle.channel.proofs.Places.{not-true-false, is-distinct}
+use Rattle.channel.proofs.Lookups.{few-channels, senders-length, senders-at, found-here, found-nowhere, twice, never-twice}
 use Rattle.lent_channels.specs.Words.{recordAt, joinerWords, seenLimit, recordIn, joinerIn}
 use Rattle.lent_channels.specs.Records.{Sized, storedIn, sendersIn, goodRecord, goodRecords, areGood, foundAt}
 use Rattle.lent_channels.proofs.Stored.{stored-length, stored-at, kept-says, says-kept, all-at, all-by, stored-joiner, is-joiner, well-joiner, good-well}

@@ -6,10 +6,10 @@ use mathlib.Core.List.{List}
 use lib.Dec.{leb, ltb}
 use lib.ListN.{length, getD}
 use Rattle.binding.specs.Header.{senders, counters}
-use Rattle.channels.specs.Setup.{channelLimit, sendersOf, distinct}
-use Rattle.channels.specs.declared.Joiner.{Joiner}
-use Rattle.channels.specs.declared.Found.{Found}
-use Rattle.channels.specs.declared.Found.the-variants.{Nobody, Somebody}
+use Rattle.channel.specs.Setup.{channelLimit, sendersOf, distinct}
+use Rattle.channel.specs.declared.records.Joiner.{Joiner}
+use Rattle.channel.specs.declared.records.Found.{Found}
+use Rattle.channel.specs.declared.records.Found.the-variants.{Nobody, Somebody}
 use Rattle.lent_channels.specs.Words.{recordAt, joinerWords, seenLimit, allBelow, recordIn, channelsIn}
 
 -- the words of a joiner, of no more channels than there can be

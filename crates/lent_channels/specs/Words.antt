@@ -5,9 +5,9 @@ use mathlib.Core.Bool.{Bool, true, _&&_, cond}
 use mathlib.Core.List.{List, [], _∷_, _++_}
 use lib.Dec.{leb, ltb, eqb}
 use lib.ListN.{getD, replicate}
-use Rattle.channels.specs.Setup.{channelLimit, newChannel, freshOf}
-use Rattle.channels.specs.declared.Channel.{Channel}
-use Rattle.channels.specs.declared.Joiner.{Joiner}
+use Rattle.channel.specs.Setup.{channelLimit, newChannel, freshOf}
+use Rattle.channel.specs.declared.records.Channel.{Channel}
+use Rattle.channel.specs.declared.records.Joiner.{Joiner}
 
 -- where channel k's record starts; where the record behind the last would start is the count of words
 abbrev pub recordAt : ℕ → ℕ

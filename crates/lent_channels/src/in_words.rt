@@ -2,9 +2,9 @@
 use crate::FIRST_RECORD;
 use crate::JOINER_WORDS;
 use crate::RECORD_WORDS;
-use channels::CHANNELS;
-use channels::Channel;
-use channels::Joiner;
+use channel::CHANNELS;
+use channel::Channel;
+use channel::Joiner;
 ghost use mathlib.Core.Path.{_≡_};
 ghost use mathlib.Core.Bool.{cond};
 ghost use Rattle.wire.specs.Bytes.{written};

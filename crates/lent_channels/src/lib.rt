@@ -4,10 +4,10 @@ mod in_words;
 mod records;
 
 ghost use mathlib.Core.Path.{_≡_};
-ghost use Rattle.channels.specs.Setup.{good, foundOf};
+ghost use Rattle.channel.specs.Setup.{good, foundOf};
 ghost use Rattle.lent_channels.specs.Words.{joinerIn};
-use channels::CHANNELS;
-use channels::Found;
+use channel::CHANNELS;
+use channel::Found;
 pub use in_words::put_record;
 pub use in_words::words_of;
 
@@ -25,7 +25,7 @@ pub fn look(state: &[u32; JOINER_WORDS], rooms: usize, sender: u16) -> Found
 {
     let words: &[u32] = state;
     let count = words[0] as usize;
-    if channels::has_good_sizes(count, words[1], rooms) {
+    if channel::has_good_sizes(count, words[1], rooms) {
         if records::are_good(words) {
             return records::found(words, records::find(words, sender as u32));
         }
@@ -40,7 +40,7 @@ pub fn is_good(state: &[u32; JOINER_WORDS], rooms: usize) -> bool
 {
     let words: &[u32] = state;
     let count = words[0] as usize;
-    if channels::has_good_sizes(count, words[1], rooms) {
+    if channel::has_good_sizes(count, words[1], rooms) {
         return records::are_each_good(words);
     }
     false

@@ -3,15 +3,15 @@ ghost use mathlib.Core.Path.{_≡_};
 ghost use mathlib.Core.Bool.{true};
 ghost use Prim.Native.Nat.{_<_};
 ghost use lib.ListN.{getD};
-ghost use Rattle.channels.specs.Setup.{channelLimit, placeOf, distinct};
+ghost use Rattle.channel.specs.Setup.{channelLimit, placeOf, distinct};
 ghost use Rattle.lent_channels.specs.Words.{recordIn};
 ghost use Rattle.lent_channels.specs.Records.{Sized, goodRecord, goodRecords, sendersIn, areGood, foundAt};
 use crate::FIRST_RECORD;
 use crate::RECORD_WORDS;
 use binding::COUNTERS;
 use binding::SENDERS;
-use channels::Channel;
-use channels::Found;
+use channel::Channel;
+use channel::Found;
 
 // Seen is 0 or 1.
 const SEEN_LIMIT: u32 = 2;

@@ -7,21 +7,21 @@ use lib.ListN.{length, getD}
 use Rattle.wire.specs.Bytes.{written}
 use Rattle.binding.specs.Header.{heardIn}
 use Rattle.binding.specs.declared.Heard.{Heard}
-use Rattle.channels.specs.Setup.{setupOf, foundOf}
-use Rattle.joiner.specs.Take.{judgedOf, senderBy, judgedBy, takenBy, takenOf, putBy, roomsBy, roomsAfter}
-use Rattle.joiner.specs.Outcomes.{answerIn, refusalIn}
-use Rattle.channels.specs.declared.Answer.{Answer}
-use Rattle.channels.specs.declared.Answer.the-variants.{Accepted, Refused}
-use Rattle.channels.specs.declared.Found.{Found}
-use Rattle.channels.specs.declared.NewJoiner.{NewJoiner}
-use Rattle.joiner.specs.declared.Step.{Step}
-use Rattle.joiner.specs.declared.Judged.{Judged}
-use Rattle.joiner.specs.declared.Judged.the-variants.{Refusal, Move}
-use Rattle.joiner.specs.declared.Place.{Place}
-use Rattle.joiner.specs.declared.Place.the-variants.{Datagram, Rooms}
-use Rattle.joiner.specs.declared.Outcome.{Outcome}
-use Rattle.joiner.specs.declared.Outcome.the-variants as outcome
-use Rattle.joiner.specs.declared.Taken.{Taken}
+use Rattle.channel.specs.Setup.{setupOf, foundOf}
+use Rattle.channel.specs.Take.{judgedOf, senderBy, judgedBy, takenBy, takenOf, putBy, roomsBy, roomsAfter}
+use Rattle.channel.specs.Outcomes.{answerIn, refusalIn}
+use Rattle.channel.specs.declared.records.Answer.{Answer}
+use Rattle.channel.specs.declared.records.Answer.the-variants.{Accepted, Refused}
+use Rattle.channel.specs.declared.records.Found.{Found}
+use Rattle.channel.specs.declared.records.NewJoiner.{NewJoiner}
+use Rattle.channel.specs.declared.Step.{Step}
+use Rattle.channel.specs.declared.Judged.{Judged}
+use Rattle.channel.specs.declared.Judged.the-variants.{Refusal, Move}
+use Rattle.channel.specs.declared.Place.{Place}
+use Rattle.channel.specs.declared.Place.the-variants.{Datagram, Rooms}
+use Rattle.channel.specs.declared.Outcome.{Outcome}
+use Rattle.channel.specs.declared.Outcome.the-variants as outcome
+use Rattle.channel.specs.declared.Taken.{Taken}
 use Rattle.lent_channels.specs.Words.{recordAt, joinerIn, recordWords, wordsOf}
 use Rattle.lent_joiner.specs.Calls.{acceptedWords, setupNumber, setupWords, outcomeWords, placeIn, wordsBy, takeNumber, takeWords, takeRooms, takeAnswer}
 use Rattle.lent_joiner.proofs.Moving.{step-number, judged-in, steps, words-moved}

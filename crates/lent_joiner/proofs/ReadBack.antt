@@ -13,9 +13,9 @@ use lib.Seq.{length-take-le, set-at, set-append-left, getD-append-add}
 use Rattle.wire.specs.Bytes.{over, written}
 use Rattle.wire.proofs.Runs.{written-in}
 use Rattle.wire.proofs.Numbers.{read-before, read-behind}
-use Rattle.channels.specs.Setup.{channelLimit, newChannel}
-use Rattle.joiner.specs.Take.{changed}
-use Rattle.channels.specs.declared.Channel.{Channel}
+use Rattle.channel.specs.Setup.{channelLimit, newChannel}
+use Rattle.channel.specs.Take.{changed}
+use Rattle.channel.specs.declared.records.Channel.{Channel}
 use Rattle.wire.proofs.Cond.{and-left, and-right, and-true}
 use Rattle.lent_channels.specs.Words.{recordAt, joinerWords, senderLimit, recordIn, isRecord, areRecords, recordsIn, channelsIn, isJoiner, joinerIn, recordWords}
 use Rattle.lent_channels.proofs.Stored.{records-length}

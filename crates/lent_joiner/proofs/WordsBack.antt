@@ -7,12 +7,12 @@ use mathlib.Core.Bool.{true}
 use mathlib.Core.List.{List}
 use native.Mathlib.Omega.{arith}
 use lib.ListN.{length}
-use Rattle.channels.specs.Setup.{channelAt, goodChannel}
-use Rattle.channels.specs.declared.Joiner.{Joiner}
-use Rattle.joiner.specs.Take.{judgedOf, takenBy, takenOf}
-use Rattle.joiner.specs.declared.Judged.{Judged}
-use Rattle.joiner.specs.declared.Judged.the-variants.{Refusal, Move}
-use Rattle.joiner.proofs.Judging.{Moved, good-says, channel-says}
+use Rattle.channel.specs.Setup.{channelAt, goodChannel}
+use Rattle.channel.specs.declared.records.Joiner.{Joiner}
+use Rattle.channel.specs.Take.{judgedOf, takenBy, takenOf}
+use Rattle.channel.specs.declared.Judged.{Judged}
+use Rattle.channel.specs.declared.Judged.the-variants.{Refusal, Move}
+use Rattle.channel.proofs.Judging.{Moved, good-says, channel-says}
 use Rattle.lent_channels.specs.Words.{joinerWords, senderLimit, joinerIn}
 use Rattle.lent_joiner.specs.Calls.{placeIn, wordsBy, takeWords}
 use Rattle.lent_joiner.proofs.ReadBack.{record-back}

@@ -3,10 +3,10 @@ ghost use mathlib.Core.Path.{_≡_};
 ghost use mathlib.Core.List.{[], _∷_};
 ghost use Rattle.lent_joiner.specs.Calls.{setupNumber, setupWords, outcomeWords, takeNumber, takeWords, takeRooms, takeAnswer};
 use binding::BindingHeader;
-use channels::Answer;
-use joiner::Judged;
-use joiner::Outcome;
-use joiner::Place;
+use channel::Answer;
+use channel::Judged;
+use channel::Outcome;
+use channel::Place;
 pub use lent_channels::JOINER_WORDS;
 
 // How many words an answer of `take` is.

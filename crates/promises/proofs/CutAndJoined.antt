@@ -23,7 +23,7 @@ use Rattle.binding.proofs.Headers.{Headed, heard-headed, header-octets}
 use Rattle.binding.proofs.Cutting.{Cuttable, cuttable, covered, count-some, one-piece, piece-some, piece-most, counter-lt, datagram-heard}
 use Rattle.promises.specs.Senders.{Piece, Message, Sender, markOf, sentFrom, after, arriving, arrives, lossesWithin, together, allArrived, goodPieces, goodMessage}
 use Rattle.promises.specs.Traffic.{Datagram, isOf, ofChannel, AreBytes, none, more}
-use Rattle.joiner.proofs.Setups.{accepted}
+use Rattle.channel.proofs.Setups.{accepted}
 use Rattle.promises.proofs.Apart.{addressed-is}
 use Rattle.promises.proofs.Demand3.{on-channel}
 use Rattle.promises.specs.CutAndJoined.{datagramsFrom, cutUp, CutAndJoined}

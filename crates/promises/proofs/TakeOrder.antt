@@ -9,16 +9,16 @@ use borrow.Author.Tests.{leb-true, ltb-true, ltb-false, le-leb}
 use lib.Dec.{eqb, leb, ltb}
 use lib.ListN.{length, getD}
 use Rattle.binding.specs.Header.{senderIn, versionIn}
-use Rattle.channels.specs.declared.Joiner.{Joiner}
-use Rattle.channels.specs.Setup.{channelLimit, sendersOf, channelAt, good, freshOf, setupOf, Acceptable}
-use Rattle.joiner.specs.Take.{sentTo, heardBy, judgedOf, takenBy, takenOf}
-use Rattle.channels.proofs.Places.{at-place, place-first, distinct-says, is-distinct}
-use Rattle.channels.proofs.Lookups.{senders-length, senders-at}
-use Rattle.joiner.proofs.Judging.{channel-says, Good, good-says}
-use Rattle.joiner.proofs.Judging as judging
-use Rattle.joiner.proofs.Cases.{sound-good}
-use Rattle.joiner.proofs.Standing.{good-is}
-use Rattle.joiner.proofs.Setups.{fresh-good, good-fresh}
+use Rattle.channel.specs.declared.records.Joiner.{Joiner}
+use Rattle.channel.specs.Setup.{channelLimit, sendersOf, channelAt, good, freshOf, setupOf, Acceptable}
+use Rattle.channel.specs.Take.{sentTo, heardBy, judgedOf, takenBy, takenOf}
+use Rattle.channel.proofs.Places.{at-place, place-first, distinct-says, is-distinct}
+use Rattle.channel.proofs.Lookups.{senders-length, senders-at}
+use Rattle.channel.proofs.Judging.{channel-says, Good, good-says}
+use Rattle.channel.proofs.Judging as judging
+use Rattle.channel.proofs.Cases.{sound-good}
+use Rattle.channel.proofs.Standing.{good-is}
+use Rattle.channel.proofs.Setups.{fresh-good, good-fresh}
 use Rattle.promises.specs.Checks.{_when_, Answers, none}
 use Rattle.promises.specs.Order.{Sound, takeChecks, itsChannel, moved, keptWith, fresh, notSetUp}
 use Rattle.promises.proofs.Checks.{Decides, not-decides, unless, unless-then}

@@ -7,7 +7,7 @@ use lib.ListN.{length, replicate}
 use Rattle.binding.specs.declared.MessagePart.{MessagePart}
 use Rattle.binding.specs.Header.{headerOf, headerBytes}
 use Rattle.binding.specs.Cutting.{pieceCount, pieceAt, partOfPiece}
-use Rattle.joiner.specs.declared.Outcome.{Outcome}
+use Rattle.channel.specs.declared.Outcome.{Outcome}
 use Rattle.payload.specs.declared.Answer.{Answer}
 use Rattle.payload.specs.declared.Answer.the-variants.{Stopped, Gave}
 use Rattle.payload.specs.Calls.{unpacked, wordsAfter, packed, bytesAfter}

@@ -8,8 +8,8 @@ use lib.ListN.{length, getD}
 use Rattle.wire.specs.Bytes.{Octets}
 use Rattle.binding.specs.Header.{counters}
 use Rattle.binding.specs.Cutting.{canCut, pieceCount, datagramOf}
-use Rattle.channels.specs.declared.Answer.the-variants.{Accepted}
-use Rattle.channels.specs.Setup.{setupOf}
+use Rattle.channel.specs.declared.records.Answer.the-variants.{Accepted}
+use Rattle.channel.specs.Setup.{setupOf}
 use Rattle.promises.specs.Traffic.{Datagram, deliveredOn}
 use Rattle.promises.specs.Traffic.{fresh}
 

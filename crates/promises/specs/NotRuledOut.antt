@@ -1,10 +1,10 @@
 -- What demand 3 alone leaves open: what `take` says of a datagram that delivers nothing, and how many it says were missed.
 use Prim.Native.Nat.{ℕ, _+_}
-use Rattle.joiner.specs.declared.Outcome.{Outcome}
-use Rattle.joiner.specs.declared.Outcome.the-variants.{Refused, Repeated, Delivered, Held, Stray, TooLong}
+use Rattle.channel.specs.declared.Outcome.{Outcome}
+use Rattle.channel.specs.declared.Outcome.the-variants.{Refused, Repeated, Delivered, Held, Stray, TooLong}
 use Rattle.promises.specs.Traffic.{Joining, fresh, ourJoining}
 use Rattle.promises.specs.Demand3.{Demand3For}
-use Rattle.channels.specs.declared.Joiner.{Joiner}
+use Rattle.channel.specs.declared.records.Joiner.{Joiner}
 
 abbrev pub saying : (Outcome → Outcome) → Joining
 saying f =

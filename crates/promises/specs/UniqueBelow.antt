@@ -10,9 +10,9 @@ use Rattle.leaf.proofs.truth.Reads.{Post as leaves-truth}
 use Rattle.leaf.proofs.signed8.Reads.{Post as leaves-signed8}
 use Rattle.leaf.proofs.signed16.Reads.{Post as leaves-signed16}
 use Rattle.leaf.proofs.signed32.Reads.{Post as leaves-signed32}
-use Rattle.channels.proofs.room_start.Reads.{Post as channels-room-start}
-use Rattle.channels.proofs.has_good_sizes.Reads.{Post as channels-has-good-sizes}
-use Rattle.joiner.proofs.moved.Reads.{Post as joiner-moved}
+use Rattle.channel.proofs.room_start.Reads.{Post as channels-room-start}
+use Rattle.channel.proofs.has_good_sizes.Reads.{Post as channels-has-good-sizes}
+use Rattle.channel.proofs.moved.Reads.{Post as joiner-moved}
 use Rattle.taking.proofs.sender_of.Reads.{Post as taking-sender-of}
 use Rattle.taking.proofs.judge.Reads.{Post as taking-judge}
 use Rattle.taking.proofs.write_piece.Reads.{Post as taking-write-piece}

@@ -12,19 +12,19 @@ use Rattle.binding.specs.declared.Heard.{Heard}
 use Rattle.binding.specs.declared.Heard.the-variants as heard
 use Rattle.binding.specs.declared.MessagePart.{MessagePart}
 use Rattle.binding.specs.declared.MessagePart.the-variants.{Begin, Middle, End, Whole}
-use Rattle.channels.specs.Setup.{badSetup, channelAt, sendersOf, placeOf, good}
-use Rattle.channels.specs.declared.Channel.{Channel}
-use Rattle.channels.specs.declared.Joiner.{Joiner}
-use Rattle.joiner.specs.declared.Room.{Room}
-use Rattle.joiner.specs.declared.Step.{Step}
-use Rattle.joiner.specs.declared.Put.the-variants.{Nowhere, At}
-use Rattle.joiner.specs.declared.Outcome.{Outcome}
-use Rattle.joiner.specs.declared.Outcome.the-variants.{Refused, Repeated, Delivered, Held, Stray, TooLong}
-use Rattle.joiner.specs.declared.Place.{Place}
-use Rattle.joiner.specs.declared.Judged.{Judged}
-use Rattle.joiner.specs.declared.Judged.the-variants.{Refusal, Move}
-use Rattle.joiner.specs.Channel.{roomOf, repeated, missedOf, notedOf, holding, tooLong, placedOf, steppedOf}
-use Rattle.joiner.specs.Take.{notSetUp, takenBy, roomsBy}
+use Rattle.channel.specs.Setup.{badSetup, channelAt, sendersOf, placeOf, good}
+use Rattle.channel.specs.declared.records.Channel.{Channel}
+use Rattle.channel.specs.declared.records.Joiner.{Joiner}
+use Rattle.channel.specs.declared.Room.{Room}
+use Rattle.channel.specs.declared.Step.{Step}
+use Rattle.channel.specs.declared.Put.the-variants.{Nowhere, At}
+use Rattle.channel.specs.declared.Outcome.{Outcome}
+use Rattle.channel.specs.declared.Outcome.the-variants.{Refused, Repeated, Delivered, Held, Stray, TooLong}
+use Rattle.channel.specs.declared.Place.{Place}
+use Rattle.channel.specs.declared.Judged.{Judged}
+use Rattle.channel.specs.declared.Judged.the-variants.{Refusal, Move}
+use Rattle.channel.specs.Channel.{roomOf, repeated, missedOf, notedOf, holding, tooLong, placedOf, steppedOf}
+use Rattle.channel.specs.Take.{notSetUp, takenBy, roomsBy}
 use Rattle.promises.specs.Traffic.{Datagram, Took, Joining, deliveredBy, fresh, ourJoining}
 use Rattle.promises.specs.Demand3.{Demand3For}
 

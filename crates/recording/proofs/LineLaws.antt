@@ -10,10 +10,10 @@ use denote.Enum.Declared.{tagOf}
 use types.Run.{OneOf}
 use lib.ListN.{length, length-append}
 use Rattle.wire.specs.Bytes.{written, part}
-use Rattle.joiner.specs.Outcomes.{nameOf, missedIn, bytesIn}
-use Rattle.joiner.specs.declared.Outcome.{Outcome}
-use Rattle.joiner.specs.declared.Outcome.the-variants.{Refused, Repeated, Delivered, Held, Stray, TooLong}
-use Rattle.joiner.proofs.Outcome.{the-type}
+use Rattle.channel.specs.Outcomes.{nameOf, missedIn, bytesIn}
+use Rattle.channel.specs.declared.Outcome.{Outcome}
+use Rattle.channel.specs.declared.Outcome.the-variants.{Refused, Repeated, Delivered, Held, Stray, TooLong}
+use Rattle.channel.proofs.Outcome.{the-type}
 use Rattle.recording.specs.Decimal.{digitLimit, decimal}
 use Rattle.recording.specs.Places.{behind, spaced, joined, putAll, endAll}
 use Rattle.recording.proofs.Decimals.{digits-few}

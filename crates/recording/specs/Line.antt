@@ -2,9 +2,9 @@
 -- or the outcome's name, missed, and the bytes held or delivered (else 0).
 use Prim.Native.Nat.{ℕ}
 use mathlib.Core.List.{List, [], _∷_, _++_}
-use Rattle.joiner.specs.Outcomes.{nameOf, missedIn, bytesIn}
-use Rattle.joiner.specs.declared.Outcome.{Outcome}
-use Rattle.joiner.specs.declared.Outcome.the-variants.{Refused, Repeated, Delivered, Held, Stray, TooLong}
+use Rattle.channel.specs.Outcomes.{nameOf, missedIn, bytesIn}
+use Rattle.channel.specs.declared.Outcome.{Outcome}
+use Rattle.channel.specs.declared.Outcome.the-variants.{Refused, Repeated, Delivered, Held, Stray, TooLong}
 use Rattle.recording.specs.Decimal.{decimal}
 use Rattle.recording.specs.Places.{spaced}
 use Rattle.recording.specs.declared.lines.Ending.{Ending}

@@ -1,9 +1,9 @@
 -- The words of a line behind its name, in the order in which they are put.
 use Prim.Native.Nat.{ℕ}
 use mathlib.Core.List.{List, [], _∷_}
-use Rattle.joiner.specs.Outcomes.{missedIn, bytesIn}
-use Rattle.joiner.specs.declared.Outcome.{Outcome}
-use Rattle.joiner.specs.declared.Outcome.the-variants.{Refused, Repeated, Delivered, Held, Stray, TooLong}
+use Rattle.channel.specs.Outcomes.{missedIn, bytesIn}
+use Rattle.channel.specs.declared.Outcome.{Outcome}
+use Rattle.channel.specs.declared.Outcome.the-variants.{Refused, Repeated, Delivered, Held, Stray, TooLong}
 use Rattle.recording.specs.Decimal.{decimal}
 use Rattle.recording.specs.Places.{spaced}
 use Rattle.recording.specs.Line.{lineFeed}

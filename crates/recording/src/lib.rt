@@ -20,7 +20,7 @@ pub use text::put_text;
 ghost use mathlib.Core.Path.{_≡_};
 ghost use Rattle.recording.specs.Datagrams.{nextIn};
 ghost use Rattle.recording.specs.Play.{stateOf, played, steppedOf};
-use channels::Joiner;
+use channel::Joiner;
 
 // What stands at a place of the recording: a datagram that is all there, part of one, or nothing.
 pub enum Found {

@@ -3,13 +3,13 @@
 ghost use mathlib.Core.Path.{_≡_};
 ghost use lib.ListN.{length};
 ghost use Rattle.wire.specs.Bytes.{written, part};
-ghost use Rattle.joiner.specs.Outcomes.{nameOf, missedIn, bytesIn};
+ghost use Rattle.channel.specs.Outcomes.{nameOf, missedIn, bytesIn};
 ghost use Rattle.recording.specs.Places.{behind, spaced, putAll, endAll};
 ghost use Rattle.recording.specs.Line.{lineLimit, lineOf, refusedLine, endingOf};
 ghost use Rattle.recording.specs.Words.{refusalWords, countWords, valueWords};
 use crate::text;
-use joiner::Outcome;
-use joiner::Place;
+use channel::Outcome;
+use channel::Place;
 
 // How a run ends: after the last datagram, in the middle of something, or at its start.
 pub enum Ending {

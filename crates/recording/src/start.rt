@@ -3,12 +3,12 @@ ghost use mathlib.Core.Path.{_≡_};
 ghost use mathlib.Core.List.{[]};
 ghost use Prim.Native.Nat.{_≤_};
 ghost use lib.ListN.{length, take};
-ghost use Rattle.channels.specs.Setup.{channelLimit, freshOf};
+ghost use Rattle.channel.specs.Setup.{channelLimit, freshOf};
 ghost use Rattle.recording.specs.Opening.{openedIn, goodStart, idsIn, readyIn, closed};
-use channels::Answer;
-use channels::BAD_SETUP;
-use channels::Channel;
-use channels::Joiner;
+use channel::Answer;
+use channel::BAD_SETUP;
+use channel::Channel;
+use channel::Joiner;
 
 // The bytes of count and R.
 const SIZES: usize = 6;
@@ -76,9 +76,9 @@ fn no_joiner() -> Joiner
 fn is_good_start(count: usize, room: u32) -> bool
     ensures { λ r. ⌜ r ≡ goodStart count room ⌝ }
 {
-    if (1 <= count) & (count <= channels::CHANNELS) {
-        if (channels::SMALLEST_ROOM <= room) & (room <= channels::LARGEST_ROOM) {
-            return channels::room_start(room, count as u32) <= ROOMS;
+    if (1 <= count) & (count <= channel::CHANNELS) {
+        if (channel::SMALLEST_ROOM <= room) & (room <= channel::LARGEST_ROOM) {
+            return channel::room_start(room, count as u32) <= ROOMS;
         }
         return false;
     }
@@ -90,7 +90,7 @@ fn set_up(input: &[u8], count: usize, room: u32) -> Opened
     ensures { λ r. ⌜ r ≡ readyIn (now (input .entry)) count room ⌝ }
 {
     let ids = read_ids(input, count);
-    let rooms = channels::room_start(room, count as u32);
+    let rooms = channel::room_start(room, count as u32);
     let new = setups::setup(&ids[..count], room, rooms);
     let answer = new.answer;
     match answer {

@@ -9,11 +9,11 @@ use native.Mathlib.Numerals.{add-one}
 use borrow.Author.Tests.{le-leb, lt-leb}
 use lib.ListN.{length, getD, set, take, replicate, length-map}
 use lib.Seq.{length-take-le, take-suc, take-length, set-at}
-use Rattle.channels.specs.declared.Channel.{Channel}
-use Rattle.channels.specs.declared.Joiner.{Joiner}
-use Rattle.channels.specs.declared.NewJoiner.{NewJoiner}
-use Rattle.channels.specs.declared.Answer.the-variants.{Accepted, Refused}
-use Rattle.channels.specs.Setup.{channelLimit, badSetup, newChannel, good, freshOf, refusedSetup, setupOf}
+use Rattle.channel.specs.declared.records.Channel.{Channel}
+use Rattle.channel.specs.declared.records.Joiner.{Joiner}
+use Rattle.channel.specs.declared.records.NewJoiner.{NewJoiner}
+use Rattle.channel.specs.declared.records.Answer.the-variants.{Accepted, Refused}
+use Rattle.channel.specs.Setup.{channelLimit, badSetup, newChannel, good, freshOf, refusedSetup, setupOf}
 use Rattle.lent_channels.specs.Words.{joinerIn, wordsOf}
 use Rattle.lent_channels.proofs.FoundBack.{good-back}
 

@@ -2,13 +2,13 @@
 ghost use mathlib.Core.Path.{_≡_};
 ghost use Prim.Native.Nat.{_≤_};
 ghost use lib.ListN.{length};
-ghost use Rattle.channels.specs.Setup.{channelLimit, newChannel, good, freshOf, refusedSetup, setupOf};
-use channels::Answer;
-use channels::BAD_SETUP;
-use channels::CHANNELS;
-use channels::Channel;
-use channels::Joiner;
-use channels::NewJoiner;
+ghost use Rattle.channel.specs.Setup.{channelLimit, newChannel, good, freshOf, refusedSetup, setupOf};
+use channel::Answer;
+use channel::BAD_SETUP;
+use channel::CHANNELS;
+use channel::Channel;
+use channel::Joiner;
+use channel::NewJoiner;
 
 // A fresh joiner for these sender IDs, over a buffer of `buffer` bytes with `room` bytes for each channel; or 20.
 pub fn setup(ids: &[u16], room: u32, buffer: usize) -> NewJoiner

@@ -14,27 +14,27 @@ use lib.ListN.{length, take, drop, length-drop}
 use lib.Seq.{take-all}
 use denote.Enum.Declared.{tagOf}
 use types.Run.{OneOf}
-use Rattle.joiner.proofs.Outcome.{the-type}
+use Rattle.channel.proofs.Outcome.{the-type}
 use Rattle.wire.specs.Bytes.{written, part}
 use Rattle.wire.proofs.Runs.{over-none, over-all, no-run}
 use Rattle.binding.specs.Header.{headerLength, heardIn}
 use Rattle.binding.specs.declared.Heard.{Heard}
-use Rattle.channels.specs.declared.Joiner.{Joiner}
-use Rattle.channels.specs.declared.Found.{Found}
-use Rattle.joiner.specs.declared.Step.{Step}
-use Rattle.joiner.specs.declared.Judged.{Judged}
-use Rattle.joiner.specs.declared.Judged.the-variants.{Refusal, Move}
-use Rattle.joiner.specs.declared.Place.{Place}
-use Rattle.joiner.specs.declared.Place.the-variants.{Datagram, Rooms}
-use Rattle.joiner.specs.declared.Put.{Put}
-use Rattle.joiner.specs.declared.Put.the-variants.{Nowhere, At}
-use Rattle.joiner.specs.declared.Outcome.{Outcome}
-use Rattle.joiner.specs.declared.Outcome.the-variants.{Refused, Repeated, Delivered, Held, Stray, TooLong}
-use Rattle.channels.specs.Setup.{channelLimit, foundOf}
-use Rattle.joiner.specs.Take.{senderBy, judgedBy, judgedOf, changed, takenBy, takenOf, putBy, roomsBy, roomsAfter, messageOf}
+use Rattle.channel.specs.declared.records.Joiner.{Joiner}
+use Rattle.channel.specs.declared.records.Found.{Found}
+use Rattle.channel.specs.declared.Step.{Step}
+use Rattle.channel.specs.declared.Judged.{Judged}
+use Rattle.channel.specs.declared.Judged.the-variants.{Refusal, Move}
+use Rattle.channel.specs.declared.Place.{Place}
+use Rattle.channel.specs.declared.Place.the-variants.{Datagram, Rooms}
+use Rattle.channel.specs.declared.Put.{Put}
+use Rattle.channel.specs.declared.Put.the-variants.{Nowhere, At}
+use Rattle.channel.specs.declared.Outcome.{Outcome}
+use Rattle.channel.specs.declared.Outcome.the-variants.{Refused, Repeated, Delivered, Held, Stray, TooLong}
+use Rattle.channel.specs.Setup.{channelLimit, foundOf}
+use Rattle.channel.specs.Take.{senderBy, judgedBy, judgedOf, changed, takenBy, takenOf, putBy, roomsBy, roomsAfter, messageOf}
 use Rattle.lent_channels.specs.Words.{joinerIn, wordsOf}
 use Rattle.lent_channels.proofs.FoundBack.{looked}
-use Rattle.joiner.proofs.Judging.{Moved, judged-by, judged-moved, good-sizes}
+use Rattle.channel.proofs.Judging.{Moved, judged-by, judged-moved, good-sizes}
 
 module _ {o : Outcome} {pl : Place} (d rooms : List ℕ) where
   pub in-datagram : {x : List ℕ} (m s l : ℕ) → o ≡ Delivered m pl → pl ≡ Datagram s l → x ≡ part d s l → x ≡ messageOf o d rooms

@@ -1,17 +1,17 @@
 // Datagrams taken one at a time, each channel's pieces put behind one another in its own room, and the messages that they
 // make handed back. The state goes in by value and comes back by value; the rooms are lent.
 ghost use mathlib.Core.Path.{_≡_};
-ghost use Rattle.joiner.specs.Take.{senderBy, refusalBy, judgedBy, takenOf, roomsAfter, putBy, messageOf};
+ghost use Rattle.channel.specs.Take.{senderBy, refusalBy, judgedBy, takenOf, roomsAfter, putBy, messageOf};
 use binding::BindingHeader;
 use binding::Heard;
-use channels::BAD_SETUP;
-use channels::Found;
-use channels::Joiner;
-use joiner::Judged;
-use joiner::Outcome;
-use joiner::Place;
-use joiner::Put;
-use joiner::Taken;
+use channel::BAD_SETUP;
+use channel::Found;
+use channel::Joiner;
+use channel::Judged;
+use channel::Outcome;
+use channel::Place;
+use channel::Put;
+use channel::Taken;
 
 // 01, Numbers given back. 20 is the set-up's; 21 and 22 are the binding header's.
 pub const NOT_SET_UP: u32 = 23;
@@ -78,7 +78,7 @@ pub fn judge(found: Found, size: u32, heard: Heard, length: usize) -> Judged
         Found::Nobody => Judged::Refusal(refusal(heard)),
         Found::Somebody { at, channel } => match heard {
             Heard::Refused(number) => Judged::Refusal(number),
-            Heard::Piece(header) => joiner::moved(at, size, channel, header, length),
+            Heard::Piece(header) => channel::moved(at, size, channel, header, length),
         },
     }
 }

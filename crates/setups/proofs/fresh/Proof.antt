@@ -5,7 +5,7 @@ use Prim.Native.Nat.{_-_, _≤_}
 use mathlib.Core.Path.{_≡_}
 use borrow.Author.Needs.{needs}
 use lib.ListN.{length}
-use Rattle.channels.specs.Setup.{channelLimit}
+use Rattle.channel.specs.Setup.{channelLimit}
 use Rattle.setups.proofs.Making.{madeOf, made-none, made-more, made-all}
 use Rattle.setups.proofs.fresh.Statement.{statement}
 use Rattle.setups.proofs.fresh.Tie as tie

@@ -3,7 +3,7 @@
 use mathlib.Core.Path.{_≡_}
 use borrow.Author.Needs.{needs}
 use lib.ListN.{length, length-map}
-use Rattle.channels.specs.Setup.{channelLimit}
+use Rattle.channel.specs.Setup.{channelLimit}
 use Rattle.setups.proofs.Making.{judged-good}
 use Rattle.setups.proofs.is_good.Statement.{statement}
 use Rattle.setups.proofs.is_good.Tie as tie

@@ -1,7 +1,7 @@
 -- `taking::judge` meets its contract: the numbers in their order, then the step of the channel that was found.
 -- Assumes nothing.
 use borrow.Author.Needs.{needs}
-use Rattle.joiner.proofs.Judging.{judged-bad, judged-nobody, judged-refused, judged-somebody}
+use Rattle.channel.proofs.Judging.{judged-bad, judged-nobody, judged-refused, judged-somebody}
 use Rattle.taking.proofs.judge.Statement.{statement}
 use Rattle.taking.proofs.judge.Tie as tie
 

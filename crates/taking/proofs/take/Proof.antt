@@ -3,7 +3,7 @@
 use mathlib.Core.Path.{_≡_}
 use borrow.Author.Needs.{needs}
 use lib.ListN.{length, length-map}
-use Rattle.channels.specs.Setup.{channelLimit}
+use Rattle.channel.specs.Setup.{channelLimit}
 use Rattle.taking.proofs.Taking.{moved-known, moved-fits, refused, moved}
 use Rattle.taking.proofs.take.Statement.{statement}
 use Rattle.taking.proofs.take.Tie as tie

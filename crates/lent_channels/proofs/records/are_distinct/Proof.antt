@@ -5,7 +5,7 @@ use mathlib.Core.Path.{_≡_}
 use borrow.Author.Count.{below-none, below-more}
 use borrow.Author.Needs.{needs}
 use lib.ListN.{getD}
-use Rattle.channels.specs.Setup.{placeOf}
+use Rattle.channel.specs.Setup.{placeOf}
 use Rattle.lent_channels.specs.Words.{recordAt}
 use Rattle.lent_channels.specs.Records.{Sized, sendersIn}
 use Rattle.lent_channels.proofs.Looking.{stands-twice, stands-once, none-earlier}

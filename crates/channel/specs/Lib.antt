@@ -1,0 +1,5 @@
+pub mod Channel
+pub mod Take
+pub mod Outcomes
+pub mod View
+pub mod Setup

@@ -1,0 +1,108 @@
+-- A set-up and the joiner it makes: 01, number 20, for a set-up and for one handed in with a datagram.
+use Prim.Native.Nat.{ℕ, suc, _-_, _*_, _≤_, _<_}
+use mathlib.Core.Path.{_≡_}
+use mathlib.Core.Bool.{Bool, true, false, _&&_, cond}
+use mathlib.Core.List.{List, [], _∷_, _++_, map}
+use lib.Dec.{leb, ltb, eqb}
+use lib.ListN.{length, getD, take, replicate}
+use Rattle.binding.specs.Header.{senders, counters}
+use Rattle.channel.specs.declared.records.Channel.{Channel}
+use Rattle.channel.specs.declared.records.Joiner.{Joiner}
+use Rattle.channel.specs.declared.records.Found.{Found}
+use Rattle.channel.specs.declared.records.Found.the-variants.{Bad, Nobody, Somebody}
+use Rattle.channel.specs.declared.records.Answer.the-variants.{Accepted, Refused}
+use Rattle.channel.specs.declared.records.NewJoiner.{NewJoiner}
+
+abbrev pub channelLimit : ℕ
+channelLimit = 32
+
+abbrev pub badSetup : ℕ
+badSetup = 20
+
+-- 01, number 20: R is 24 to 65,560
+abbrev pub smallestRoom : ℕ
+smallestRoom = 24
+
+abbrev pub largestRoom : ℕ
+largestRoom = 65560
+
+-- where room k starts: each channel has its own R bytes, in set-up order. Where the room behind the last would start is
+-- the rooms' total
+abbrev pub roomStart : ℕ → ℕ → ℕ
+roomStart R k = k * R
+
+-- fresh: nothing seen, nothing held
+abbrev pub newChannel : ℕ → Channel
+newChannel s = record { sender = s; seen = false; last = 0; held = 0 }
+
+-- every element passes
+abbrev pub every : (Channel → Bool) → List Channel → Bool
+every f [] = true
+every f (x ∷ xs) = f x && every f xs
+
+-- how many stand before the first x; the list's length where there is none
+abbrev pub placeOf : List ℕ → ℕ → ℕ
+placeOf [] x = 0
+placeOf (y ∷ ys) x = cond (eqb y x) 0 (suc (placeOf ys x))
+
+-- none twice: the first is not among those behind it, and so on
+abbrev pub distinct : List ℕ → Bool
+distinct [] = true
+distinct (x ∷ xs) = eqb (placeOf xs x) (length xs) && distinct xs
+
+abbrev pub senderOf : Channel → ℕ
+senderOf ch = ch .sender
+
+abbrev pub channelsOf : Joiner → List Channel
+channelsOf j = take (j .count) (j .channels)
+
+-- the record of channel k
+abbrev pub channelAt : Joiner → ℕ → Channel
+channelAt j k = getD (j .channels) k (newChannel 0)
+
+-- the IDs that were set up
+abbrev pub sendersOf : Joiner → List ℕ
+sendersOf j = map senderOf (channelsOf j)
+
+-- 1 to 32 channels, a room of 24 to 65,560, and a buffer of just the rooms' total
+unfoldable pub goodSizes : ℕ → ℕ → ℕ → Bool
+goodSizes n R buffer =
+    (leb 1 n && leb n channelLimit) && ((leb smallestRoom R && leb R largestRoom) && eqb buffer (roomStart R n))
+
+-- a sender ID in Table 9's range, a held length that is not above R, and a last counter below M
+abbrev pub goodChannel : ℕ → Channel → Bool
+goodChannel R ch = ltb (ch .sender) senders && (leb (ch .held) R && ltb (ch .last) counters)
+
+-- number 20 is given exactly where this does not hold
+unfoldable pub good : Joiner → ℕ → Bool
+good j buffer =
+    goodSizes (j .count) (j .room) buffer && (every (goodChannel (j .room)) (channelsOf j) && distinct (sendersOf j))
+
+-- the look for a sender ID: at the joiner first, then at whose it is
+unfoldable pub foundOf : Joiner → ℕ → ℕ → Found
+foundOf j buffer x =
+    let k = placeOf (sendersOf j) x in
+    cond (good j buffer) (cond (ltb k (j .count)) (Somebody k (channelAt j k)) Nobody) Bad
+
+unfoldable pub freshOf : List ℕ → ℕ → Joiner
+freshOf ids R = record { channels = map newChannel ids ++ replicate (channelLimit - length ids) (newChannel 0); count = length ids; room = R }
+
+-- a refusal yields its number, and beside it a joiner of no channels
+abbrev pub refusedSetup : NewJoiner
+refusedSetup = record { answer = Refused badSetup; joiner = freshOf [] 0 }
+
+unfoldable pub setupOf : List ℕ → ℕ → ℕ → NewJoiner
+setupOf ids R buffer =
+    cond (leb (length ids) channelLimit && good (freshOf ids R) buffer)
+    (record { answer = Accepted; joiner = freshOf ids R })
+    refusedSetup
+
+-- what is asked of a set-up, in 01's words
+pub record Acceptable (ids : List ℕ) (R buffer : ℕ) : Type 0 where
+  pub some : 1 ≤ length ids
+  pub few : length ids ≤ channelLimit
+  pub wide : smallestRoom ≤ R
+  pub narrow : R ≤ largestRoom
+  pub whole : buffer ≡ roomStart R (length ids)
+  pub range : (k : ℕ) → k < length ids → getD ids k 0 < senders
+  pub once : (a b : ℕ) → a < b → b < length ids → getD ids a 0 ≡ getD ids b 0 → ⊥

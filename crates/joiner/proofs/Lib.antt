@@ -1,7 +1,0 @@
-pub mod Judging
-pub mod Cases
-pub mod Standing
-pub mod Addressing
-pub mod Views
-pub mod Setups
-mod Stepping

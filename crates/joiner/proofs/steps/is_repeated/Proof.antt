@@ -1,8 +1,0 @@
--- `joiner::steps::is_repeated` meets its contract: the test itself.
--- Assumes nothing.
-use borrow.Author.Needs.{needs}
-use Rattle.joiner.proofs.steps.is_repeated.Statement.{statement}
-use Rattle.joiner.proofs.steps.is_repeated.Tie as tie
-
-pub is-repeated-spec : {M : Type 1} → statement M
-is-repeated-spec = tie.close (tie.spec (λ c. search needs))

@@ -1,4 +1,0 @@
-pub mod Channel
-pub mod Take
-pub mod Outcomes
-pub mod View
