@@ -84,7 +84,7 @@ fn take_in(
     output: &mut [u8],
     at: usize,
 ) -> usize {
-    let taken = taking::take(joiner, rooms, datagram);
+    let taken = joiner::take(joiner, rooms, datagram);
     let outcome = taken.outcome;
     let joiner = taken.joiner;
     put_taken(output, at, outcome, joiner, datagram, rooms)
@@ -102,7 +102,7 @@ fn put_taken<'a>(
         Outcome::Refused(number) => fields::put_refused(output, at, number),
         _ => {
             let told = put_outcome(output, at, outcome);
-            let message = taking::message(outcome, datagram, rooms);
+            let message = joiner::message(outcome, datagram, rooms);
             let behind = fields::put_bytes(output, told, message);
             put_after(output, behind, joiner, rooms)
         }

@@ -1,8 +1,8 @@
 // Joining. A joiner is 130 words of 32 bits, what was taken five of 64 (`lent_joiner`).
 ghost use mathlib.Core.Path.{_≡_};
-ghost use Rattle.lent_joiner.specs.Calls.{setupNumber, setupWords, takeNumber, takeWords, takeRooms, takeAnswer};
-use lent_joiner::ANSWER_WORDS;
-use lent_joiner::JOINER_WORDS;
+ghost use Rattle.joiner.specs.Calls.{setupNumber, setupWords, takeNumber, takeWords, takeRooms, takeAnswer};
+use joiner::JOINER_WORDS;
+use joiner::words::ANSWER_WORDS;
 
 // A fresh joiner for these sender IDs, with `room` bytes for each in rooms of `rooms` bytes; or 20.
 #[no_mangle]
@@ -15,7 +15,7 @@ pub extern "C" fn nyr_setup(
     ensures { λ r. ⌜ r ≡ setupNumber (now (ids .entry)) room rooms ⌝ }
     ensures { λ _. ⌜ now (state .exit) ≡ setupWords (now (ids .entry)) room rooms (now (state .entry)) ⌝ }
 {
-    lent_joiner::setup(state, ids, room, rooms)
+    joiner::words::setup(state, ids, room, rooms)
 }
 
 // Takes one datagram: 20 to 23, or 0 and what it was to its channel, whose record alone changes.
@@ -31,5 +31,5 @@ pub extern "C" fn nyr_take(
     ensures { λ _. ⌜ now (rooms .exit) ≡ takeRooms (now (state .entry)) (now (rooms .entry)) (now (datagram .entry)) ⌝ }
     ensures { λ _. ⌜ now (answer .exit) ≡ takeAnswer (now (state .entry)) (now (rooms .entry)) (now (datagram .entry)) (now (answer .entry)) ⌝ }
 {
-    lent_joiner::take(state, rooms, datagram, answer)
+    joiner::words::take(state, rooms, datagram, answer)
 }

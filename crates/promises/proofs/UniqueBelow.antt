@@ -160,10 +160,6 @@ lent =
 lent-channels : LentChannelsUnique
 lent-channels =
     record {
-      is-good = λ k a z z′ e e′ p q. p ∙ sym q;
-      look = λ k a z z′ e e′ p q. p ∙ sym q;
-      put-record-state = λ k a z z′ e e′ p q. p ∙ sym q;
-      words-of = λ k a z z′ e e′ p q. p ∙ sym q;
     }
 
 lent-joiner : LentJoinerUnique

@@ -2,8 +2,8 @@
 -- very contract of the call in lent words that it makes, so all that is said here of those calls, uniqueness too
 -- (specs/UniqueBelow), is said of the exports. The theorem is in proofs/Exports.antt.
 use mathlib.Core.Path.{_≡_}
-use Rattle.lent_joiner.proofs.setup.Reads.{Post as lent-setup}
-use Rattle.lent_joiner.proofs.take.Reads.{Post as lent-take}
+use Rattle.joiner.proofs.words.setup.Reads.{Post as lent-setup}
+use Rattle.joiner.proofs.words.take.Reads.{Post as lent-take}
 use Rattle.lent_messages.proofs.pieces.Reads.{Post as lent-pieces}
 use Rattle.lent_messages.proofs.cut.Reads.{Post as lent-cut}
 use Rattle.lent_messages.proofs.read.Reads.{Post as lent-read}

@@ -34,9 +34,9 @@ use Rattle.binding.proofs.BindingHeader.new.Reads.{Post as binding-BindingHeade
 use Rattle.binding.proofs.BindingHeader.read.Reads.{Post as binding-BindingHeader-read}
 use Rattle.binding.proofs.pieces.Reads.{Post as cutter-pieces}
 use Rattle.binding.proofs.cut.Reads.{Post as cutter-cut}
-use Rattle.setups.proofs.setup.Reads.{Post as setups-setup}
-use Rattle.taking.proofs.take.Reads.{Post as taking-take}
-use Rattle.taking.proofs.message.Reads.{Post as taking-message}
+use Rattle.joiner.proofs.setup.Reads.{Post as setups-setup}
+use Rattle.joiner.proofs.take.Reads.{Post as taking-take}
+use Rattle.joiner.proofs.message.Reads.{Post as taking-message}
 use Rattle.types.proofs.check.Reads.{Post as types-check}
 use Rattle.table.proofs.entries.type_at.Reads.{Post as table-entries-type-at}
 use Rattle.table.proofs.entries.is_type.Reads.{Post as table-entries-is-type}

@@ -13,9 +13,9 @@ use Rattle.leaf.proofs.signed32.Reads.{Post as leaves-signed32}
 use Rattle.channel.proofs.room_start.Reads.{Post as channels-room-start}
 use Rattle.channel.proofs.has_good_sizes.Reads.{Post as channels-has-good-sizes}
 use Rattle.channel.proofs.moved.Reads.{Post as joiner-moved}
-use Rattle.taking.proofs.sender_of.Reads.{Post as taking-sender-of}
-use Rattle.taking.proofs.judge.Reads.{Post as taking-judge}
-use Rattle.taking.proofs.write_piece.Reads.{Post as taking-write-piece}
+use Rattle.joiner.proofs.sender_of.Reads.{Post as taking-sender-of}
+use Rattle.joiner.proofs.judge.Reads.{Post as taking-judge}
+use Rattle.joiner.proofs.write_piece.Reads.{Post as taking-write-piece}
 use Rattle.message.proofs.read_refusal.Reads.{Post as message-read-refusal}
 use Rattle.message.proofs.frame_refusal.Reads.{Post as message-frame-refusal}
 use Rattle.message.proofs.address_refusal.Reads.{Post as message-address-refusal}
@@ -61,12 +61,8 @@ use Rattle.calls.proofs.next.Reads.{Post as calls-next}
 use Rattle.calls.proofs.argument.Reads.{Post as calls-argument}
 use Rattle.calls.proofs.number.Reads.{Post as calls-number}
 use Rattle.wire.proofs.word_at.Reads.{Post as lent-u64-at}
-use Rattle.lent_channels.proofs.is_good.Reads.{Post as lent-channels-is-good}
-use Rattle.lent_channels.proofs.look.Reads.{Post as lent-channels-look}
-use Rattle.lent_channels.proofs.put_record.Reads.{Post as lent-channels-put-record}
-use Rattle.lent_channels.proofs.words_of.Reads.{Post as lent-channels-words-of}
-use Rattle.lent_joiner.proofs.setup.Reads.{Post as lent-joiner-setup}
-use Rattle.lent_joiner.proofs.take.Reads.{Post as lent-joiner-take}
+use Rattle.joiner.proofs.words.setup.Reads.{Post as lent-joiner-setup}
+use Rattle.joiner.proofs.words.take.Reads.{Post as lent-joiner-take}
 use Rattle.lent_messages.proofs.pieces.Reads.{Post as lent-messages-pieces}
 use Rattle.lent_messages.proofs.cut.Reads.{Post as lent-messages-cut}
 use Rattle.lent_messages.proofs.read.Reads.{Post as lent-messages-read}
@@ -185,10 +181,6 @@ pub record LentUnique : Type 0 where
   pub u64-at : Answer lent-u64-at
 
 pub record LentChannelsUnique : Type 0 where
-  pub is-good : Answer lent-channels-is-good
-  pub look : Answer lent-channels-look
-  pub put-record-state : Lent lent-channels-put-record (λ k e. now (e .0))
-  pub words-of : Answer lent-channels-words-of
 
 pub record LentJoinerUnique : Type 0 where
   pub setup : Answer lent-joiner-setup

@@ -87,7 +87,7 @@ pub fn play(run: Run, rooms: &mut [u8], input: &[u8], output: &mut [u8]) -> Run
 fn play_one(run: Run, rooms: &mut [u8], datagram: &[u8], end: usize, output: &mut [u8]) -> Run
     ensures { λ r. ⌜ stateOf r (now (rooms .exit)) (now (output .exit)) ≡ steppedOf (stateOf run (now (rooms .entry)) (now (output .entry))) (now (datagram .entry)) end ⌝ }
 {
-    let taken = taking::take(run.joiner, rooms, datagram);
+    let taken = joiner::take(run.joiner, rooms, datagram);
     let outcome = taken.outcome;
     let joiner = taken.joiner;
     let made = lines::put_line(output, run.made, run.number, outcome);

@@ -91,7 +91,7 @@ fn set_up(input: &[u8], count: usize, room: u32) -> Opened
 {
     let ids = read_ids(input, count);
     let rooms = channel::room_start(room, count as u32);
-    let new = setups::setup(&ids[..count], room, rooms);
+    let new = joiner::setup(&ids[..count], room, rooms);
     let answer = new.answer;
     match answer {
         Answer::Accepted => {

@@ -1,0 +1,3 @@
+pub mod JoinerWords
+pub mod Records
+pub mod Calls

@@ -1,0 +1,115 @@
+// Datagrams taken one at a time, each channel's pieces put behind one another in its own room, and the messages that they
+// make handed back. The state goes in by value and comes back by value; the rooms are lent.
+mod in_words;
+mod looking;
+mod records;
+mod setups;
+pub mod words;
+
+pub use looking::JOINER_WORDS;
+pub use setups::setup;
+ghost use mathlib.Core.Path.{_≡_};
+ghost use Rattle.channel.specs.Take.{senderBy, refusalBy, judgedBy, takenOf, roomsAfter, putBy, messageOf};
+use binding::BindingHeader;
+use binding::Heard;
+use channel::BAD_SETUP;
+use channel::Found;
+use channel::Joiner;
+use channel::Judged;
+use channel::Outcome;
+use channel::Place;
+use channel::Put;
+use channel::Taken;
+
+// 01, Numbers given back. 20 is the set-up's; 21 and 22 are the binding header's.
+pub const NOT_SET_UP: u32 = 23;
+
+// Takes one datagram: 20 to 23 for what is refused, else what it is to its channel, whose record alone changes.
+pub fn take(joiner: Joiner, rooms: &mut [u8], datagram: &[u8]) -> Taken
+    ensures { λ r. ⌜ r ≡ takenOf joiner (now (rooms .entry)) (now (datagram .entry)) ⌝ }
+    ensures { λ _. ⌜ now (rooms .exit) ≡ roomsAfter joiner (now (rooms .entry)) (now (datagram .entry)) ⌝ }
+{
+    let heard = BindingHeader::read(datagram);
+    let words = in_words::words_of(joiner);
+    let found = looking::look(&words, rooms.len(), sender_of(heard));
+    match judge(found, joiner.room, heard, datagram.len()) {
+        Judged::Refusal(number) => Taken {
+            outcome: Outcome::Refused(number),
+            joiner,
+        },
+        Judged::Move { at: moved, step } => {
+            let outcome = step.outcome;
+            let place = step.put;
+            let channel = step.channel;
+            write_piece(rooms, place, datagram);
+            let mut after = joiner;
+            after.channels[moved] = channel;
+            Taken {
+                outcome,
+                joiner: after,
+            }
+        }
+    }
+}
+
+// The message that `outcome` delivered, as a part of the datagram or of the rooms; an empty part where it delivered none.
+// A part of the rooms is good until the next `take`.
+pub fn message<'a>(outcome: Outcome, datagram: &'a [u8], rooms: &'a [u8]) -> &'a [u8]
+    ensures { λ r. ⌜ now r ≡ messageOf outcome (now (datagram .entry)) (now (rooms .entry)) ⌝ }
+{
+    match outcome {
+        Outcome::Delivered { missed: _, place } => match place {
+            Place::Datagram { start, length } => wire::part(datagram, start, length),
+            Place::Rooms { start, length } => wire::part(rooms, start, length),
+        },
+        _ => &datagram[..0],
+    }
+}
+
+// The sender ID for which a joiner is looked at: any, where the header is refused.
+pub fn sender_of(heard: Heard) -> u16
+    ensures { λ r. ⌜ r ≡ senderBy heard ⌝ }
+{
+    match heard {
+        Heard::Refused(_) => 0,
+        Heard::Piece(header) => header.sender,
+    }
+}
+
+// What a datagram of `length` bytes comes to, before anything is written: the numbers in their order, then its channel's
+// step. `found` is what the look for its sender ID found in a joiner with rooms of `size` bytes.
+pub fn judge(found: Found, size: u32, heard: Heard, length: usize) -> Judged
+    ensures { λ r. ⌜ r ≡ judgedBy found size heard length ⌝ }
+{
+    match found {
+        Found::Bad => Judged::Refusal(BAD_SETUP),
+        Found::Nobody => Judged::Refusal(refusal(heard)),
+        Found::Somebody { at, channel } => match heard {
+            Heard::Refused(number) => Judged::Refusal(number),
+            Heard::Piece(header) => channel::moved(at, size, channel, header, length),
+        },
+    }
+}
+
+fn refusal(heard: Heard) -> u32
+    ensures { λ r. ⌜ r ≡ refusalBy heard ⌝ }
+{
+    match heard {
+        Heard::Refused(number) => number,
+        Heard::Piece(_) => NOT_SET_UP,
+    }
+}
+
+// Writes the datagram's piece, and nothing else.
+pub fn write_piece(rooms: &mut [u8], place: Put, datagram: &[u8])
+    ensures { λ _. ⌜ now (rooms .exit) ≡ putBy (now (rooms .entry)) place (now (datagram .entry)) ⌝ }
+{
+    match place {
+        Put::Nowhere => {}
+        Put::At(at) => {
+            if BindingHeader::LENGTH <= datagram.len() {
+                wire::put_run(rooms, at, &datagram[BindingHeader::LENGTH..]);
+            }
+        }
+    }
+}

@@ -1,4 +1,0 @@
-pub mod Stored
-pub mod Storing
-pub mod FoundBack
-mod Looking

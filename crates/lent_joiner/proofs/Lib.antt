@@ -1,4 +1,0 @@
-pub mod ReadBack
-pub mod Moving
-pub mod WordsBack
-mod Calling

@@ -1,8 +1,0 @@
--- `setups::new_channel` meets its contract: nothing seen, nothing held.
--- Assumes nothing.
-use borrow.Author.Needs.{needs}
-use Rattle.setups.proofs.new_channel.Statement.{statement}
-use Rattle.setups.proofs.new_channel.Tie as tie
-
-pub new-channel-spec : {M : Type 1} → statement M
-new-channel-spec = tie.close (tie.spec (λ c. search needs))

@@ -1,9 +1,0 @@
--- `setups::refused_setup` meets its contract: a joiner of no channels.
--- Assumes nothing.
-use borrow.Author.Needs.{needs}
-use Rattle.setups.proofs.Making.{no-channels}
-use Rattle.setups.proofs.refused_setup.Statement.{statement}
-use Rattle.setups.proofs.refused_setup.Tie as tie
-
-pub refused-setup-spec : {M : Type 1} → statement M
-refused-setup-spec = tie.close (tie.spec (λ c κs. search needs) (λ c. search no-channels))

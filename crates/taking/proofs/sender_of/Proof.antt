@@ -1,8 +1,0 @@
--- `taking::sender_of` meets its contract: the header's own, or any.
--- Assumes nothing.
-use borrow.Author.Needs.{needs}
-use Rattle.taking.proofs.sender_of.Statement.{statement}
-use Rattle.taking.proofs.sender_of.Tie as tie
-
-pub sender-of-spec : {M : Type 1} → statement M
-sender-of-spec = tie.close (tie.spec (λ c. search needs) (λ c. search needs) (λ c. search needs) (λ c. search needs))
