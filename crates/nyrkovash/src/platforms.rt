@@ -2,12 +2,12 @@
 ghost use mathlib.Core.Path.{_≡_};
 ghost use Rattle.states.specs.States.{howManyUp};
 ghost use Rattle.platform.specs.Receiving.{freshStanding};
-ghost use Rattle.lent_states.specs.Words.{statesIn, standingWords};
-ghost use Rattle.lent_states.specs.Calls.{upNumber};
-ghost use Rattle.lent_platform.specs.Calls.{receiveNumber, receiveWords, receiveOutput, receiveHeard};
-ghost use Rattle.lent_receiving.specs.Calls.{receiveInNumber, receiveInWords, receiveInOutput, receiveInHeard};
-use lent_heard::HEARD_WORDS;
-use lent_states::PLATFORM_WORDS;
+ghost use Rattle.platform_words.specs.Words.{statesIn, standingWords};
+ghost use Rattle.platform_words.specs.StateCalls.{upNumber};
+ghost use Rattle.platform_words.specs.TableCalls.{receiveNumber, receiveWords, receiveOutput, receiveHeard};
+ghost use Rattle.platform_words.specs.SectionCalls.{receiveInNumber, receiveInWords, receiveInOutput, receiveInHeard};
+use platform_words::HEARD_WORDS;
+use platform_words::PLATFORM_WORDS;
 use table::SECTIONS_WORDS;
 
 // A fresh platform.
@@ -16,7 +16,7 @@ pub extern "C" fn nyr_start(own: u8, platform: &mut [u64; PLATFORM_WORDS]) -> u3
     ensures { λ r. ⌜ r ≡ 0 ⌝ }
     ensures { λ _. ⌜ now (platform .exit) ≡ standingWords (freshStanding own) ⌝ }
 {
-    lent_states::fresh(own, platform)
+    platform_words::fresh(own, platform)
 }
 
 // Reads a message, notes the state that it tells, and writes the owed replies at the output's start: 30 to 33, 1 to 10, or 0 and
@@ -35,7 +35,7 @@ pub extern "C" fn nyr_receive(
     ensures { λ _. ⌜ now (out .exit) ≡ receiveOutput own (now (platform .entry)) (now (table .entry)) (now (message .entry)) (now (out .entry)) ⌝ }
     ensures { λ _. ⌜ now (heard .exit) ≡ receiveHeard own (now (platform .entry)) (now (table .entry)) (now (message .entry)) (now (out .entry)) (now (heard .entry)) ⌝ }
 {
-    lent_platform::receive(own, platform, table, message, out, heard)
+    platform_words::receive(own, platform, table, message, out, heard)
 }
 
 // The same by the sections that a check gave: 30 where these do not lie in the table.
@@ -54,7 +54,7 @@ pub extern "C" fn nyr_receive_in(
     ensures { λ _. ⌜ now (out .exit) ≡ receiveInOutput own (now (platform .entry)) (now (table .entry)) (now (sections .entry)) (now (message .entry)) (now (out .entry)) ⌝ }
     ensures { λ _. ⌜ now (heard .exit) ≡ receiveInHeard own (now (platform .entry)) (now (table .entry)) (now (sections .entry)) (now (message .entry)) (now (out .entry)) (now (heard .entry)) ⌝ }
 {
-    lent_receiving::receive_in(own, platform, table, sections, message, out, heard)
+    platform_words::receive_in(own, platform, table, sections, message, out, heard)
 }
 
 // 1 where there is a platform of that number and it is UP, else 0.
@@ -62,7 +62,7 @@ pub extern "C" fn nyr_receive_in(
 pub extern "C" fn nyr_is_up(own: u8, platform: &[u64; PLATFORM_WORDS], number: u32) -> u32
     ensures { λ r. ⌜ r ≡ upNumber own (now (platform .entry)) number ⌝ }
 {
-    lent_states::is_up(own, platform, number)
+    platform_words::is_up(own, platform, number)
 }
 
 // How many of the 256 are UP, this one counted.
@@ -70,5 +70,5 @@ pub extern "C" fn nyr_is_up(own: u8, platform: &[u64; PLATFORM_WORDS], number: u
 pub extern "C" fn nyr_how_many_up(own: u8, platform: &[u64; PLATFORM_WORDS]) -> u32
     ensures { λ r. ⌜ r ≡ howManyUp own (statesIn (now (platform .entry))) ⌝ }
 {
-    lent_states::how_many_up(own, platform)
+    platform_words::how_many_up(own, platform)
 }

@@ -14,11 +14,11 @@ use Rattle.lent_payloads.proofs.unpack.Reads.{Post as lent-unpack}
 use Rattle.lent_payloads.proofs.unpack_in.Reads.{Post as lent-unpack-in}
 use Rattle.lent_payloads.proofs.pack.Reads.{Post as lent-pack}
 use Rattle.lent_payloads.proofs.pack_in.Reads.{Post as lent-pack-in}
-use Rattle.lent_states.proofs.fresh.Reads.{Post as lent-fresh}
-use Rattle.lent_platform.proofs.receive.Reads.{Post as lent-receive}
-use Rattle.lent_receiving.proofs.receive_in.Reads.{Post as lent-receive-in}
-use Rattle.lent_states.proofs.is_up.Reads.{Post as lent-is-up}
-use Rattle.lent_states.proofs.how_many_up.Reads.{Post as lent-how-many-up}
+use Rattle.platform_words.proofs.fresh.Reads.{Post as lent-fresh}
+use Rattle.platform_words.proofs.receive.Reads.{Post as lent-receive}
+use Rattle.platform_words.proofs.receive_in.Reads.{Post as lent-receive-in}
+use Rattle.platform_words.proofs.is_up.Reads.{Post as lent-is-up}
+use Rattle.platform_words.proofs.how_many_up.Reads.{Post as lent-how-many-up}
 use Rattle.nyrkovash.proofs.nyr_setup.Reads.{Post as nyr-setup}
 use Rattle.nyrkovash.proofs.nyr_take.Reads.{Post as nyr-take}
 use Rattle.nyrkovash.proofs.nyr_pieces.Reads.{Post as nyr-pieces}

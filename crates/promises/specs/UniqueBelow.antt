@@ -74,14 +74,14 @@ use Rattle.lent_payloads.proofs.unpack.Reads.{Post as lent-payloads-unpack}
 use Rattle.lent_payloads.proofs.unpack_in.Reads.{Post as lent-payloads-unpack-in}
 use Rattle.lent_payloads.proofs.pack.Reads.{Post as lent-payloads-pack}
 use Rattle.lent_payloads.proofs.pack_in.Reads.{Post as lent-payloads-pack-in}
-use Rattle.lent_states.proofs.fresh.Reads.{Post as lent-states-fresh}
-use Rattle.lent_states.proofs.is_up.Reads.{Post as lent-states-is-up}
-use Rattle.lent_states.proofs.how_many_up.Reads.{Post as lent-states-how-many-up}
-use Rattle.lent_states.proofs.standing_in.Reads.{Post as lent-states-standing-in}
-use Rattle.lent_states.proofs.put_standing.Reads.{Post as lent-states-put-standing}
-use Rattle.lent_heard.proofs.tell.Reads.{Post as lent-heard-tell}
-use Rattle.lent_platform.proofs.receive.Reads.{Post as lent-platform-receive}
-use Rattle.lent_receiving.proofs.receive_in.Reads.{Post as lent-receiving-receive-in}
+use Rattle.platform_words.proofs.fresh.Reads.{Post as lent-states-fresh}
+use Rattle.platform_words.proofs.is_up.Reads.{Post as lent-states-is-up}
+use Rattle.platform_words.proofs.how_many_up.Reads.{Post as lent-states-how-many-up}
+use Rattle.platform_words.proofs.standing_in.Reads.{Post as lent-states-standing-in}
+use Rattle.platform_words.proofs.put_standing.Reads.{Post as lent-states-put-standing}
+use Rattle.platform_words.proofs.tell.Reads.{Post as lent-heard-tell}
+use Rattle.platform_words.proofs.receive.Reads.{Post as lent-platform-receive}
+use Rattle.platform_words.proofs.receive_in.Reads.{Post as lent-receiving-receive-in}
 
 pub record WireUnique : Type 0 where
   pub whole-u16 : Answer wire-whole-u16

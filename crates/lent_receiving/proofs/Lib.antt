@@ -1,2 +1,0 @@
-mod OnSections
-mod Straight

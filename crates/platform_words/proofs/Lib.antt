@@ -1,0 +1,5 @@
+pub mod Storing
+mod Telling
+mod Calling
+mod OnSections
+mod Straight

@@ -1,0 +1,46 @@
+-- A platform in its words: what reading and writing show, and that the words of a platform read back as that platform.
+-- Assumes nothing.
+use Prim.Native.Nat.{ℕ, _%_, _^_, _≤_, _<_}
+use mathlib.Core.Path.{_≡_, sym, ap, _∙_}
+use mathlib.Core.Bool.{Bool, true, false, cond}
+use mathlib.Core.List.{List, _++_}
+use native.Mathlib.Nat.{mod-eq-of-lt}
+use lib.ListN.{getD}
+use Rattle.wire.proofs.Cond.{yes-lt, no-lt}
+use Rattle.message.specs.Refusal.{platforms}
+use Rattle.states.specs.declared.States.{States}
+use Rattle.platform.specs.declared.reactions.Standing.{Standing}
+use Rattle.states.specs.States.{isUp, howManyUp}
+use Rattle.platform.specs.Receiving.{freshStanding}
+use Rattle.platform_words.specs.StateCalls.{upNumber}
+use Rattle.platform_words.specs.Words.{statesIn, standingIn, standingWords}
+
+module _ (ws : List ℕ) where
+  pub states-in : {a b c d : ℕ} → a ≡ getD ws 0 0 → b ≡ getD ws 1 0 → c ≡ getD ws 2 0 → d ≡ getD ws 3 0 → record { w0 = a; w1 = b; w2 = c; w3 = d } ≡ statesIn ws
+  states-in ea eb ec ed = rw (ea, eb, ec, ed)
+
+  pub standing-in : {s : States} {n : ℕ} → s ≡ statesIn ws → n ≡ getD ws 4 0 → record { states = s; next = n % 2 ^ 32 } ≡ standingIn ws
+  standing-in es en = rw (es, en)
+
+  -- the states that are asked
+  module _ {s : States} (own : ℕ) (es : s ≡ statesIn ws) where
+    pub up-states : {r : ℕ} → r ≡ howManyUp own s → r ≡ howManyUp own (statesIn ws)
+    up-states e = e ∙ ap (howManyUp own) es
+
+    module _ {t : Bool} (k : ℕ) (l : k < platforms) (e : t ≡ isUp own s k) where
+      pub is-up : t ≡ true → 1 ≡ upNumber own ws k
+      is-up f = sym (yes-lt (cond (isUp own (statesIn ws) k) 1 0) 0 k platforms l ∙ rw (← es, ← e, f))
+
+      pub is-down : t ≡ false → 0 ≡ upNumber own ws k
+      is-down f = sym (yes-lt (cond (isUp own (statesIn ws) k) 1 0) 0 k platforms l ∙ rw (← es, ← e, f))
+
+  pub no-platform : (own k : ℕ) → platforms ≤ k → 0 ≡ upNumber own ws k
+  no-platform own k l = sym (no-lt (cond (isUp own (statesIn ws) k) 1 0) 0 k platforms l)
+
+-- a fresh one
+pub fresh-words : {x : List ℕ} {p : Standing} (own : ℕ) → p ≡ freshStanding own → x ≡ standingWords p → x ≡ standingWords (freshStanding own)
+fresh-words own e f = f ∙ ap standingWords e
+
+-- the words of a platform, whatever stands behind them, read back as that platform
+pub read-back : (p : Standing) (ws : List ℕ) → p .next < 2 ^ 32 → standingIn (standingWords p ++ ws) ≡ p
+read-back p ws h = rw (mod-eq-of-lt h)

@@ -1,0 +1,6 @@
+pub mod Words
+pub mod StateCalls
+pub mod HeardWords
+pub mod TableCalls
+pub mod Within
+pub mod SectionCalls

@@ -1,0 +1,24 @@
+// platform_words: lent_states, lent_heard, lent_platform, lent_receiving.
+mod heard_words;
+mod on_sections;
+mod on_table;
+mod standing_words;
+
+pub use heard_words::HEARD_WORDS;
+pub use heard_words::NOT_IN_TABLE;
+pub use heard_words::NOT_VERSIONED_DATA;
+pub use heard_words::OPERATION;
+pub use heard_words::PULL_OF_ALL;
+pub use heard_words::PULL_OF_ONE;
+pub use heard_words::REQUEST;
+pub use heard_words::STATUS;
+pub use heard_words::UNKNOWN_OPERATION;
+pub use heard_words::tell;
+pub use on_sections::receive_in;
+pub use on_table::receive;
+pub use standing_words::PLATFORM_WORDS;
+pub use standing_words::fresh;
+pub use standing_words::how_many_up;
+pub use standing_words::is_up;
+pub use standing_words::put_standing;
+pub use standing_words::standing_in;
