@@ -3,7 +3,7 @@
 mod reading;
 
 pub use reading::READING_WORDS;
-pub use reading::read;
+pub use reading::nyr_read;
 ghost use mathlib.Core.Path.{_≡_};
 ghost use Rattle.binding.specs.Cutting.{cutInto};
 ghost use Rattle.message.specs.Writing.{outputAfter};
@@ -15,7 +15,8 @@ use message::Own;
 use message::Writing;
 
 // How many pieces a message of `total` bytes is cut into: 50, or 0 and the number.
-pub fn pieces(total: usize, size: usize, given: &mut usize) -> u32
+#[no_mangle]
+pub extern "C" fn nyr_pieces(total: usize, size: usize, given: &mut usize) -> u32
     ensures { λ r. ⌜ r ≡ piecesNumber total size ⌝ }
     ensures { λ _. ⌜ now (given .exit) ≡ piecesGiven total size (now (given .entry)) ⌝ }
 {
@@ -29,7 +30,8 @@ pub fn pieces(total: usize, size: usize, given: &mut usize) -> u32
 }
 
 // Writes the datagram of one piece at the start of `out`: 50 to 52, or 0 and its length.
-pub fn cut(
+#[no_mangle]
+pub extern "C" fn nyr_cut(
     message: &[u8],
     size: usize,
     sender: usize,
@@ -53,7 +55,8 @@ pub fn cut(
 
 // Writes a message of this platform at the start of `out`: 4, 5, 7 to 9, 10 for too short an output, or 0 and how many bytes
 // were written.
-pub fn write(
+#[no_mangle]
+pub extern "C" fn nyr_write(
     own: u8,
     domain: u8,
     id: u32,

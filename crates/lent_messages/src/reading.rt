@@ -17,7 +17,8 @@ pub const READING_WORDS: usize = 6;
 pub const OPERATION: u64 = 5;
 
 // Reads a message at this platform: 1 to 9, or 0 and the message.
-pub fn read(own: u8, message: &[u8], answer: &mut [u64; READING_WORDS]) -> u32
+#[no_mangle]
+pub extern "C" fn nyr_read(own: u8, message: &[u8], answer: &mut [u64; READING_WORDS]) -> u32
     ensures { λ r. ⌜ r ≡ readNumber own (now (message .entry)) ⌝ }
     ensures { λ _. ⌜ now (answer .exit) ≡ readAnswer own (now (message .entry)) (now (answer .entry)) ⌝ }
 {

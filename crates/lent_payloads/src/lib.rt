@@ -8,7 +8,8 @@ use payload::Answer;
 use table::SECTIONS_WORDS;
 
 // Unpacks a payload of the table's type of that number: 30 to 33, 40 to 45, or 0 and how many words were given.
-pub fn unpack(
+#[no_mangle]
+pub extern "C" fn nyr_unpack(
     table: &[u8],
     number: u16,
     payload: &[u8],
@@ -24,7 +25,8 @@ pub fn unpack(
 }
 
 // The same by the sections that a check gave.
-pub fn unpack_in(
+#[no_mangle]
+pub extern "C" fn nyr_unpack_in(
     table: &[u8],
     sections: &[u64; SECTIONS_WORDS],
     number: u16,
@@ -43,7 +45,14 @@ pub fn unpack_in(
 }
 
 // Packs the words as a payload of the table's type of that number: 30 to 33, 40 to 45, or 0 and how many bytes were given.
-pub fn pack(table: &[u8], number: u16, words: &[u64], out: &mut [u8], given: &mut usize) -> u32
+#[no_mangle]
+pub extern "C" fn nyr_pack(
+    table: &[u8],
+    number: u16,
+    words: &[u64],
+    out: &mut [u8],
+    given: &mut usize,
+) -> u32
     ensures { λ r. ⌜ r ≡ packNumber (now (table .entry)) number (now (words .entry)) (now (out .entry)) ⌝ }
     ensures { λ _. ⌜ now (out .exit) ≡ bytesAfter (now (table .entry)) number (now (words .entry)) (now (out .entry)) ⌝ }
     ensures { λ _. ⌜ now (given .exit) ≡ packGiven (now (table .entry)) number (now (words .entry)) (now (out .entry)) (now (given .entry)) ⌝ }
@@ -53,7 +62,8 @@ pub fn pack(table: &[u8], number: u16, words: &[u64], out: &mut [u8], given: &mu
 }
 
 // The same by the sections that a check gave.
-pub fn pack_in(
+#[no_mangle]
+pub extern "C" fn nyr_pack_in(
     table: &[u8],
     sections: &[u64; SECTIONS_WORDS],
     number: u16,

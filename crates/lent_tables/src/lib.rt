@@ -14,7 +14,8 @@ pub const FOUND_WORDS: usize = 3;
 pub const FOUND: u64 = 1;
 
 // Checks a table: 30 to 33, or 0 and its sections.
-pub fn check(table: &[u8], sections: &mut [u64; SECTIONS_WORDS]) -> u32
+#[no_mangle]
+pub extern "C" fn nyr_check_table(table: &[u8], sections: &mut [u64; SECTIONS_WORDS]) -> u32
     ensures { λ r. ⌜ r ≡ checkNumber (now (table .entry)) ⌝ }
     ensures { λ _. ⌜ now (sections .exit) ≡ checkAnswer (now (table .entry)) (now (sections .entry)) ⌝ }
 {
@@ -28,7 +29,8 @@ pub fn check(table: &[u8], sections: &mut [u64; SECTIONS_WORDS]) -> u32
 }
 
 // Looks an operation up: 30 for sections that do not lie in the table, or 0 and what was found.
-pub fn find(
+#[no_mangle]
+pub extern "C" fn nyr_find(
     table: &[u8],
     sections: &[u64; SECTIONS_WORDS],
     id: u32,

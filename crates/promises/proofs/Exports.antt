@@ -8,16 +8,6 @@ exports =
     record {
       setup = refl;
       take = refl;
-      pieces = refl;
-      cut = refl;
-      read = refl;
-      write = refl;
-      check-table = refl;
-      find = refl;
-      unpack = refl;
-      unpack-in = refl;
-      pack = refl;
-      pack-in = refl;
       start = refl;
       receive = refl;
       receive-in = refl;

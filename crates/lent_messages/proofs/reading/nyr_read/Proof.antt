@@ -1,12 +1,12 @@
--- `lent_messages::reading::read` meets its contract.
+-- `nyrkovash::nyr_read` meets its contract.
 -- Assumes nothing.
 use borrow.Author.Needs.{needs}
 use Rattle.lent_messages.proofs.Words.{contents-known, read-refused, read-nothing, read-number, read-words}
-use Rattle.lent_messages.proofs.reading.read.Statement.{statement}
-use Rattle.lent_messages.proofs.reading.read.Tie as tie
+use Rattle.lent_messages.proofs.reading.nyr_read.Statement.{statement}
+use Rattle.lent_messages.proofs.reading.nyr_read.Tie as tie
 
-pub read-spec : {M : Type 1} → statement M
-read-spec =
+pub nyr-read-spec : {M : Type 1} → statement M
+nyr-read-spec =
     tie.close
     (tie.spec
     (λ c κs. search needs)

@@ -1,12 +1,12 @@
--- `lent_tables::find` meets its contract.
+-- `nyrkovash::nyr_find` meets its contract.
 -- Assumes nothing.
 use borrow.Author.Needs.{needs}
 use Rattle.lent_tables.proofs.Calling.{inside-number, found-there, found-none, outside-number, outside-answer}
-use Rattle.lent_tables.proofs.find.Statement.{statement}
-use Rattle.lent_tables.proofs.find.Tie as tie
+use Rattle.lent_tables.proofs.nyr_find.Statement.{statement}
+use Rattle.lent_tables.proofs.nyr_find.Tie as tie
 
-pub find-spec : {M : Type 1} → statement M
-find-spec =
+pub nyr-find-spec : {M : Type 1} → statement M
+nyr-find-spec =
     tie.close
     (tie.spec
     (λ c κs. search needs)

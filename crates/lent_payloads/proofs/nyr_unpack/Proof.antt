@@ -1,12 +1,12 @@
--- `lent_payloads::pack` meets its contract.
+-- `nyrkovash::nyr_unpack` meets its contract.
 -- Assumes nothing.
 use borrow.Author.Needs.{needs}
 use Rattle.lent_payloads.proofs.Giving.{given-number, given-count}
-use Rattle.lent_payloads.proofs.pack.Statement.{statement}
-use Rattle.lent_payloads.proofs.pack.Tie as tie
+use Rattle.lent_payloads.proofs.nyr_unpack.Statement.{statement}
+use Rattle.lent_payloads.proofs.nyr_unpack.Tie as tie
 
-pub pack-spec : {M : Type 1} → statement M
-pack-spec =
+pub nyr-unpack-spec : {M : Type 1} → statement M
+nyr-unpack-spec =
     tie.close
     (tie.spec
     (λ c κs. search needs)

@@ -1,14 +1,14 @@
--- `lent_messages::cut` meets its contract.
+-- `nyrkovash::nyr_cut` meets its contract.
 -- Assumes nothing.
 use borrow.Author.Needs.{needs}
 use Rattle.wire.proofs.MetCases.{met, met-left}
 use Rattle.binding.specs.Cutting.{cutRefusal}
 use Rattle.lent_messages.specs.Pieces.{madeLeft}
-use Rattle.lent_messages.proofs.cut.Statement.{statement}
-use Rattle.lent_messages.proofs.cut.Tie as tie
+use Rattle.lent_messages.proofs.nyr_cut.Statement.{statement}
+use Rattle.lent_messages.proofs.nyr_cut.Tie as tie
 
-pub cut-spec : {M : Type 1} → statement M
-cut-spec =
+pub nyr-cut-spec : {M : Type 1} → statement M
+nyr-cut-spec =
     tie.close
     (tie.spec
     (λ c κs. search needs)

@@ -1,12 +1,12 @@
--- `lent_payloads::unpack_in` meets its contract.
+-- `nyrkovash::nyr_pack_in` meets its contract.
 -- Assumes nothing.
 use borrow.Author.Needs.{needs}
 use Rattle.lent_payloads.proofs.Giving.{number-in, left-in, count-in}
-use Rattle.lent_payloads.proofs.unpack_in.Statement.{statement}
-use Rattle.lent_payloads.proofs.unpack_in.Tie as tie
+use Rattle.lent_payloads.proofs.nyr_pack_in.Statement.{statement}
+use Rattle.lent_payloads.proofs.nyr_pack_in.Tie as tie
 
-pub unpack-in-spec : {M : Type 1} → statement M
-unpack-in-spec =
+pub nyr-pack-in-spec : {M : Type 1} → statement M
+nyr-pack-in-spec =
     tie.close
     (tie.spec
     (λ c κs. search needs)

@@ -1,14 +1,14 @@
--- `lent_messages::write` meets its contract.
+-- `nyrkovash::nyr_write` meets its contract.
 -- Assumes nothing.
 use borrow.Author.Needs.{needs}
 use Rattle.wire.proofs.MetCases.{met, met-left}
 use Rattle.message.specs.Writing.{numberGiven}
 use Rattle.lent_messages.specs.Messages.{writeLeft}
-use Rattle.lent_messages.proofs.write.Statement.{statement}
-use Rattle.lent_messages.proofs.write.Tie as tie
+use Rattle.lent_messages.proofs.nyr_write.Statement.{statement}
+use Rattle.lent_messages.proofs.nyr_write.Tie as tie
 
-pub write-spec : {M : Type 1} → statement M
-write-spec =
+pub nyr-write-spec : {M : Type 1} → statement M
+nyr-write-spec =
     tie.close
     (tie.spec
     (λ c κs. search needs)

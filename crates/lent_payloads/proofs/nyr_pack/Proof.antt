@@ -1,12 +1,12 @@
--- `lent_payloads::unpack` meets its contract.
+-- `nyrkovash::nyr_pack` meets its contract.
 -- Assumes nothing.
 use borrow.Author.Needs.{needs}
 use Rattle.lent_payloads.proofs.Giving.{given-number, given-count}
-use Rattle.lent_payloads.proofs.unpack.Statement.{statement}
-use Rattle.lent_payloads.proofs.unpack.Tie as tie
+use Rattle.lent_payloads.proofs.nyr_pack.Statement.{statement}
+use Rattle.lent_payloads.proofs.nyr_pack.Tie as tie
 
-pub unpack-spec : {M : Type 1} → statement M
-unpack-spec =
+pub nyr-pack-spec : {M : Type 1} → statement M
+nyr-pack-spec =
     tie.close
     (tie.spec
     (λ c κs. search needs)

@@ -1,14 +1,14 @@
--- `lent_messages::pieces` meets its contract.
+-- `nyrkovash::nyr_pieces` meets its contract.
 -- Assumes nothing.
 use borrow.Author.Needs.{needs}
 use Rattle.wire.proofs.MetCases.{met, met-left}
 use Rattle.binding.specs.Cutting.{countRefusal}
 use Rattle.lent_messages.specs.Pieces.{countLeft}
-use Rattle.lent_messages.proofs.pieces.Statement.{statement}
-use Rattle.lent_messages.proofs.pieces.Tie as tie
+use Rattle.lent_messages.proofs.nyr_pieces.Statement.{statement}
+use Rattle.lent_messages.proofs.nyr_pieces.Tie as tie
 
-pub pieces-spec : {M : Type 1} → statement M
-pieces-spec =
+pub nyr-pieces-spec : {M : Type 1} → statement M
+nyr-pieces-spec =
     tie.close
     (tie.spec
     (λ c κs. search needs)

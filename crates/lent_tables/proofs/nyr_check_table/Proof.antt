@@ -1,13 +1,13 @@
--- `lent_tables::check` meets its contract.
+-- `nyrkovash::nyr_check_table` meets its contract.
 -- Assumes nothing.
 use borrow.Author.Needs.{needs}
 use Rattle.wire.proofs.MetCases.{met, met-left}
 use Rattle.lent_tables.specs.Calls.{checkRefusal, sectionsLeft}
-use Rattle.lent_tables.proofs.check.Statement.{statement}
-use Rattle.lent_tables.proofs.check.Tie as tie
+use Rattle.lent_tables.proofs.nyr_check_table.Statement.{statement}
+use Rattle.lent_tables.proofs.nyr_check_table.Tie as tie
 
-pub check-spec : {M : Type 1} → statement M
-check-spec =
+pub nyr-check-table-spec : {M : Type 1} → statement M
+nyr-check-table-spec =
     tie.close
     (tie.spec
     (λ c κs. search needs)
