@@ -2,12 +2,29 @@
 // length. A call answers 0 or 01's number, but for the two that ask states, and each is one call of a crate below under that
 // call's own contract.
 mod joining;
+mod messages;
+mod payloads;
 mod platforms;
+mod reading;
+mod tables;
 
 pub use joining::nyr_setup;
 pub use joining::nyr_take;
+pub use messages::nyr_cut;
+pub use messages::nyr_pieces;
+pub use messages::nyr_write;
+pub use payloads::nyr_pack;
+pub use payloads::nyr_pack_in;
+pub use payloads::nyr_unpack;
+pub use payloads::nyr_unpack_in;
 pub use platforms::nyr_how_many_up;
 pub use platforms::nyr_is_up;
 pub use platforms::nyr_receive;
 pub use platforms::nyr_receive_in;
 pub use platforms::nyr_start;
+pub use reading::READING_WORDS;
+pub use reading::nyr_read;
+pub use tables::FOUND;
+pub use tables::FOUND_WORDS;
+pub use tables::nyr_check_table;
+pub use tables::nyr_find;

@@ -23,10 +23,10 @@ use Rattle.table.specs.Words.{sectionsIn}
 use Rattle.payload.specs.declared.Answer.{Answer}
 use Rattle.payload.specs.declared.Answer.the-variants as answer
 use Rattle.payload.specs.Calls.{unpacked, unpackedIn, packed, packedIn}
-use Rattle.lent_messages.specs.Pieces.{countLeft, madeLeft}
-use Rattle.lent_messages.specs.Messages.{readLeft, writeLeft}
-use Rattle.lent_tables.specs.Calls.{checkRefusal, sectionsLeft}
-use Rattle.lent_payloads.specs.Calls.{refusalIn, givenLeft}
+use Rattle.nyrkovash.specs.PieceCalls.{countLeft, madeLeft}
+use Rattle.nyrkovash.specs.MessageCalls.{readLeft, writeLeft}
+use Rattle.nyrkovash.specs.TableCalls.{checkRefusal, sectionsLeft}
+use Rattle.nyrkovash.specs.PayloadCalls.{refusalIn, givenLeft}
 use Rattle.promises.specs.Checks.{Keeps}
 use Rattle.promises.specs.Demand1.{ChangesNothing}
 use Rattle.promises.specs.ExportsKeep.{ExportsKeep}

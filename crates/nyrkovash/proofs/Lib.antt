@@ -1,0 +1,3 @@
+mod Words
+mod Calling
+mod Giving

@@ -1,0 +1,4 @@
+pub mod PieceCalls
+pub mod MessageCalls
+pub mod TableCalls
+pub mod PayloadCalls
