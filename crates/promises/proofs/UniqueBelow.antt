@@ -4,7 +4,7 @@ use Prim.Native.Nat.{ℕ}
 use mathlib.Core.Path.{_≡_, sym, ap₂, _∙_}
 use Rattle.unpack.specs.declared.by_codes.Part.{Part as Read}
 use Rattle.pack.specs.declared.by_codes.Part.{Part as Written}
-use Rattle.promises.specs.UniqueBelow.{WireUnique, ChannelsUnique, JoinerUnique, MessageUnique, ReactionsUnique, TableUnique, WalkUnique, UnpackingUnique, PackingUnique, StatesUnique, TextUnique, CallsUnique, LentUnique, LentChannelsUnique, LentJoinerUnique, LentMessagesUnique, LentTablesUnique, LentPayloadsUnique, LentPlatformUnique, LentReceivingUnique, LentStatesUnique, LentHeardUnique, EnumsUnique, LeavesUnique, UniqueBelow}
+use Rattle.promises.specs.UniqueBelow.{WireUnique, ChannelsUnique, JoinerUnique, MessageUnique, ReactionsUnique, TableUnique, WalkUnique, UnpackingUnique, PackingUnique, StatesUnique, TextUnique, LentUnique, LentChannelsUnique, LentJoinerUnique, LentMessagesUnique, LentTablesUnique, LentPayloadsUnique, LentPlatformUnique, LentReceivingUnique, LentStatesUnique, LentHeardUnique, EnumsUnique, LeavesUnique, UniqueBelow}
 
 leaves : LeavesUnique
 leaves =
@@ -143,14 +143,6 @@ text =
       put-hex-output = λ k a z z′ e e′ p q. p .1 ∙ sym (q .1);
     }
 
-calls : CallsUnique
-calls =
-    record {
-      next = λ k a z z′ e e′ p q. p ∙ sym q;
-      argument = λ k a z z′ e e′ p q. p ∙ sym q;
-      number = λ k a z z′ e e′ p q. p ∙ sym q;
-    }
-
 lent : LentUnique
 lent =
     record {
@@ -253,4 +245,4 @@ lent-receiving =
     }
 
 pub unique-below : UniqueBelow
-unique-below = record { wire = wire; channels = channels; joiner = joiner; message = message; reactions = reactions; table = table; walk = walk; unpacking = unpacking; packing = packing; states = states; text = text; calls = calls; lent = lent; lent-channels = lent-channels; lent-joiner = lent-joiner; lent-messages = lent-messages; lent-tables = lent-tables; lent-payloads = lent-payloads; lent-platform = lent-platform; lent-receiving = lent-receiving; lent-states = lent-states; lent-heard = lent-heard; enums = enums; leaves = leaves }
+unique-below = record { wire = wire; channels = channels; joiner = joiner; message = message; reactions = reactions; table = table; walk = walk; unpacking = unpacking; packing = packing; states = states; text = text; lent = lent; lent-channels = lent-channels; lent-joiner = lent-joiner; lent-messages = lent-messages; lent-tables = lent-tables; lent-payloads = lent-payloads; lent-platform = lent-platform; lent-receiving = lent-receiving; lent-states = lent-states; lent-heard = lent-heard; enums = enums; leaves = leaves }

@@ -57,9 +57,6 @@ use Rattle.recording.proofs.put_text.Reads.{Post as text-put-text}
 use Rattle.recording.proofs.put_decimal.Reads.{Post as text-put-decimal}
 use Rattle.recording.proofs.put_number.Reads.{Post as text-put-number}
 use Rattle.recording.proofs.put_hex.Reads.{Post as text-put-hex}
-use Rattle.calls.proofs.next.Reads.{Post as calls-next}
-use Rattle.calls.proofs.argument.Reads.{Post as calls-argument}
-use Rattle.calls.proofs.number.Reads.{Post as calls-number}
 use Rattle.wire.proofs.word_at.Reads.{Post as lent-u64-at}
 use Rattle.joiner.proofs.words.setup.Reads.{Post as lent-joiner-setup}
 use Rattle.joiner.proofs.words.take.Reads.{Post as lent-joiner-take}
@@ -172,11 +169,6 @@ pub record TextUnique : Type 0 where
   pub put-hex : Answer text-put-hex
   pub put-hex-output : Lent text-put-hex (λ k e. now (e .0))
 
-pub record CallsUnique : Type 0 where
-  pub next : Answer calls-next
-  pub argument : Same calls-argument (λ k z e. now z)
-  pub number : Answer calls-number
-
 pub record LentUnique : Type 0 where
   pub u64-at : Answer lent-u64-at
 
@@ -262,7 +254,6 @@ pub record UniqueBelow : Type 0 where
   pub packing : PackingUnique
   pub states : StatesUnique
   pub text : TextUnique
-  pub calls : CallsUnique
   pub lent : LentUnique
   pub lent-channels : LentChannelsUnique
   pub lent-joiner : LentJoinerUnique

@@ -1,5 +1,0 @@
-mod Arrivals
-mod Judging
-pub mod More
-mod Placing
-mod Walking
