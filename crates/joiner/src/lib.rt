@@ -67,7 +67,7 @@ pub fn message<'a>(outcome: Outcome, datagram: &'a [u8], rooms: &'a [u8]) -> &'a
 }
 
 // The sender ID for which a joiner is looked at: any, where the header is refused.
-pub fn sender_of(heard: Heard) -> u16
+pub(crate) fn sender_of(heard: Heard) -> u16
     ensures { λ r. ⌜ r ≡ senderBy heard ⌝ }
 {
     match heard {
@@ -78,7 +78,7 @@ pub fn sender_of(heard: Heard) -> u16
 
 // What a datagram of `length` bytes comes to, before anything is written: the numbers in their order, then its channel's
 // step. `found` is what the look for its sender ID found in a joiner with rooms of `size` bytes.
-pub fn judge(found: Found, size: u32, heard: Heard, length: usize) -> Judged
+pub(crate) fn judge(found: Found, size: u32, heard: Heard, length: usize) -> Judged
     ensures { λ r. ⌜ r ≡ judgedBy found size heard length ⌝ }
 {
     match found {
@@ -101,7 +101,7 @@ fn refusal(heard: Heard) -> u32
 }
 
 // Writes the datagram's piece, and nothing else.
-pub fn write_piece(rooms: &mut [u8], place: Put, datagram: &[u8])
+pub(crate) fn write_piece(rooms: &mut [u8], place: Put, datagram: &[u8])
     ensures { λ _. ⌜ now (rooms .exit) ≡ putBy (now (rooms .entry)) place (now (datagram .entry)) ⌝ }
 {
     match place {

@@ -123,7 +123,7 @@ impl Header {
     }
 
     // The fields as they stand in the bytes, whatever mark and version say. A byte past the end reads as 0.
-    pub fn of_bytes(message: &[u8]) -> Self
+    pub(crate) fn of_bytes(message: &[u8]) -> Self
         ensures { λ r. ⌜ r ≡ headerIn (now (message .entry)) ⌝ }
     {
         Header::new(

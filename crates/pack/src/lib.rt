@@ -7,11 +7,8 @@ pub mod runs;
 mod walking;
 
 pub use by_codes::Part;
-pub use by_codes::judge_codes;
-pub use by_codes::store_codes;
 use table::Sections;
 use walk::Walked;
-pub use walking::write_once;
 ghost use mathlib.Core.Path.{_≡_};
 ghost use mathlib.Core.List.{[]};
 ghost use lib.ListN.{length};

@@ -34,7 +34,7 @@ struct Run {
 }
 
 // Packs the words as a payload of type i, and stores the bytes of each where there is room for them.
-pub fn write_once(table: &[u8], s: Sections, i: u16, words: &[u64], out: &mut [u8]) -> Walked
+pub(crate) fn write_once(table: &[u8], s: Sections, i: u16, words: &[u64], out: &mut [u8]) -> Walked
     ensures { λ r. ⌜ r ≡ answer (typeWalk (writer (now (words .entry))) (now (table .entry)) s i start (now (out .entry))) ⌝ }
     ensures { λ _. ⌜ now (out .exit) ≡ left (typeWalk (writer (now (words .entry))) (now (table .entry)) s i start (now (out .entry))) ⌝ }
 {

@@ -5,17 +5,12 @@ mod reacting;
 mod reactions;
 mod replies;
 
-pub use reacting::look_up;
-pub use reacting::reaction_to;
 pub use reactions::Heard;
 pub use reactions::Owed;
 pub use reactions::REPLY_LENGTH;
 pub use reactions::Reaction;
 pub use reactions::Reply;
 pub use reactions::Standing;
-pub use replies::lay;
-pub use replies::length_of;
-pub use replies::put_reply;
 ghost use mathlib.Core.Path.{_≡_};
 ghost use lib.ListN.{length};
 ghost use Rattle.states.specs.States.{isUp, howManyUp};

@@ -19,7 +19,7 @@ ghost use Rattle.platform.specs.Reaction.{operationFor, operationIn, isD
 const DATA_KIND: u16 = 1;
 
 // The operation that the message asks for, if it asks for one.
-pub fn look_up(table: &[u8], s: Sections, reading: Reading) -> Found
+pub(crate) fn look_up(table: &[u8], s: Sections, reading: Reading) -> Found
     ensures { λ r. ⌜ r ≡ operationIn (now (table .entry)) s reading ⌝ }
 {
     match reading {
@@ -33,7 +33,7 @@ pub fn look_up(table: &[u8], s: Sections, reading: Reading) -> Found
     }
 }
 
-pub fn reaction_to(
+pub(crate) fn reaction_to(
     own: Own,
     table: &[u8],
     s: Sections,

@@ -25,7 +25,7 @@ pub(crate) fn drawn(number: u32) -> u32
     std::num::wrapping_add_u32(number, 1)
 }
 
-pub fn length_of(owed: Owed) -> usize
+pub(crate) fn length_of(owed: Owed) -> usize
     ensures { λ r. ⌜ r ≡ owedLength owed ⌝ }
 {
     match owed {
@@ -36,7 +36,7 @@ pub fn length_of(owed: Owed) -> usize
 }
 
 // Lays all replies at the output's start; where they do not fit nothing changes.
-pub fn lay(own: Own, owed: Owed, out: &mut [u8])
+pub(crate) fn lay(own: Own, owed: Owed, out: &mut [u8])
     ensures { λ _. ⌜ now (out .exit) ≡ written (now (out .entry)) 0 (owedBytes (own .platform) owed) ⌝ }
 {
     if length_of(owed) <= out.len() {
@@ -59,7 +59,7 @@ fn lay_reply(own: Own, reply: Reply, at: usize, out: &mut [u8])
 }
 
 // Writes a reply at the output's start; where it does not fit nothing changes.
-pub fn put_reply(own: Own, reply: Reply, out: &mut [u8])
+pub(crate) fn put_reply(own: Own, reply: Reply, out: &mut [u8])
     ensures { λ _. ⌜ now (out .exit) ≡ written (now (out .entry)) 0 (replyBytes (own .platform) reply) ⌝ }
 {
     if REPLY_LENGTH <= out.len() {

@@ -33,7 +33,7 @@ pub const OPERATION: u64 = 7;
 pub const NOT_IN_TABLE: u64 = 8;
 
 // The platform's words and the answer are written only where nothing was refused.
-pub fn tell(
+pub(crate) fn tell(
     outcome: Outcome,
     platform: &mut [u64; PLATFORM_WORDS],
     heard: &mut [u64; HEARD_WORDS],

@@ -49,7 +49,7 @@ pub fn how_many_up(own: u8, platform: &[u64; PLATFORM_WORDS]) -> u32
     platform::how_many_up(Own { platform: own }, states_in(platform))
 }
 
-pub fn standing_in(words: &[u64; PLATFORM_WORDS]) -> Standing
+pub(crate) fn standing_in(words: &[u64; PLATFORM_WORDS]) -> Standing
     ensures { λ r. ⌜ r ≡ standingIn (now (words .entry)) ⌝ }
 {
     let states = states_in(words);
@@ -59,7 +59,7 @@ pub fn standing_in(words: &[u64; PLATFORM_WORDS]) -> Standing
     }
 }
 
-pub fn put_standing(words: &mut [u64; PLATFORM_WORDS], standing: Standing)
+pub(crate) fn put_standing(words: &mut [u64; PLATFORM_WORDS], standing: Standing)
     ensures { λ _. ⌜ now (words .exit) ≡ standingWords standing ⌝ }
 {
     *words = [

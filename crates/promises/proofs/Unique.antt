@@ -25,7 +25,6 @@ message : MessageUnique
 message =
     record {
       new = λ k a z z′ e e′ p q. p ∙ sym q;
-      of-bytes = λ k a z z′ e e′ p q. p ∙ sym q;
       read = λ k a z z′ e e′ p q. p ∙ sym q;
       payload = λ k a z z′ e e′ p q. p ∙ sym q;
       write = λ k a z z′ e e′ p q. p .0 ∙ sym (q .0);
@@ -60,7 +59,6 @@ types =
       member-at = λ k a z z′ e e′ p q. p ∙ sym q;
       value-at = λ k a z z′ e e′ p q. p ∙ sym q;
       operation-at = λ k a z z′ e e′ p q. p ∙ sym q;
-      id-at = λ k a z z′ e e′ p q. p ∙ sym q;
       within = λ k a z z′ e e′ p q. p ∙ sym q;
       width = λ k a z z′ e e′ p q. p ∙ sym q;
       allowed = λ k a z z′ e e′ p q. p ∙ sym q;
@@ -113,8 +111,6 @@ recording =
       play = λ k a z z′ e e′ p q. p ∙ sym q;
       keep = λ k a z z′ e e′ p q. p .0 ∙ sym (q .0);
       keep-buffer = λ k a z z′ e e′ p q. p .1 ∙ sym (q .1);
-      put-line = λ k a z z′ e e′ p q. p .0 ∙ sym (q .0);
-      put-line-output = λ k a z z′ e e′ p q. p .1 ∙ sym (q .1);
       put-ending = λ k a z z′ e e′ p q. p .0 ∙ sym (q .0);
       put-ending-output = λ k a z z′ e e′ p q. p .1 ∙ sym (q .1);
     }

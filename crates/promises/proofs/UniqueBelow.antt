@@ -30,9 +30,6 @@ joiner : JoinerUnique
 joiner =
     record {
       moved = λ k a z z′ e e′ p q. p ∙ sym q;
-      sender-of = λ k a z z′ e e′ p q. p ∙ sym q;
-      judge = λ k a z z′ e e′ p q. p ∙ sym q;
-      write-piece-rooms = λ k a z z′ e e′ p q. p ∙ sym q;
     }
 
 message : MessageUnique
@@ -49,17 +46,11 @@ message =
 reactions : ReactionsUnique
 reactions =
     record {
-      look-up = λ k a z z′ e e′ p q. p ∙ sym q;
-      reaction-to = λ k a z z′ e e′ p q. p ∙ sym q;
-      length-of = λ k a z z′ e e′ p q. p ∙ sym q;
-      lay-out = λ k a z z′ e e′ p q. p ∙ sym q;
-      put-reply-out = λ k a z z′ e e′ p q. p ∙ sym q;
     }
 
 table : TableUnique
 table =
     record {
-      end = λ k a z z′ e e′ p q. p ∙ sym q;
       read = λ k a z z′ e e′ p q. p ∙ sym q;
       type-place = λ k a z z′ e e′ p q. p ∙ sym q;
       member-place = λ k a z z′ e e′ p q. p ∙ sym q;
@@ -68,8 +59,6 @@ table =
 enums : EnumsUnique
 enums =
     record {
-      values-allowed = λ k a z z′ e e′ p q. p ∙ sym q;
-      all-distinct = λ k a z z′ e e′ p q. p ∙ sym q;
     }
 
 walk : WalkUnique
@@ -99,12 +88,6 @@ same-written a b h g = ap₂ (λ (m n : ℕ). the-written m n) h g
 unpacking : UnpackingUnique
 unpacking =
     record {
-      judge-codes = λ k a z z′ e e′ p q. same-read z z′ (p .0 ∙ sym (q .0)) (p .1 ∙ sym (q .1));
-      store-codes-words = λ k a z z′ e e′ p q. p ∙ sym q;
-      judge-run = λ k a z z′ e e′ p q. p ∙ sym q;
-      store-run-words = λ k a z z′ e e′ p q. p ∙ sym q;
-      read-type = λ k a z z′ e e′ p q. p .0 ∙ sym (q .0);
-      read-type-words = λ k a z z′ e e′ p q. p .1 ∙ sym (q .1);
       whole-type = λ k a z z′ e e′ p q. p .0 ∙ sym (q .0);
       whole-type-words = λ k a z z′ e e′ p q. p .1 ∙ sym (q .1);
     }
@@ -112,11 +95,6 @@ unpacking =
 packing : PackingUnique
 packing =
     record {
-      judge-codes = λ k a z z′ e e′ p q. same-written z z′ (p .0 ∙ sym (q .0)) (p .1 ∙ sym (q .1));
-      store-codes-out = λ k a z z′ e e′ p q. p ∙ sym q;
-      store-run-out = λ k a z z′ e e′ p q. p ∙ sym q;
-      write-type = λ k a z z′ e e′ p q. p .0 ∙ sym (q .0);
-      write-type-out = λ k a z z′ e e′ p q. p .1 ∙ sym (q .1);
       whole-type = λ k a z z′ e e′ p q. p .0 ∙ sym (q .0);
       whole-type-out = λ k a z z′ e e′ p q. p .1 ∙ sym (q .1);
     }
@@ -133,14 +111,6 @@ states =
 text : TextUnique
 text =
     record {
-      put-text = λ k a z z′ e e′ p q. p .0 ∙ sym (q .0);
-      put-text-output = λ k a z z′ e e′ p q. p .1 ∙ sym (q .1);
-      put-decimal = λ k a z z′ e e′ p q. p .0 ∙ sym (q .0);
-      put-decimal-output = λ k a z z′ e e′ p q. p .1 ∙ sym (q .1);
-      put-number = λ k a z z′ e e′ p q. p .0 ∙ sym (q .0);
-      put-number-output = λ k a z z′ e e′ p q. p .1 ∙ sym (q .1);
-      put-hex = λ k a z z′ e e′ p q. p .0 ∙ sym (q .0);
-      put-hex-output = λ k a z z′ e e′ p q. p .1 ∙ sym (q .1);
     }
 
 lent : LentUnique
@@ -214,16 +184,11 @@ lent-states =
       fresh-platform = λ k a z z′ e e′ p q. p .1 ∙ sym (q .1);
       is-up = λ k a z z′ e e′ p q. p ∙ sym q;
       how-many-up = λ k a z z′ e e′ p q. p ∙ sym q;
-      standing-in = λ k a z z′ e e′ p q. p ∙ sym q;
-      put-standing-words = λ k a z z′ e e′ p q. p ∙ sym q;
     }
 
 lent-heard : LentHeardUnique
 lent-heard =
     record {
-      tell = λ k a z z′ e e′ p q. p .0 ∙ sym (q .0);
-      tell-platform = λ k a z z′ e e′ p q. p .1 .0 ∙ sym (q .1 .0);
-      tell-heard = λ k a z z′ e e′ p q. p .1 .1 ∙ sym (q .1 .1);
     }
 
 lent-platform : LentPlatformUnique

@@ -26,7 +26,6 @@ use Rattle.wire.proofs.put_run.Reads.{Post as wire-put-run}
 use Rattle.wire.proofs.part.Reads.{Post as wire-part}
 use Rattle.wire.proofs.has_room.Reads.{Post as wire-has-room}
 use Rattle.message.proofs.Header.new.Reads.{Post as message-Header-new}
-use Rattle.message.proofs.Header.of_bytes.Reads.{Post as message-Header-of-bytes}
 use Rattle.message.proofs.read.Reads.{Post as reader-read}
 use Rattle.message.proofs.payload.Reads.{Post as reader-payload}
 use Rattle.message.proofs.write.Reads.{Post as writer-write}
@@ -43,7 +42,6 @@ use Rattle.table.proofs.entries.is_type.Reads.{Post as table-entries-is-type}
 use Rattle.table.proofs.entries.member_at.Reads.{Post as table-entries-member-at}
 use Rattle.table.proofs.entries.value_at.Reads.{Post as table-entries-value-at}
 use Rattle.table.proofs.entries.operation_at.Reads.{Post as table-entries-operation-at}
-use Rattle.table.proofs.entries.id_at.Reads.{Post as table-entries-id-at}
 use Rattle.table.proofs.within.Reads.{Post as sections-within}
 use Rattle.leaf.proofs.width.Reads.{Post as codes-width}
 use Rattle.leaf.proofs.allowed.Reads.{Post as codes-allowed}
@@ -65,7 +63,6 @@ use Rattle.recording.proofs.open.Reads.{Post as opening-open}
 use Rattle.recording.proofs.next.Reads.{Post as recording-next}
 use Rattle.recording.proofs.play.Reads.{Post as recording-play}
 use Rattle.recording.proofs.keep.Reads.{Post as blocks-keep}
-use Rattle.recording.proofs.put_line.Reads.{Post as lines-put-line}
 use Rattle.recording.proofs.put_ending.Reads.{Post as lines-put-ending}
 use Rattle.recording.specs.Play.{stateOf}
 use Rattle.table.proofs.find.Reads.{Post as lookup-find}
@@ -99,7 +96,6 @@ pub record WireUnique : Type 0 where
 
 pub record MessageUnique : Type 0 where
   pub new : Answer message-Header-new
-  pub of-bytes : Answer message-Header-of-bytes
   pub read : Answer reader-read
   pub payload : Same reader-payload (λ k z e. now z)
   pub write : Answer writer-write
@@ -125,7 +121,6 @@ pub record TypesUnique : Type 0 where
   pub member-at : Answer table-entries-member-at
   pub value-at : Answer table-entries-value-at
   pub operation-at : Answer table-entries-operation-at
-  pub id-at : Answer table-entries-id-at
   pub within : Answer sections-within
   pub width : Answer codes-width
   pub allowed : Answer codes-allowed
@@ -166,8 +161,6 @@ pub record RecordingUnique : Type 0 where
   pub play : Same recording-play (λ k z e. stateOf z (now (e .1 .0)) (now (e .1 .1 .1 .0)))
   pub keep : Answer blocks-keep
   pub keep-buffer : Lent blocks-keep (λ k e. now (e .0))
-  pub put-line : Answer lines-put-line
-  pub put-line-output : Lent lines-put-line (λ k e. now (e .0))
   pub put-ending : Answer lines-put-ending
   pub put-ending-output : Lent lines-put-ending (λ k e. now (e .0))
 

@@ -13,24 +13,13 @@ use Rattle.leaf.proofs.signed32.Reads.{Post as leaves-signed32}
 use Rattle.channel.proofs.room_start.Reads.{Post as channels-room-start}
 use Rattle.channel.proofs.has_good_sizes.Reads.{Post as channels-has-good-sizes}
 use Rattle.channel.proofs.moved.Reads.{Post as joiner-moved}
-use Rattle.joiner.proofs.sender_of.Reads.{Post as taking-sender-of}
-use Rattle.joiner.proofs.judge.Reads.{Post as taking-judge}
-use Rattle.joiner.proofs.write_piece.Reads.{Post as taking-write-piece}
 use Rattle.message.proofs.read_refusal.Reads.{Post as message-read-refusal}
 use Rattle.message.proofs.frame_refusal.Reads.{Post as message-frame-refusal}
 use Rattle.message.proofs.address_refusal.Reads.{Post as message-address-refusal}
 use Rattle.message.proofs.contents_refusal.Reads.{Post as message-contents-refusal}
 use Rattle.message.proofs.behind_header.Reads.{Post as message-behind-header}
 use Rattle.message.proofs.put_header.Reads.{Post as writer-put-header}
-use Rattle.platform.proofs.look_up.Reads.{Post as reactions-look-up}
-use Rattle.platform.proofs.reaction_to.Reads.{Post as reactions-reaction-to}
-use Rattle.platform.proofs.length_of.Reads.{Post as reactions-length-of}
-use Rattle.platform.proofs.lay.Reads.{Post as reactions-lay}
-use Rattle.platform.proofs.put_reply.Reads.{Post as reactions-put-reply}
-use Rattle.table.proofs.layout.end.Reads.{Post as table-layout-end}
 use Rattle.table.proofs.read.Reads.{Post as sections-read}
-use Rattle.types.proofs.values_allowed.Reads.{Post as enums-values-allowed}
-use Rattle.types.proofs.all_distinct.Reads.{Post as enums-all-distinct}
 use Rattle.table.proofs.layout.type_place.Reads.{Post as table-layout-type-place}
 use Rattle.table.proofs.layout.member_place.Reads.{Post as table-layout-member-place}
 use Rattle.walk.proofs.meet.Reads.{Post as walk-meet}
@@ -38,25 +27,12 @@ use Rattle.walk.proofs.look.Reads.{Post as walk-look}
 use Rattle.walk.proofs.base_at.Reads.{Post as walk-base-at}
 use Rattle.walk.proofs.fits.Reads.{Post as walk-fits}
 use Rattle.walk.proofs.runs.base_codes.Reads.{Post as walk-runs-base-codes}
-use Rattle.unpack.proofs.judge_codes.Reads.{Post as unpacking-leaves-judge-codes}
-use Rattle.unpack.proofs.store_codes.Reads.{Post as unpacking-leaves-store-codes}
-use Rattle.unpack.proofs.runs.judge_run.Reads.{Post as unpacking-leaves-judge-run}
-use Rattle.unpack.proofs.runs.store_run.Reads.{Post as unpacking-leaves-store-run}
-use Rattle.unpack.proofs.read_once.Reads.{Post as unpacking-read-type}
 use Rattle.unpack.proofs.read_type.Reads.{Post as whole-unpacking-read-type}
-use Rattle.pack.proofs.judge_codes.Reads.{Post as packing-leaves-judge-codes}
-use Rattle.pack.proofs.store_codes.Reads.{Post as packing-leaves-store-codes}
-use Rattle.pack.proofs.runs.store_run.Reads.{Post as packing-leaves-store-run}
-use Rattle.pack.proofs.write_once.Reads.{Post as packing-write-type}
 use Rattle.pack.proofs.write_type.Reads.{Post as whole-packing-write-type}
 use Rattle.states.proofs.fresh.Reads.{Post as states-fresh}
 use Rattle.states.proofs.is_up.Reads.{Post as states-is-up}
 use Rattle.states.proofs.how_many_up.Reads.{Post as states-how-many-up}
 use Rattle.states.proofs.turned.Reads.{Post as states-turned}
-use Rattle.recording.proofs.put_text.Reads.{Post as text-put-text}
-use Rattle.recording.proofs.put_decimal.Reads.{Post as text-put-decimal}
-use Rattle.recording.proofs.put_number.Reads.{Post as text-put-number}
-use Rattle.recording.proofs.put_hex.Reads.{Post as text-put-hex}
 use Rattle.wire.proofs.word_at.Reads.{Post as lent-u64-at}
 use Rattle.joiner.proofs.words.setup.Reads.{Post as lent-joiner-setup}
 use Rattle.joiner.proofs.words.take.Reads.{Post as lent-joiner-take}
@@ -74,9 +50,6 @@ use Rattle.nyrkovash.proofs.nyr_pack_in.Reads.{Post as lent-payloads-pack-in}
 use Rattle.platform_words.proofs.fresh.Reads.{Post as lent-states-fresh}
 use Rattle.platform_words.proofs.is_up.Reads.{Post as lent-states-is-up}
 use Rattle.platform_words.proofs.how_many_up.Reads.{Post as lent-states-how-many-up}
-use Rattle.platform_words.proofs.standing_in.Reads.{Post as lent-states-standing-in}
-use Rattle.platform_words.proofs.put_standing.Reads.{Post as lent-states-put-standing}
-use Rattle.platform_words.proofs.tell.Reads.{Post as lent-heard-tell}
 use Rattle.platform_words.proofs.receive.Reads.{Post as lent-platform-receive}
 use Rattle.platform_words.proofs.receive_in.Reads.{Post as lent-receiving-receive-in}
 
@@ -97,9 +70,6 @@ pub record ChannelsUnique : Type 0 where
 
 pub record JoinerUnique : Type 0 where
   pub moved : Answer joiner-moved
-  pub sender-of : Answer taking-sender-of
-  pub judge : Answer taking-judge
-  pub write-piece-rooms : Lent taking-write-piece (λ k e. now (e .0))
 
 pub record MessageUnique : Type 0 where
   pub read-refusal : Answer message-read-refusal
@@ -110,21 +80,13 @@ pub record MessageUnique : Type 0 where
   pub put-header-out : Lent writer-put-header (λ k e. now (e .0))
 
 pub record ReactionsUnique : Type 0 where
-  pub look-up : Answer reactions-look-up
-  pub reaction-to : Answer reactions-reaction-to
-  pub length-of : Answer reactions-length-of
-  pub lay-out : Lent reactions-lay (λ k e. now (e .1 .1 .0))
-  pub put-reply-out : Lent reactions-put-reply (λ k e. now (e .1 .1 .0))
 
 pub record TableUnique : Type 0 where
-  pub end : Answer table-layout-end
   pub read : Answer sections-read
   pub type-place : Answer table-layout-type-place
   pub member-place : Answer table-layout-member-place
 
 pub record EnumsUnique : Type 0 where
-  pub values-allowed : Answer enums-values-allowed
-  pub all-distinct : Answer enums-all-distinct
 
 pub record WalkUnique : Type 0 where
   pub meet : Answer walk-meet
@@ -135,21 +97,10 @@ pub record WalkUnique : Type 0 where
   pub base-codes-codes : Lent walk-runs-base-codes (λ k e. now (e .1 .1 .1 .1 .1 .0))
 
 pub record UnpackingUnique : Type 0 where
-  pub judge-codes : Answer unpacking-leaves-judge-codes
-  pub store-codes-words : Lent unpacking-leaves-store-codes (λ k e. now (e .1 .0))
-  pub judge-run : Answer unpacking-leaves-judge-run
-  pub store-run-words : Lent unpacking-leaves-store-run (λ k e. now (e .1 .0))
-  pub read-type : Answer unpacking-read-type
-  pub read-type-words : Lent unpacking-read-type (λ k e. now (e .1 .1 .1 .1 .0))
   pub whole-type : Answer whole-unpacking-read-type
   pub whole-type-words : Lent whole-unpacking-read-type (λ k e. now (e .1 .1 .1 .1 .0))
 
 pub record PackingUnique : Type 0 where
-  pub judge-codes : Answer packing-leaves-judge-codes
-  pub store-codes-out : Lent packing-leaves-store-codes (λ k e. now (e .1 .0))
-  pub store-run-out : Lent packing-leaves-store-run (λ k e. now (e .1 .0))
-  pub write-type : Answer packing-write-type
-  pub write-type-out : Lent packing-write-type (λ k e. now (e .1 .1 .1 .1 .0))
   pub whole-type : Answer whole-packing-write-type
   pub whole-type-out : Lent whole-packing-write-type (λ k e. now (e .1 .1 .1 .1 .0))
 
@@ -160,14 +111,6 @@ pub record StatesUnique : Type 0 where
   pub turned : Answer states-turned
 
 pub record TextUnique : Type 0 where
-  pub put-text : Answer text-put-text
-  pub put-text-output : Lent text-put-text (λ k e. now (e .0))
-  pub put-decimal : Answer text-put-decimal
-  pub put-decimal-output : Lent text-put-decimal (λ k e. now (e .0))
-  pub put-number : Answer text-put-number
-  pub put-number-output : Lent text-put-number (λ k e. now (e .0))
-  pub put-hex : Answer text-put-hex
-  pub put-hex-output : Lent text-put-hex (λ k e. now (e .0))
 
 pub record LentUnique : Type 0 where
   pub u64-at : Answer lent-u64-at
@@ -220,13 +163,8 @@ pub record LentStatesUnique : Type 0 where
   pub fresh-platform : Lent lent-states-fresh (λ k e. now (e .1 .0))
   pub is-up : Answer lent-states-is-up
   pub how-many-up : Answer lent-states-how-many-up
-  pub standing-in : Answer lent-states-standing-in
-  pub put-standing-words : Lent lent-states-put-standing (λ k e. now (e .0))
 
 pub record LentHeardUnique : Type 0 where
-  pub tell : Answer lent-heard-tell
-  pub tell-platform : Lent lent-heard-tell (λ k e. now (e .1 .0))
-  pub tell-heard : Lent lent-heard-tell (λ k e. now (e .1 .1 .0))
 
 pub record LentPlatformUnique : Type 0 where
   pub receive : Answer lent-platform-receive

@@ -22,7 +22,7 @@ pub enum Ending {
 pub const LINE_LIMIT: usize = 73;
 
 // Writes the line of the datagram with this number at `at`, where it fits, and answers where the next one goes.
-pub fn put_line(output: &mut [u8], at: usize, number: u64, outcome: Outcome) -> usize
+pub(crate) fn put_line(output: &mut [u8], at: usize, number: u64, outcome: Outcome) -> usize
     ensures { λ r. ⌜ r ≡ behind (length (now (output .entry))) at (lineOf number outcome) ⌝ }
     ensures { λ _. ⌜ now (output .exit) ≡ written (now (output .entry)) at (lineOf number outcome) ⌝ }
 {

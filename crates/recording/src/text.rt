@@ -16,7 +16,7 @@ const DIGITS: usize = 20;
 // And a space before them.
 const FIELD: usize = DIGITS + 1;
 
-pub fn put_text(output: &mut [u8], at: usize, text: &[u8]) -> usize
+pub(crate) fn put_text(output: &mut [u8], at: usize, text: &[u8]) -> usize
     ensures { λ r. ⌜ r ≡ behind (length (now (output .entry))) at (now (text .entry)) ⌝ }
     ensures { λ _. ⌜ now (output .exit) ≡ written (now (output .entry)) at (now (text .entry)) ⌝ }
 {
@@ -28,7 +28,7 @@ pub fn put_text(output: &mut [u8], at: usize, text: &[u8]) -> usize
     }
 }
 
-pub fn put_decimal(output: &mut [u8], at: usize, n: u64) -> usize
+pub(crate) fn put_decimal(output: &mut [u8], at: usize, n: u64) -> usize
     ensures { λ r. ⌜ r ≡ behind (length (now (output .entry))) at (decimal n) ⌝ }
     ensures { λ _. ⌜ now (output .exit) ≡ written (now (output .entry)) at (decimal n) ⌝ }
 {
@@ -40,7 +40,7 @@ pub fn put_decimal(output: &mut [u8], at: usize, n: u64) -> usize
 }
 
 // A number behind a space.
-pub fn put_number(output: &mut [u8], at: usize, n: u64) -> usize
+pub(crate) fn put_number(output: &mut [u8], at: usize, n: u64) -> usize
     ensures { λ r. ⌜ r ≡ behind (length (now (output .entry))) at (spaced (decimal n)) ⌝ }
     ensures { λ _. ⌜ now (output .exit) ≡ written (now (output .entry)) at (spaced (decimal n)) ⌝ }
 {
@@ -52,7 +52,7 @@ pub fn put_number(output: &mut [u8], at: usize, n: u64) -> usize
 }
 
 // The bytes in lower-case hexadecimal digits, and `-` where there are none.
-pub fn put_hex(output: &mut [u8], at: usize, bytes: &[u8]) -> usize
+pub(crate) fn put_hex(output: &mut [u8], at: usize, bytes: &[u8]) -> usize
     ensures { λ r. ⌜ r ≡ behind (length (now (output .entry))) at (hex (now (bytes .entry))) ⌝ }
     ensures { λ _. ⌜ now (output .exit) ≡ written (now (output .entry)) at (hex (now (bytes .entry))) ⌝ }
 {

@@ -52,7 +52,7 @@ pub fn operation_at(table: &[u8], s: Sections, i: u16) -> Operation
 }
 
 // The ID of an operation alone.
-pub fn id_at(table: &[u8], s: Sections, i: u16) -> u32
+pub(crate) fn id_at(table: &[u8], s: Sections, i: u16) -> u32
     ensures { λ r. ⌜ r ≡ idAt (now (table .entry)) s i ⌝ }
 {
     wire::u32_at(table, layout::operation_place(s, i as u32))

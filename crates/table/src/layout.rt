@@ -14,7 +14,7 @@ pub const VALUE_WIDTH: u16 = 8;
 pub const OPERATION_WIDTH: u16 = 8;
 
 // A section ends where the entry behind its last would stand.
-pub fn end(s: Section, width: u16) -> usize
+pub(crate) fn end(s: Section, width: u16) -> usize
     ensures { λ r. ⌜ r ≡ sectionEnd width s ⌝ }
 {
     place(s, width, s.count as u32)

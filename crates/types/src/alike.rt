@@ -13,7 +13,7 @@ ghost use Rattle.types.specs.Alike.{lastAlike, Alikes, unlikeIn, enumApa
 const MOST_VALUES: u16 = 1024;
 
 // Whether the values of each enum lie in their section, which is no longer than it may be, and are distinct.
-pub fn all_distinct(table: &[u8], s: Sections) -> bool
+pub(crate) fn all_distinct(table: &[u8], s: Sections) -> bool
     ensures { λ r. ⌜ r ≡ allApart (now (table .entry)) s ⌝ }
 {
     if s.values.count <= MOST_VALUES {

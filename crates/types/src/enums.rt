@@ -8,7 +8,7 @@ ghost use Rattle.table.specs.All.{allBelow};
 ghost use Rattle.types.specs.Values.{valueOf, valueOk};
 
 // Each value of an enum is allowed in its base.
-pub fn values_allowed(table: &[u8], s: Sections, e: Entry) -> bool
+pub(crate) fn values_allowed(table: &[u8], s: Sections, e: Entry) -> bool
     ensures { λ r. ⌜ r ≡ allBelow (valueOk (now (table .entry)) s e) (e .count) ⌝ }
 {
     let count = e.count;

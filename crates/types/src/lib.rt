@@ -9,8 +9,6 @@ mod rules;
 pub mod sizes;
 mod values;
 
-pub use alike::all_distinct;
-pub use enums::values_allowed;
 use table::Checked;
 use table::Sections;
 ghost use mathlib.Core.Path.{_≡_};

@@ -15,7 +15,7 @@ pub struct Part {
 }
 
 // Judges leaves of these codes from a byte on, up to one that is not there or not allowed.
-pub fn judge_codes(payload: &[u8], codes: &[u8], first: usize) -> Part
+pub(crate) fn judge_codes(payload: &[u8], codes: &[u8], first: usize) -> Part
     ensures { λ r. ⌜ r .count ≡ thereCount (now (payload .entry)) (now (codes .entry)) first ⌝ }
     ensures { λ r. ⌜ r .from ≡ ends (take (thereCount (now (payload .entry)) (now (codes .entry)) first) (now (codes .entry))) first ⌝ }
 {
@@ -49,7 +49,7 @@ fn judge_within(payload: &[u8], codes: &[u8], first: usize) -> Part
 }
 
 // Stores the words of leaves of these codes, each where there is room for it, up to one whose bytes are not all there.
-pub fn store_codes(payload: &[u8], words: &mut [u64], codes: &[u8], p: Place)
+pub(crate) fn store_codes(payload: &[u8], words: &mut [u64], codes: &[u8], p: Place)
     ensures { λ _. ⌜ now (words .exit) ≡ laid (now (payload .entry)) (take (wholeCount (now (payload .entry)) (now (codes .entry)) (p .from)) (now (codes .entry))) p (now (words .entry)) ⌝ }
 {
     if payload.len() < p.from {

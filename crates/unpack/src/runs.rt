@@ -13,7 +13,7 @@ ghost use Rattle.table.specs.Leaf.{width, allowed};
 ghost use Rattle.unpack.specs.OneCode.{isGood, filled, runThere};
 
 // Whether so many leaves of one code are all there and allowed.
-pub fn judge_run(payload: &[u8], from: usize, code: u16, count: u32) -> bool
+pub(crate) fn judge_run(payload: &[u8], from: usize, code: u16, count: u32) -> bool
     ensures { λ r. ⌜ r ≡ runThere (now (payload .entry)) code from count ⌝ }
 {
     match code {
@@ -71,7 +71,7 @@ fn refused(code: u16, word: u64) -> u32
 }
 
 // Stores the words of so many leaves of one code where all their bytes are there, each word where there is room for it.
-pub fn store_run(payload: &[u8], words: &mut [u64], code: u16, count: u32, p: Place)
+pub(crate) fn store_run(payload: &[u8], words: &mut [u64], code: u16, count: u32, p: Place)
     ensures { λ _. ⌜ now (words .exit) ≡ cond (leb (p .from + count * width code) (length (now (payload .entry)))) (filled (now (payload .entry)) code p count (now (words .entry))) (now (words .entry)) ⌝ }
 {
     match code {

@@ -33,7 +33,13 @@ struct Run {
 }
 
 // Unpacks a payload as type i, and stores each word where there is room for it.
-pub fn read_once(table: &[u8], s: Sections, i: u16, payload: &[u8], words: &mut [u64]) -> Walked
+pub(crate) fn read_once(
+    table: &[u8],
+    s: Sections,
+    i: u16,
+    payload: &[u8],
+    words: &mut [u64],
+) -> Walked
     ensures { λ r. ⌜ r ≡ answer (typeWalk (reader (now (payload .entry))) (now (table .entry)) s i start (now (words .entry))) ⌝ }
     ensures { λ _. ⌜ now (words .exit) ≡ left (typeWalk (reader (now (payload .entry))) (now (table .entry)) s i start (now (words .entry))) ⌝ }
 {
