@@ -4,7 +4,6 @@ pub mod Playing
 pub mod Whole
 pub mod Decimals
 pub mod Putting
-mod Hexes
 pub mod LineLaws
 pub mod StartMore
 pub mod Starting

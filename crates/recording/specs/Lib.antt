@@ -2,7 +2,6 @@ pub mod Datagrams
 pub mod Play
 pub mod Whole
 pub mod Decimal
-pub mod Hex
 pub mod Places
 pub mod Line
 pub mod Words

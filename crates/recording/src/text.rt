@@ -2,12 +2,10 @@
 // the answer is where the next one goes.
 ghost use mathlib.Core.Path.{_≡_};
 ghost use mathlib.Core.List.{_++_};
-ghost use Prim.Native.Nat.{_+_, _*_, _≤_, _<_};
+ghost use Prim.Native.Nat.{_+_, _≤_};
 ghost use lib.ListN.{length, drop};
-ghost use lib.Dec.{leb};
-ghost use Rattle.wire.specs.Bytes.{over, written};
+ghost use Rattle.wire.specs.Bytes.{written};
 ghost use Rattle.recording.specs.Decimal.{digitLimit, decimal};
-ghost use Rattle.recording.specs.Hex.{sign, pair, pairs, hex};
 ghost use Rattle.recording.specs.Places.{fieldLimit, behind, spaced};
 
 // Every number of 64 bits has so many digits or fewer.
@@ -49,63 +47,6 @@ pub(crate) fn put_number(output: &mut [u8], at: usize, n: u64) -> usize
     let start = field_before(digits, FIELD, n);
     let made = &digits[..];
     put_text(output, at, &made[start..])
-}
-
-// The bytes in lower-case hexadecimal digits, and `-` where there are none.
-pub(crate) fn put_hex(output: &mut [u8], at: usize, bytes: &[u8]) -> usize
-    ensures { λ r. ⌜ r ≡ behind (length (now (output .entry))) at (hex (now (bytes .entry))) ⌝ }
-    ensures { λ _. ⌜ now (output .exit) ≡ written (now (output .entry)) at (hex (now (bytes .entry))) ⌝ }
-{
-    if bytes.len() == 0 {
-        return put_text(output, at, b"-");
-    }
-    if has_pairs(output.len(), at, bytes.len()) {
-        put_pairs(output, at, bytes);
-        at + 2 * bytes.len()
-    } else {
-        at
-    }
-}
-
-// Whether two bytes for each of `count` lie within `len` from `at` on.
-fn has_pairs(len: usize, at: usize, count: usize) -> bool
-    ensures { λ r. ⌜ r ≡ leb (at + 2 * count) len ⌝ }
-{
-    if at <= len {
-        count <= (len - at) / 2
-    } else {
-        false
-    }
-}
-
-fn put_pairs(output: &mut [u8], at: usize, bytes: &[u8])
-    requires { ⌜ at + 2 * length (now bytes) ≤ length (now output) ⌝ }
-    ensures { λ _. ⌜ now (output .exit) ≡ over (now (output .entry)) at (pairs (now (bytes .entry))) ⌝ }
-{
-    let mut i = 0;
-    while i < bytes.len() {
-        put_pair(output, at + 2 * i, bytes[i]);
-        i += 1;
-    }
-}
-
-fn put_pair(output: &mut [u8], at: usize, byte: u8)
-    requires { ⌜ at + 1 < length (now output) ⌝ }
-    ensures { λ _. ⌜ now (output .exit) ≡ over (now (output .entry)) at (pair byte) ⌝ }
-{
-    output[at] = sign(byte / 16);
-    output[at + 1] = sign(byte % 16);
-}
-
-fn sign(digit: u8) -> u8
-    requires { ⌜ digit < 16 ⌝ }
-    ensures { λ r. ⌜ r ≡ sign digit ⌝ }
-{
-    if digit < 10 {
-        b'0' + digit
-    } else {
-        b'a' - 10 + digit
-    }
 }
 
 // The number's digits before what stands from `end` on, the last one first.
