@@ -6,8 +6,32 @@ ghost use Prim.Native.Nat.{_+_, _/_, _<_};
 ghost use Rattle.table.specs.Leaf.{width, allowed};
 ghost use Rattle.leaf.specs.Limits.{last, isSigned, inRange};
 
-// float32 and, behind it, double64: the codes before it are integers.
-const FLOAT32: u16 = 11;
+// 01, "Base codes".
+pub const BOOLEAN8: u16 = 0;
+
+pub const INT8: u16 = 1;
+
+pub const CHAR8: u16 = 2;
+
+pub const INT16: u16 = 3;
+
+pub const INT32: u16 = 4;
+
+pub const INT64: u16 = 5;
+
+pub const UINT8: u16 = 6;
+
+pub const BYTE: u16 = 7;
+
+pub const UINT16: u16 = 8;
+
+pub const UINT32: u16 = 9;
+
+pub const UINT64: u16 = 10;
+
+pub const FLOAT32: u16 = 11;
+
+pub const DOUBLE64: u16 = 12;
 
 // The last of as many values as an integer of so many bits has, counted from 0; a boolean has two.
 const LAST_BOOLEAN: u64 = 1;
@@ -26,19 +50,19 @@ pub fn width(code: u16) -> usize
     ensures { λ r. ⌜ r ≡ width code ⌝ }
 {
     match code {
-        0 => 1,
-        1 => 1,
-        2 => 1,
-        3 => 2,
-        4 => 4,
-        5 => 8,
-        6 => 1,
-        7 => 1,
-        8 => 2,
-        9 => 4,
-        10 => 8,
-        11 => 4,
-        12 => 8,
+        BOOLEAN8 => 1,
+        INT8 => 1,
+        CHAR8 => 1,
+        INT16 => 2,
+        INT32 => 4,
+        INT64 => 8,
+        UINT8 => 1,
+        BYTE => 1,
+        UINT16 => 2,
+        UINT32 => 4,
+        UINT64 => 8,
+        FLOAT32 => 4,
+        DOUBLE64 => 8,
         _ => 0,
     }
 }
@@ -48,12 +72,13 @@ pub fn width(code: u16) -> usize
 pub fn allowed(code: u16, word: u64) -> bool
     ensures { λ r. ⌜ r ≡ allowed code word ⌝ }
 {
+    // The codes before the floats are integers.
     if code < FLOAT32 {
         return in_range(code, word);
     }
     match code {
-        11 => (word < 4294967296) & (word / 8388608 % 256 != 255),
-        12 => word / 4503599627370496 % 2048 != 2047,
+        FLOAT32 => (word < 4294967296) & (word / 8388608 % 256 != 255),
+        DOUBLE64 => word / 4503599627370496 % 2048 != 2047,
         _ => false,
     }
 }
@@ -84,17 +109,17 @@ fn last(code: u16) -> u64
     ensures { λ r. ⌜ r ≡ last code ⌝ }
 {
     match code {
-        0 => LAST_BOOLEAN,
-        1 => LAST_OF_8,
-        2 => LAST_OF_8,
-        3 => LAST_OF_16,
-        4 => LAST_OF_32,
-        5 => LAST_OF_64,
-        6 => LAST_OF_8,
-        7 => LAST_OF_8,
-        8 => LAST_OF_16,
-        9 => LAST_OF_32,
-        10 => LAST_OF_64,
+        BOOLEAN8 => LAST_BOOLEAN,
+        INT8 => LAST_OF_8,
+        CHAR8 => LAST_OF_8,
+        INT16 => LAST_OF_16,
+        INT32 => LAST_OF_32,
+        INT64 => LAST_OF_64,
+        UINT8 => LAST_OF_8,
+        BYTE => LAST_OF_8,
+        UINT16 => LAST_OF_16,
+        UINT32 => LAST_OF_32,
+        UINT64 => LAST_OF_64,
         _ => LAST_OF_NONE,
     }
 }

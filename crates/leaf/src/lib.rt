@@ -2,6 +2,19 @@
 mod codes;
 mod words;
 
+pub use codes::BOOLEAN8;
+pub use codes::BYTE;
+pub use codes::CHAR8;
+pub use codes::DOUBLE64;
+pub use codes::FLOAT32;
+pub use codes::INT8;
+pub use codes::INT16;
+pub use codes::INT32;
+pub use codes::INT64;
+pub use codes::UINT8;
+pub use codes::UINT16;
+pub use codes::UINT32;
+pub use codes::UINT64;
 pub use codes::allowed;
 pub use codes::width;
 pub use words::put;

@@ -18,19 +18,19 @@ pub fn word_at(s: &[u8], at: usize, code: u16) -> u64
     ensures { λ r. ⌜ r ≡ wordAt code (now (s .entry)) at ⌝ }
 {
     match code {
-        0 => truth(wire::u8_at(s, at)),
-        1 => signed8(wire::u8_at(s, at)),
-        2 => wire::u8_at(s, at) as u64,
-        3 => signed16(wire::u16_at(s, at)),
-        4 => signed32(wire::u32_at(s, at)),
-        5 => wire::u64_at(s, at),
-        6 => wire::u8_at(s, at) as u64,
-        7 => wire::u8_at(s, at) as u64,
-        8 => wire::u16_at(s, at) as u64,
-        9 => wire::u32_at(s, at) as u64,
-        10 => wire::u64_at(s, at),
-        11 => wire::u32_at(s, at) as u64,
-        12 => wire::u64_at(s, at),
+        codes::BOOLEAN8 => truth(wire::u8_at(s, at)),
+        codes::INT8 => signed8(wire::u8_at(s, at)),
+        codes::CHAR8 => wire::u8_at(s, at) as u64,
+        codes::INT16 => signed16(wire::u16_at(s, at)),
+        codes::INT32 => signed32(wire::u32_at(s, at)),
+        codes::INT64 => wire::u64_at(s, at),
+        codes::UINT8 => wire::u8_at(s, at) as u64,
+        codes::BYTE => wire::u8_at(s, at) as u64,
+        codes::UINT16 => wire::u16_at(s, at) as u64,
+        codes::UINT32 => wire::u32_at(s, at) as u64,
+        codes::UINT64 => wire::u64_at(s, at),
+        codes::FLOAT32 => wire::u32_at(s, at) as u64,
+        codes::DOUBLE64 => wire::u64_at(s, at),
         _ => 0,
     }
 }

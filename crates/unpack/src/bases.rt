@@ -30,19 +30,19 @@ pub(crate) fn word_in(s: &[u8], at: usize, code: u16) -> u64
     ensures { λ r. ⌜ r ≡ wordAt code (now (s .entry)) at ⌝ }
 {
     match code {
-        0 => leaf::truth(u8_in(s, at)),
-        1 => leaf::signed8(u8_in(s, at)),
-        2 => u8_in(s, at) as u64,
-        3 => leaf::signed16(u16_in(s, at)),
-        4 => leaf::signed32(u32_in(s, at)),
-        5 => u64_in(s, at),
-        6 => u8_in(s, at) as u64,
-        7 => u8_in(s, at) as u64,
-        8 => u16_in(s, at) as u64,
-        9 => u32_in(s, at) as u64,
-        10 => u64_in(s, at),
-        11 => u32_in(s, at) as u64,
-        12 => u64_in(s, at),
+        leaf::BOOLEAN8 => leaf::truth(u8_in(s, at)),
+        leaf::INT8 => leaf::signed8(u8_in(s, at)),
+        leaf::CHAR8 => u8_in(s, at) as u64,
+        leaf::INT16 => leaf::signed16(u16_in(s, at)),
+        leaf::INT32 => leaf::signed32(u32_in(s, at)),
+        leaf::INT64 => u64_in(s, at),
+        leaf::UINT8 => u8_in(s, at) as u64,
+        leaf::BYTE => u8_in(s, at) as u64,
+        leaf::UINT16 => u16_in(s, at) as u64,
+        leaf::UINT32 => u32_in(s, at) as u64,
+        leaf::UINT64 => u64_in(s, at),
+        leaf::FLOAT32 => u32_in(s, at) as u64,
+        leaf::DOUBLE64 => u64_in(s, at),
         _ => 0,
     }
 }
