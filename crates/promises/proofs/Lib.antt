@@ -26,6 +26,5 @@ pub mod NotRuledOut
 pub mod WrongTurns
 pub mod Starred
 pub mod Unique
-pub mod UniqueBelow
-pub mod Exports
+pub mod UniqueCalls
 pub mod ExportsKeep

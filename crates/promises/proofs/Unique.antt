@@ -3,7 +3,7 @@
 use mathlib.Core.Path.{_≡_, sym, _∙_}
 use Rattle.platform.proofs.Unique.{same-outcome, same-output}
 use Rattle.promises.proofs.Lookups.{accepted-find}
-use Rattle.promises.specs.Unique.{WireUnique, MessageUnique, BindingUnique, JoinerUnique, TypesUnique, LeavesUnique, PayloadUnique, PlatformUnique, RecordingUnique, OnAccepted, Unique}
+use Rattle.promises.specs.Unique.{WireUnique, MessageUnique, BindingUnique, ChannelUnique, JoinerUnique, TableUnique, LeafUnique, TypesUnique, WalkUnique, UnpackUnique, PackUnique, PayloadUnique, StatesUnique, PlatformUnique, PlatformWordsUnique, RecordingUnique, OnAccepted, Unique}
 
 wire : WireUnique
 wire =
@@ -19,6 +19,10 @@ wire =
       put-run-s = λ k a z z′ e e′ p q. p ∙ sym q;
       part = λ k a z z′ e e′ p q. p ∙ sym q;
       has-room = λ k a z z′ e e′ p q. p ∙ sym q;
+      whole-u16 = λ k a z z′ e e′ p q. p ∙ sym q;
+      whole-u32 = λ k a z z′ e e′ p q. p ∙ sym q;
+      whole-u64 = λ k a z z′ e e′ p q. p ∙ sym q;
+      word-at = λ k a z z′ e e′ p q. p ∙ sym q;
     }
 
 message : MessageUnique
@@ -29,6 +33,12 @@ message =
       payload = λ k a z z′ e e′ p q. p ∙ sym q;
       write = λ k a z z′ e e′ p q. p .0 ∙ sym (q .0);
       write-out = λ k a z z′ e e′ p q. p .1 ∙ sym (q .1);
+      read-refusal = λ k a z z′ e e′ p q. p ∙ sym q;
+      frame-refusal = λ k a z z′ e e′ p q. p ∙ sym q;
+      address-refusal = λ k a z z′ e e′ p q. p ∙ sym q;
+      contents-refusal = λ k a z z′ e e′ p q. p ∙ sym q;
+      behind-header = λ k a z z′ e e′ p q. p ∙ sym q;
+      put-header-out = λ k a z z′ e e′ p q. p ∙ sym q;
     }
 
 binding : BindingUnique
@@ -41,6 +51,14 @@ binding =
       cut-out = λ k a z z′ e e′ p q. p .1 ∙ sym (q .1);
     }
 
+channel : ChannelUnique
+channel =
+    record {
+      room-start = λ k a z z′ e e′ p q. p ∙ sym q;
+      has-good-sizes = λ k a z z′ e e′ p q. p ∙ sym q;
+      moved = λ k a z z′ e e′ p q. p ∙ sym q;
+    }
+
 joiner : JoinerUnique
 joiner =
     record {
@@ -48,31 +66,75 @@ joiner =
       take = λ k a z z′ e e′ p q. p .0 ∙ sym (q .0);
       take-rooms = λ k a z z′ e e′ p q. p .1 ∙ sym (q .1);
       message = λ k a z z′ e e′ p q. p ∙ sym q;
+      words-setup = λ k a z z′ e e′ p q. p .0 ∙ sym (q .0);
+      setup-state = λ k a z z′ e e′ p q. p .1 ∙ sym (q .1);
+      words-take = λ k a z z′ e e′ p q. p .0 ∙ sym (q .0);
+      take-state = λ k a z z′ e e′ p q. p .1 .0 ∙ sym (q .1 .0);
+      words-take-rooms = λ k a z z′ e e′ p q. p .1 .1 .0 ∙ sym (q .1 .1 .0);
+      take-answer = λ k a z z′ e e′ p q. p .1 .1 .1 ∙ sym (q .1 .1 .1);
     }
 
-types : TypesUnique
-types =
+table : TableUnique
+table =
     record {
-      check = λ k a z z′ e e′ p q. p ∙ sym q;
       type-at = λ k a z z′ e e′ p q. p ∙ sym q;
       is-type = λ k a z z′ e e′ p q. p ∙ sym q;
       member-at = λ k a z z′ e e′ p q. p ∙ sym q;
       value-at = λ k a z z′ e e′ p q. p ∙ sym q;
       operation-at = λ k a z z′ e e′ p q. p ∙ sym q;
       within = λ k a z z′ e e′ p q. p ∙ sym q;
-      width = λ k a z z′ e e′ p q. p ∙ sym q;
-      allowed = λ k a z z′ e e′ p q. p ∙ sym q;
       fields-ok = λ k a z z′ e e′ p q. p ∙ sym q;
-      largest = λ k a z z′ e e′ p q. p ∙ sym q;
       find = λ k a z z′ e e′ p q. p ∙ sym q;
+      read = λ k a z z′ e e′ p q. p ∙ sym q;
+      type-place = λ k a z z′ e e′ p q. p ∙ sym q;
+      member-place = λ k a z z′ e e′ p q. p ∙ sym q;
+      sections-in = λ k a z z′ e e′ p q. p ∙ sym q;
     }
 
-leaves : LeavesUnique
-leaves =
+leaf : LeafUnique
+leaf =
     record {
+      width = λ k a z z′ e e′ p q. p ∙ sym q;
+      allowed = λ k a z z′ e e′ p q. p ∙ sym q;
       word-at = λ k a z z′ e e′ p q. p ∙ sym q;
       put-s = λ k a z z′ e e′ p q. p ∙ sym q;
       takes = λ k a z z′ e e′ p q. p ∙ sym q;
+      truth = λ k a z z′ e e′ p q. p ∙ sym q;
+      signed8 = λ k a z z′ e e′ p q. p ∙ sym q;
+      signed16 = λ k a z z′ e e′ p q. p ∙ sym q;
+      signed32 = λ k a z z′ e e′ p q. p ∙ sym q;
+    }
+
+types : TypesUnique
+types =
+    record {
+      check = λ k a z z′ e e′ p q. p ∙ sym q;
+      largest = λ k a z z′ e e′ p q. p ∙ sym q;
+    }
+
+walk : WalkUnique
+walk =
+    record {
+      meet = λ k a z z′ e e′ p q. p ∙ sym q;
+      look = λ k a z z′ e e′ p q. p ∙ sym q;
+      base-at = λ k a z z′ e e′ p q. p ∙ sym q;
+      fits = λ k a z z′ e e′ p q. p ∙ sym q;
+      base-codes = λ k a z z′ e e′ p q. p .0 ∙ sym (q .0);
+      base-codes-codes = λ k a z z′ e e′ p q. p .1 ∙ sym (q .1);
+    }
+
+unpack : UnpackUnique
+unpack =
+    record {
+      read-type = λ k a z z′ e e′ p q. p .0 ∙ sym (q .0);
+      read-type-words = λ k a z z′ e e′ p q. p .1 ∙ sym (q .1);
+    }
+
+pack : PackUnique
+pack =
+    record {
+      write-type = λ k a z z′ e e′ p q. p .0 ∙ sym (q .0);
+      write-type-out = λ k a z z′ e e′ p q. p .1 ∙ sym (q .1);
     }
 
 payload : PayloadUnique
@@ -88,6 +150,15 @@ payload =
       pack-in-out = λ k a z z′ e e′ p q. p .1 ∙ sym (q .1);
     }
 
+states : StatesUnique
+states =
+    record {
+      fresh = λ k a z z′ e e′ p q. p ∙ sym q;
+      is-up = λ k a z z′ e e′ p q. p ∙ sym q;
+      how-many-up = λ k a z z′ e e′ p q. p ∙ sym q;
+      turned = λ k a z z′ e e′ p q. p ∙ sym q;
+    }
+
 platform : PlatformUnique
 platform =
     record {
@@ -101,6 +172,23 @@ platform =
       receive-within = λ k a z z′ e e′ p q. p .0 ∙ sym (q .0);
       receive-within-out = λ k a z z′ e e′ p q. p .1 ∙ sym (q .1);
       payload = λ k a z z′ e e′ p q. p ∙ sym q;
+    }
+
+platform-words : PlatformWordsUnique
+platform-words =
+    record {
+      fresh = λ k a z z′ e e′ p q. p .0 ∙ sym (q .0);
+      fresh-platform = λ k a z z′ e e′ p q. p .1 ∙ sym (q .1);
+      is-up = λ k a z z′ e e′ p q. p ∙ sym q;
+      how-many-up = λ k a z z′ e e′ p q. p ∙ sym q;
+      receive = λ k a z z′ e e′ p q. p .0 ∙ sym (q .0);
+      receive-platform = λ k a z z′ e e′ p q. p .1 .0 ∙ sym (q .1 .0);
+      receive-out = λ k a z z′ e e′ p q. p .1 .1 .0 ∙ sym (q .1 .1 .0);
+      receive-heard = λ k a z z′ e e′ p q. p .1 .1 .1 ∙ sym (q .1 .1 .1);
+      receive-in = λ k a z z′ e e′ p q. p .0 ∙ sym (q .0);
+      receive-in-platform = λ k a z z′ e e′ p q. p .1 .0 ∙ sym (q .1 .0);
+      receive-in-out = λ k a z z′ e e′ p q. p .1 .1 .0 ∙ sym (q .1 .1 .0);
+      receive-in-heard = λ k a z z′ e e′ p q. p .1 .1 .1 ∙ sym (q .1 .1 .1);
     }
 
 recording : RecordingUnique
@@ -129,11 +217,18 @@ unique =
       wire = wire;
       message = message;
       binding = binding;
+      channel = channel;
       joiner = joiner;
+      table = table;
+      leaf = leaf;
       types = types;
-      leaves = leaves;
+      walk = walk;
+      unpack = unpack;
+      pack = pack;
       payload = payload;
+      states = states;
       platform = platform;
+      platform-words = platform-words;
       recording = recording;
       on-accepted = on-accepted;
     }

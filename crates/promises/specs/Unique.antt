@@ -14,6 +14,7 @@ use Rattle.types.specs.Table.{checked}
 use Rattle.platform.specs.declared.reactions.Standing.{Standing}
 use Rattle.table.specs.Search.{lookedUp}
 use Rattle.platform.specs.Receiving.{receivedOf, leftOf, sectionsOutcome, sectionsOutput}
+use Rattle.recording.specs.Play.{stateOf}
 use Rattle.wire.proofs.u8_at.Reads.{Post as wire-u8-at}
 use Rattle.wire.proofs.u16_at.Reads.{Post as wire-u16-at}
 use Rattle.wire.proofs.u32_at.Reads.{Post as wire-u32-at}
@@ -25,49 +26,87 @@ use Rattle.wire.proofs.put_u64.Reads.{Post as wire-put-u64}
 use Rattle.wire.proofs.put_run.Reads.{Post as wire-put-run}
 use Rattle.wire.proofs.part.Reads.{Post as wire-part}
 use Rattle.wire.proofs.has_room.Reads.{Post as wire-has-room}
+use Rattle.wire.proofs.whole_u16.Reads.{Post as wire-whole-u16}
+use Rattle.wire.proofs.whole_u32.Reads.{Post as wire-whole-u32}
+use Rattle.wire.proofs.whole_u64.Reads.{Post as wire-whole-u64}
+use Rattle.wire.proofs.word_at.Reads.{Post as wire-word-at}
 use Rattle.message.proofs.Header.new.Reads.{Post as message-Header-new}
-use Rattle.message.proofs.read.Reads.{Post as reader-read}
-use Rattle.message.proofs.payload.Reads.{Post as reader-payload}
-use Rattle.message.proofs.write.Reads.{Post as writer-write}
+use Rattle.message.proofs.read.Reads.{Post as message-read}
+use Rattle.message.proofs.payload.Reads.{Post as message-payload}
+use Rattle.message.proofs.write.Reads.{Post as message-write}
+use Rattle.message.proofs.read_refusal.Reads.{Post as message-read-refusal}
+use Rattle.message.proofs.frame_refusal.Reads.{Post as message-frame-refusal}
+use Rattle.message.proofs.address_refusal.Reads.{Post as message-address-refusal}
+use Rattle.message.proofs.contents_refusal.Reads.{Post as message-contents-refusal}
+use Rattle.message.proofs.behind_header.Reads.{Post as message-behind-header}
+use Rattle.message.proofs.put_header.Reads.{Post as message-put-header}
 use Rattle.binding.proofs.BindingHeader.new.Reads.{Post as binding-BindingHeader-new}
 use Rattle.binding.proofs.BindingHeader.read.Reads.{Post as binding-BindingHeader-read}
-use Rattle.binding.proofs.pieces.Reads.{Post as cutter-pieces}
-use Rattle.binding.proofs.cut.Reads.{Post as cutter-cut}
-use Rattle.joiner.proofs.setup.Reads.{Post as setups-setup}
-use Rattle.joiner.proofs.take.Reads.{Post as taking-take}
-use Rattle.joiner.proofs.message.Reads.{Post as taking-message}
-use Rattle.types.proofs.check.Reads.{Post as types-check}
+use Rattle.binding.proofs.pieces.Reads.{Post as binding-pieces}
+use Rattle.binding.proofs.cut.Reads.{Post as binding-cut}
+use Rattle.channel.proofs.room_start.Reads.{Post as channel-room-start}
+use Rattle.channel.proofs.has_good_sizes.Reads.{Post as channel-has-good-sizes}
+use Rattle.channel.proofs.moved.Reads.{Post as channel-moved}
+use Rattle.joiner.proofs.setup.Reads.{Post as joiner-setup}
+use Rattle.joiner.proofs.take.Reads.{Post as joiner-take}
+use Rattle.joiner.proofs.message.Reads.{Post as joiner-message}
+use Rattle.joiner.proofs.words.setup.Reads.{Post as joiner-words-setup}
+use Rattle.joiner.proofs.words.take.Reads.{Post as joiner-words-take}
 use Rattle.table.proofs.entries.type_at.Reads.{Post as table-entries-type-at}
 use Rattle.table.proofs.entries.is_type.Reads.{Post as table-entries-is-type}
 use Rattle.table.proofs.entries.member_at.Reads.{Post as table-entries-member-at}
 use Rattle.table.proofs.entries.value_at.Reads.{Post as table-entries-value-at}
 use Rattle.table.proofs.entries.operation_at.Reads.{Post as table-entries-operation-at}
-use Rattle.table.proofs.within.Reads.{Post as sections-within}
-use Rattle.leaf.proofs.width.Reads.{Post as codes-width}
-use Rattle.leaf.proofs.allowed.Reads.{Post as codes-allowed}
-use Rattle.table.proofs.fields_ok.Reads.{Post as entry-rules-fields-ok}
+use Rattle.table.proofs.within.Reads.{Post as table-within}
+use Rattle.table.proofs.fields_ok.Reads.{Post as table-fields-ok}
+use Rattle.table.proofs.find.Reads.{Post as table-find}
+use Rattle.table.proofs.read.Reads.{Post as table-read}
+use Rattle.table.proofs.layout.type_place.Reads.{Post as table-layout-type-place}
+use Rattle.table.proofs.layout.member_place.Reads.{Post as table-layout-member-place}
+use Rattle.table.proofs.sections_in.Reads.{Post as table-sections-in}
+use Rattle.leaf.proofs.width.Reads.{Post as leaf-width}
+use Rattle.leaf.proofs.allowed.Reads.{Post as leaf-allowed}
+use Rattle.leaf.proofs.word_at.Reads.{Post as leaf-word-at}
+use Rattle.leaf.proofs.put.Reads.{Post as leaf-put}
+use Rattle.leaf.proofs.takes.Reads.{Post as leaf-takes}
+use Rattle.leaf.proofs.truth.Reads.{Post as leaf-truth}
+use Rattle.leaf.proofs.signed8.Reads.{Post as leaf-signed8}
+use Rattle.leaf.proofs.signed16.Reads.{Post as leaf-signed16}
+use Rattle.leaf.proofs.signed32.Reads.{Post as leaf-signed32}
+use Rattle.types.proofs.check.Reads.{Post as types-check}
 use Rattle.types.proofs.sizes.largest.Reads.{Post as types-sizes-largest}
-use Rattle.leaf.proofs.word_at.Reads.{Post as leaves-word-at}
-use Rattle.leaf.proofs.put.Reads.{Post as leaves-put}
-use Rattle.leaf.proofs.takes.Reads.{Post as leaves-takes}
+use Rattle.walk.proofs.meet.Reads.{Post as walk-meet}
+use Rattle.walk.proofs.look.Reads.{Post as walk-look}
+use Rattle.walk.proofs.base_at.Reads.{Post as walk-base-at}
+use Rattle.walk.proofs.fits.Reads.{Post as walk-fits}
+use Rattle.walk.proofs.runs.base_codes.Reads.{Post as walk-runs-base-codes}
+use Rattle.unpack.proofs.read_type.Reads.{Post as unpack-read-type}
+use Rattle.pack.proofs.write_type.Reads.{Post as pack-write-type}
 use Rattle.payload.proofs.unpack.Reads.{Post as payload-unpack}
 use Rattle.payload.proofs.unpack_in.Reads.{Post as payload-unpack-in}
 use Rattle.payload.proofs.pack.Reads.{Post as payload-pack}
 use Rattle.payload.proofs.pack_in.Reads.{Post as payload-pack-in}
+use Rattle.states.proofs.fresh.Reads.{Post as states-fresh}
+use Rattle.states.proofs.is_up.Reads.{Post as states-is-up}
+use Rattle.states.proofs.how_many_up.Reads.{Post as states-how-many-up}
+use Rattle.states.proofs.turned.Reads.{Post as states-turned}
 use Rattle.platform.proofs.fresh.Reads.{Post as platform-fresh}
 use Rattle.platform.proofs.is_up.Reads.{Post as platform-is-up}
 use Rattle.platform.proofs.how_many_up.Reads.{Post as platform-how-many-up}
 use Rattle.platform.proofs.receive.Reads.{Post as platform-receive}
-use Rattle.platform.proofs.payload.Reads.{Post as platform-payload}
-use Rattle.recording.proofs.open.Reads.{Post as opening-open}
-use Rattle.recording.proofs.next.Reads.{Post as recording-next}
-use Rattle.recording.proofs.play.Reads.{Post as recording-play}
-use Rattle.recording.proofs.keep.Reads.{Post as blocks-keep}
-use Rattle.recording.proofs.put_ending.Reads.{Post as lines-put-ending}
-use Rattle.recording.specs.Play.{stateOf}
-use Rattle.table.proofs.find.Reads.{Post as lookup-find}
 use Rattle.platform.proofs.receive_checked.Reads.{Post as platform-receive-checked}
 use Rattle.platform.proofs.receive_within.Reads.{Post as platform-receive-within}
+use Rattle.platform.proofs.payload.Reads.{Post as platform-payload}
+use Rattle.platform_words.proofs.fresh.Reads.{Post as platform-words-fresh}
+use Rattle.platform_words.proofs.is_up.Reads.{Post as platform-words-is-up}
+use Rattle.platform_words.proofs.how_many_up.Reads.{Post as platform-words-how-many-up}
+use Rattle.platform_words.proofs.receive.Reads.{Post as platform-words-receive}
+use Rattle.platform_words.proofs.receive_in.Reads.{Post as platform-words-receive-in}
+use Rattle.recording.proofs.open.Reads.{Post as recording-open}
+use Rattle.recording.proofs.next.Reads.{Post as recording-next}
+use Rattle.recording.proofs.play.Reads.{Post as recording-play}
+use Rattle.recording.proofs.keep.Reads.{Post as recording-keep}
+use Rattle.recording.proofs.put_ending.Reads.{Post as recording-put-ending}
 
 -- two outcomes for the same arguments agree on what is seen of them
 abbrev pub Same : {K : Type 0} {A Z E : K → Type 0} {B : Type 0} → ((k : K) → A k → Z k → E k → Type 0) → ((k : K) → Z k → E k → B) → Type 0
@@ -93,45 +132,92 @@ pub record WireUnique : Type 0 where
   pub put-run-s : Lent wire-put-run (λ k e. now (e .0))
   pub part : Same wire-part (λ k z e. now z)
   pub has-room : Answer wire-has-room
+  pub whole-u16 : Answer wire-whole-u16
+  pub whole-u32 : Answer wire-whole-u32
+  pub whole-u64 : Answer wire-whole-u64
+  pub word-at : Answer wire-word-at
 
 pub record MessageUnique : Type 0 where
   pub new : Answer message-Header-new
-  pub read : Answer reader-read
-  pub payload : Same reader-payload (λ k z e. now z)
-  pub write : Answer writer-write
-  pub write-out : Lent writer-write (λ k e. now (e .1 .1 .1 .1 .1 .0))
+  pub read : Answer message-read
+  pub payload : Same message-payload (λ k z e. now z)
+  pub write : Answer message-write
+  pub write-out : Lent message-write (λ k e. now (e .1 .1 .1 .1 .1 .0))
+  pub read-refusal : Answer message-read-refusal
+  pub frame-refusal : Answer message-frame-refusal
+  pub address-refusal : Answer message-address-refusal
+  pub contents-refusal : Answer message-contents-refusal
+  pub behind-header : Same message-behind-header (λ k z e. now z)
+  pub put-header-out : Lent message-put-header (λ k e. now (e .0))
 
 pub record BindingUnique : Type 0 where
   pub new : Answer binding-BindingHeader-new
   pub read : Answer binding-BindingHeader-read
-  pub pieces : Answer cutter-pieces
-  pub cut : Answer cutter-cut
-  pub cut-out : Lent cutter-cut (λ k e. now (e .1 .1 .1 .1 .1 .0))
+  pub pieces : Answer binding-pieces
+  pub cut : Answer binding-cut
+  pub cut-out : Lent binding-cut (λ k e. now (e .1 .1 .1 .1 .1 .0))
+
+pub record ChannelUnique : Type 0 where
+  pub room-start : Answer channel-room-start
+  pub has-good-sizes : Answer channel-has-good-sizes
+  pub moved : Answer channel-moved
 
 pub record JoinerUnique : Type 0 where
-  pub setup : Answer setups-setup
-  pub take : Answer taking-take
-  pub take-rooms : Lent taking-take (λ k e. now (e .1 .0))
-  pub message : Same taking-message (λ k z e. now z)
+  pub setup : Answer joiner-setup
+  pub take : Answer joiner-take
+  pub take-rooms : Lent joiner-take (λ k e. now (e .1 .0))
+  pub message : Same joiner-message (λ k z e. now z)
+  pub words-setup : Answer joiner-words-setup
+  pub setup-state : Lent joiner-words-setup (λ k e. now (e .0))
+  pub words-take : Answer joiner-words-take
+  pub take-state : Lent joiner-words-take (λ k e. now (e .0))
+  pub words-take-rooms : Lent joiner-words-take (λ k e. now (e .1 .0))
+  pub take-answer : Lent joiner-words-take (λ k e. now (e .1 .1 .1 .0))
 
-pub record TypesUnique : Type 0 where
-  pub check : Answer types-check
+pub record TableUnique : Type 0 where
   pub type-at : Answer table-entries-type-at
   pub is-type : Answer table-entries-is-type
   pub member-at : Answer table-entries-member-at
   pub value-at : Answer table-entries-value-at
   pub operation-at : Answer table-entries-operation-at
-  pub within : Answer sections-within
-  pub width : Answer codes-width
-  pub allowed : Answer codes-allowed
-  pub fields-ok : Answer entry-rules-fields-ok
-  pub largest : Answer types-sizes-largest
-  pub find : Answer lookup-find
+  pub within : Answer table-within
+  pub fields-ok : Answer table-fields-ok
+  pub find : Answer table-find
+  pub read : Answer table-read
+  pub type-place : Answer table-layout-type-place
+  pub member-place : Answer table-layout-member-place
+  pub sections-in : Answer table-sections-in
 
-pub record LeavesUnique : Type 0 where
-  pub word-at : Answer leaves-word-at
-  pub put-s : Lent leaves-put (λ k e. now (e .0))
-  pub takes : Answer leaves-takes
+pub record LeafUnique : Type 0 where
+  pub width : Answer leaf-width
+  pub allowed : Answer leaf-allowed
+  pub word-at : Answer leaf-word-at
+  pub put-s : Lent leaf-put (λ k e. now (e .0))
+  pub takes : Answer leaf-takes
+  pub truth : Answer leaf-truth
+  pub signed8 : Answer leaf-signed8
+  pub signed16 : Answer leaf-signed16
+  pub signed32 : Answer leaf-signed32
+
+pub record TypesUnique : Type 0 where
+  pub check : Answer types-check
+  pub largest : Answer types-sizes-largest
+
+pub record WalkUnique : Type 0 where
+  pub meet : Answer walk-meet
+  pub look : Answer walk-look
+  pub base-at : Answer walk-base-at
+  pub fits : Answer walk-fits
+  pub base-codes : Answer walk-runs-base-codes
+  pub base-codes-codes : Lent walk-runs-base-codes (λ k e. now (e .1 .1 .1 .1 .1 .0))
+
+pub record UnpackUnique : Type 0 where
+  pub read-type : Answer unpack-read-type
+  pub read-type-words : Lent unpack-read-type (λ k e. now (e .1 .1 .1 .1 .0))
+
+pub record PackUnique : Type 0 where
+  pub write-type : Answer pack-write-type
+  pub write-type-out : Lent pack-write-type (λ k e. now (e .1 .1 .1 .1 .0))
 
 pub record PayloadUnique : Type 0 where
   pub unpack : Answer payload-unpack
@@ -142,6 +228,12 @@ pub record PayloadUnique : Type 0 where
   pub pack-out : Lent payload-pack (λ k e. now (e .1 .1 .1 .0))
   pub pack-in : Answer payload-pack-in
   pub pack-in-out : Lent payload-pack-in (λ k e. now (e .1 .1 .1 .1 .0))
+
+pub record StatesUnique : Type 0 where
+  pub fresh : Answer states-fresh
+  pub is-up : Answer states-is-up
+  pub how-many-up : Answer states-how-many-up
+  pub turned : Answer states-turned
 
 pub record PlatformUnique : Type 0 where
   pub fresh : Answer platform-fresh
@@ -155,14 +247,28 @@ pub record PlatformUnique : Type 0 where
   pub receive-within-out : Lent platform-receive-within (λ k e. now (e .1 .1 .1 .1 .1 .0))
   pub payload : Same platform-payload (λ k z e. now z)
 
+pub record PlatformWordsUnique : Type 0 where
+  pub fresh : Answer platform-words-fresh
+  pub fresh-platform : Lent platform-words-fresh (λ k e. now (e .1 .0))
+  pub is-up : Answer platform-words-is-up
+  pub how-many-up : Answer platform-words-how-many-up
+  pub receive : Answer platform-words-receive
+  pub receive-platform : Lent platform-words-receive (λ k e. now (e .1 .0))
+  pub receive-out : Lent platform-words-receive (λ k e. now (e .1 .1 .1 .1 .0))
+  pub receive-heard : Lent platform-words-receive (λ k e. now (e .1 .1 .1 .1 .1 .0))
+  pub receive-in : Answer platform-words-receive-in
+  pub receive-in-platform : Lent platform-words-receive-in (λ k e. now (e .1 .0))
+  pub receive-in-out : Lent platform-words-receive-in (λ k e. now (e .1 .1 .1 .1 .1 .0))
+  pub receive-in-heard : Lent platform-words-receive-in (λ k e. now (e .1 .1 .1 .1 .1 .1 .0))
+
 pub record RecordingUnique : Type 0 where
-  pub opened : Answer opening-open
+  pub opened : Answer recording-open
   pub next : Answer recording-next
   pub play : Same recording-play (λ k z e. stateOf z (now (e .1 .0)) (now (e .1 .1 .1 .0)))
-  pub keep : Answer blocks-keep
-  pub keep-buffer : Lent blocks-keep (λ k e. now (e .0))
-  pub put-ending : Answer lines-put-ending
-  pub put-ending-output : Lent lines-put-ending (λ k e. now (e .0))
+  pub keep : Answer recording-keep
+  pub keep-buffer : Lent recording-keep (λ k e. now (e .0))
+  pub put-ending : Answer recording-put-ending
+  pub put-ending-output : Lent recording-put-ending (λ k e. now (e .0))
 
 -- docs/DECISIONS.md, 20: on a table that `check` accepts, what is found is the operation of that ID, the first that a plain scan
 -- meets, or none where there is none; and the call on sections answers and leaves what the call on the bytes does
@@ -177,10 +283,17 @@ pub record Unique : Type 0 where
   pub wire : WireUnique
   pub message : MessageUnique
   pub binding : BindingUnique
+  pub channel : ChannelUnique
   pub joiner : JoinerUnique
+  pub table : TableUnique
+  pub leaf : LeafUnique
   pub types : TypesUnique
-  pub leaves : LeavesUnique
+  pub walk : WalkUnique
+  pub unpack : UnpackUnique
+  pub pack : PackUnique
   pub payload : PayloadUnique
+  pub states : StatesUnique
   pub platform : PlatformUnique
+  pub platform-words : PlatformWordsUnique
   pub recording : RecordingUnique
   pub on-accepted : OnAccepted

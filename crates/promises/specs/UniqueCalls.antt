@@ -1,0 +1,67 @@
+-- 01, "What the promises have to say": two outcomes that one promise allows are equal, for the calls as programs in C have them
+-- (include/nyrkovash.h), over their very contracts. The theorem is in proofs/UniqueCalls.antt.
+use denote.Ref.{now}
+use Rattle.promises.specs.Unique.{Answer, Lent}
+use Rattle.nyrkovash.proofs.nyr_pieces.Reads.{Post as nyrkovash-nyr-pieces}
+use Rattle.nyrkovash.proofs.nyr_cut.Reads.{Post as nyrkovash-nyr-cut}
+use Rattle.nyrkovash.proofs.nyr_read.Reads.{Post as nyrkovash-nyr-read}
+use Rattle.nyrkovash.proofs.nyr_write.Reads.{Post as nyrkovash-nyr-write}
+use Rattle.nyrkovash.proofs.nyr_check_table.Reads.{Post as nyrkovash-nyr-check-table}
+use Rattle.nyrkovash.proofs.nyr_find.Reads.{Post as nyrkovash-nyr-find}
+use Rattle.nyrkovash.proofs.nyr_unpack.Reads.{Post as nyrkovash-nyr-unpack}
+use Rattle.nyrkovash.proofs.nyr_unpack_in.Reads.{Post as nyrkovash-nyr-unpack-in}
+use Rattle.nyrkovash.proofs.nyr_pack.Reads.{Post as nyrkovash-nyr-pack}
+use Rattle.nyrkovash.proofs.nyr_pack_in.Reads.{Post as nyrkovash-nyr-pack-in}
+use Rattle.nyrkovash.proofs.nyr_setup.Reads.{Post as nyrkovash-nyr-setup}
+use Rattle.nyrkovash.proofs.nyr_take.Reads.{Post as nyrkovash-nyr-take}
+use Rattle.nyrkovash.proofs.nyr_start.Reads.{Post as nyrkovash-nyr-start}
+use Rattle.nyrkovash.proofs.nyr_receive.Reads.{Post as nyrkovash-nyr-receive}
+use Rattle.nyrkovash.proofs.nyr_receive_in.Reads.{Post as nyrkovash-nyr-receive-in}
+use Rattle.nyrkovash.proofs.nyr_is_up.Reads.{Post as nyrkovash-nyr-is-up}
+use Rattle.nyrkovash.proofs.nyr_how_many_up.Reads.{Post as nyrkovash-nyr-how-many-up}
+
+pub record UniqueCalls : Type 0 where
+  pub nyr-pieces : Answer nyrkovash-nyr-pieces
+  pub nyr-pieces-given : Lent nyrkovash-nyr-pieces (λ k e. now (e .1 .1 .0))
+  pub nyr-cut : Answer nyrkovash-nyr-cut
+  pub nyr-cut-out : Lent nyrkovash-nyr-cut (λ k e. now (e .1 .1 .1 .1 .1 .0))
+  pub nyr-cut-written : Lent nyrkovash-nyr-cut (λ k e. now (e .1 .1 .1 .1 .1 .1 .0))
+  pub nyr-read : Answer nyrkovash-nyr-read
+  pub nyr-read-answer : Lent nyrkovash-nyr-read (λ k e. now (e .1 .1 .0))
+  pub nyr-write : Answer nyrkovash-nyr-write
+  pub nyr-write-out : Lent nyrkovash-nyr-write (λ k e. now (e .1 .1 .1 .1 .1 .0))
+  pub nyr-write-written : Lent nyrkovash-nyr-write (λ k e. now (e .1 .1 .1 .1 .1 .1 .0))
+  pub nyr-check-table : Answer nyrkovash-nyr-check-table
+  pub nyr-check-table-sections : Lent nyrkovash-nyr-check-table (λ k e. now (e .1 .0))
+  pub nyr-find : Answer nyrkovash-nyr-find
+  pub nyr-find-answer : Lent nyrkovash-nyr-find (λ k e. now (e .1 .1 .1 .0))
+  pub nyr-unpack : Answer nyrkovash-nyr-unpack
+  pub nyr-unpack-words : Lent nyrkovash-nyr-unpack (λ k e. now (e .1 .1 .1 .0))
+  pub nyr-unpack-given : Lent nyrkovash-nyr-unpack (λ k e. now (e .1 .1 .1 .1 .0))
+  pub nyr-unpack-in : Answer nyrkovash-nyr-unpack-in
+  pub nyr-unpack-in-words : Lent nyrkovash-nyr-unpack-in (λ k e. now (e .1 .1 .1 .1 .0))
+  pub nyr-unpack-in-given : Lent nyrkovash-nyr-unpack-in (λ k e. now (e .1 .1 .1 .1 .1 .0))
+  pub nyr-pack : Answer nyrkovash-nyr-pack
+  pub nyr-pack-out : Lent nyrkovash-nyr-pack (λ k e. now (e .1 .1 .1 .0))
+  pub nyr-pack-given : Lent nyrkovash-nyr-pack (λ k e. now (e .1 .1 .1 .1 .0))
+  pub nyr-pack-in : Answer nyrkovash-nyr-pack-in
+  pub nyr-pack-in-out : Lent nyrkovash-nyr-pack-in (λ k e. now (e .1 .1 .1 .1 .0))
+  pub nyr-pack-in-given : Lent nyrkovash-nyr-pack-in (λ k e. now (e .1 .1 .1 .1 .1 .0))
+  pub nyr-setup : Answer nyrkovash-nyr-setup
+  pub nyr-setup-state : Lent nyrkovash-nyr-setup (λ k e. now (e .0))
+  pub nyr-take : Answer nyrkovash-nyr-take
+  pub nyr-take-state : Lent nyrkovash-nyr-take (λ k e. now (e .0))
+  pub nyr-take-rooms : Lent nyrkovash-nyr-take (λ k e. now (e .1 .0))
+  pub nyr-take-answer : Lent nyrkovash-nyr-take (λ k e. now (e .1 .1 .1 .0))
+  pub nyr-start : Answer nyrkovash-nyr-start
+  pub nyr-start-platform : Lent nyrkovash-nyr-start (λ k e. now (e .1 .0))
+  pub nyr-receive : Answer nyrkovash-nyr-receive
+  pub nyr-receive-platform : Lent nyrkovash-nyr-receive (λ k e. now (e .1 .0))
+  pub nyr-receive-out : Lent nyrkovash-nyr-receive (λ k e. now (e .1 .1 .1 .1 .0))
+  pub nyr-receive-heard : Lent nyrkovash-nyr-receive (λ k e. now (e .1 .1 .1 .1 .1 .0))
+  pub nyr-receive-in : Answer nyrkovash-nyr-receive-in
+  pub nyr-receive-in-platform : Lent nyrkovash-nyr-receive-in (λ k e. now (e .1 .0))
+  pub nyr-receive-in-out : Lent nyrkovash-nyr-receive-in (λ k e. now (e .1 .1 .1 .1 .1 .0))
+  pub nyr-receive-in-heard : Lent nyrkovash-nyr-receive-in (λ k e. now (e .1 .1 .1 .1 .1 .1 .0))
+  pub nyr-is-up : Answer nyrkovash-nyr-is-up
+  pub nyr-how-many-up : Answer nyrkovash-nyr-how-many-up
