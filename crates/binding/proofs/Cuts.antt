@@ -21,7 +21,8 @@ use Rattle.binding.specs.declared.cutter.Counted.the-variants.{Refused a
 use Rattle.binding.specs.declared.cutter.Made.{Made}
 use Rattle.binding.specs.declared.cutter.Made.the-variants.{Refused, Datagram}
 use Rattle.binding.specs.Header.{senders, counters, largestPiece, codeOf, headerOf, headerBytes}
-use Rattle.binding.specs.Cutting.{pieceCount, countedOf, partOfPiece, bytesFrom, behind, datagramOf, largestMessage, canCut, canHead, cannotCut, noSuchPiece, noRoomForDatagram, madeIn, madeOf, outAfter, cutInto}
+use Rattle.binding.specs.Cutting.{pieceCount, countedOf, partOfPiece, bytesFrom, behind, datagramOf, largestMessage, canCut}
+use Rattle.binding.specs.Cutting.{canHead, cannotCut, noSuchPiece, noRoomForDatagram, madeIn, madeOf, outAfter, cutInto}
 use Rattle.binding.proofs.Cutting.{cuttable, headable, starts-in, started, covered, count-most}
 
 -- piece i of a message that can be cut, by where it starts
@@ -83,7 +84,8 @@ module _ (m s i : ℕ) (w : canCut m s ≡ true) where
     later-part z f = f ∙ rw (is-last, ne-eqb i 0 z, ne-eqb (pieceCount m s) 1 (λ q. z (omega arith)))
 
 -- the header's fields as one number: version, part, sender and counter, from the most significant bit on
-one-number : (v k x y : ℕ) → y < counters → bytes 2 (((v * 4 + k) * senders + x) * counters + y) ≡ bytes 0 (v * 64 + k * 16 + x / 256) ++ (bytes 0 (x % 256) ++ bytes 1 y)
+one-number : (v k x y : ℕ) → y < counters → bytes 2 (((v * 4 + k) * senders + x) * counters + y) ≡ bytes 0 (v * 64 + k * 16 + x / 256)
+    ++ (bytes 0 (x % 256) ++ bytes 1 y)
 one-number v k x y h =
     let n : ℕ = (v * 4 + k) * senders + x in
     let a : (n * counters + y) / 65536 ≡ n = omega arith in
@@ -102,7 +104,8 @@ counted m s e t f = rw (← e, t, f)
 pub not-counted : {r : Bool} (m s : ℕ) → r ≡ canCut m s → r ≡ false → NotCounted cannotCut ≡ countedOf m s
 not-counted m s e t = rw (← e, t)
 
-pub the-header : {e : List ℕ} {k : ℕ} (s : List ℕ) (h : BindingHeader) → k ≡ codeOf (h .part) → h .counter < counters → e ≡ written s 0 (bytes 2 (((0 + k) * senders + h .sender) * counters + h .counter)) → 4 ≤ length s → e ≡ over s 0 (headerBytes h)
+pub the-header : {e : List ℕ} {k : ℕ} (s : List ℕ) (h : BindingHeader) → k ≡ codeOf (h .part) → h .counter < counters → e
+    ≡ written s 0 (bytes 2 (((0 + k) * senders + h .sender) * counters + h .counter)) → 4 ≤ length s → e ≡ over s 0 (headerBytes h)
 the-header s h f l a w =
     a ∙ ap (λ (j : ℕ). written s 0 (bytes 2 (((0 + j) * senders + h .sender) * counters + h .counter))) f
     ∙ ap (written s 0) (one-number 0 (codeOf (h .part)) (h .sender) (h .counter) l) ∙ written-in s 0 (headerBytes h) w
@@ -144,10 +147,12 @@ module _ (msg : List ℕ) (start size : ℕ) {r : ℕ} (e : r ≡ min size (leng
           let n : length (behind header msg start size) ≡ 4 + r = omega (arith, long) in
           rw (le-leb (length (behind header msg start size)) (length out) (omega arith), n)
 
-      pub wrote-one : {m o q : List ℕ} → m ≡ over out 0 (headerBytes header) → q ≡ part msg start r → o ≡ written m 4 q → o ≡ written out 0 (behind header msg start size)
+      pub wrote-one : {m o q : List ℕ} → m ≡ over out 0 (headerBytes header) → q ≡ part msg start r → o ≡ written m 4 q → o
+          ≡ written out 0 (behind header msg start size)
       wrote-one {m} {o} {q} a b c =
           let l : length (headerBytes header) + length (bytesFrom msg start size) ≤ length out = omega (arith, long) in
-          written-behind out (headerBytes header) (bytesFrom msg start size) 4 a refl l (c ∙ ap (written m 4) (b ∙ left)) ∙ sym (written-in out 0 (behind header msg start size) (omega arith))
+          written-behind out (headerBytes header) (bytesFrom msg start size) 4 a refl l (c ∙ ap (written m 4) (b ∙ left))
+          ∙ sym (written-in out 0 (behind header msg start size) (omega arith))
 
 -- the output after a datagram that fits or does not
 out-written : (d out : List ℕ) → outAfter (madeIn d (length out)) out d ≡ written out 0 d
@@ -207,7 +212,8 @@ module _ (msg : List ℕ) (s sender first i : ℕ) (out : List ℕ) {a b : Bool}
       pub output-51 : out ≡ cutInto msg s sender first i out
       output-51 = rw (← answer-51)
 
-    module _ (l : h ≡ true) {p : MessagePart} {head : BindingHeader} (ep : p ≡ partOfPiece (pieceCount (length msg) s) i) (en : head ≡ headerOf p sender ((first + i) % counters)) where
+    module _ (l : h ≡ true) {p : MessagePart} {head : BindingHeader} (ep : p ≡ partOfPiece (pieceCount (length msg) s) i)
+        (en : head ≡ headerOf p sender ((first + i) % counters)) where
       same : behind head msg (i * s) s ≡ datagramOf msg s sender first i
       same = ap (λ (g : BindingHeader). behind g msg (i * s) s) (en ∙ ap (λ (q : MessagePart). headerOf q sender ((first + i) % counters)) ep)
 

@@ -6,7 +6,8 @@ use mathlib.Core.Path.{_≡_, refl, sym, ap, _∙_}
 use mathlib.Core.Logic.{_↔_}
 use mathlib.Core.Bool.{Bool, true, false, _&&_, and-eq-true-iff, cond}
 use mathlib.Core.List.{List}
-use native.Mathlib.Nat.{zero-mul, suc-mul, le-mul-of-pos-right, div-lt-iff-lt-mul, le-min, min-le-left, min-eq-left, le-div-iff-mul-le, lt-div-mul-add, div-eq-of-lt-le}
+use native.Mathlib.Nat.{zero-mul, suc-mul, le-mul-of-pos-right, div-lt-iff-lt-mul, le-min, min-le-left, min-eq-left}
+use native.Mathlib.Nat.{le-div-iff-mul-le, lt-div-mul-add, div-eq-of-lt-le}
 use native.Mathlib.Omega.{arith}
 use borrow.Author.Tests.{le-leb, leb-true, lt-ltb, ltb-true}
 use lib.Dec.{ltb, leb}
@@ -16,7 +17,8 @@ use Rattle.binding.specs.declared.Heard.the-variants.{Piece}
 use Rattle.binding.specs.declared.cutter.Counted.the-variants.{Refused as NotCounted, Pieces}
 use Rattle.binding.specs.declared.cutter.Made.the-variants.{Refused, Datagram}
 use Rattle.binding.specs.Header.{headerLength, senders, counters, largestPiece, heardIn, pieceIn}
-use Rattle.binding.specs.Cutting.{pieceCount, countedOf, pieceAt, counterOf, headerOfPiece, datagramOf, largestMessage, canCut, canHead, madeOf, cutInto, together, noRoomForDatagram, noSuchPiece, cannotCut}
+use Rattle.binding.specs.Cutting.{pieceCount, countedOf, pieceAt, counterOf, headerOfPiece, datagramOf, largestMessage}
+use Rattle.binding.specs.Cutting.{canCut, canHead, madeOf, cutInto, together, noRoomForDatagram, noSuchPiece, cannotCut}
 use Rattle.binding.proofs.Headers.{header-back, piece-back}
 
 -- what 50 leaves: a message of m bytes, cut at s
@@ -111,7 +113,8 @@ pub counter-lt : (first i : ℕ) → counterOf first i < counters
 counter-lt first i = omega arith
 
 module _ (msg : List ℕ) (s sender first i : ℕ) where
-  pub datagram-heard : Cuttable (length msg) s → sender < senders → i < pieceCount (length msg) s → heardIn (datagramOf msg s sender first i) ≡ Piece (headerOfPiece (length msg) s sender first i)
+  pub datagram-heard : Cuttable (length msg) s → sender < senders → i < pieceCount (length msg) s
+      → heardIn (datagramOf msg s sender first i) ≡ Piece (headerOfPiece (length msg) s sender first i)
   datagram-heard w k l =
       header-back (headerOfPiece (length msg) s sender first i) (pieceAt msg s i) k (counter-lt first i) (piece-some msg s i (w .size) l)
       (omega (arith, piece-most msg s i, w .piece))
@@ -133,7 +136,14 @@ module _ (msg : List ℕ) (s sender first i : ℕ) where
 
   pub makes-made : (room n : ℕ) → Makes room n → madeOf msg s sender first i room ≡ Datagram n
   makes-made room n w =
-      rw (can-cut (length msg) s (w .cut), lt-ltb sender senders (w .sends), lt-ltb first counters (w .counts), lt-ltb i (pieceCount (length msg) s) (w .piece), le-leb (length (datagramOf msg s sender first i)) room (w .fits), w .size)
+      rw (
+        can-cut (length msg) s (w .cut),
+        lt-ltb sender senders (w .sends),
+        lt-ltb first counters (w .counts),
+        lt-ltb i (pieceCount (length msg) s) (w .piece),
+        le-leb (length (datagramOf msg s sender first i)) room (w .fits),
+        w .size,
+      )
 
   pub made-makes : (room n : ℕ) → madeOf msg s sender first i room ≡ Datagram n → Makes room n
   made-makes room n e = go (canCut (length msg) s) (canHead sender first) (ltb i (pieceCount (length msg) s)) (leb (length d) room) refl refl refl refl e
@@ -142,7 +152,8 @@ module _ (msg : List ℕ) (s sender first i : ℕ) where
       d = datagramOf msg s sender first i
 
       go : (a b p f : Bool) → canCut (length msg) s ≡ a → canHead sender first ≡ b → ltb i (pieceCount (length msg) s) ≡ p → leb (length d) room ≡ f →
-          cond (a && b) (cond p (cond f (Datagram (length d)) (Refused noRoomForDatagram)) (Refused noSuchPiece)) (Refused cannotCut) ≡ Datagram n → Makes room n
+          cond (a && b) (cond p (cond f (Datagram (length d)) (Refused noRoomForDatagram)) (Refused noSuchPiece)) (Refused cannotCut)
+          ≡ Datagram n → Makes room n
       go true true true true ea eb ep ef q =
           let k : (sender < senders) × (first < counters) = headable sender first eb in
           record {
@@ -159,10 +170,12 @@ module _ (msg : List ℕ) (s sender first i : ℕ) where
       go false b p f ea eb ep ef q = absurd (not-made q)
 
   -- every piece that the count names can be cut, where there is room for it
-  pub pieces-made : (room n : ℕ) → countedOf (length msg) s ≡ Pieces n → sender < senders → first < counters → i < n → headerLength + s ≤ room → madeOf msg s sender first i room ≡ Datagram (length (datagramOf msg s sender first i))
+  pub pieces-made : (room n : ℕ) → countedOf (length msg) s ≡ Pieces n → sender < senders → first < counters → i < n
+      → headerLength + s ≤ room → madeOf msg s sender first i room ≡ Datagram (length (datagramOf msg s sender first i))
   pieces-made room n e k f l r = go (canCut (length msg) s) refl e
     where
-      go : (t : Bool) → canCut (length msg) s ≡ t → cond t (Pieces (pieceCount (length msg) s)) (NotCounted cannotCut) ≡ Pieces n → madeOf msg s sender first i room ≡ Datagram (length (datagramOf msg s sender first i))
+      go : (t : Bool) → canCut (length msg) s ≡ t → cond t (Pieces (pieceCount (length msg) s)) (NotCounted cannotCut) ≡ Pieces n
+          → madeOf msg s sender first i room ≡ Datagram (length (datagramOf msg s sender first i))
       go true t q =
           let c : pieceCount (length msg) s ≡ n = same-count q in
           makes-made room (length (datagramOf msg s sender first i))
@@ -175,7 +188,8 @@ module _ (msg : List ℕ) (s sender first i : ℕ) where
     refused-same e = rw e
 
     -- else the datagram stands at its start, and the rest is as it was
-    pub made-front : {n : ℕ} → madeOf msg s sender first i (length out) ≡ Datagram n → take n (cutInto msg s sender first i out) ≡ datagramOf msg s sender first i
+    pub made-front : {n : ℕ} → madeOf msg s sender first i (length out) ≡ Datagram n → take n (cutInto msg s sender first i out)
+        ≡ datagramOf msg s sender first i
     made-front {n} e =
         let w : Makes (length out) n = made-makes (length out) n e in
         let d : List ℕ = datagramOf msg s sender first i in

@@ -16,5 +16,6 @@ abbrev headers : List (List ℕ)
 headers = from Whole 5 ∷ from Begin 8 ∷ from End 9 ∷ from Begin 302 ∷ from Middle 303 ∷ from End 304 ∷ []
 
 pub header-bytes :
-    headers ≡ (0x31 ∷ 2 ∷ 0 ∷ 5 ∷ []) ∷ (0x01 ∷ 2 ∷ 0 ∷ 8 ∷ []) ∷ (0x21 ∷ 2 ∷ 0 ∷ 9 ∷ []) ∷ (0x01 ∷ 2 ∷ 1 ∷ 0x2e ∷ []) ∷ (0x11 ∷ 2 ∷ 1 ∷ 0x2f ∷ []) ∷ (0x21 ∷ 2 ∷ 1 ∷ 0x30 ∷ []) ∷ []
+    headers ≡ (0x31 ∷ 2 ∷ 0 ∷ 5 ∷ []) ∷ (0x01 ∷ 2 ∷ 0 ∷ 8 ∷ []) ∷ (0x21 ∷ 2 ∷ 0 ∷ 9 ∷ []) ∷ (0x01 ∷ 2 ∷ 1 ∷ 0x2e ∷ [])
+    ∷ (0x11 ∷ 2 ∷ 1 ∷ 0x2f ∷ []) ∷ (0x21 ∷ 2 ∷ 1 ∷ 0x30 ∷ []) ∷ []
 header-bytes = refl

@@ -15,7 +15,9 @@ use Rattle.binding.specs.declared.MessagePart.{MessagePart}
 use Rattle.binding.specs.declared.MessagePart.the-variants.{Begin, Middle, End, Whole}
 use Rattle.binding.specs.declared.BindingHeader.{BindingHeader}
 use Rattle.binding.specs.declared.Heard.the-variants.{Refused, Piece}
-use Rattle.binding.specs.Header.{headerLength, theVersion, senders, counters, largestPiece, smallestDatagram, largestDatagram, codeOf, partOfCode, versionIn, partIn, senderIn, counterIn, headerIn, pieceIn, heardIn, wrongLength, wrongField, headerBytes}
+use Rattle.binding.specs.Header.{headerLength, theVersion, senders, counters, largestPiece, smallestDatagram}
+use Rattle.binding.specs.Header.{largestDatagram, codeOf, partOfCode, versionIn, partIn, senderIn, counterIn, headerIn}
+use Rattle.binding.specs.Header.{pieceIn, heardIn, wrongLength, wrongField, headerBytes}
 use Rattle.binding.proofs.Reading.{has-code}
 
 pub code-lt : (p : MessagePart) → codeOf p < 4
@@ -43,14 +45,24 @@ pub record Headed (d : List ℕ) (h : BindingHeader) : Type 0 where
   pub fields : h ≡ headerIn d
 
 pub headed-heard : (d : List ℕ) (h : BindingHeader) → Headed d h → heardIn d ≡ Piece h
-headed-heard d h w = rw (w .fields, le-leb smallestDatagram (length d) (w .long), le-leb (length d) largestDatagram (w .short), eq-eqb (versionIn d) theVersion (w .version))
+headed-heard d h w = rw (
+  w .fields,
+  le-leb smallestDatagram (length d) (w .long),
+  le-leb (length d) largestDatagram (w .short),
+  eq-eqb (versionIn d) theVersion (w .version),
+)
 
 pub heard-headed : (d : List ℕ) (h : BindingHeader) → heardIn d ≡ Piece h → Headed d h
 heard-headed d h e = go (leb smallestDatagram (length d)) (leb (length d) largestDatagram) (eqb (versionIn d) theVersion) refl refl refl e
   where
     go : (a b v : Bool) → leb smallestDatagram (length d) ≡ a → leb (length d) largestDatagram ≡ b → eqb (versionIn d) theVersion ≡ v →
         cond (a && b) (cond v (Piece (headerIn d)) (Refused wrongField)) (Refused wrongLength) ≡ Piece h → Headed d h
-    go true true true ea eb ev q = record { long = leb-true smallestDatagram (length d) ea; short = leb-true (length d) largestDatagram eb; version = eqb-true (versionIn d) theVersion ev; fields = cc }
+    go true true true ea eb ev q = record {
+      long = leb-true smallestDatagram (length d) ea;
+      short = leb-true (length d) largestDatagram eb;
+      version = eqb-true (versionIn d) theVersion ev;
+      fields = cc;
+    }
     go true true false ea eb ev q = let z : _≡_ {A = ℕ} 0 1 = cc in absurd (omega arith)
     go true false v ea eb ev q = let z : _≡_ {A = ℕ} 0 1 = cc in absurd (omega arith)
     go false b v ea eb ev q = let z : _≡_ {A = ℕ} 0 1 = cc in absurd (omega arith)
@@ -84,7 +96,8 @@ header-octets h q hs hc o (suc (suc (suc zero))) = omega arith
 header-octets h q hs hc o (suc (suc (suc (suc i)))) = o i
 
 -- written, then read: the same header, and the piece behind it
-pub header-back : (h : BindingHeader) (q : List ℕ) → h .sender < senders → h .counter < counters → 1 ≤ length q → length q ≤ largestPiece → heardIn (headerBytes h ++ q) ≡ Piece h
+pub header-back : (h : BindingHeader) (q : List ℕ) → h .sender < senders → h .counter < counters → 1 ≤ length q → length q ≤ largestPiece
+    → heardIn (headerBytes h ++ q) ≡ Piece h
 header-back h q hs hc l m =
     let d : List ℕ = headerBytes h ++ q in
     let k : codeOf (h .part) < 4 = code-lt (h .part) in

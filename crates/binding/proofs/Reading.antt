@@ -14,7 +14,8 @@ use Rattle.binding.specs.declared.MessagePart.{MessagePart}
 use Rattle.binding.specs.declared.MessagePart.the-variants.{Begin, Middle, End, Whole}
 use Rattle.binding.specs.declared.BindingHeader.{BindingHeader}
 use Rattle.binding.specs.declared.Heard.the-variants.{Refused, Piece}
-use Rattle.binding.specs.Header.{theVersion, senders, counters, smallestDatagram, largestDatagram, codeOf, partOfCode, headerOf, versionIn, senderIn, counterIn, heardIn, wrongLength, wrongField}
+use Rattle.binding.specs.Header.{theVersion, senders, counters, smallestDatagram, largestDatagram, codeOf, partOfCode}
+use Rattle.binding.specs.Header.{headerOf, versionIn, senderIn, counterIn, heardIn, wrongLength, wrongField}
 
 pub has-code : (p : MessagePart) {x : ℕ} → x ≡ codeOf p → p ≡ partOfCode x
 has-code Begin e = rw e
@@ -46,5 +47,6 @@ module _ (d : List ℕ) where
     pub no-version : (w / (4 * senders * counters) ≡ theVersion → ⊥) → Refused wrongField ≡ heardIn d
     no-version n = rw (l, ← version-of, ne-eqb (w / (4 * senders * counters)) theVersion n)
 
-    pub a-header : {p : MessagePart} {h : BindingHeader} → w / (4 * senders * counters) ≡ theVersion → p ≡ partOfCode (w / (senders * counters) % 4) → h ≡ headerOf p (w / counters % senders) (w % counters) → Piece h ≡ heardIn d
+    pub a-header : {p : MessagePart} {h : BindingHeader} → w / (4 * senders * counters) ≡ theVersion → p
+        ≡ partOfCode (w / (senders * counters) % 4) → h ≡ headerOf p (w / counters % senders) (w % counters) → Piece h ≡ heardIn d
     a-header v ep eh = rw (l, eq-eqb (versionIn d) theVersion (sym version-of ∙ v), eh, ep, part-of, sender-of, counter-of)

@@ -10,7 +10,8 @@ use native.Mathlib.Omega.{arith}
 use borrow.Author.Tests.{leb-true, leb-false, ltb-true, ltb-false, eqb-true, eqb-false, lt-ltb, le-ltb}
 use lib.Dec.{leb, ltb, eqb}
 use lib.ListN.{length, getD}
-use Rattle.binding.specs.Header.{theVersion, smallestDatagram, largestDatagram, versionIn, partIn, senderIn, counterIn, headerIn, heardIn, pieceIn, wrongLength, wrongField}
+use Rattle.binding.specs.Header.{theVersion, smallestDatagram, largestDatagram, versionIn, partIn, senderIn, counterIn, headerIn}
+use Rattle.binding.specs.Header.{heardIn, pieceIn, wrongLength, wrongField}
 use Rattle.binding.specs.declared.Heard.{Heard}
 use Rattle.binding.specs.declared.Heard.the-variants as heard
 use Rattle.binding.proofs.Headers.{Headed, headed-heard, heard-headed}
@@ -27,9 +28,11 @@ use Rattle.channel.proofs.Standing.{Standing, standing-good, refused-he
 
 -- every datagram is one or the other
 pub whose : (ids d : List ℕ) → Foreign ids d ⊎ ((k : ℕ) × Addressed ids k d)
-whose ids d = go (leb smallestDatagram (length d)) refl (leb (length d) largestDatagram) refl (eqb (versionIn d) theVersion) refl (ltb (placeOf ids (senderIn d)) (length ids)) refl
+whose ids d = go (leb smallestDatagram (length d)) refl (leb (length d) largestDatagram) refl (eqb (versionIn d) theVersion) refl
+    (ltb (placeOf ids (senderIn d)) (length ids)) refl
   where
-    go : (a : Bool) → leb smallestDatagram (length d) ≡ a → (b : Bool) → leb (length d) largestDatagram ≡ b → (v : Bool) → eqb (versionIn d) theVersion ≡ v → (t : Bool) → ltb (placeOf ids (senderIn d)) (length ids) ≡ t → Foreign ids d ⊎ ((k : ℕ) × Addressed ids k d)
+    go : (a : Bool) → leb smallestDatagram (length d) ≡ a → (b : Bool) → leb (length d) largestDatagram ≡ b → (v : Bool)
+        → eqb (versionIn d) theVersion ≡ v → (t : Bool) → ltb (placeOf ids (senderIn d)) (length ids) ≡ t → Foreign ids d ⊎ ((k : ℕ) × Addressed ids k d)
     go false ea b eb v ev t et = inl (Foreign.short (leb-false smallestDatagram (length d) ea))
     go true ea false eb v ev t et = inl (Foreign.long (leb-false (length d) largestDatagram eb))
     go true ea true eb false ev t et = inl (Foreign.version (eqb-false (versionIn d) theVersion ev))
@@ -38,12 +41,22 @@ whose ids d = go (leb smallestDatagram (length d)) refl (leb (length d) largestD
         inl (Foreign.unknown (λ k l e. absurd (omega (arith, h, place-first ids (senderIn d) k l e))))
     go true ea true eb true ev true et =
         let h : placeOf ids (senderIn d) < length ids = ltb-true (placeOf ids (senderIn d)) (length ids) et in
-        inr (placeOf ids (senderIn d), record { long = leb-true smallestDatagram (length d) ea; short = leb-true (length d) largestDatagram eb; version = eqb-true (versionIn d) theVersion ev; known = h; sender = at-place ids (senderIn d) h })
+        inr (
+          placeOf ids (senderIn d),
+          record {
+            long = leb-true smallestDatagram (length d) ea;
+            short = leb-true (length d) largestDatagram eb;
+            version = eqb-true (versionIn d) theVersion ev;
+            known = h;
+            sender = at-place ids (senderIn d) h;
+          },
+        )
 
 unheard : (d : List ℕ) (n : ℕ) → heardIn d ≡ heard.Refused n → (wrongLength ≤ n) × (n ≤ wrongField)
 unheard d n e = go (leb smallestDatagram (length d)) (leb (length d) largestDatagram) (eqb (versionIn d) theVersion) e
   where
-    go : (a b v : Bool) → cond (a && b) (cond v (heard.Piece (headerIn d)) (heard.Refused wrongField)) (heard.Refused wrongLength) ≡ heard.Refused n → (wrongLength ≤ n) × (n ≤ wrongField)
+    go : (a b v : Bool) → cond (a && b) (cond v (heard.Piece (headerIn d)) (heard.Refused wrongField)) (heard.Refused wrongLength)
+        ≡ heard.Refused n → (wrongLength ≤ n) × (n ≤ wrongField)
     go true true true q = let z : _≡_ {A = ℕ} 0 1 = cc in absurd (omega arith)
     go true true false q = let z : n ≡ wrongField = cc in (omega arith, omega arith)
     go true false v q = let z : n ≡ wrongLength = cc in (omega arith, omega arith)
@@ -61,13 +74,15 @@ module _ (j : Joiner) (b : ℕ) (d : List ℕ) (s : Standing j b) where
   unfolding judgedOf
   by-header = rw (s .well)
 
-  pub addressed-moves : (k : ℕ) → Addressed (sendersOf j) k d → judgedOf j b d ≡ Move k (steppedOf (roomOf (j .room) k) (channelAt j k) (partIn d) (counterIn d) (length (pieceIn d)))
+  pub addressed-moves : (k : ℕ) → Addressed (sendersOf j) k d → judgedOf j b d
+      ≡ Move k (steppedOf (roomOf (j .room) k) (channelAt j k) (partIn d) (counterIn d) (length (pieceIn d)))
   unfolding heardBy sentTo
   addressed-moves k a =
       let g : Good j b = standing-good s in
       let l : length (sendersOf j) ≡ j .count = senders-length j (g .sizes .few) (s .width) in
       let p : placeOf (sendersOf j) (senderIn d) ≡ k = place-own (sendersOf j) k (senderIn d) (g .once) (a .known) (a .sender) in
-      let h : heardIn d ≡ heard.Piece (headerIn d) = headed-heard d (headerIn d) (record { long = a .long; short = a .short; version = a .version; fields = refl }) in
+      let h : heardIn d ≡ heard.Piece (headerIn d) = headed-heard d (headerIn d)
+      (record { long = a .long; short = a .short; version = a .version; fields = refl }) in
       let q : k < j .count = omega (arith, l, a .known) in
       by-header ∙ ap (heardBy j d) h ∙ rw (p, lt-ltb k (j .count) q)
 
@@ -87,7 +102,8 @@ module _ (j : Joiner) (b : ℕ) (d : List ℕ) (s : Standing j b) where
       nowhere w (Foreign.unknown h) =
           let g : Good j b = standing-good s in
           let l : length (sendersOf j) ≡ j .count = senders-length j (g .sizes .few) (s .width) in
-          let n : placeOf (sendersOf j) (senderIn d) < length (sendersOf j) → ⊥ = λ q. h (placeOf (sendersOf j) (senderIn d)) q (at-place (sendersOf j) (senderIn d) q) in
+          let n : placeOf (sendersOf j) (senderIn d) < length (sendersOf j)
+          → ⊥ = λ q. h (placeOf (sendersOf j) (senderIn d)) q (at-place (sendersOf j) (senderIn d) q) in
           omega arith
 
       go : (x : Heard) → heardIn d ≡ x → (n : ℕ) × (judgedOf j b d ≡ Refusal n) × (wrongLength ≤ n) × (n ≤ notSetUp)
@@ -102,7 +118,8 @@ module _ (j : Joiner) (b : ℕ) (d : List ℕ) (s : Standing j b) where
     where
       clash : (k : ℕ) → Addressed (sendersOf j) k d → ⊥
       clash k a =
-          let m : judgedOf j b d ≡ Move k (steppedOf (roomOf (j .room) k) (channelAt j k) (partIn d) (counterIn d) (length (pieceIn d))) = addressed-moves k a in
+          let m : judgedOf j b d ≡ Move k (steppedOf (roomOf (j .room) k) (channelAt j k) (partIn d) (counterIn d) (length (pieceIn d))) =
+          addressed-moves k a in
           let z : _≡_ {A = ℕ} 0 1 = cc in
           omega arith
 

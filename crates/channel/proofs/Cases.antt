@@ -24,11 +24,21 @@ use Rattle.channel.proofs.Judging.{Sound}
 pub data Stepped (room : Room) (ch : Channel) (c n : ℕ) : MessagePart → Step → Type 0 where
   again : {p : MessagePart} → repeated ch c ≡ true → Stepped room ch c n p (record { outcome = Repeated; channel = ch; put = Nowhere })
   whole : repeated ch c ≡ false → Stepped room ch c n Whole (wholeOf (notedOf ch c) n (missedOf ch c))
-  begins : repeated ch c ≡ false → n ≤ room .size → Stepped room ch c n Begin (record { outcome = Held (missedOf ch c) n; channel = holding (notedOf ch c) n; put = At (room .start) })
-  stray : {p : MessagePart} → repeated ch c ≡ false → keeping ch c ≡ 0 → Stepped room ch c n p (record { outcome = Stray (missedOf ch c); channel = notedOf ch c; put = Nowhere })
+  begins : repeated ch c ≡ false → n ≤ room .size
+      → Stepped room ch c n Begin (record { outcome = Held (missedOf ch c) n; channel = holding (notedOf ch c) n; put = At (room .start) })
+  stray : {p : MessagePart} → repeated ch c ≡ false → keeping ch c ≡ 0
+      → Stepped room ch c n p (record { outcome = Stray (missedOf ch c); channel = notedOf ch c; put = Nowhere })
   long : {p : MessagePart} → repeated ch c ≡ false → Stepped room ch c n p (tooLong (notedOf ch c) (missedOf ch c))
-  goes-on : repeated ch c ≡ false → (keeping ch c ≡ 0 → ⊥) → keeping ch c + n ≤ room .size → Stepped room ch c n Middle (record { outcome = Held (missedOf ch c) (keeping ch c + n); channel = holding (notedOf ch c) (keeping ch c + n); put = At (room .start + keeping ch c) })
-  ends : repeated ch c ≡ false → (keeping ch c ≡ 0 → ⊥) → keeping ch c + n ≤ room .size → Stepped room ch c n End (record { outcome = Delivered (missedOf ch c) (Rooms (room .start) (keeping ch c + n)); channel = holding (notedOf ch c) 0; put = At (room .start + keeping ch c) })
+  goes-on : repeated ch c ≡ false → (keeping ch c ≡ 0 → ⊥) → keeping ch c + n ≤ room .size
+      → Stepped room ch c n Middle
+      (record { outcome = Held (missedOf ch c) (keeping ch c + n); channel = holding (notedOf ch c) (keeping ch c + n); put = At (room .start + keeping ch c) })
+  ends : repeated ch c ≡ false → (keeping ch c ≡ 0 → ⊥) → keeping ch c + n ≤ room .size
+      → Stepped room ch c n End
+      (record {
+        outcome = Delivered (missedOf ch c) (Rooms (room .start) (keeping ch c + n));
+        channel = holding (notedOf ch c) 0;
+        put = At (room .start + keeping ch c);
+      })
 
 module _ (room : Room) (ch : Channel) (c n : ℕ) where
   follows : (p : MessagePart) (e : Bool) → repeated ch c ≡ false →
@@ -38,7 +48,8 @@ module _ (room : Room) (ch : Channel) (c n : ℕ) where
   follows p e r f = go (eqb (keeping ch c) 0) refl (leb (keeping ch c + n) (room .size)) refl
     where
       go : (z : Bool) → eqb (keeping ch c) 0 ≡ z → (t : Bool) → leb (keeping ch c + n) (room .size) ≡ t →
-          Stepped room ch c n p (cond z (record { outcome = Stray (missedOf ch c); channel = notedOf ch c; put = Nowhere }) (cond t (joinedOf e room (notedOf ch c) n (missedOf ch c)) (tooLong (notedOf ch c) (missedOf ch c))))
+          Stepped room ch c n p (cond z (record { outcome = Stray (missedOf ch c); channel = notedOf ch c; put = Nowhere })
+          (cond t (joinedOf e room (notedOf ch c) n (missedOf ch c)) (tooLong (notedOf ch c) (missedOf ch c))))
       go true x t q = stray r (eqb-true (keeping ch c) 0 x)
       go false x true q = f (eqb-false (keeping ch c) 0 x) (leb-true (keeping ch c + n) (room .size) q)
       go false x false q = long r
@@ -48,7 +59,10 @@ module _ (room : Room) (ch : Channel) (c n : ℕ) where
   places r Whole = whole r
   places r Begin = go (leb n (room .size)) refl
     where
-      go : (t : Bool) → leb n (room .size) ≡ t → Stepped room ch c n Begin (cond t (record { outcome = Held (missedOf ch c) n; channel = holding (notedOf ch c) n; put = At (room .start) }) (tooLong (notedOf ch c) (missedOf ch c)))
+      go : (t : Bool) → leb n (room .size) ≡ t
+          → Stepped room ch c n Begin
+          (cond t (record { outcome = Held (missedOf ch c) n; channel = holding (notedOf ch c) n; put = At (room .start) })
+          (tooLong (notedOf ch c) (missedOf ch c)))
       go true e = begins r (leb-true n (room .size) e)
       go false e = long r
   places r Middle = follows Middle false r (goes-on r)
@@ -58,7 +72,8 @@ module _ (room : Room) (ch : Channel) (c n : ℕ) where
   unfolding steppedOf
   step-cases p = go (repeated ch c) refl
     where
-      go : (t : Bool) → repeated ch c ≡ t → Stepped room ch c n p (cond t (record { outcome = Repeated; channel = ch; put = Nowhere }) (placedOf room (notedOf ch c) p n (missedOf ch c)))
+      go : (t : Bool) → repeated ch c ≡ t
+          → Stepped room ch c n p (cond t (record { outcome = Repeated; channel = ch; put = Nowhere }) (placedOf room (notedOf ch c) p n (missedOf ch c)))
       go true e = again e
       go false e = places e p
 
@@ -112,18 +127,22 @@ module _ (room : Room) (s c n : ℕ) where
   unfolding steppedOf placedOf notedOf keeping missedOf
   fresh-whole = refl
 
-  pub fresh-begin : n ≤ room .size → steppedOf room (newChannel s) Begin c n ≡ record { outcome = Held 0 n; channel = record { sender = s; seen = true; last = c; held = n }; put = At (room .start) }
+  pub fresh-begin : n ≤ room .size → steppedOf room (newChannel s) Begin c n
+      ≡ record { outcome = Held 0 n; channel = record { sender = s; seen = true; last = c; held = n }; put = At (room .start) }
   unfolding steppedOf placedOf begunOf notedOf keeping missedOf
   fresh-begin h = rw (le-leb n (room .size) h)
 
-  pub fresh-long : room .size < n → steppedOf room (newChannel s) Begin c n ≡ record { outcome = TooLong 0; channel = record { sender = s; seen = true; last = c; held = 0 }; put = Nowhere }
+  pub fresh-long : room .size < n → steppedOf room (newChannel s) Begin c n
+      ≡ record { outcome = TooLong 0; channel = record { sender = s; seen = true; last = c; held = 0 }; put = Nowhere }
   unfolding steppedOf placedOf begunOf notedOf keeping missedOf
   fresh-long h = rw (lt-leb n (room .size) h)
 
-  pub fresh-middle : steppedOf room (newChannel s) Middle c n ≡ record { outcome = Stray 0; channel = record { sender = s; seen = true; last = c; held = 0 }; put = Nowhere }
+  pub fresh-middle : steppedOf room (newChannel s) Middle c n
+      ≡ record { outcome = Stray 0; channel = record { sender = s; seen = true; last = c; held = 0 }; put = Nowhere }
   unfolding steppedOf placedOf followedOf notedOf keeping missedOf
   fresh-middle = refl
 
-  pub fresh-end : steppedOf room (newChannel s) End c n ≡ record { outcome = Stray 0; channel = record { sender = s; seen = true; last = c; held = 0 }; put = Nowhere }
+  pub fresh-end : steppedOf room (newChannel s) End c n
+      ≡ record { outcome = Stray 0; channel = record { sender = s; seen = true; last = c; held = 0 }; put = Nowhere }
   unfolding steppedOf placedOf followedOf notedOf keeping missedOf
   fresh-end = refl

@@ -26,7 +26,8 @@ use Rattle.channel.specs.declared.records.Found.the-variants.{Bad, Nobod
 use Rattle.channel.specs.declared.Judged.{Judged}
 use Rattle.channel.specs.declared.Judged.the-variants.{Refusal, Move}
 use Rattle.channel.specs.Channel.{Steppable, roomOf, steppedOf}
-use Rattle.channel.specs.Setup.{channelLimit, largestRoom, badSetup, newChannel, placeOf, distinct, every, channelsOf, sendersOf, channelAt, goodSizes, goodChannel, good, foundOf, roomStart}
+use Rattle.channel.specs.Setup.{channelLimit, largestRoom, badSetup, newChannel, placeOf, distinct, every, channelsOf}
+use Rattle.channel.specs.Setup.{sendersOf, channelAt, goodSizes, goodChannel, good, foundOf, roomStart}
 use Rattle.channel.specs.Take.{notSetUp, sentTo, heardBy, judgedOf, senderBy, refusalBy, canMove, movedOf, judgedBy}
 use Rattle.channel.proofs.Places.{every-at}
 use Rattle.channel.proofs.Lookups.{Sizes, sizes-say, channels-length, channels-at, Borne, found-bad, found-nobody, found-somebody}
@@ -60,12 +61,14 @@ good-says j b w e = record { sizes = s; each = each; once = and-right (every (go
     q = and-right (goodSizes (j .count) (j .room) b) (every (goodChannel (j .room)) (channelsOf j) && distinct (sendersOf j)) e
 
     s : Sizes (j .count) (j .room) b
-    s = sizes-say (j .count) (j .room) b (and-left (goodSizes (j .count) (j .room) b) (every (goodChannel (j .room)) (channelsOf j) && distinct (sendersOf j)) e)
+    s = sizes-say (j .count) (j .room) b
+        (and-left (goodSizes (j .count) (j .room) b) (every (goodChannel (j .room)) (channelsOf j) && distinct (sendersOf j)) e)
 
     each : (k : ℕ) → k < j .count → goodChannel (j .room) (channelAt j k) ≡ true
     each k h =
         ap (goodChannel (j .room)) (sym (channels-at j (s .few) w k h))
-        ∙ every-at (goodChannel (j .room)) (newChannel 0) (channelsOf j) k (and-left (every (goodChannel (j .room)) (channelsOf j)) (distinct (sendersOf j)) q) (omega (arith, channels-length j (s .few) w))
+        ∙ every-at (goodChannel (j .room)) (newChannel 0) (channelsOf j) k
+        (and-left (every (goodChannel (j .room)) (channelsOf j)) (distinct (sendersOf j)) q) (omega (arith, channels-length j (s .few) w))
 
 pub good-sizes : (j : Joiner) (b : ℕ) → good j b ≡ true → Sizes (j .count) (j .room) b
 unfolding good
@@ -99,10 +102,12 @@ can-say k R ch n e =
     }
   where
     place : (ltb k channelLimit && leb R largestRoom) ≡ true
-    place = and-left (ltb k channelLimit && leb R largestRoom) ((leb (ch .held) R && ltb (ch .last) counters) && (leb headerLength n && leb n largestDatagram)) e
+    place = and-left (ltb k channelLimit && leb R largestRoom)
+        ((leb (ch .held) R && ltb (ch .last) counters) && (leb headerLength n && leb n largestDatagram)) e
 
     rest : ((leb (ch .held) R && ltb (ch .last) counters) && (leb headerLength n && leb n largestDatagram)) ≡ true
-    rest = and-right (ltb k channelLimit && leb R largestRoom) ((leb (ch .held) R && ltb (ch .last) counters) && (leb headerLength n && leb n largestDatagram)) e
+    rest = and-right (ltb k channelLimit && leb R largestRoom)
+        ((leb (ch .held) R && ltb (ch .last) counters) && (leb headerLength n && leb n largestDatagram)) e
 
     kept : (leb (ch .held) R && ltb (ch .last) counters) ≡ true
     kept = and-left (leb (ch .held) R && ltb (ch .last) counters) (leb headerLength n && leb n largestDatagram) rest
@@ -138,7 +143,8 @@ module _ {t : Bool} (k R : ℕ) (ch : Channel) (n : ℕ) (e : t ≡ canMove k R 
           piece = omega (arith, says .short);
         }
 
-    pub is-moved : {s : ℕ} {x : Step} (h : BindingHeader) → s ≡ roomStart R k → x ≡ steppedOf (record { start = s; size = R }) ch (h .part) (h .counter) (n - headerLength) → Move k x ≡ movedOf k R ch h n
+    pub is-moved : {s : ℕ} {x : Step} (h : BindingHeader) → s ≡ roomStart R k → x
+        ≡ steppedOf (record { start = s; size = R }) ch (h .part) (h .counter) (n - headerLength) → Move k x ≡ movedOf k R ch h n
     unfolding movedOf
     is-moved h es ex = rw (sym e ∙ g, ex, es)
 
@@ -156,7 +162,8 @@ module _ {f : Found} (R n : ℕ) (x : Heard) where
   unfolding judgedBy
   judged-refused k ch m e q = rw (e, q)
 
-  pub judged-somebody : {y : Judged} (k : ℕ) (ch : Channel) (h : BindingHeader) → f ≡ Somebody k ch → x ≡ heard.Piece h → y ≡ movedOf k R ch h n → y ≡ judgedBy f R x n
+  pub judged-somebody : {y : Judged} (k : ℕ) (ch : Channel) (h : BindingHeader) → f ≡ Somebody k ch → x ≡ heard.Piece h → y
+      ≡ movedOf k R ch h n → y ≡ judgedBy f R x n
   unfolding judgedBy
   judged-somebody k ch h e q m = rw (e, q) m
 
@@ -181,9 +188,13 @@ module _ (j : Joiner) (b : ℕ) (d : List ℕ) {r : Heard} (er : r ≡ heardIn d
 
     pub to-nobody : f ≡ Nobody → Refusal notSetUp ≡ judgedOf j b d
     unfolding sentTo
-    to-nobody q = rw (by-sender (found-nobody j b (h .sender) e q .0), le-ltb (placeOf (sendersOf j) (h .sender)) (j .count) (found-nobody j b (h .sender) e q .1))
+    to-nobody q = rw (
+      by-sender (found-nobody j b (h .sender) e q .0),
+      le-ltb (placeOf (sendersOf j) (h .sender)) (j .count) (found-nobody j b (h .sender) e q .1),
+    )
 
-    pub to-somebody : {s : ℕ} {x : Step} (k : ℕ) (ch : Channel) → f ≡ Somebody k ch → s ≡ roomStart (j .room) k → x ≡ steppedOf (record { start = s; size = j .room }) ch (h .part) (h .counter) (length d - headerLength) → Move k x ≡ judgedOf j b d
+    pub to-somebody : {s : ℕ} {x : Step} (k : ℕ) (ch : Channel) → f ≡ Somebody k ch → s ≡ roomStart (j .room) k → x
+        ≡ steppedOf (record { start = s; size = j .room }) ch (h .part) (h .counter) (length d - headerLength) → Move k x ≡ judgedOf j b d
     unfolding sentTo
     to-somebody k ch q es ex =
         let y : Borne j b (h .sender) k ch = found-somebody j b (h .sender) e k ch q in
@@ -197,9 +208,17 @@ module _ (j : Joiner) (b : ℕ) (d : List ℕ) {r : Heard} (er : r ≡ heardIn d
         let v : Headed d h = heard-headed d h (sym er ∙ m) in
         let few : k < channelLimit = omega (arith, y .known, g .sizes .few) in
         let long : headerLength ≤ length d = omega (arith, v .long) in
-        rw (lt-ltb k channelLimit few, le-leb (j .room) largestRoom (g .sizes .narrow), le-leb (ch .held) (j .room) (x .held), lt-ltb (ch .last) counters (x .last), le-leb headerLength (length d) long, le-leb (length d) largestDatagram (v .short))
+        rw (
+          lt-ltb k channelLimit few,
+          le-leb (j .room) largestRoom (g .sizes .narrow),
+          le-leb (ch .held) (j .room) (x .held),
+          lt-ltb (ch .last) counters (x .last),
+          le-leb headerLength (length d) long,
+          le-leb (length d) largestDatagram (v .short),
+        )
 
-pub judged-by : {f : Found} {r : Heard} {s : ℕ} {x : Judged} (j : Joiner) (b : ℕ) (d : List ℕ) → length (j .channels) ≡ channelLimit → r ≡ heardIn d → s ≡ senderBy r → f ≡ foundOf j b s → x ≡ judgedBy f (j .room) r (length d) → x ≡ judgedOf j b d
+pub judged-by : {f : Found} {r : Heard} {s : ℕ} {x : Judged} (j : Joiner) (b : ℕ) (d : List ℕ) → length (j .channels) ≡ channelLimit → r
+    ≡ heardIn d → s ≡ senderBy r → f ≡ foundOf j b s → x ≡ judgedBy f (j .room) r (length d) → x ≡ judgedOf j b d
 unfolding judgedBy movedOf heardBy
 judged-by {f} {r} {s} j b d w er es ef ex = ex ∙ go f refl r refl
   where
@@ -230,11 +249,14 @@ module _ (j : Joiner) (b : ℕ) (d : List ℕ) (k : ℕ) (s : Step) where
   clash n e = let z : _≡_ {A = ℕ} 0 1 = cc in omega arith
 
   sent : good j b ≡ true → Headed d (headerIn d) → (t : Bool) → ltb (placeOf (sendersOf j) (senderIn d)) (j .count) ≡ t →
-      cond t (Move (placeOf (sendersOf j) (senderIn d)) (steppedOf (roomOf (j .room) (placeOf (sendersOf j) (senderIn d))) (channelAt j (placeOf (sendersOf j) (senderIn d))) (partIn d) (counterIn d) (length (pieceIn d)))) (Refusal notSetUp) ≡ Move k s →
+      cond t (Move (placeOf (sendersOf j) (senderIn d))
+      (steppedOf (roomOf (j .room) (placeOf (sendersOf j) (senderIn d))) (channelAt j (placeOf (sendersOf j) (senderIn d))) (partIn d)
+      (counterIn d) (length (pieceIn d)))) (Refusal notSetUp) ≡ Move k s →
       Moved j b d k s
   sent g h true e q =
       let ek : k ≡ placeOf (sendersOf j) (senderIn d) = cc in
-      let es : s ≡ steppedOf (roomOf (j .room) (placeOf (sendersOf j) (senderIn d))) (channelAt j (placeOf (sendersOf j) (senderIn d))) (partIn d) (counterIn d) (length (pieceIn d)) = cc in
+      let es : s ≡ steppedOf (roomOf (j .room) (placeOf (sendersOf j) (senderIn d))) (channelAt j (placeOf (sendersOf j) (senderIn d)))
+      (partIn d) (counterIn d) (length (pieceIn d)) = cc in
       record { well = g; headed = h; channel = ek; known = omega (arith, ltb-true (placeOf (sendersOf j) (senderIn d)) (j .count) e); step = rw ek es }
   sent g h false e q = absurd (clash notSetUp q)
 

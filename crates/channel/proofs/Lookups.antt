@@ -16,7 +16,8 @@ use Rattle.channel.specs.declared.records.Channel.{Channel}
 use Rattle.channel.specs.declared.records.Joiner.{Joiner}
 use Rattle.channel.specs.declared.records.Found.{Found}
 use Rattle.channel.specs.declared.records.Found.the-variants.{Bad, Nobody, Somebody}
-use Rattle.channel.specs.Setup.{channelLimit, largestRoom, smallestRoom, roomStart, placeOf, distinct, senderOf, channelsOf, sendersOf, channelAt, goodSizes, good, newChannel, foundOf}
+use Rattle.channel.specs.Setup.{channelLimit, largestRoom, smallestRoom, roomStart, placeOf, distinct, senderOf, channelsOf}
+use Rattle.channel.specs.Setup.{sendersOf, channelAt, goodSizes, good, newChannel, foundOf}
 use Rattle.channel.proofs.Places.{not-true-false, place-found, place-none, place-first, at-place, distinct-says, is-distinct}
 
 -- a product of two 32-bit numbers is a usize
@@ -57,7 +58,8 @@ module _ (j : Joiner) where
         let x : ℕ = channelAt j i .sender in
         let m : placeOf (sendersOf j) x < length (sendersOf j) = omega (arith, senders-length) in
         let s : getD (sendersOf j) (placeOf (sendersOf j) x) 0 ≡ getD (sendersOf j) i 0 = at-place (sendersOf j) x m ∙ sym (senders-at i l) in
-        sym (not-true-false (distinct (sendersOf j)) (λ t. distinct-says (sendersOf j) t (placeOf (sendersOf j) x) i (omega arith) (omega (arith, senders-length)) s))
+        sym (not-true-false (distinct (sendersOf j))
+        (λ t. distinct-says (sendersOf j) t (placeOf (sendersOf j) x) i (omega arith) (omega (arith, senders-length)) s))
 
     pub never-twice : (i : ℕ) → ((k : ℕ) → k < i → k ≤ placeOf (sendersOf j) (channelAt j k .sender)) → j .count ≤ i → true ≡ distinct (sendersOf j)
     never-twice i n m = sym (is-distinct (sendersOf j) go)
@@ -66,7 +68,8 @@ module _ (j : Joiner) where
         go a b h l e =
             let c : b < j .count = omega (arith, senders-length) in
             let q : b ≤ placeOf (sendersOf j) (channelAt j b .sender) = n b (omega arith) in
-            let f : placeOf (sendersOf j) (channelAt j b .sender) ≤ a = place-first (sendersOf j) (channelAt j b .sender) a (omega arith) (e ∙ senders-at b c) in
+            let f : placeOf (sendersOf j) (channelAt j b .sender) ≤ a = place-first (sendersOf j) (channelAt j b .sender) a (omega arith)
+            (e ∙ senders-at b c) in
             omega arith
 
 -- `has_good_sizes`
@@ -74,7 +77,8 @@ pub count-fits : (n : ℕ) → (leb 1 n && leb n channelLimit) ≡ true → Fits
 count-fits n e = record { fits = omega (arith, leb-true n channelLimit (and-right (leb 1 n) (leb n channelLimit) e)) }
 
 module _ (n R b : ℕ) where
-  pub sizes-right : {t : ℕ} → (leb 1 n && leb n channelLimit) ≡ true → (leb smallestRoom R && leb R largestRoom) ≡ true → t ≡ roomStart R n → eqb b t ≡ goodSizes n R b
+  pub sizes-right : {t : ℕ} → (leb 1 n && leb n channelLimit) ≡ true → (leb smallestRoom R && leb R largestRoom) ≡ true → t ≡ roomStart R n
+      → eqb b t ≡ goodSizes n R b
   unfolding goodSizes
   sizes-right e f g = rw (e, f, g)
 
@@ -97,8 +101,10 @@ pub record Sizes (n R b : ℕ) : Type 0 where
 pub sizes-say : (n R b : ℕ) → goodSizes n R b ≡ true → Sizes n R b
 unfolding goodSizes
 sizes-say n R b e =
-    let p : (leb 1 n && leb n channelLimit) ≡ true = and-left (leb 1 n && leb n channelLimit) ((leb smallestRoom R && leb R largestRoom) && eqb b (roomStart R n)) e in
-    let q : ((leb smallestRoom R && leb R largestRoom) && eqb b (roomStart R n)) ≡ true = and-right (leb 1 n && leb n channelLimit) ((leb smallestRoom R && leb R largestRoom) && eqb b (roomStart R n)) e in
+    let p : (leb 1 n && leb n channelLimit)
+    ≡ true = and-left (leb 1 n && leb n channelLimit) ((leb smallestRoom R && leb R largestRoom) && eqb b (roomStart R n)) e in
+    let q : ((leb smallestRoom R && leb R largestRoom) && eqb b (roomStart R n))
+    ≡ true = and-right (leb 1 n && leb n channelLimit) ((leb smallestRoom R && leb R largestRoom) && eqb b (roomStart R n)) e in
     let r : (leb smallestRoom R && leb R largestRoom) ≡ true = and-left (leb smallestRoom R && leb R largestRoom) (eqb b (roomStart R n)) q in
     record {
       some = leb-true 1 n (and-left (leb 1 n) (leb n channelLimit) p);
@@ -135,7 +141,9 @@ module _ (j : Joiner) (b x : ℕ) {r : Found} (e : r ≡ foundOf j b x) where
   unfolding foundOf
   found-nobody m = go (good j b) refl (ltb (placeOf (sendersOf j) x) (j .count)) refl (sym m ∙ e)
     where
-      go : (g : Bool) → good j b ≡ g → (u : Bool) → ltb (placeOf (sendersOf j) x) (j .count) ≡ u → Nobody ≡ cond g (cond u (Somebody (placeOf (sendersOf j) x) (channelAt j (placeOf (sendersOf j) x))) Nobody) Bad → (good j b ≡ true) × (j .count ≤ placeOf (sendersOf j) x)
+      go : (g : Bool) → good j b ≡ g → (u : Bool) → ltb (placeOf (sendersOf j) x) (j .count) ≡ u → Nobody
+          ≡ cond g (cond u (Somebody (placeOf (sendersOf j) x) (channelAt j (placeOf (sendersOf j) x))) Nobody) Bad → (good j b ≡ true)
+          × (j .count ≤ placeOf (sendersOf j) x)
       go true g false h q = (g, ltb-false (placeOf (sendersOf j) x) (j .count) h)
       go true g true h q = let z : _≡_ {A = ℕ} 0 1 = cc in absurd (omega arith)
       go false g u h q = let z : _≡_ {A = ℕ} 0 1 = cc in absurd (omega arith)
@@ -144,7 +152,8 @@ module _ (j : Joiner) (b x : ℕ) {r : Found} (e : r ≡ foundOf j b x) where
   unfolding foundOf
   found-somebody k ch m = go (good j b) refl (ltb (placeOf (sendersOf j) x) (j .count)) refl (sym m ∙ e)
     where
-      go : (g : Bool) → good j b ≡ g → (u : Bool) → ltb (placeOf (sendersOf j) x) (j .count) ≡ u → Somebody k ch ≡ cond g (cond u (Somebody (placeOf (sendersOf j) x) (channelAt j (placeOf (sendersOf j) x))) Nobody) Bad → Borne j b x k ch
+      go : (g : Bool) → good j b ≡ g → (u : Bool) → ltb (placeOf (sendersOf j) x) (j .count) ≡ u → Somebody k ch
+          ≡ cond g (cond u (Somebody (placeOf (sendersOf j) x) (channelAt j (placeOf (sendersOf j) x))) Nobody) Bad → Borne j b x k ch
       go true g true h q =
           let p : k ≡ placeOf (sendersOf j) x = cc in
           let f : ch ≡ channelAt j (placeOf (sendersOf j) x) = cc in

@@ -13,7 +13,8 @@ use lib.Seq.{take-at}
 use Rattle.binding.specs.Header.{senders}
 use Rattle.channel.specs.declared.records.NewJoiner.{NewJoiner}
 use Rattle.channel.specs.declared.records.Answer.the-variants.{Accepted}
-use Rattle.channel.specs.Setup.{channelLimit, newChannel, distinct, senderOf, sendersOf, channelAt, goodSizes, goodChannel, good, freshOf, refusedSetup, setupOf, Acceptable}
+use Rattle.channel.specs.Setup.{channelLimit, newChannel, distinct, senderOf, sendersOf, channelAt, goodSizes, goodChannel}
+use Rattle.channel.specs.Setup.{good, freshOf, refusedSetup, setupOf, Acceptable}
 use Rattle.channel.specs.View.{viewOf}
 use Rattle.channel.proofs.Places.{distinct-says, is-distinct}
 use Rattle.channel.proofs.Lookups.{Sizes}
@@ -41,7 +42,8 @@ module _ (ids : List ℕ) (R : ℕ) (few : length ids ≤ channelLimit) where
   pub fresh-senders : sendersOf (freshOf ids R) ≡ ids
   unfolding freshOf
   fresh-senders =
-      ap (map senderOf) (take-at (map newChannel ids) (replicate (channelLimit - length ids) (newChannel 0)) (length ids) (length-map ids newChannel)) ∙ senders-back ids
+      ap (map senderOf) (take-at (map newChannel ids) (replicate (channelLimit - length ids) (newChannel 0)) (length ids)
+      (length-map ids newChannel)) ∙ senders-back ids
 
   pub fresh-view : (rooms : List ℕ) (k : ℕ) → k < length ids → viewOf (freshOf ids R) rooms k ≡ record { channel = newChannel (getD ids k 0); bytes = [] }
   fresh-view rooms k h = rw (fresh-channel k h)
@@ -55,11 +57,20 @@ module _ (ids : List ℕ) (R : ℕ) (few : length ids ≤ channelLimit) where
       sizes = record { some = a .some; few = a .few; wide = a .wide; narrow = a .narrow; whole = a .whole }
 
       each : (k : ℕ) → k < length ids → goodChannel R (channelAt (freshOf ids R) k) ≡ true
-      each k h = ap (goodChannel R) (fresh-channel k h) ∙ sound-good R (newChannel (getD ids k 0)) (record { sender = a .range k h; held = omega arith; last = omega arith })
+      each k h = ap (goodChannel R) (fresh-channel k h)
+          ∙ sound-good R (newChannel (getD ids k 0)) (record { sender = a .range k h; held = omega arith; last = omega arith })
 
   pub good-fresh : (b : ℕ) → good (freshOf ids R) b ≡ true → Acceptable ids R b
   unfolding freshOf
-  good-fresh b e = record { some = z .some; few = z .few; wide = z .wide; narrow = z .narrow; whole = z .whole; range = range; once = distinct-says ids (ap distinct (sym fresh-senders) ∙ g .once) }
+  good-fresh b e = record {
+    some = z .some;
+    few = z .few;
+    wide = z .wide;
+    narrow = z .narrow;
+    whole = z .whole;
+    range = range;
+    once = distinct-says ids (ap distinct (sym fresh-senders) ∙ g .once);
+  }
     where
       g : Good (freshOf ids R) b
       g = good-says (freshOf ids R) b fresh-width e
@@ -79,7 +90,9 @@ module _ (ids : List ℕ) (R b : ℕ) where
   unfolding setupOf
   accepted-by e = go (leb (length ids) channelLimit) refl (good (freshOf ids R) b) refl e
     where
-      go : (t : Bool) → leb (length ids) channelLimit ≡ t → (g : Bool) → good (freshOf ids R) b ≡ g → cond (t && g) (record { answer = Accepted; joiner = freshOf ids R }) refusedSetup .answer ≡ Accepted → (length ids ≤ channelLimit) × (good (freshOf ids R) b ≡ true)
+      go : (t : Bool) → leb (length ids) channelLimit ≡ t → (g : Bool) → good (freshOf ids R) b ≡ g
+          → cond (t && g) (record { answer = Accepted; joiner = freshOf ids R }) refusedSetup .answer ≡ Accepted
+          → (length ids ≤ channelLimit) × (good (freshOf ids R) b ≡ true)
       go true h true f q = (leb-true (length ids) channelLimit h, f)
       go true h false f q = let z : _≡_ {A = ℕ} 0 1 = cc in absurd (omega arith)
       go false h g f q = let z : _≡_ {A = ℕ} 0 1 = cc in absurd (omega arith)

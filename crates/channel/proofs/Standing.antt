@@ -24,7 +24,8 @@ use Rattle.channel.specs.declared.Outcome.the-variants.{Refused}
 use Rattle.channel.specs.declared.Judged.{Judged}
 use Rattle.channel.specs.declared.Judged.the-variants.{Refusal, Move}
 use Rattle.channel.specs.Channel.{roomOf}
-use Rattle.channel.specs.Setup.{channelLimit, newChannel, distinct, every, senderOf, channelsOf, sendersOf, channelAt, goodSizes, goodChannel, good, smallestRoom, largestRoom, roomStart}
+use Rattle.channel.specs.Setup.{channelLimit, newChannel, distinct, every, senderOf, channelsOf, sendersOf, channelAt}
+use Rattle.channel.specs.Setup.{goodSizes, goodChannel, good, smallestRoom, largestRoom, roomStart}
 use Rattle.channel.specs.Take.{judgedOf, changed, takenBy, takenOf, putBy, roomsBy, roomsAfter}
 use Rattle.channel.proofs.Places.{every-by}
 use Rattle.channel.proofs.Lookups.{Sizes, channels-length, channels-at}
@@ -34,11 +35,18 @@ use Rattle.channel.proofs.Cases.{Stepped, step-cases, step-sender, step
 pub sizes-are : (n R b : ℕ) → Sizes n R b → goodSizes n R b ≡ true
 unfolding goodSizes
 sizes-are n R b s =
-    rw (le-leb 1 n (s .some), le-leb n channelLimit (s .few), le-leb smallestRoom R (s .wide), le-leb R largestRoom (s .narrow), eq-eqb b (roomStart R n) (s .whole))
+    rw (
+      le-leb 1 n (s .some),
+      le-leb n channelLimit (s .few),
+      le-leb smallestRoom R (s .wide),
+      le-leb R largestRoom (s .narrow),
+      eq-eqb b (roomStart R n) (s .whole),
+    )
 
 pub good-is : (j : Joiner) (b : ℕ) → length (j .channels) ≡ channelLimit → Good j b → good j b ≡ true
 unfolding good
-good-is j b w g = and-true (goodSizes (j .count) (j .room) b) (every (goodChannel (j .room)) (channelsOf j) && distinct (sendersOf j)) (sizes-are (j .count) (j .room) b (g .sizes)) (and-true (every (goodChannel (j .room)) (channelsOf j)) (distinct (sendersOf j)) all (g .once))
+good-is j b w g = and-true (goodSizes (j .count) (j .room) b) (every (goodChannel (j .room)) (channelsOf j) && distinct (sendersOf j))
+    (sizes-are (j .count) (j .room) b (g .sizes)) (and-true (every (goodChannel (j .room)) (channelsOf j)) (distinct (sendersOf j)) all (g .once))
   where
     at : (k : ℕ) → k < j .count → goodChannel (j .room) (getD (channelsOf j) k (newChannel 0)) ≡ true
     at k h = ap (goodChannel (j .room)) (channels-at j (g .sizes .few) w k h) ∙ g .each k h
@@ -83,7 +91,8 @@ module _ (j : Joiner) (b : ℕ) (d : List ℕ) (k : ℕ) (s : Step) (v : Moved j
   moved-senders = changed-senders j k (s .channel) (v .known) moved-sender
 
   pub moved-standing : Standing j b → Octets d → Standing (changed j k (s .channel)) b
-  moved-standing t o = record { width = w; well = good-is (changed j k (s .channel)) b w (record { sizes = g .sizes; each = each; once = ap distinct moved-senders ∙ g .once }) }
+  moved-standing t o = record
+      { width = w; well = good-is (changed j k (s .channel)) b w (record { sizes = g .sizes; each = each; once = ap distinct moved-senders ∙ g .once }) }
     where
       g : Good j b
       g = standing-good t
@@ -94,13 +103,15 @@ module _ (j : Joiner) (b : ℕ) (d : List ℕ) (k : ℕ) (s : Step) (v : Moved j
       here : goodChannel (j .room) (s .channel) ≡ true
       here =
           sound-good (j .room) (s .channel)
-          (step-sound (roomOf (j .room) k) (channelAt j k) (counterIn d) (length (pieceIn d)) (counter-below d o) (channel-says (j .room) (channelAt j k) (g .each k (v .known))) moved-cases)
+          (step-sound (roomOf (j .room) k) (channelAt j k) (counterIn d) (length (pieceIn d)) (counter-below d o)
+          (channel-says (j .room) (channelAt j k) (g .each k (v .known))) moved-cases)
 
       each : (i : ℕ) → i < j .count → goodChannel (j .room) (channelAt (changed j k (s .channel)) i) ≡ true
       each i h = go (eqb i k) refl
         where
           go : (q : Bool) → eqb i k ≡ q → goodChannel (j .room) (channelAt (changed j k (s .channel)) i) ≡ true
-          go true e = ap (λ (m : ℕ). goodChannel (j .room) (channelAt (changed j k (s .channel)) m)) (eqb-true i k e) ∙ ap (goodChannel (j .room)) (changed-here j k (s .channel) (omega (arith, v .known, g .sizes .few, t .width))) ∙ here
+          go true e = ap (λ (m : ℕ). goodChannel (j .room) (channelAt (changed j k (s .channel)) m)) (eqb-true i k e)
+              ∙ ap (goodChannel (j .room)) (changed-here j k (s .channel) (omega (arith, v .known, g .sizes .few, t .width))) ∙ here
           go false e = ap (goodChannel (j .room)) (changed-there j k (s .channel) i (eqb-false i k e)) ∙ g .each i h
 
 -- the laws of `take`

@@ -16,7 +16,8 @@ use Rattle.channel.specs.declared.Put.{Put}
 use Rattle.channel.specs.declared.Put.the-variants.{Nowhere, At}
 use Rattle.channel.specs.declared.Place.the-variants.{Datagram, Rooms}
 use Rattle.channel.specs.declared.Outcome.the-variants.{Repeated, Delivered, Held, TooLong}
-use Rattle.channel.specs.Channel.{Steppable, missedOf, repeated, keeping, notedOf, holding, strayOf, tooLong, wholeOf, begunOf, followedOf, joinedOf, behindOf, placedOf, steppedOf}
+use Rattle.channel.specs.Channel.{Steppable, missedOf, repeated, keeping, notedOf, holding, strayOf, tooLong, wholeOf}
+use Rattle.channel.specs.Channel.{begunOf, followedOf, joinedOf, behindOf, placedOf, steppedOf}
 
 module _ (ch : Channel) (c : ℕ) where
   pub some-missed : ch .seen ≡ true → (c + counters - (ch .last + 1)) % counters ≡ missedOf ch c
@@ -27,7 +28,8 @@ module _ (ch : Channel) (c : ℕ) where
   unfolding missedOf
   none-missed e = rw e
 
-  pub is-noted : {m h : ℕ} → m ≡ missedOf ch c → h ≡ cond (eqb m 0) (ch .held) 0 → record { sender = ch .sender; seen = true; last = c; held = h } ≡ notedOf ch c
+  pub is-noted : {m h : ℕ} → m ≡ missedOf ch c → h ≡ cond (eqb m 0) (ch .held) 0
+      → record { sender = ch .sender; seen = true; last = c; held = h } ≡ notedOf ch c
   unfolding notedOf keeping
   is-noted e f = rw (f, e)
 
@@ -37,7 +39,8 @@ is-kept h m e = rw (eq-eqb m 0 e)
 pub is-dropped : (h m : ℕ) → (m ≡ 0 → ⊥) → 0 ≡ cond (eqb m 0) h 0
 is-dropped h m n = rw (ne-eqb m 0 n)
 
-pub whole-given : {h : Channel} (ch : Channel) (n m : ℕ) → h ≡ holding ch 0 → record { outcome = Delivered m (Datagram headerLength n); channel = h; put = Nowhere } ≡ wholeOf ch n m
+pub whole-given : {h : Channel} (ch : Channel) (n m : ℕ) → h ≡ holding ch 0
+    → record { outcome = Delivered m (Datagram headerLength n); channel = h; put = Nowhere } ≡ wholeOf ch n m
 whole-given ch n m e = rw e
 
 pub all-dropped : {h : Channel} (ch : Channel) (m : ℕ) → h ≡ holding ch 0 → record { outcome = TooLong m; channel = h; put = Nowhere } ≡ tooLong ch m
@@ -64,10 +67,12 @@ module _ (room : Room) (ch : Channel) (n m : ℕ) where
   unfolding followedOf
   behind-too-long ends e f q = rw (ne-eqb (ch .held) 0 e, lt-leb (ch .held + n) (room .size) f, q)
 
-  pub end-joined : {ends : Bool} {h : Channel} {p : Put} → ends ≡ true → h ≡ holding ch 0 → p ≡ behindOf room (ch .held) → record { outcome = Delivered m (Rooms (room .start) (ch .held + n)); channel = h; put = p } ≡ joinedOf ends room ch n m
+  pub end-joined : {ends : Bool} {h : Channel} {p : Put} → ends ≡ true → h ≡ holding ch 0 → p ≡ behindOf room (ch .held)
+      → record { outcome = Delivered m (Rooms (room .start) (ch .held + n)); channel = h; put = p } ≡ joinedOf ends room ch n m
   end-joined e f g = rw (e, f, g)
 
-  pub middle-joined : {ends : Bool} {h : Channel} {p : Put} → ends ≡ false → h ≡ holding ch (ch .held + n) → p ≡ behindOf room (ch .held) → record { outcome = Held m (ch .held + n); channel = h; put = p } ≡ joinedOf ends room ch n m
+  pub middle-joined : {ends : Bool} {h : Channel} {p : Put} → ends ≡ false → h ≡ holding ch (ch .held + n) → p ≡ behindOf room (ch .held)
+      → record { outcome = Held m (ch .held + n); channel = h; put = p } ≡ joinedOf ends room ch n m
   middle-joined e f g = rw (e, f, g)
 
   pub placed-whole : {p : MessagePart} {s : Step} → p ≡ Whole → s ≡ wholeOf ch n m → s ≡ placedOf room ch p n m
@@ -109,6 +114,7 @@ module _ (room : Room) (ch : Channel) (p : MessagePart) (c n : ℕ) where
   unfolding steppedOf
   stepped-repeated e t = rw (sym e ∙ t)
 
-  pub stepped-placed : {t : Bool} {h : Channel} {m : ℕ} {s : Step} → t ≡ repeated ch c → t ≡ false → m ≡ missedOf ch c → h ≡ notedOf ch c → s ≡ placedOf room h p n m → s ≡ steppedOf room ch p c n
+  pub stepped-placed : {t : Bool} {h : Channel} {m : ℕ} {s : Step} → t ≡ repeated ch c → t ≡ false → m ≡ missedOf ch c → h ≡ notedOf ch c
+      → s ≡ placedOf room h p n m → s ≡ steppedOf room ch p c n
   unfolding steppedOf
   stepped-placed e t em eh es = rw (sym e ∙ t, es, eh, em)

@@ -87,13 +87,15 @@ module _ (room : Room) (ch : Channel) (rooms d : List ℕ) (fits : room .start +
       go true m = refl
       go false m = absurd (m refl)
 
-  behind : (keeping ch c ≡ 0 → ⊥) → keeping ch c + length q ≤ room .size → bytesAt (written rooms (room .start + keeping ch c) q) (room .start) (keeping ch c + length q) ≡ cond (eqb (missedOf ch c) 0) (v .bytes) [] ++ q
+  behind : (keeping ch c ≡ 0 → ⊥) → keeping ch c + length q ≤ room .size
+      → bytesAt (written rooms (room .start + keeping ch c) q) (room .start) (keeping ch c + length q) ≡ cond (eqb (missedOf ch c) 0) (v .bytes) [] ++ q
   behind n f =
       ap (λ (u : List ℕ). bytesAt u (room .start) (keeping ch c + length q)) (written-in rooms (room .start + keeping ch c) q (omega arith))
       ∙ bytes-joined rooms (room .start) (keeping ch c) q (omega arith)
       ∙ ap (λ (u : List ℕ). u ++ q) (kept n)
 
-  pub held-after : {p : MessagePart} {s : Step} → Stepped room ch c (length q) p s → bytesAt (putBy rooms (s .put) d) (room .start) (s .channel .held) ≡ heldBy (v .bytes) (leading v p c ++ q) (s .outcome)
+  pub held-after : {p : MessagePart} {s : Step} → Stepped room ch c (length q) p s
+      → bytesAt (putBy rooms (s .put) d) (room .start) (s .channel .held) ≡ heldBy (v .bytes) (leading v p c ++ q) (s .outcome)
   unfolding putBy notedOf
   held-after (again r) = refl
   held-after (whole r) = refl
@@ -106,7 +108,8 @@ module _ (room : Room) (ch : Channel) (rooms d : List ℕ) (fits : room .start +
   held-after (goes-on r z f) = behind z f
   held-after (ends r z f) = refl
 
-  pub given-after : {p : MessagePart} {s : Step} → headerLength ≤ length d → Stepped room ch c (length q) p s → messageOf (s .outcome) d (putBy rooms (s .put) d) ≡ givenBy q (leading v p c ++ q) (s .outcome)
+  pub given-after : {p : MessagePart} {s : Step} → headerLength ≤ length d → Stepped room ch c (length q) p s
+      → messageOf (s .outcome) d (putBy rooms (s .put) d) ≡ givenBy q (leading v p c ++ q) (s .outcome)
   unfolding messageOf putBy
   given-after l (again r) = refl
   given-after l (whole r) = part-in d headerLength (length q) (omega (arith, piece-length d)) ∙ take-length q
@@ -119,12 +122,14 @@ module _ (room : Room) (ch : Channel) (rooms d : List ℕ) (fits : room .start +
       part-in (written rooms (room .start + keeping ch c) q) (room .start) (keeping ch c + length q) (omega arith) ∙ behind z f
 
   -- bytes that lie outside the room stay
-  apart : (a n p : ℕ) → (a + n ≤ room .start) ⊎ (room .start + room .size ≤ a) → room .start ≤ p → p + length q ≤ room .start + room .size → bytesAt (written rooms p q) a n ≡ bytesAt rooms a n
+  apart : (a n p : ℕ) → (a + n ≤ room .start) ⊎ (room .start + room .size ≤ a) → room .start ≤ p → p + length q ≤ room .start + room .size
+      → bytesAt (written rooms p q) a n ≡ bytesAt rooms a n
   apart a n p o l m =
       ap (λ (u : List ℕ). bytesAt u a n) (written-in rooms p q (omega arith))
       ∙ ⊎-elim (λ h. bytes-before rooms p q (omega arith) a n (omega arith)) (λ h. bytes-behind rooms p q (omega arith) a n (omega arith)) o
 
-  pub outside : {p : MessagePart} {s : Step} (a n : ℕ) → (a + n ≤ room .start) ⊎ (room .start + room .size ≤ a) → Stepped room ch c (length q) p s → bytesAt (putBy rooms (s .put) d) a n ≡ bytesAt rooms a n
+  pub outside : {p : MessagePart} {s : Step} (a n : ℕ) → (a + n ≤ room .start) ⊎ (room .start + room .size ≤ a)
+      → Stepped room ch c (length q) p s → bytesAt (putBy rooms (s .put) d) a n ≡ bytesAt rooms a n
   unfolding putBy
   outside a n o (again r) = refl
   outside a n o (whole r) = refl
@@ -189,7 +194,8 @@ module _ (j : Joiner) (rooms d : List ℕ) (s : Standing j (length rooms)) where
     pub other-bytes : (i n : ℕ) → (i ≡ k → ⊥) → n ≤ j .room → bytesAt (roomsAfter j rooms d) (roomStart (j .room) i) n ≡ bytesAt rooms (roomStart (j .room) i) n
     other-bytes i n x l =
         rw rooms-after
-        (outside room (channelAt j k) rooms d (within k (moved .known)) (roomStart (j .room) i) n (⊎-elim (λ h. inl (omega arith)) (λ h. inr h) (apart-from i x)) steps)
+        (outside room (channelAt j k) rooms d (within k (moved .known)) (roomStart (j .room) i) n
+        (⊎-elim (λ h. inl (omega arith)) (λ h. inr h) (apart-from i x)) steps)
 
     pub other-view : (i : ℕ) → i < j .count → (i ≡ k → ⊥) → viewOf (takenOf j rooms d .joiner) (roomsAfter j rooms d) i ≡ viewOf j rooms i
     other-view i h x =

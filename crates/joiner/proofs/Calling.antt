@@ -74,7 +74,8 @@ module _ {o : Outcome} (out : List ℕ) where
 -- `take`
 module _
     (ws rooms d : List ℕ) {f : Found} {r : Heard} {y R : ℕ} {x : Judged}
-    (eR : R ≡ getD ws 1 0) (er : r ≡ heardIn d) (ey : y ≡ senderBy r) (ef : f ≡ foundOf (joinerIn ws) (length rooms) y) (ex : x ≡ judgedBy f R r (length d)) where
+    (eR : R ≡ getD ws 1 0) (er : r ≡ heardIn d) (ey : y ≡ senderBy r) (ef : f ≡ foundOf (joinerIn ws) (length rooms) y)
+    (ex : x ≡ judgedBy f R r (length d)) where
   abbrev taken : Taken
   taken = takenOf (joinerIn ws) rooms d
 

@@ -12,14 +12,16 @@ use lib.ListN.{length, getD, take, replicate, List·getD-append}
 use lib.Seq.{take-suc, take-at, getD-append-add}
 use Rattle.wire.proofs.Cond.{and-left, and-right, and-true}
 use Rattle.binding.specs.Header.{senders, counters}
-use Rattle.channel.specs.Setup.{channelLimit, newChannel, senderOf, channelAt, channelsOf, sendersOf, placeOf, distinct, every, goodSizes, goodChannel, good, foundOf}
+use Rattle.channel.specs.Setup.{channelLimit, newChannel, senderOf, channelAt, channelsOf, sendersOf, placeOf, distinct, every}
+use Rattle.channel.specs.Setup.{goodSizes, goodChannel, good, foundOf}
 use Rattle.channel.specs.declared.records.Channel.{Channel}
 use Rattle.channel.specs.declared.records.Joiner.{Joiner}
 use Rattle.channel.specs.declared.records.Found.{Found}
 use Rattle.channel.specs.declared.records.Found.the-variants.{Bad, Nobody, Somebody}
 use Rattle.channel.proofs.Places.{not-true-false, every-at}
 use Rattle.channel.proofs.Lookups.{channels-length, channels-at}
-use Rattle.joiner.specs.JoinerWords.{recordAt, joinerWords, senderLimit, recordIn, isRecord, areRecords, recordsIn, isJoiner, joinerIn, recordWords, recordsWords, wordsOf}
+use Rattle.joiner.specs.JoinerWords.{recordAt, joinerWords, senderLimit, recordIn, isRecord, areRecords, recordsIn}
+use Rattle.joiner.specs.JoinerWords.{isJoiner, joinerIn, recordWords, recordsWords, wordsOf}
 use Rattle.joiner.specs.Records.{storedIn}
 use Rattle.joiner.proofs.Stored.{records-length, stored-at, none-good, stored-joiner}
 use Rattle.joiner.proofs.Storing.{seen-back, seen-small, words-some, words-none}
@@ -33,7 +35,8 @@ record-word (c ∷ cs) zero m h l =
     ap (λ (q : ℕ). getD (recordWords c ++ recordsWords cs) q 0) e ∙ List·getD-append (recordWords c) (recordsWords cs) 0 m l
 record-word (c ∷ cs) (suc i) m h l =
     let e : 4 * suc i + m ≡ 4 + (4 * i + m) = omega arith in
-    ap (λ (q : ℕ). getD (recordWords c ++ recordsWords cs) q 0) e ∙ getD-append-add (recordWords c) (recordsWords cs) (4 * i + m) 0 ∙ record-word cs i m (omega arith) l
+    ap (λ (q : ℕ). getD (recordWords c ++ recordsWords cs) q 0) e ∙ getD-append-add (recordWords c) (recordsWords cs) (4 * i + m) 0
+    ∙ record-word cs i m (omega arith) l
 
 module _ (n R : ℕ) (chs : List Channel) where
   abbrev all : List ℕ

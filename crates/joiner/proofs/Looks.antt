@@ -109,13 +109,16 @@ module _ (ws : List ℕ) (i : ℕ) where
   abbrev lastIt : ℕ
   lastIt = getD ws (recordAt i + 2) 0
 
-  pub risen-more : (next seens lasts : ℕ) {R : ℕ} → R ≡ getD ws 1 0 → Risen ws i next seens lasts → (leb next id && leb (getD ws (recordAt i + 3) 0) R) ≡ true → Risen ws (i + 1) (id + 1) (bitOr seens seenIt) (bitOr lasts lastIt)
+  pub risen-more : (next seens lasts : ℕ) {R : ℕ} → R ≡ getD ws 1 0 → Risen ws i next seens lasts
+      → (leb next id && leb (getD ws (recordAt i + 3) 0) R) ≡ true → Risen ws (i + 1) (id + 1) (bitOr seens seenIt) (bitOr lasts lastIt)
   risen-more next seens lasts {R} er old e =
       record {
         below = below-more (λ k. getD ws (recordAt k) 0 < id + 1) i (λ k h. omega (arith, rises k h)) (omega arith);
         pairs = λ a b h l. below-more (λ m. a < m → getD ws (recordAt a) 0 < getD ws (recordAt m) 0) i (λ m k g. old .pairs a m g k) (λ g. rises a g) b l h;
-        seen = below-more (λ k. getD ws (recordAt k + 1) 0 ≤ bitOr seens seenIt) i (λ k h. omega (arith, old .seen k h, or-left seens seenIt)) (or-right seens seenIt);
-        last = below-more (λ k. getD ws (recordAt k + 2) 0 ≤ bitOr lasts lastIt) i (λ k h. omega (arith, old .last k h, or-left lasts lastIt)) (or-right lasts lastIt);
+        seen = below-more (λ k. getD ws (recordAt k + 1) 0 ≤ bitOr seens seenIt) i
+            (λ k h. omega (arith, old .seen k h, or-left seens seenIt)) (or-right seens seenIt);
+        last = below-more (λ k. getD ws (recordAt k + 2) 0 ≤ bitOr lasts lastIt) i
+            (λ k h. omega (arith, old .last k h, or-left lasts lastIt)) (or-right lasts lastIt);
         held = below-more (λ k. getD ws (recordAt k + 3) 0 ≤ getD ws 1 0) i (old .held) fits;
       }
     where
@@ -128,9 +131,11 @@ module _ (ws : List ℕ) (i : ℕ) where
       fits : getD ws (recordAt i + 3) 0 ≤ getD ws 1 0
       fits = omega (arith, leb-true (getD ws (recordAt i + 3) 0) R (and-right (leb next id) (leb (getD ws (recordAt i + 3) 0) R) e))
 
-pub risen-all : (ws : List ℕ) (i next seens lasts : ℕ) {n : ℕ} → Sized ws → n ≡ getD ws 0 0 → i ≤ n → n ≤ i → Risen ws i next seens lasts → (leb next senders && (ltb seens seenLimit && ltb lasts counters)) ≡ true → areGood ws ≡ true
+pub risen-all : (ws : List ℕ) (i next seens lasts : ℕ) {n : ℕ} → Sized ws → n ≡ getD ws 0 0 → i ≤ n → n ≤ i → Risen ws i next seens lasts
+    → (leb next senders && (ltb seens seenLimit && ltb lasts counters)) ≡ true → areGood ws ≡ true
 unfolding areGood
-risen-all ws i next seens lasts {n} z en l m r e = and-true (goodRecords ws (getD ws 0 0)) (distinct (sendersIn ws)) (all-by (goodRecord ws) (getD ws 0 0) kept) (is-distinct (sendersIn ws) once)
+risen-all ws i next seens lasts {n} z en l m r e = and-true (goodRecords ws (getD ws 0 0)) (distinct (sendersIn ws))
+    (all-by (goodRecord ws) (getD ws 0 0) kept) (is-distinct (sendersIn ws) once)
   where
     rest : (ltb seens seenLimit && ltb lasts counters) ≡ true
     rest = and-right (leb next senders) (ltb seens seenLimit && ltb lasts counters) e
@@ -160,7 +165,8 @@ risen-all ws i next seens lasts {n} z en l m r e = and-true (goodRecords ws (get
         let w : length (storedIn ws .channels) ≡ channelLimit = stored-length ws (z .few) in
         let c : b < getD ws 0 0 = omega (arith, senders-length (storedIn ws) (z .few) w) in
         let p : getD ws (recordAt a) 0 < getD ws (recordAt b) 0 = r .pairs a b h (omega arith) in
-        let x : getD (sendersIn ws) a 0 ≡ getD ws (recordAt a) 0 = senders-at (storedIn ws) (z .few) w a (omega arith) ∙ ap senderOf (stored-at ws (z .few) a (omega arith)) in
+        let x : getD (sendersIn ws) a 0 ≡ getD ws (recordAt a) 0 = senders-at (storedIn ws) (z .few) w a (omega arith)
+        ∙ ap senderOf (stored-at ws (z .few) a (omega arith)) in
         let y : getD (sendersIn ws) b 0 ≡ getD ws (recordAt b) 0 = senders-at (storedIn ws) (z .few) w b c ∙ ap senderOf (stored-at ws (z .few) b c) in
         omega arith
 
@@ -243,7 +249,8 @@ module _ (ws : List ℕ) (b x : ℕ) where
       pub bad-records : {u : Bool} → u ≡ areGood ws → u ≡ false → Bad ≡ foundOf (joinerIn ws) b x
       bad-records g h = bad (well ∙ sym g ∙ h)
 
-      pub found-in : {u : Bool} {p : ℕ} {r : Found} → u ≡ areGood ws → u ≡ true → p ≡ placeOf (sendersIn ws) x → r ≡ foundAt ws p → r ≡ foundOf (joinerIn ws) b x
+      pub found-in : {u : Bool} {p : ℕ} {r : Found} → u ≡ areGood ws → u ≡ true → p ≡ placeOf (sendersIn ws) x → r ≡ foundAt ws p → r
+          ≡ foundOf (joinerIn ws) b x
       unfolding foundOf foundAt
       found-in {u} {p} {r} g h ep er =
           let j : joinerIn ws ≡ storedIn ws = stored-joiner ws (well-joiner ws b sized (sym g ∙ h)) in

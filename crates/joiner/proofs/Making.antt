@@ -24,7 +24,8 @@ madeOf ids i = map newChannel (take i ids) ++ replicate (channelLimit - i) (newC
 pub made-none : {z : Channel} (ids : List ℕ) → z ≡ newChannel 0 → replicate channelLimit z ≡ madeOf ids 0
 made-none ids e = ap (replicate channelLimit) e
 
-pub made-more : {cs : List Channel} {x : Channel} (ids : List ℕ) (i : ℕ) → cs ≡ madeOf ids i → i < length ids → length ids ≤ channelLimit → x ≡ newChannel (getD ids i 0) → set cs i x ≡ madeOf ids (i + 1)
+pub made-more : {cs : List Channel} {x : Channel} (ids : List ℕ) (i : ℕ) → cs ≡ madeOf ids i → i < length ids → length ids ≤ channelLimit
+    → x ≡ newChannel (getD ids i 0) → set cs i x ≡ madeOf ids (i + 1)
 made-more {cs} {x} ids i e h l f =
     let p : List Channel = map newChannel (take i ids) in
     let ys : List Channel = replicate (channelLimit - (i + 1)) (newChannel 0) in
@@ -37,14 +38,16 @@ made-more {cs} {x} ids i e h l f =
     ∙ sym (append-assoc p (newChannel (getD ids i 0) ∷ []) ys)
     ∙ ap (λ (u : List Channel). u ++ ys) (sym (map-append newChannel (take i ids) (getD ids i 0 ∷ [])) ∙ ap (map newChannel) (sym t))
 
-pub made-all : {cs : List Channel} (ids : List ℕ) (i R : ℕ) → cs ≡ madeOf ids i → i ≤ length ids → length ids ≤ i → record { channels = cs; count = length ids; room = R } ≡ freshOf ids R
+pub made-all : {cs : List Channel} (ids : List ℕ) (i R : ℕ) → cs ≡ madeOf ids i → i ≤ length ids → length ids ≤ i
+    → record { channels = cs; count = length ids; room = R } ≡ freshOf ids R
 unfolding freshOf
 made-all {cs} ids i R e h l =
     let n : i ≡ length ids = omega arith in
     let f : cs ≡ map newChannel ids ++ replicate (channelLimit - length ids) (newChannel 0) = e ∙ rw (n, take-length ids) in
     rw f
 
-pub no-channels : {z : Channel} → z ≡ newChannel 0 → record { answer = Refused badSetup; joiner = record { channels = replicate channelLimit z; count = 0; room = 0 } } ≡ refusedSetup
+pub no-channels : {z : Channel} → z ≡ newChannel 0
+    → record { answer = Refused badSetup; joiner = record { channels = replicate channelLimit z; count = 0; room = 0 } } ≡ refusedSetup
 unfolding freshOf
 no-channels e = rw e
 
@@ -53,13 +56,15 @@ pub judged-good : {t : Bool} {ws : List ℕ} (j : Joiner) (b : ℕ) → length (
 judged-good j b w ew e = e ∙ ap (λ (v : List ℕ). good (joinerIn v) b) ew ∙ good-back j b w
 
 module _ (ids : List ℕ) (R b : ℕ) where
-  pub set-up : {t : Bool} {j : Joiner} → length ids ≤ channelLimit → j ≡ freshOf ids R → t ≡ good j b → t ≡ true → record { answer = Accepted; joiner = j } ≡ setupOf ids R b
+  pub set-up : {t : Bool} {j : Joiner} → length ids ≤ channelLimit → j ≡ freshOf ids R → t ≡ good j b → t ≡ true
+      → record { answer = Accepted; joiner = j } ≡ setupOf ids R b
   unfolding setupOf
   set-up {t} {j} h e f g =
       let q : good (freshOf ids R) b ≡ true = ap (λ (i : Joiner). good i b) (sym e) ∙ sym f ∙ g in
       rw (le-leb (length ids) channelLimit h, q, e)
 
-  pub not-good : {t : Bool} {j : Joiner} {s : NewJoiner} → length ids ≤ channelLimit → j ≡ freshOf ids R → t ≡ good j b → t ≡ false → s ≡ refusedSetup → s ≡ setupOf ids R b
+  pub not-good : {t : Bool} {j : Joiner} {s : NewJoiner} → length ids ≤ channelLimit → j ≡ freshOf ids R → t ≡ good j b → t ≡ false → s
+      ≡ refusedSetup → s ≡ setupOf ids R b
   unfolding setupOf
   not-good {t} {j} {s} h e f g r =
       let q : good (freshOf ids R) b ≡ false = ap (λ (i : Joiner). good i b) (sym e) ∙ sym f ∙ g in

@@ -75,7 +75,8 @@ pub counted : (ws : List ℕ) (k : ℕ) → k < joinerIn ws .count → k < getD 
 unfolding joinerIn freshOf
 counted ws k h = go (isJoiner ws) h
   where
-    go : (b : Bool) → k < cond b (record { channels = channelsIn ws (getD ws 0 0); count = getD ws 0 0; room = getD ws 1 0 }) (freshOf [] 0) .count → k < getD ws 0 0
+    go : (b : Bool) → k < cond b (record { channels = channelsIn ws (getD ws 0 0); count = getD ws 0 0; room = getD ws 1 0 })
+        (freshOf [] 0) .count → k < getD ws 0 0
     go true q = q
     go false q = absurd (omega arith)
 
@@ -87,12 +88,14 @@ pub channels-length : (ws : List ℕ) → length (joinerIn ws .channels) ≡ cha
 unfolding joinerIn freshOf
 channels-length ws = go (isJoiner ws) refl
   where
-    go : (t : Bool) → isJoiner ws ≡ t → length (cond t (record { channels = channelsIn ws (getD ws 0 0); count = getD ws 0 0; room = getD ws 1 0 }) (freshOf [] 0) .channels) ≡ channelLimit
+    go : (t : Bool) → isJoiner ws ≡ t
+        → length (cond t (record { channels = channelsIn ws (getD ws 0 0); count = getD ws 0 0; room = getD ws 1 0 }) (freshOf [] 0) .channels) ≡ channelLimit
     go true e = stored-length ws (few-words ws e)
     go false e = refl
 
 -- a room's size is the second word's, wherever it is asked for
-same-room : {f : Found} (ws : List ℕ) (b y : ℕ) (r : Heard) (n : ℕ) → f ≡ foundOf (joinerIn ws) b y → judgedBy f (getD ws 1 0) r n ≡ judgedBy f (joinerIn ws .room) r n
+same-room : {f : Found} (ws : List ℕ) (b y : ℕ) (r : Heard) (n : ℕ) → f ≡ foundOf (joinerIn ws) b y → judgedBy f (getD ws 1 0) r n
+    ≡ judgedBy f (joinerIn ws .room) r n
 unfolding foundOf judgedBy
 same-room {f} ws b y r n e = go (isJoiner ws) refl
   where
@@ -100,7 +103,8 @@ same-room {f} ws b y r n e = go (isJoiner ws) refl
     go true q = rw (stored-joiner ws q)
     go false q = let bad : f ≡ Bad = e ∙ rw (none-good ws b q) in rw bad
 
-pub judged-in : {f : Found} {r : Heard} {y R : ℕ} {x : Judged} (ws : List ℕ) (b : ℕ) (d : List ℕ) → R ≡ getD ws 1 0 → r ≡ heardIn d → y ≡ senderBy r → f ≡ foundOf (joinerIn ws) b y → x ≡ judgedBy f R r (length d) → x ≡ judgedOf (joinerIn ws) b d
+pub judged-in : {f : Found} {r : Heard} {y R : ℕ} {x : Judged} (ws : List ℕ) (b : ℕ) (d : List ℕ) → R ≡ getD ws 1 0 → r ≡ heardIn d → y
+    ≡ senderBy r → f ≡ foundOf (joinerIn ws) b y → x ≡ judgedBy f R r (length d) → x ≡ judgedOf (joinerIn ws) b d
 judged-in {f} {r} {y} {R} {x} ws b d eR er ey ef ex =
     judged-by (joinerIn ws) b d (channels-length ws) er ey ef (ex ∙ ap (λ (q : ℕ). judgedBy f q r (length d)) eR ∙ same-room ws b y r (length d) ef)
 

@@ -17,7 +17,8 @@ use Rattle.channel.specs.Setup.{channelLimit, newChannel}
 use Rattle.channel.specs.Take.{changed}
 use Rattle.channel.specs.declared.records.Channel.{Channel}
 use Rattle.wire.proofs.Cond.{and-left, and-right, and-true}
-use Rattle.joiner.specs.JoinerWords.{recordAt, joinerWords, senderLimit, recordIn, isRecord, areRecords, recordsIn, channelsIn, isJoiner, joinerIn, recordWords}
+use Rattle.joiner.specs.JoinerWords.{recordAt, joinerWords, senderLimit, recordIn, isRecord, areRecords, recordsIn}
+use Rattle.joiner.specs.JoinerWords.{channelsIn, isJoiner, joinerIn, recordWords}
 use Rattle.joiner.proofs.Stored.{records-length}
 use Rattle.joiner.proofs.Storing.{seen-back, seen-small}
 

@@ -29,7 +29,8 @@ record-at ws (suc n) k r h =
     ap (λ (u : List Channel). getD u k (newChannel 0)) (append-assoc (recordsIn ws n) (recordIn ws n ∷ []) r)
     ∙ go (ltb k n) refl (λ l. record-at ws n k (recordIn ws n ∷ r) l)
   where
-    go : (t : Bool) → ltb k n ≡ t → (k < n → getD (recordsIn ws n ++ (recordIn ws n ∷ r)) k (newChannel 0) ≡ recordIn ws k) → getD (recordsIn ws n ++ (recordIn ws n ∷ r)) k (newChannel 0) ≡ recordIn ws k
+    go : (t : Bool) → ltb k n ≡ t → (k < n → getD (recordsIn ws n ++ (recordIn ws n ∷ r)) k (newChannel 0) ≡ recordIn ws k)
+        → getD (recordsIn ws n ++ (recordIn ws n ∷ r)) k (newChannel 0) ≡ recordIn ws k
     go true e f = f (ltb-true k n e)
     go false e f =
         let s : k ≡ length (recordsIn ws n) + 0 = omega (arith, records-length ws n, ltb-false k n e) in
@@ -81,7 +82,12 @@ module _ (ws : List ℕ) (k : ℕ) where
 
   pub says-kept : Kept ws k → goodRecord ws k ≡ true
   says-kept h =
-      rw (lt-ltb (getD ws (recordAt k) 0) senders (h .sender), lt-ltb (getD ws (recordAt k + 1) 0) seenLimit (h .seen), lt-ltb (getD ws (recordAt k + 2) 0) counters (h .last), le-leb (getD ws (recordAt k + 3) 0) (getD ws 1 0) (h .held))
+      rw (
+        lt-ltb (getD ws (recordAt k) 0) senders (h .sender),
+        lt-ltb (getD ws (recordAt k + 1) 0) seenLimit (h .seen),
+        lt-ltb (getD ws (recordAt k + 2) 0) counters (h .last),
+        le-leb (getD ws (recordAt k + 3) 0) (getD ws 1 0) (h .held),
+      )
 
   pub kept-record : Kept ws k → isRecord ws k ≡ true
   kept-record h =
@@ -90,7 +96,11 @@ module _ (ws : List ℕ) (k : ℕ) where
 
   pub kept-channel : Kept ws k → goodChannel (getD ws 1 0) (recordIn ws k) ≡ true
   kept-channel h =
-      rw (lt-ltb (getD ws (recordAt k) 0) senders (h .sender), le-leb (getD ws (recordAt k + 3) 0) (getD ws 1 0) (h .held), lt-ltb (getD ws (recordAt k + 2) 0) counters (h .last))
+      rw (
+        lt-ltb (getD ws (recordAt k) 0) senders (h .sender),
+        le-leb (getD ws (recordAt k + 3) 0) (getD ws 1 0) (h .held),
+        lt-ltb (getD ws (recordAt k + 2) 0) counters (h .last),
+      )
 
   pub channel-kept : isRecord ws k ≡ true → goodChannel (getD ws 1 0) (recordIn ws k) ≡ true → goodRecord ws k ≡ true
   channel-kept e f =
@@ -169,11 +179,13 @@ module _ (ws : List ℕ) (b : ℕ) (z : Sized ws) where
           let i : isJoiner ws ≡ true = is-joiner ws b g in
           let a : areRecords ws n ≡ true = and-right (leb n channelLimit) (areRecords ws n) i in
           let e : good (storedIn ws) b ≡ true = rw (stored-joiner ws i) at g in
-          let q : (every (goodChannel R) chs && distinct (sendersIn ws)) ≡ true = and-right (goodSizes n R b) (every (goodChannel R) chs && distinct (sendersIn ws)) e in
+          let q : (every (goodChannel R) chs && distinct (sendersIn ws))
+          ≡ true = and-right (goodSizes n R b) (every (goodChannel R) chs && distinct (sendersIn ws)) e in
           let v : every (goodChannel R) chs ≡ true = and-left (every (goodChannel R) chs) (distinct (sendersIn ws)) q in
           and-true (goodRecords ws n) (distinct (sendersIn ws))
           (all-by (goodRecord ws) n
-          (λ k h. channel-kept ws k (all-at (isRecord ws) n a k h) (ap (goodChannel R) (sym (channel-is k h)) ∙ every-at (goodChannel R) (newChannel 0) chs k v (omega (arith, count-is)))))
+          (λ k h. channel-kept ws k (all-at (isRecord ws) n a k h)
+          (ap (goodChannel R) (sym (channel-is k h)) ∙ every-at (goodChannel R) (newChannel 0) chs k v (omega (arith, count-is)))))
           (and-right (every (goodChannel R) chs) (distinct (sendersIn ws)) q)
 
       back : areGood ws ≡ true → good (joinerIn ws) b ≡ true

@@ -25,7 +25,8 @@ behind ws p r x q e h =
     set-over (over ws p r) q x (omega arith) ∙ ap (λ (k : ℕ). over (over ws p r) k (x ∷ [])) e ∙ over-over ws p r (x ∷ []) (omega arith)
 
 pub put-record : {b : ℕ} (ws : List ℕ) (k : ℕ) (ch : Channel) → length ws ≡ joinerWords → k < channelLimit → b ≡ cond (ch .seen) 1 0 →
-    set (set (set (set ws (recordAt k) (ch .sender)) (recordAt k + 1) b) (recordAt k + 2) (ch .last)) (recordAt k + 3) (ch .held) ≡ written ws (recordAt k) (recordWords ch)
+    set (set (set (set ws (recordAt k) (ch .sender)) (recordAt k + 1) b) (recordAt k + 2) (ch .last)) (recordAt k + 3) (ch .held)
+    ≡ written ws (recordAt k) (recordWords ch)
 put-record {b} ws k ch w l e =
     let p : ℕ = recordAt k in
     let one : set ws p (ch .sender) ≡ over ws p (ch .sender ∷ []) = set-over ws p (ch .sender) (omega arith) in
@@ -87,7 +88,8 @@ module _ (chs : List Channel) (l : length chs ≡ channelLimit) where
       let m : length old ≡ 4 * i = made-length i (omega arith) in
       let v : length (over s 2 old) ≡ length s = length-over s 2 old (omega arith) in
       let t : recordsWords (take (i + 1) chs) ≡ old ++ recordWords ch =
-      ap (λ (q : ℕ). recordsWords (take q chs)) (add-one i) ∙ ap recordsWords (take-suc chs i (newChannel 0) (omega arith)) ∙ words-append (take i chs) (ch ∷ []) in
+      ap (λ (q : ℕ). recordsWords (take q chs)) (add-one i) ∙ ap recordsWords (take-suc chs i (newChannel 0) (omega arith))
+      ∙ words-append (take i chs) (ch ∷ []) in
       let q : length (old ++ recordWords ch) ≡ 4 * i + 4 = length-append old (recordWords ch) ∙ omega arith in
       let z : recordAt i ≡ 2 + length old = omega arith in
       f

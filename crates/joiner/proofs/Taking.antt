@@ -49,7 +49,8 @@ pub put-nowhere : {p : Put} (rooms d : List ℕ) → p ≡ Nowhere → rooms ≡
 unfolding putBy
 put-nowhere rooms d e = rw e
 
-pub put-at : {p : Put} {x : List ℕ} (rooms d : List ℕ) (a : ℕ) → p ≡ At a → x ≡ written rooms a (take (length d - headerLength) (drop headerLength d)) → x ≡ putBy rooms p d
+pub put-at : {p : Put} {x : List ℕ} (rooms d : List ℕ) (a : ℕ) → p ≡ At a → x
+    ≡ written rooms a (take (length d - headerLength) (drop headerLength d)) → x ≡ putBy rooms p d
 unfolding putBy
 put-at rooms d a e f = rw e (f ∙ ap (written rooms a) (take-all (length d - headerLength) (drop headerLength d) (omega (arith, length-drop headerLength d))))
 
@@ -77,7 +78,8 @@ not-delivered (TooLong m) d rooms t = refl
 -- `take`
 module _
     {f : Found} {r : Heard} {ws : List ℕ} {y : ℕ} {x : Judged} (j : Joiner) (rooms d : List ℕ) (w : length (j .channels) ≡ channelLimit)
-    (er : r ≡ heardIn d) (ey : y ≡ senderBy r) (ew : ws ≡ wordsOf j) (ef : f ≡ foundOf (joinerIn ws) (length rooms) y) (ex : x ≡ judgedBy f (j .room) r (length d)) where
+    (er : r ≡ heardIn d) (ey : y ≡ senderBy r) (ew : ws ≡ wordsOf j) (ef : f ≡ foundOf (joinerIn ws) (length rooms) y)
+    (ex : x ≡ judgedBy f (j .room) r (length d)) where
   judged : x ≡ judgedOf j (length rooms) d
   judged = judged-by j (length rooms) d w er ey (looked j (length rooms) y w ew ef) ex
 

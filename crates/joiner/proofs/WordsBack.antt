@@ -22,12 +22,14 @@ pub taken-back : (ws rooms d : List ℕ) → length ws ≡ joinerWords → joine
 unfolding takeWords takenOf takenBy
 taken-back ws rooms d w = go (judgedOf (joinerIn ws) (length rooms) d) refl
   where
-    go : (x : Judged) → judgedOf (joinerIn ws) (length rooms) d ≡ x → joinerIn (wordsBy ws (placeIn (joinerIn ws) d) (takenBy (joinerIn ws) x)) ≡ takenBy (joinerIn ws) x .joiner
+    go : (x : Judged) → judgedOf (joinerIn ws) (length rooms) d ≡ x
+        → joinerIn (wordsBy ws (placeIn (joinerIn ws) d) (takenBy (joinerIn ws) x)) ≡ takenBy (joinerIn ws) x .joiner
     go (Refusal n) e = refl
     go (Move k s) e =
         let j : Joiner = joinerIn ws in
         let m : Moved j (length rooms) d k s = moves ws (length rooms) d k s e in
         let g : goodChannel (j .room) (channelAt j k) ≡ true = good-says j (length rooms) (channels-length ws) (m .well) .each k (m .known) in
-        let q : s .channel .sender < senderLimit = omega (arith, step-sender (steps ws (length rooms) d k s e), channel-says (j .room) (channelAt j k) g .sender) in
+        let q : s .channel .sender < senderLimit = omega
+        (arith, step-sender (steps ws (length rooms) d k s e), channel-says (j .room) (channelAt j k) g .sender) in
         ap joinerIn (words-moved ws (length rooms) d k s e)
         ∙ record-back ws k (s .channel) w (some-joiner ws k (m .known)) (counted ws k (m .known)) q

@@ -67,7 +67,8 @@ unfolding inRange belowZero
 moved code w l b m h g e = rw (e, g, h) refl
 
 -- a number that is no integer's code has no values to count; one that is no base code has none at all
-pub no-last : (x : ℕ) → (x ≡ 0 → ⊥) → (x ≡ 1 → ⊥) → (x ≡ 2 → ⊥) → (x ≡ 3 → ⊥) → (x ≡ 4 → ⊥) → (x ≡ 5 → ⊥) → (x ≡ 6 → ⊥) → (x ≡ 7 → ⊥) → (x ≡ 8 → ⊥) → (x ≡ 9 → ⊥) → (x ≡ 10 → ⊥) → 0 ≡ last x
+pub no-last : (x : ℕ) → (x ≡ 0 → ⊥) → (x ≡ 1 → ⊥) → (x ≡ 2 → ⊥) → (x ≡ 3 → ⊥) → (x ≡ 4 → ⊥) → (x ≡ 5 → ⊥) → (x ≡ 6 → ⊥) → (x ≡ 7 → ⊥)
+    → (x ≡ 8 → ⊥) → (x ≡ 9 → ⊥) → (x ≡ 10 → ⊥) → 0 ≡ last x
 unfolding last
 no-last x d0 d1 d2 d3 d4 d5 d6 d7 d8 d9 d10 =
     let h4 : 4 ≤ x = above 3 x (above 2 x (above 1 x (above 0 x (omega arith) d0) d1) d2) d3 in

@@ -31,7 +31,8 @@ unfolding wordAt base wordOf
 at-truth s p x r code e h c = rw (c, ← e) h
 
 module _ (n k : ℕ) where
-  pub at-extended : (half : ℕ) → ((s : List ℕ) (p : ℕ) → extended half (number k s p) ≡ wordAt n s p) → (s : List ℕ) (p x r code : ℕ) → x ≡ number k s p → r ≡ extended half x → code ≡ n → r ≡ wordAt code s p
+  pub at-extended : (half : ℕ) → ((s : List ℕ) (p : ℕ) → extended half (number k s p) ≡ wordAt n s p) → (s : List ℕ) (p x r code : ℕ) → x
+      ≡ number k s p → r ≡ extended half x → code ≡ n → r ≡ wordAt code s p
   at-extended half is s p x r code e h c = h ∙ ap (extended half) e ∙ is s p ∙ ap (λ (m : ℕ). wordAt m s p) (sym c)
 
   pub at-number : ((s : List ℕ) (p : ℕ) → number k s p ≡ wordAt n s p) → (s : List ℕ) (p x code : ℕ) → x ≡ number k s p → code ≡ n → x ≡ wordAt code s p
@@ -41,7 +42,8 @@ above : (n x : ℕ) → n ≤ x → (x ≡ n → ⊥) → n + 1 ≤ x
 above n x h d = omega arith
 
 -- no base code at all
-module _ (x : ℕ) (d0 : x ≡ 0 → ⊥) (d1 : x ≡ 1 → ⊥) (d2 : x ≡ 2 → ⊥) (d3 : x ≡ 3 → ⊥) (d4 : x ≡ 4 → ⊥) (d5 : x ≡ 5 → ⊥) (d6 : x ≡ 6 → ⊥) (d7 : x ≡ 7 → ⊥) (d8 : x ≡ 8 → ⊥) (d9 : x ≡ 9 → ⊥) (d10 : x ≡ 10 → ⊥) (d11 : x ≡ 11 → ⊥) (d12 : x ≡ 12 → ⊥) where
+module _ (x : ℕ) (d0 : x ≡ 0 → ⊥) (d1 : x ≡ 1 → ⊥) (d2 : x ≡ 2 → ⊥) (d3 : x ≡ 3 → ⊥) (d4 : x ≡ 4 → ⊥) (d5 : x ≡ 5 → ⊥) (d6 : x ≡ 6 → ⊥)
+    (d7 : x ≡ 7 → ⊥) (d8 : x ≡ 8 → ⊥) (d9 : x ≡ 9 → ⊥) (d10 : x ≡ 10 → ⊥) (d11 : x ≡ 11 → ⊥) (d12 : x ≡ 12 → ⊥) where
   not-base : base x ≡ none
   not-base =
       let h4 : 4 ≤ x = above 3 x (above 2 x (above 1 x (above 0 x (omega arith) d0) d1) d2) d3 in

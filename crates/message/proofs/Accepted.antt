@@ -9,7 +9,8 @@ use borrow.Author.Tests.{lt-leb, ne-eqb, ltb-false, leb-false, eqb-true, eqb-fal
 use lib.Dec.{eqb, leb, ltb}
 use lib.ListN.{length}
 use Rattle.wire.proofs.Cond.{no-if, no-lt, no-le, no-ne, passed}
-use Rattle.message.specs.Header.{headerLength, theMark, markIn, theVersion, versionIn, reservedDomains, domainIn, senderIn, idIn, payloadSizeIn, payloadIn}
+use Rattle.message.specs.Header.{headerLength, theMark, markIn, theVersion, versionIn, reservedDomains, domainIn, senderIn}
+use Rattle.message.specs.Header.{idIn, payloadSizeIn, payloadIn}
 use Rattle.message.specs.Refusal.{first, platforms, contentsRefusal, frameRefusal, addressRefusal, readRefusal, sizeLimit, writeRefusal}
 
 pub record Readable (own : ℕ) (s : List ℕ) : Type 0 where
@@ -94,5 +95,6 @@ accepts own s a =
 
 pub admits : (domain id : ℕ) (payload : List ℕ) (room : ℕ) → Writable domain id payload room → writeRefusal domain id payload room ≡ 0
 admits domain id payload room a =
-    no-le 4 _ reservedDomains domain (a .domain) ∙ no-le 5 _ sizeLimit (length payload) (a .size) ∙ first-none (contentsRefusal domain id payload) _ (a .contents)
+    no-le 4 _ reservedDomains domain (a .domain) ∙ no-le 5 _ sizeLimit (length payload) (a .size)
+    ∙ first-none (contentsRefusal domain id payload) _ (a .contents)
     ∙ no-lt 10 0 room (headerLength + length payload) (a .fits)

@@ -11,7 +11,8 @@ use lib.Dec.{eqb, leb}
 use lib.ListN.{length, take, drop, length-drop, drop-of-length-le}
 use lib.Seq.{take-all}
 use Rattle.wire.specs.Bytes.{number, Octets}
-use Rattle.message.specs.Header.{headerLength, theMark, markIn, theVersion, versionIn, platformDomain, domainIn, reservedDomains, senderIn, idIn, payloadSizeIn, payloadIn}
+use Rattle.message.specs.Header.{headerLength, theMark, markIn, theVersion, versionIn, platformDomain, domainIn}
+use Rattle.message.specs.Header.{reservedDomains, senderIn, idIn, payloadSizeIn, payloadIn}
 use Rattle.message.specs.Platform.{platformStatus, reservedID, payloadLength, reservedStates}
 use Rattle.message.specs.Refusal.{first, frameRefusal, platforms, addressRefusal, contentsRefusal, readRefusal}
 use Rattle.message.proofs.Accepted.{first-none, first-some}
@@ -68,7 +69,8 @@ by-bytes n a b c own h e = go (eqb a 0) (eqb b 0) refl refl
         let k : 256 ≤ n = omega (arith, eqb-false a 0 p) in
         rw (p, le-leb 256 n k)
 
-pub sender-judged : {a b c : ℕ} (own : ℕ) (s : List ℕ) → Octets s → a ≡ number 1 s 4 → b ≡ number 0 s 6 → c ≡ number 0 s 7 → ((eqb a 0 && eqb b 0) && not (eqb c own)) ≡ not (leb platforms (senderIn s) || eqb (senderIn s) own)
+pub sender-judged : {a b c : ℕ} (own : ℕ) (s : List ℕ) → Octets s → a ≡ number 1 s 4 → b ≡ number 0 s 6 → c ≡ number 0 s 7
+    → ((eqb a 0 && eqb b 0) && not (eqb c own)) ≡ not (leb platforms (senderIn s) || eqb (senderIn s) own)
 sender-judged {a} {b} {c} own s o p q r = by-bytes (senderIn s) a b c own (rw r (o 7)) (rw (p, q, r) (omega arith))
 
 module _ (domain id : ℕ) (payload : List ℕ) where
@@ -115,7 +117,8 @@ module _ (own : ℕ) (s : List ℕ) (frame : ℕ) (f : frame ≡ frameRefusal s)
     pub address-first : (address ≡ 0 → ⊥) → address ≡ readRefusal own s
     address-first h = a ∙ sym (past-frame ∙ first-some (addressRefusal own s) _ (λ e. h (a ∙ e)))
 
-    pub contents-last : {domain id contents : ℕ} {payload : List ℕ} → address ≡ 0 → domain ≡ domainIn s → id ≡ idIn s → payload ≡ payloadIn s → contents ≡ contentsRefusal domain id payload → contents ≡ readRefusal own s
+    pub contents-last : {domain id contents : ℕ} {payload : List ℕ} → address ≡ 0 → domain ≡ domainIn s → id ≡ idIn s → payload
+        ≡ payloadIn s → contents ≡ contentsRefusal domain id payload → contents ≡ readRefusal own s
     contents-last addressed d i p e =
         e ∙ (λ t. contentsRefusal (d t) (i t) (p t)) ∙ sym (past-frame ∙ first-none (addressRefusal own s) _ (sym a ∙ addressed))
 

@@ -24,7 +24,8 @@ abbrev fields : ℕ → ℕ → ℕ → ℕ → ℕ → Header
 fields domain size seq platform id = record { domain = domain; platform = platform; id = id; «payload_size» = size; sequence = seq }
 
 -- what is written reads back
-module _ (own domain id seq : ℕ) (payload : List ℕ) (room reader : ℕ) (o : own < platforms) (r : own ≡ reader → ⊥) (i : id < span 2) (q : seq < span 2) (w : writeRefusal domain id payload room ≡ 0) where
+module _ (own domain id seq : ℕ) (payload : List ℕ) (room reader : ℕ) (o : own < platforms) (r : own ≡ reader → ⊥) (i : id < span 2)
+    (q : seq < span 2) (w : writeRefusal domain id payload room ≡ 0) where
   abbrev message : List ℕ
   message = messageBytes own domain id seq payload
 
@@ -59,7 +60,8 @@ module _ (own domain id seq : ℕ) (payload : List ℕ) (room reader : ℕ) (o :
       })
 
   the-header : headerIn message ≡ headerFor own domain id seq payload
-  the-header = ap₂ (fields domain (payloadSizeIn message) (sequenceIn message)) sender its-id ∙ ap₂ (λ (n m : ℕ). fields domain n m own id) its-size its-sequence
+  the-header = ap₂ (fields domain (payloadSizeIn message) (sequenceIn message)) sender its-id
+      ∙ ap₂ (λ (n m : ℕ). fields domain n m own id) its-size its-sequence
 
   pub reads-back : readOf reader message ≡ Read (headerFor own domain id seq payload) (messageOf domain id (number 2 payload 0)) headerLength (length payload)
   reads-back =

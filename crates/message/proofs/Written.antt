@@ -18,7 +18,10 @@ use Rattle.message.specs.Writing.{headerFor, messageBytes, writeOf, unle
 use Rattle.message.specs.Writing as Writing
 use Rattle.message.proofs.Accepted.{Writable, writable}
 
-pub header-laid : {a b c d e f g : List ℕ} (s : List ℕ) (h : Header) → headerLength ≤ length s → a ≡ written s 0 (bytes 1 theMark) → b ≡ written a 2 (bytes 0 theVersion) → c ≡ written b 3 (bytes 0 (h .domain)) → d ≡ written c 4 (bytes 2 (h .platform)) → e ≡ written d 8 (bytes 2 (h .id)) → f ≡ written e 12 (bytes 2 (h .«payload_size»)) → g ≡ written f 16 (bytes 2 (h .sequence)) → g ≡ written s 0 (headerBytes h)
+pub header-laid : {a b c d e f g : List ℕ} (s : List ℕ) (h : Header) → headerLength ≤ length s → a ≡ written s 0 (bytes 1 theMark) → b
+    ≡ written a 2 (bytes 0 theVersion) → c ≡ written b 3 (bytes 0 (h .domain)) → d ≡ written c 4 (bytes 2 (h .platform)) → e
+    ≡ written d 8 (bytes 2 (h .id)) → f ≡ written e 12 (bytes 2 (h .«payload_size»)) → g ≡ written f 16 (bytes 2 (h .sequence)) → g
+    ≡ written s 0 (headerBytes h)
 header-laid s h long a b c d e f g =
     let A : List ℕ = bytes 1 theMark in
     let B : List ℕ = A ++ bytes 0 theVersion in
@@ -60,7 +63,8 @@ module _ (own domain id seq : ℕ) (payload out : List ℕ) (n : ℕ) (e : n ≡
   unfoldable laid : List ℕ
   laid = over out 0 (messageBytes own domain id seq payload)
 
-  pub output-in : {h : Header} {a b : List ℕ} → n ≡ 0 → h ≡ headerFor own domain id seq payload → a ≡ written out 0 (headerBytes h) → b ≡ written a headerLength payload → b ≡ outputAfter own domain id seq payload out
+  pub output-in : {h : Header} {a b : List ℕ} → n ≡ 0 → h ≡ headerFor own domain id seq payload → a ≡ written out 0 (headerBytes h) → b
+      ≡ written a headerLength payload → b ≡ outputAfter own domain id seq payload out
   unfolding laid
   output-in {h} {a} {b} z hd l w =
       let ok : Writable domain id payload (length out) = writable domain id payload (length out) (sym e ∙ z) in

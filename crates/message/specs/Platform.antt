@@ -39,7 +39,8 @@ abbrev pub statusValue : Status → ℕ
 statusValue Down = 0
 statusValue Up = 1
 
--- 01, Wire layouts: the message read out, its kind, and within a status its UP or DOWN: the platform-level message with this ID whose payload's field, if it has one, is this
+-- 01, Wire layouts: the message read out, its kind, and within a status its UP or DOWN: the platform-level message with this ID
+-- whose payload's field, if it has one, is this
 abbrev pub platformMessage : ℕ → ℕ → Message
 platformMessage id field =
     cond (eqb id platformStatus) (PlatformStatus (statusOf field))

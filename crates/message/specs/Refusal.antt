@@ -5,7 +5,8 @@ use mathlib.Core.Bool.{not, cond, _&&_, _||_}
 use lib.Dec.{eqb, leb, ltb}
 use lib.ListN.{length}
 use Rattle.wire.specs.Bytes.{number}
-use Rattle.message.specs.Header.{headerLength, theMark, markIn, theVersion, versionIn, platformDomain, reservedDomains, domainIn, senderIn, idIn, payloadSizeIn, payloadIn}
+use Rattle.message.specs.Header.{headerLength, theMark, markIn, theVersion, versionIn, platformDomain, reservedDomains}
+use Rattle.message.specs.Header.{domainIn, senderIn, idIn, payloadSizeIn, payloadIn}
 use Rattle.message.specs.Platform.{platformStatus, reservedID, payloadLength, reservedStates}
 
 -- 01's numbers, by name

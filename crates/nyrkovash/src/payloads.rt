@@ -35,7 +35,8 @@ pub extern "C" fn nyr_unpack_in(
     given: &mut usize,
 ) -> u32
     ensures { λ r. ⌜ r ≡ unpackNumberIn (now (table .entry)) (now (sections .entry)) number (now (payload .entry)) (now (words .entry)) ⌝ }
-    ensures { λ _. ⌜ now (words .exit) ≡ wordsIn (now (table .entry)) (sectionsIn (now (sections .entry))) number (now (payload .entry)) (now (words .entry)) ⌝ }
+    ensures { λ _. ⌜ now (words .exit)
+        ≡ wordsIn (now (table .entry)) (sectionsIn (now (sections .entry))) number (now (payload .entry)) (now (words .entry)) ⌝ }
     ensures { λ _. ⌜ now (given .exit)
         ≡ unpackGivenIn (now (table .entry)) (now (sections .entry)) number (now (payload .entry)) (now (words .entry)) (now (given .entry)) ⌝ }
 {

@@ -33,7 +33,8 @@ pub extern "C" fn nyr_receive(
     ensures { λ r. ⌜ r ≡ receiveNumber own (now (platform .entry)) (now (table .entry)) (now (message .entry)) (now (out .entry)) ⌝ }
     ensures { λ _. ⌜ now (platform .exit) ≡ receiveWords own (now (platform .entry)) (now (table .entry)) (now (message .entry)) (now (out .entry)) ⌝ }
     ensures { λ _. ⌜ now (out .exit) ≡ receiveOutput own (now (platform .entry)) (now (table .entry)) (now (message .entry)) (now (out .entry)) ⌝ }
-    ensures { λ _. ⌜ now (heard .exit) ≡ receiveHeard own (now (platform .entry)) (now (table .entry)) (now (message .entry)) (now (out .entry)) (now (heard .entry)) ⌝ }
+    ensures { λ _. ⌜ now (heard .exit)
+        ≡ receiveHeard own (now (platform .entry)) (now (table .entry)) (now (message .entry)) (now (out .entry)) (now (heard .entry)) ⌝ }
 {
     platform_words::receive(own, platform, table, message, out, heard)
 }
@@ -50,9 +51,13 @@ pub extern "C" fn nyr_receive_in(
     heard: &mut [u64; HEARD_WORDS],
 ) -> u32
     ensures { λ r. ⌜ r ≡ receiveInNumber own (now (platform .entry)) (now (table .entry)) (now (sections .entry)) (now (message .entry)) (now (out .entry)) ⌝ }
-    ensures { λ _. ⌜ now (platform .exit) ≡ receiveInWords own (now (platform .entry)) (now (table .entry)) (now (sections .entry)) (now (message .entry)) (now (out .entry)) ⌝ }
-    ensures { λ _. ⌜ now (out .exit) ≡ receiveInOutput own (now (platform .entry)) (now (table .entry)) (now (sections .entry)) (now (message .entry)) (now (out .entry)) ⌝ }
-    ensures { λ _. ⌜ now (heard .exit) ≡ receiveInHeard own (now (platform .entry)) (now (table .entry)) (now (sections .entry)) (now (message .entry)) (now (out .entry)) (now (heard .entry)) ⌝ }
+    ensures { λ _. ⌜ now (platform .exit)
+        ≡ receiveInWords own (now (platform .entry)) (now (table .entry)) (now (sections .entry)) (now (message .entry)) (now (out .entry)) ⌝ }
+    ensures { λ _. ⌜ now (out .exit)
+        ≡ receiveInOutput own (now (platform .entry)) (now (table .entry)) (now (sections .entry)) (now (message .entry)) (now (out .entry)) ⌝ }
+    ensures { λ _. ⌜ now (heard .exit)
+        ≡ receiveInHeard own (now (platform .entry)) (now (table .entry)) (now (sections .entry)) (now (message .entry)) (now (out .entry))
+        (now (heard .entry)) ⌝ }
 {
     platform_words::receive_in(own, platform, table, sections, message, out, heard)
 }

@@ -52,7 +52,8 @@ module _ (ws : List ℕ) where
       let e : from + 1 + length a ≡ from + suc (length a) = omega arith in
       and-true (isThere ws c from) (allTaken ws (a ++ b) (from + 1)) (d .0) (taken-append a b (from + 1) (d .1) (ap (λ (n : ℕ). allTaken ws b n) e ∙ h))
 
-  pub laid-append : (a b : List ℕ) (p : Place) (x : List ℕ) → laid ws (a ++ b) p x ≡ laid ws b (record { from = p .from + length a; to = ends a (p .to) }) (laid ws a p x)
+  pub laid-append : (a b : List ℕ) (p : Place) (x : List ℕ) → laid ws (a ++ b) p x
+      ≡ laid ws b (record { from = p .from + length a; to = ends a (p .to) }) (laid ws a p x)
   unfolding laid ends
   laid-append [] b p x = ap (λ (n : ℕ). laid ws b (record { from = n; to = p .to }) x) (sym (add-zero (p .from)))
   laid-append (c ∷ a) b p x =
@@ -102,12 +103,14 @@ module _ (ws : List ℕ) where
   count-taken [] from = refl
   count-taken (c ∷ cs) from = go (isThere ws c from) refl (count-taken cs (from + 1))
     where
-      go : (b : Bool) → isThere ws c from ≡ b → allTaken ws (take (takenCount ws cs (from + 1)) cs) (from + 1) ≡ true → allTaken ws (take (takenCount ws (c ∷ cs) from) (c ∷ cs)) from ≡ true
+      go : (b : Bool) → isThere ws c from ≡ b → allTaken ws (take (takenCount ws cs (from + 1)) cs) (from + 1) ≡ true
+          → allTaken ws (take (takenCount ws (c ∷ cs) from) (c ∷ cs)) from ≡ true
       go true e h = rw e (and-true (isThere ws c from) (allTaken ws (take (takenCount ws cs (from + 1)) cs) (from + 1)) e h)
       go false e h = rw e refl
 
   -- what a walk over them comes to
-  pub at-start : (f : ℕ → Place → List ℕ → Step) (m : ℕ) (q : Place) (x : List ℕ) (p : Place) (y : List ℕ) → through m f q x ≡ on p y → through (m + 0) f q x ≡ on p y
+  pub at-start : (f : ℕ → Place → List ℕ → Step) (m : ℕ) (q : Place) (x : List ℕ) (p : Place) (y : List ℕ) → through m f q x ≡ on p y
+      → through (m + 0) f q x ≡ on p y
   at-start f m q x p y h = ap (λ (j : ℕ). through j f q x) (add-zero m) ∙ h
 
   rest-written : (c : ℕ) (cs : List ℕ) (m : ℕ) (f : ℕ → Place → List ℕ → Step) → WritesEach ws (c ∷ cs) m f → WritesEach ws cs (m + 1) f
@@ -115,7 +118,9 @@ module _ (ws : List ℕ) where
       let e : m + 1 + k ≡ m + suc k = omega arith in
       ap (λ (n : ℕ). f n q y) e ∙ w (suc k) q y (omega arith) t
 
-  pub written-over : (cs : List ℕ) (m : ℕ) (f : ℕ → Place → List ℕ → Step) → WritesEach ws cs m f → (p : Place) → allTaken ws cs (p .from) ≡ true → (x : List ℕ) (p₀ : Place) (x₀ : List ℕ) → through m f p₀ x₀ ≡ on p x → through (m + length cs) f p₀ x₀ ≡ on (record { from = p .from + length cs; to = ends cs (p .to) }) (laid ws cs p x)
+  pub written-over : (cs : List ℕ) (m : ℕ) (f : ℕ → Place → List ℕ → Step) → WritesEach ws cs m f → (p : Place) → allTaken ws cs (p .from)
+      ≡ true → (x : List ℕ) (p₀ : Place) (x₀ : List ℕ) → through m f p₀ x₀ ≡ on p x → through (m + length cs) f p₀ x₀
+      ≡ on (record { from = p .from + length cs; to = ends cs (p .to) }) (laid ws cs p x)
   unfolding allTaken laid ends
   written-over [] m f w p t x p₀ x₀ h =
       at-start f m p₀ x₀ p x h ∙ ap (λ (n : ℕ). on (record { from = n; to = p .to }) x) (sym (add-zero (p .from)))
@@ -123,7 +128,8 @@ module _ (ws : List ℕ) where
       let d : (isThere ws c (p .from) ≡ true) × (allTaken ws cs (p .from + 1) ≡ true) = both (isThere ws c (p .from)) (allTaken ws cs (p .from + 1)) t in
       let e : m + suc (length cs) ≡ m + 1 + length cs = omega arith in
       let g : p .from + 1 + length cs ≡ p .from + suc (length cs) = omega arith in
-      let o : through (m + 1) f p₀ x₀ ≡ on (behind c p) (stored ws c p x) = through-more f p₀ x₀ m p x h ∙ ap (λ (n : ℕ). f n p x) (sym (add-zero m)) ∙ w 0 p x (omega arith) (d .0) in
+      let o : through (m + 1) f p₀ x₀ ≡ on (behind c p) (stored ws c p x) = through-more f p₀ x₀ m p x h
+      ∙ ap (λ (n : ℕ). f n p x) (sym (add-zero m)) ∙ w 0 p x (omega arith) (d .0) in
       ap (λ (n : ℕ). through n f p₀ x₀) e
       ∙ written-over cs (m + 1) f (rest-written c cs m f w) (behind c p) (d .1) (stored ws c p x) p₀ x₀ o
       ∙ ap (λ (n : ℕ). on (record { from = n; to = ends cs (p .to + width c) }) (laid ws cs (behind c p) (stored ws c p x))) g

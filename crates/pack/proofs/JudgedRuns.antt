@@ -22,9 +22,11 @@ use Rattle.pack.specs.JudgedRuns.{AllThere}
 
 module _ (ws : List ℕ) (code : ℕ) (p : Place) (x : List ℕ) where
   -- a walk over the run
-  run-on : (n : ℕ) → AllThere ws code (p .from) n → (f : ℕ → Place → List ℕ → Step) → Writes ws code f → through n f p x ≡ on (behindAll code p n) (storedAll ws code p n x)
+  run-on : (n : ℕ) → AllThere ws code (p .from) n → (f : ℕ → Place → List ℕ → Step) → Writes ws code f → through n f p x
+      ≡ on (behindAll code p n) (storedAll ws code p n x)
   unfolding through next storedAll
-  run-on zero h f g = ap₂ (λ (a b : ℕ). on (record { from = a; to = b }) x) (sym (add-zero (p .from))) (sym (ap (λ (m : ℕ). p .to + m) (zero-mul (width code)) ∙ add-zero (p .to)))
+  run-on zero h f g = ap₂ (λ (a b : ℕ). on (record { from = a; to = b }) x) (sym (add-zero (p .from)))
+      (sym (ap (λ (m : ℕ). p .to + m) (zero-mul (width code)) ∙ add-zero (p .to)))
   run-on (suc n) h f g =
       let m : ℕ = n * width code in
       let y : List ℕ = storedAll ws code p (suc n) x in
@@ -40,7 +42,8 @@ module _ (ws : List ℕ) (code : ℕ) (p : Place) (x : List ℕ) where
     pub run-long : length y ≡ length x
     run-long = as-long ws code p x n all-stored
 
-    pub run-went : (w : ℕ) → w ≡ width code → AllThere ws code (p .from) n → (f : ℕ → Place → List ℕ → Step) → Writes ws code f → through n f p x ≡ on (record { from = p .from + n; to = p .to + n * w }) y
+    pub run-went : (w : ℕ) → w ≡ width code → AllThere ws code (p .from) n → (f : ℕ → Place → List ℕ → Step) → Writes ws code f
+        → through n f p x ≡ on (record { from = p .from + n; to = p .to + n * w }) y
     run-went w e there f g = run-on n there f g ∙ rw (← e, ← all-stored) refl
 
 -- a run's end is a place that writing can come to

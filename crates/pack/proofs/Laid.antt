@@ -24,7 +24,8 @@ pub length-of : (code w : ℕ) → length (formOf code w) ≡ width code
 unfolding formOf width
 length-of code w = length-form (base code) w
 
-laid : {last : List ℕ} (out : List ℕ) (p n : ℕ) (b : List ℕ) → length b ≡ n → p + n ≤ length out → last ≡ written (take (p + n - p) (drop p out)) 0 b → putMid p (p + n - p) out last ≡ written out p b
+laid : {last : List ℕ} (out : List ℕ) (p n : ℕ) (b : List ℕ) → length b ≡ n → p + n ≤ length out → last
+    ≡ written (take (p + n - p) (drop p out)) 0 b → putMid p (p + n - p) out last ≡ written out p b
 laid {last} out p n b e h w =
     let k : p + n - p ≡ n = add-sub-cancel-left p n in
     let D : List ℕ = take n (drop p out) in
@@ -43,11 +44,13 @@ pub set-byte : (out : List ℕ) (p x w n : ℕ) → n ≡ width x → p + width 
 set-byte out p x w n is room q =
     put-form 0 out p x w n is q (set-over out p (w % 256) (omega arith) ∙ sym (written-in out p (w % 256 ∷ []) (omega arith)))
 
-pub set-form : (k : ℕ) {last : List ℕ} (out : List ℕ) (p x w n : ℕ) → n ≡ width x → p + width x ≤ length out → n ≡ 2 ^ k → last ≡ written (take (p + 2 ^ k - p) (drop p out)) 0 (bytes k (w % span k)) → putMid p (p + 2 ^ k - p) out last ≡ written out p (formOf x w)
+pub set-form : (k : ℕ) {last : List ℕ} (out : List ℕ) (p x w n : ℕ) → n ≡ width x → p + width x ≤ length out → n ≡ 2 ^ k → last
+    ≡ written (take (p + 2 ^ k - p) (drop p out)) 0 (bytes k (w % span k)) → putMid p (p + 2 ^ k - p) out last ≡ written out p (formOf x w)
 set-form k out p x w n is room q e =
     put-form k out p x w n is q (laid out p (2 ^ k) (bytes k (w % span k)) (length-bytes k (w % span k)) (omega arith) e)
 
-pub set-whole : {last : List ℕ} (out : List ℕ) (p x w n : ℕ) → n ≡ width x → p + width x ≤ length out → n ≡ 8 → Fits w64 w → last ≡ written (take (p + 8 - p) (drop p out)) 0 (bytes 3 w) → putMid p (p + 8 - p) out last ≡ written out p (formOf x w)
+pub set-whole : {last : List ℕ} (out : List ℕ) (p x w n : ℕ) → n ≡ width x → p + width x ≤ length out → n ≡ 8 → Fits w64 w → last
+    ≡ written (take (p + 8 - p) (drop p out)) 0 (bytes 3 w) → putMid p (p + 8 - p) out last ≡ written out p (formOf x w)
 set-whole out p x w n is room q f e = put-whole out p x w n is q f (laid out p 8 (bytes 3 w) (length-bytes 3 w) (omega arith) e)
 
 -- no room for it

@@ -23,7 +23,8 @@ module _ (n : ℕ) where
   pub plain : ((w : ℕ) → allowed n w ≡ ltb w (limitOf n)) → (code w : ℕ) → code ≡ n → w < limitOf code → allowed code w ≡ true
   plain is code w e h = let g : w < limitOf n = rw e at h in rw e (is w ∙ lt-ltb w (limitOf n) g)
 
-  pub moved : (half : ℕ) → ((w : ℕ) → allowed n w ≡ inSigned half w) → limitOf n ≡ 2 * half → half ≤ 2 ^ 32 → (code w m : ℕ) → code ≡ n → m ≡ (w + half) % 2 ^ 64 → Fits w64 w → m < limitOf code → allowed code w ≡ true
+  pub moved : (half : ℕ) → ((w : ℕ) → allowed n w ≡ inSigned half w) → limitOf n ≡ 2 * half → half ≤ 2 ^ 32 → (code w m : ℕ) → code ≡ n → m
+      ≡ (w + half) % 2 ^ 64 → Fits w64 w → m < limitOf code → allowed code w ≡ true
   unfolding inSigned
   moved half is top small code w m e d f h = rw e (is w ∙ go (ltb w half) refl)
     where
@@ -86,7 +87,8 @@ module _ (ws : List ℕ) (code from : ℕ) where
   pub none-judged : Judged 0 0
   none-judged h k l = absurd (omega arith)
 
-  pub more-judged : (all k m : ℕ) → from + k < length ws → Judged all k → (m < limitOf code → allowed code (getD ws (from + k) 0) ≡ true) → Judged (bitOr all m) (k + 1)
+  pub more-judged : (all k m : ℕ) → from + k < length ws → Judged all k → (m < limitOf code → allowed code (getD ws (from + k) 0) ≡ true)
+      → Judged (bitOr all m) (k + 1)
   more-judged all k m l old one h =
       below-more (λ j. isThere ws code (from + j) ≡ true) k (old (omega (arith, or-left all m)))
       (sym (judged ws (from + k) code true l (sym (one (omega (arith, or-right all m))))))

@@ -46,7 +46,8 @@ module _ (ws codes : List ℕ) (from : ℕ) where
   pub none-judged : So-far 0
   none-judged = ap (takenCount ws codes) (sym (add-zero from)) ∙ sym (zero-add (takenCount ws codes (from + 0)))
 
-  module _ (k n : ℕ) (below : k < n) (few : n ≤ length codes) (there : n ≤ length ws - from) (so-far : So-far k) (r : Bool) (is : r ≡ allowed (getD codes k 0) (getD ws (from + k) 0)) where
+  module _ (k n : ℕ) (below : k < n) (few : n ≤ length codes) (there : n ≤ length ws - from) (so-far : So-far k) (r : Bool)
+      (is : r ≡ allowed (getD codes k 0) (getD ws (from + k) 0)) where
     left : takenCount ws (drop k codes) (from + k) ≡ takenCount ws (getD codes k 0 ∷ drop (k + 1) codes) (from + k)
     left = ap (λ (cs : List ℕ). takenCount ws cs (from + k)) (next-code codes k (omega arith))
 
@@ -114,7 +115,8 @@ module _ (ws codes : List ℕ) (p : Place) where
   leads-outside x k to y h l = sym (l ∙ laid-outside ws (drop k Kept) (record { from = p .from + k; to = to }) y h)
 
   module _ (k n : ℕ) (few : n ≤ length codes) (there : n ≤ length ws - p .from) where
-    pub leads-on : k < n → (x : List ℕ) (to : ℕ) (y : List ℕ) → Leads x k to y → (w : ℕ) → w ≡ width (getD codes k 0) → (z : List ℕ) → z ≡ written y to (formOf (getD codes k 0) (getD ws (p .from + k) 0)) → Leads x (k + 1) (to + w) z
+    pub leads-on : k < n → (x : List ℕ) (to : ℕ) (y : List ℕ) → Leads x k to y → (w : ℕ) → w ≡ width (getD codes k 0) → (z : List ℕ) → z
+        ≡ written y to (formOf (getD codes k 0) (getD ws (p .from + k) 0)) → Leads x (k + 1) (to + w) z
     unfolding laid
     leads-on below x to y l w is z put =
         let inside : k < length Kept = omega (arith, length-take (length ws - p .from) codes) in
@@ -123,7 +125,8 @@ module _ (ws codes : List ℕ) (p : Place) where
         let e : p .from + k + 1 ≡ p .from + (k + 1) = omega arith in
         l
         ∙ ap (λ (cs : List ℕ). laid ws cs (record { from = p .from + k; to = to }) y) d
-        ∙ ap (λ (m : ℕ). laid ws (drop (k + 1) Kept) (record { from = m; to = to + width (getD codes k 0) }) (written y to (formOf (getD codes k 0) (getD ws (p .from + k) 0)))) e
+        ∙ ap (λ (m : ℕ). laid ws (drop (k + 1) Kept) (record { from = m; to = to + width (getD codes k 0) })
+        (written y to (formOf (getD codes k 0) (getD ws (p .from + k) 0)))) e
         ∙ ap₂ (λ (m : ℕ) (u : List ℕ). laid ws (drop (k + 1) Kept) (record { from = p .from + (k + 1); to = to + m }) u) (sym is) (sym put)
 
     pub leads-end : n ≤ k → (n < length ws - p .from → n ≡ length codes) → (x : List ℕ) (to : ℕ) (y : List ℕ) → Leads x k to y → y ≡ laid ws Kept p x

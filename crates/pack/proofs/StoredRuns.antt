@@ -65,7 +65,8 @@ module _ (ws : List ℕ) (code : ℕ) (p : Place) (x : List ℕ) where
   unfolding storedAll
   none-stored = refl
 
-  pub one-stored : (n k : ℕ) {y z : List ℕ} → k ≡ width code → y ≡ storedAll ws code p n x → z ≡ written y (p .to + n * k) (formOf code (getD ws (p .from + n) 0)) → z ≡ storedAll ws code p (n + 1) x
+  pub one-stored : (n k : ℕ) {y z : List ℕ} → k ≡ width code → y ≡ storedAll ws code p n x → z
+      ≡ written y (p .to + n * k) (formOf code (getD ws (p .from + n) 0)) → z ≡ storedAll ws code p (n + 1) x
   unfolding storedAll
   one-stored n k e h g = g ∙ rw (e, h, add-one n) refl
 
@@ -103,7 +104,8 @@ module _ (ws : List ℕ) (code : ℕ) (p : Place) (x : List ℕ) where
 
     pub fit-in : n ≤ room → p .to + n * width code ≤ length x
     fit-in h =
-        let q : room * width code ≡ (length x - p .to) / width code * width code = ap (λ (k : ℕ). k * width code) (whole ∙ ap (λ (k : ℕ). (length x - p .to) / k) is) in
+        let q : room * width code
+        ≡ (length x - p .to) / width code * width code = ap (λ (k : ℕ). k * width code) (whole ∙ ap (λ (k : ℕ). (length x - p .to) / k) is) in
         let u : n * width code ≤ room * width code = mul-le-mul-right (width code) h in
         omega (arith, div .0)
 
@@ -113,7 +115,8 @@ module _ (ws : List ℕ) (code : ℕ) (p : Place) (x : List ℕ) where
         ∙ ⊎-elim
         (λ (s : n ≡ count). ap (λ (k : ℕ). storedAll ws code p k x) s)
         (λ (b : n < count).
-        let q : n * width code ≡ (length x - p .to) / width code * width code = ap (λ (k : ℕ). k * width code) (least b ∙ whole ∙ ap (λ (k : ℕ). (length x - p .to) / k) is) in
+        let q : n * width code ≡ (length x - p .to) / width code * width code = ap (λ (k : ℕ). k * width code)
+        (least b ∙ whole ∙ ap (λ (k : ℕ). (length x - p .to) / k) is) in
         sym (rest n count h (omega (arith, div .0, div .1))))
         (eq-or-lt-of-le h)
 
@@ -157,5 +160,7 @@ module _ (ws : List ℕ) (code : ℕ) (p : Place) (x : List ℕ) where
     run-empty a b c d = no-width m is a b c d n ∙ whole-run
 
 -- the arm of 2 ^ k bytes, which stores by a code of its own
-pub run-stored : (k own : ℕ) → width own ≡ 2 ^ k → (ws : List ℕ) (code : ℕ) (p : Place) (x : List ℕ) (n m : ℕ) → p .from ≤ length ws → n ≤ length ws - p .from → m ≡ width code → m ≡ 2 ^ k → (y : List ℕ) → y ≡ storedAll ws own p n x → y ≡ cond (leb (p .from + n) (length ws)) (storedAll ws code p n x) x
+pub run-stored : (k own : ℕ) → width own ≡ 2 ^ k → (ws : List ℕ) (code : ℕ) (p : Place) (x : List ℕ) (n m : ℕ) → p .from ≤ length ws
+    → n ≤ length ws - p .from → m ≡ width code → m ≡ 2 ^ k → (y : List ℕ) → y ≡ storedAll ws own p n x → y
+    ≡ cond (leb (p .from + n) (length ws)) (storedAll ws code p n x) x
 run-stored k own a ws code p x n m from there is b y h = run-by ws code p x n m from there is k own a b y h

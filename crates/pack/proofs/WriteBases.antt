@@ -31,11 +31,13 @@ module _ (ws t : List ℕ) (s : Sections) (i c code : ℕ) (is : code ≡ baseAt
   pub base-writes : walk (writer ws) (child t s i c) p x ≡ on (behind code p) (stored ws code p x)
   unfolding isThere writer
   base-writes =
-      let h : (ltb (p .from) (length ws) ≡ true) × (allowed code (getD ws (p .from) 0) ≡ true) = both (ltb (p .from) (length ws)) (allowed code (getD ws (p .from) 0)) there in
+      let h : (ltb (p .from) (length ws) ≡ true)
+      × (allowed code (getD ws (p .from) 0) ≡ true) = both (ltb (p .from) (length ws)) (allowed code (getD ws (p .from) 0)) there in
       base-on t s i c (writer ws) code p x is (h .0) (h .1)
 
 -- the codes that were got of a record's members from the m-th on
-module _ (ws t : List ℕ) (s : Sections) (i : ℕ) (e : Entry) (m r : ℕ) (u v : List ℕ) (counts : r ≡ codeCount t s i e m (length u)) (got : v ≡ over u 0 (codesOf t s i e m (length u))) where
+module _ (ws t : List ℕ) (s : Sections) (i : ℕ) (e : Entry) (m r : ℕ) (u v : List ℕ) (counts : r ≡ codeCount t s i e m (length u))
+    (got : v ≡ over u 0 (codesOf t s i e m (length u))) where
   pub codes-in : r ≤ length v
   codes-in = omega (arith, codes-fit t s i e m r u counts, codes-as-long t s i e m r u counts v got)
 
@@ -52,10 +54,12 @@ module _ (ws t : List ℕ) (s : Sections) (i : ℕ) (e : Entry) (m r : ℕ) (u v
   pub codes-written : WritesEach ws (take r v) m (memberWritten ws t s i e)
   codes-written k q y inside there =
       let l : k < r = omega (arith, so-many) in
-      base-writes ws t s i (memberAt t s (e .first + (m + k))) (getD (take r v) k 0) (code-is t s i e m r u counts v got k (getD (take r v) k 0) l (getD-take r v k 0 l)) q y there
+      base-writes ws t s i (memberAt t s (e .first + (m + k))) (getD (take r v) k 0)
+      (code-is t s i e m r u counts v got k (getD (take r v) k 0) l (getD-take r v k 0 l)) q y there
 
   -- the first j of them take their words, and have b bytes
-  module _ (p : Place) (j b : ℕ) (many : j ≡ takenCount ws (take r v) (p .from)) (bytes : b ≡ ends (take (takenCount ws (take r v) (p .from)) (take r v)) 0) where
+  module _ (p : Place) (j b : ℕ) (many : j ≡ takenCount ws (take r v) (p .from))
+      (bytes : b ≡ ends (take (takenCount ws (take r v) (p .from)) (take r v)) 0) where
     abbrev count : ℕ
     count = takenCount ws (take r v) (p .from)
 
@@ -100,7 +104,9 @@ module _ (ws t : List ℕ) (s : Sections) (i : ℕ) (e : Entry) (m r : ℕ) (u v
       pub taken-written : Goes (memberWritten ws t s i e) m p x (m + j) (record { from = p .from + j; to = p .to + b }) y
       taken-written p₀ x₀ h =
           let f = memberWritten ws t s i e in
-          let w : through (m + length taken) f p₀ x₀ ≡ on (record { from = p .from + length taken; to = ends taken (p .to) }) (laid ws taken p x) = written-over ws taken m f (fewer-written ws (take r v) m f count codes-written) p (count-taken ws (take r v) (p .from)) x p₀ x₀ h in
+          let w : through (m + length taken) f p₀ x₀
+          ≡ on (record { from = p .from + length taken; to = ends taken (p .to) }) (laid ws taken p x) = written-over ws taken m f
+          (fewer-written ws (take r v) m f count codes-written) p (count-taken ws (take r v) (p .from)) x p₀ x₀ h in
           let o : ends taken (p .to) ≡ p .to + b = ends-from taken (p .to) ∙ ap (λ (n : ℕ). p .to + n) (sym bytes) in
           let q : laid ws taken p x ≡ y = sym (put ∙ ap (λ (cs : List ℕ). laid ws cs p x) all-there) in
           rw (as-many, o, q) at w

@@ -50,7 +50,8 @@ module _ (t : List ℕ) (s : Sections) (e : Entry) (ws : List ℕ) (p : Place) (
         did-stop (leafWalk (writer ws) t s e p x) 42 p x
         (item-bad (writer ws) 42 (e .of) (choice t s e) p x (lt-ltb (p .from) (length ws) f) (rw (← word) (sym taken ∙ g)))
 
-    pub leaf-went : (n : ℕ) (y : List ℕ) → k ≡ true → n ≡ width (e .of) → y ≡ written x (p .to) (formOf (e .of) w) → Did (leafWalk (writer ws) t s e p x) (Went (record { from = p .from + 1; to = p .to + n })) y
+    pub leaf-went : (n : ℕ) (y : List ℕ) → k ≡ true → n ≡ width (e .of) → y ≡ written x (p .to) (formOf (e .of) w)
+        → Did (leafWalk (writer ws) t s e p x) (Went (record { from = p .from + 1; to = p .to + n })) y
     unfolding leafWalk writer takes
     leaf-went n y g is q =
         did-on (leafWalk (writer ws) t s e p x) (record { from = p .from + 1; to = p .to + n }) y (written x (p .to) (formOf (e .of) (getD ws (p .from) 0)))
@@ -83,7 +84,8 @@ module _ (e : Entry) (ws : List ℕ) (p : Place) where
           ∙ item-bad (writer ws) 43 9 (λ n. leb n (e .count)) p x (lt-ltb (p .from) (length ws) f)
           (rw (← is) (no-and (allowed 9 n) (leb n (e .count)) (lt-leb n (e .count) g))))
 
-      pub count-went : (y : List ℕ) → n ≤ e .count → e .count < 2 ^ 16 → y ≡ written x (p .to) (formOf 9 n) → Did (begun (writer ws) e p x) (Went (record { from = p .from + 1; to = p .to + 4 })) y
+      pub count-went : (y : List ℕ) → n ≤ e .count → e .count < 2 ^ 16 → y ≡ written x (p .to) (formOf 9 n)
+          → Did (begun (writer ws) e p x) (Went (record { from = p .from + 1; to = p .to + 4 })) y
       unfolding counted writer allowed isValue base width bytesOf
       count-went y g l q =
           did-on (begun (writer ws) e p x) (record { from = p .from + 1; to = p .to + 4 }) y (written x (p .to) (formOf 9 (getD ws (p .from) 0)))
@@ -97,10 +99,13 @@ module _ (ws : List ℕ) (n : ℕ) where
   abbrev Wrote : Place → List ℕ → Type 0
   Wrote p x = Writing ws p × (length x ≡ n)
 
-  write-over : (code : ℕ) (p : Place) (x : List ℕ) → writer ws .there code p ≡ true → allowed code (writer ws .word code p) ≡ true → Wrote p x → Wrote (writer ws .after code p) (written x (p .to) (writer ws .gives code (writer ws .word code p)))
+  write-over : (code : ℕ) (p : Place) (x : List ℕ) → writer ws .there code p ≡ true → allowed code (writer ws .word code p) ≡ true
+      → Wrote p x → Wrote (writer ws .after code p) (written x (p .to) (writer ws .gives code (writer ws .word code p)))
   unfolding writer
-  write-over code p x e a h =
-      ((omega (arith, few-bytes code, h .0 .0), omega (arith, ltb-true (p .from) (length ws) e)), length-written x (p .to) (formOf code (getD ws (p .from) 0)) ∙ h .1)
+  write-over code p x e a h = (
+    (omega (arith, few-bytes code, h .0 .0), omega (arith, ltb-true (p .from) (length ws) e)),
+    length-written x (p .to) (formOf code (getD ws (p .from) 0)) ∙ h .1,
+  )
 
   pub write-holds : (tr : Tree) (p : Place) (x : List ℕ) → Wrote p x → Holds Wrote (walk (writer ws) tr p x)
   write-holds = walk-holds Wrote (writer ws) write-over

@@ -43,4 +43,5 @@ laid ws (c ∷ cs) p x = laid ws cs (behind c p) (stored ws c p x)
 
 -- each step of a walk from the m-th on writes a leaf of the next code, where its word is there
 abbrev pub WritesEach : List ℕ → List ℕ → ℕ → (ℕ → Place → List ℕ → Step) → Type 0
-WritesEach ws codes m f = (k : ℕ) (q : Place) (y : List ℕ) → k < length codes → isThere ws (getD codes k 0) (q .from) ≡ true → f (m + k) q y ≡ on (behind (getD codes k 0) q) (stored ws (getD codes k 0) q y)
+WritesEach ws codes m f = (k : ℕ) (q : Place) (y : List ℕ) → k < length codes → isThere ws (getD codes k 0) (q .from) ≡ true → f (m + k) q y
+    ≡ on (behind (getD codes k 0) q) (stored ws (getD codes k 0) q y)

@@ -21,7 +21,8 @@ const EIGHT_BYTES: u16 = 10;
 // Stores the words of so many leaves of one code, as many as there is room for; nothing where not all the words are there. A call
 // for each width, so that the compiler makes its own loop of each.
 pub(crate) fn store_run(words: &[u64], out: &mut [u8], code: u16, count: usize, p: Place)
-    ensures { λ _. ⌜ now (out .exit) ≡ cond (leb (p .from + count) (length (now (words .entry)))) (storedAll (now (words .entry)) code p count (now (out .entry))) (now (out .entry)) ⌝ }
+    ensures { λ _. ⌜ now (out .exit)
+        ≡ cond (leb (p .from + count) (length (now (words .entry)))) (storedAll (now (words .entry)) code p count (now (out .entry))) (now (out .entry)) ⌝ }
 {
     if words.len() < p.from {
         return;

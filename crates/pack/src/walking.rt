@@ -243,7 +243,8 @@ fn write_run(words: &[u64], out: &mut [u8], code: u16, count: u64, p: Place) -> 
     requires { ⌜ Writing (now words) p ⌝ }
     ensures { λ r. ⌜ (r .upto ≤ count) × Writing (now (words .entry)) (r .at) ⌝ }
     ensures { λ _. ⌜ length (now (out .exit)) ≡ length (now (out .entry)) ⌝ }
-    ensures { λ r. ⌜ ((f : ℕ → Place → List ℕ → Step) → Writes (now (words .entry)) code f → through (r .upto) f p (now (out .entry)) ≡ on (r .at) (now (out .exit))) ⌝ }
+    ensures { λ r. ⌜ ((f : ℕ → Place → List ℕ → Step) → Writes (now (words .entry)) code f → through (r .upto) f p (now (out .entry))
+        ≡ on (r .at) (now (out .exit))) ⌝ }
 {
     let left = words.len() - p.from;
     if (left as u64) < count {

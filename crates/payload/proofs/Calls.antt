@@ -67,11 +67,16 @@ left-by n room (walked.Went q) x z = go (ltb (q .from) n) (ltb room (q .to)) ref
     go false true h g = rw (h, g, le-leb n (q .from) (ltb-false (q .from) n h), lt-leb (q .to) room (ltb-true room (q .to) g)) refl
     go false false h g = rw (h, g, le-leb n (q .from) (ltb-false (q .from) n h), le-leb (q .to) room (ltb-false room (q .to) g)) refl
 
-pub type-answered : (c : Codec) (n : ℕ) (t : List ℕ) (s : Sections) (i : ℕ) (x y : List ℕ) (w : Walked) (a : Answer) → w ≡ answer (typeWalk c t s i start []) → y ≡ allOrNothing c n t s i x → a ≡ answered n (length x) w → (a ≡ answeredType c n t s i (length x)) × (y ≡ leftBy a x (left (typeWalk c t s i start x)))
+pub type-answered : (c : Codec) (n : ℕ) (t : List ℕ) (s : Sections) (i : ℕ) (x y : List ℕ) (w : Walked) (a : Answer) → w
+    ≡ answer (typeWalk c t s i start []) → y ≡ allOrNothing c n t s i x → a ≡ answered n (length x) w
+    → (a ≡ answeredType c n t s i (length x)) × (y ≡ leftBy a x (left (typeWalk c t s i start x)))
 unfolding answeredType allOrNothing
 type-answered c n t s i x y w a first is h =
-    let e : a ≡ answered n (length x) (answer (typeWalk c t s i start [])) = h ∙ ap (answered n (length x)) first in
-    (e, is ∙ left-by n (length x) (answer (typeWalk c t s i start [])) x (left (typeWalk c t s i start x)) ∙ ap (λ (o : Answer). leftBy o x (left (typeWalk c t s i start x))) (sym e))
+    let e : a ≡ answered n (length x) (answer (typeWalk c t s i start [])) = h ∙ ap (answered n (length x)) first in (
+      e,
+      is ∙ left-by n (length x) (answer (typeWalk c t s i start [])) x (left (typeWalk c t s i start x))
+          ∙ ap (λ (o : Answer). leftBy o x (left (typeWalk c t s i start x))) (sym e),
+    )
 
 -- the calls on sections
 module _ (c : Codec) (n : ℕ) (t : List ℕ) (s : Sections) (i : ℕ) (x : List ℕ) where
@@ -104,6 +109,7 @@ module _ (c : Codec) (n : ℕ) (t : List ℕ) (i : ℕ) (x : List ℕ) (r : Chec
   unfolding answeredIf leftIf
   bad-table k h = rw (← p, h) (refl, refl)
 
-  pub good-table : (s : Sections) (a : Answer) (y : List ℕ) → r ≡ check.Table s → a ≡ answeredIn c n t s i (length x) → y ≡ leftIn c n t s i x → (a ≡ answeredIf (checked t) c n t i (length x)) × (y ≡ leftIf (checked t) c n t i x)
+  pub good-table : (s : Sections) (a : Answer) (y : List ℕ) → r ≡ check.Table s → a ≡ answeredIn c n t s i (length x) → y
+      ≡ leftIn c n t s i x → (a ≡ answeredIf (checked t) c n t i (length x)) × (y ≡ leftIf (checked t) c n t i x)
   unfolding answeredIf leftIf
   good-table s a y h d e = rw (← p, h) (d, e)

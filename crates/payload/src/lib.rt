@@ -84,8 +84,10 @@ pub fn pack_in(table: &[u8], s: Sections, number: u16, words: &[u64], out: &mut 
 }
 
 fn unpack_type(table: &[u8], s: Sections, number: u16, payload: &[u8], words: &mut [u64]) -> Answer
-    ensures { λ r. ⌜ r ≡ answeredType (reader (now (payload .entry))) (length (now (payload .entry))) (now (table .entry)) s number (length (now (words .entry))) ⌝ }
-    ensures { λ r. ⌜ now (words .exit) ≡ leftBy r (now (words .entry)) (left (typeWalk (reader (now (payload .entry))) (now (table .entry)) s number start (now (words .entry)))) ⌝ }
+    ensures { λ r. ⌜ r ≡ answeredType (reader (now (payload .entry))) (length (now (payload .entry))) (now (table .entry)) s number
+        (length (now (words .entry))) ⌝ }
+    ensures { λ r. ⌜ now (words .exit)
+        ≡ leftBy r (now (words .entry)) (left (typeWalk (reader (now (payload .entry))) (now (table .entry)) s number start (now (words .entry)))) ⌝ }
 {
     let room = words.len();
     let walked = unpack::read_type(table, s, number, payload, words);
@@ -118,7 +120,8 @@ fn answered(len: usize, room: usize, walked: Walked) -> Answer
 
 fn pack_type(table: &[u8], s: Sections, number: u16, words: &[u64], out: &mut [u8]) -> Answer
     ensures { λ r. ⌜ r ≡ answeredType (writer (now (words .entry))) (length (now (words .entry))) (now (table .entry)) s number (length (now (out .entry))) ⌝ }
-    ensures { λ r. ⌜ now (out .exit) ≡ leftBy r (now (out .entry)) (left (typeWalk (writer (now (words .entry))) (now (table .entry)) s number start (now (out .entry)))) ⌝ }
+    ensures { λ r. ⌜ now (out .exit)
+        ≡ leftBy r (now (out .entry)) (left (typeWalk (writer (now (words .entry))) (now (table .entry)) s number start (now (out .entry)))) ⌝ }
 {
     let room = out.len();
     let walked = pack::write_type(table, s, number, words, out);

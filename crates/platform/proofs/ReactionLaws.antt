@@ -32,7 +32,8 @@ use Rattle.platform.specs.declared.reactions.Owed.the-variants as owed
 use Rattle.platform.specs.declared.reactions.Reaction.{Reaction}
 use Rattle.states.specs.States.{isUp, turned}
 use Rattle.platform.specs.Replies.{allData, drawn}
-use Rattle.platform.specs.Reaction.{operationFor, operationIn, isData, notData, noData, silent, replied, noted, cameUp, onStatus, notVersioned, onPullAll, onPullOne, onPull, onOperation, reactionTo}
+use Rattle.platform.specs.Reaction.{operationFor, operationIn, isData, notData, noData, silent, replied, noted, cameUp}
+use Rattle.platform.specs.Reaction.{onStatus, notVersioned, onPullAll, onPullOne, onPull, onOperation, reactionTo}
 
 -- what is looked up
 module _ (t : List ℕ) (s : Sections) (h : Header) (m : Message) where
@@ -88,10 +89,12 @@ module _ (t : List ℕ) (s : Sections) where
   never-data i a h l = done-below (notData t s) (s .operations .count) i a h l
 
 -- a status
-pub noted-is : (p : Standing) (sender n : ℕ) (a : States) → a ≡ turned (p .states) sender → _≡_ {A = Standing} (record { states = a; next = n }) (noted p sender n)
+pub noted-is : (p : Standing) (sender n : ℕ) (a : States) → a ≡ turned (p .states) sender
+    → _≡_ {A = Standing} (record { states = a; next = n }) (noted p sender n)
 noted-is p sender n a e = ap (λ (x : States). record { states = x; next = n }) e
 
-pub came-up-is : (p q : Standing) (sender b d : ℕ) → b ≡ drawn (p .next) → d ≡ drawn b → q ≡ noted p sender d → _≡_ {A = Reaction} (record { standing = q; heard = heard.Status Up; owed = owed.Two (StatusUp (p .next)) (PullAll b) }) (cameUp p sender)
+pub came-up-is : (p q : Standing) (sender b d : ℕ) → b ≡ drawn (p .next) → d ≡ drawn b → q ≡ noted p sender d
+    → _≡_ {A = Reaction} (record { standing = q; heard = heard.Status Up; owed = owed.Two (StatusUp (p .next)) (PullAll b) }) (cameUp p sender)
 unfolding cameUp
 came-up-is p q sender b d e f g =
     let k : q ≡ noted p sender (drawn (drawn (p .next))) = g ∙ ap (noted p sender) (f ∙ ap drawn e) in

@@ -39,8 +39,10 @@ use Rattle.platform.specs.declared.reactions.Owed.{Owed}
 use Rattle.platform.specs.declared.reactions.Owed.the-variants as owed
 use Rattle.platform.specs.declared.reactions.Reaction.{Reaction}
 use Rattle.states.specs.States.{isUp}
-use Rattle.platform.specs.Replies.{allData, drawn, replyID, replyNumber, replyField, replyBytes, replyHeader, meant, Wide, replyLength, replies, Each, owedBytes, owedLength}
-use Rattle.platform.specs.Reaction.{noData, isData, silent, replied, cameUp, onStatus, notVersioned, onPullAll, onPullOne, onPull, onOperation, reactionTo}
+use Rattle.platform.specs.Replies.{allData, drawn, replyID, replyNumber, replyField, replyBytes, replyHeader, meant, Wide}
+use Rattle.platform.specs.Replies.{replyLength, replies, Each, owedBytes, owedLength}
+use Rattle.platform.specs.Reaction.{noData, isData, silent, replied, cameUp, onStatus, notVersioned, onPullAll, onPullOne}
+use Rattle.platform.specs.Reaction.{onPull, onOperation, reactionTo}
 use Rattle.platform.specs.Receiving.{laidOut}
 use Rattle.platform.proofs.ReplyBytes.{reply-writable, length-owed}
 
@@ -55,14 +57,17 @@ id-fits (StatusUp n) = omega arith
 id-fits (PullAll n) = omega arith
 id-fits (Unknown n id) = omega arith
 
-pub reply-reads-back : (own reader : ℕ) (r : Reply) → own < platforms → (own ≡ reader → ⊥) → Wide r → readOf reader (replyBytes own r) ≡ Read (replyHeader own r) (meant r) headerLength 4
+pub reply-reads-back : (own reader : ℕ) (r : Reply) → own < platforms → (own ≡ reader → ⊥) → Wide r → readOf reader (replyBytes own r)
+    ≡ Read (replyHeader own r) (meant r) headerLength 4
 unfolding replyBytes
 reply-reads-back own reader r o d w =
-    reads-back own platformDomain (replyID r) (replyNumber r) (bytes 2 (replyField r)) replyLength reader o d (id-fits r) (w .number) (reply-writable r replyLength (omega arith))
+    reads-back own platformDomain (replyID r) (replyNumber r) (bytes 2 (replyField r)) replyLength reader o d (id-fits r) (w .number)
+    (reply-writable r replyLength (omega arith))
     ∙ ap (λ (m : Message). Read (replyHeader own r) m headerLength 4) (means r (w .field))
 
 -- the replies stand in the output, one behind another
-pub replies-in-output : (own : ℕ) (x : Reaction) (out : List ℕ) → owedLength (x .owed) ≤ length out → part (laidOut own x out) 0 (owedLength (x .owed)) ≡ owedBytes own (x .owed)
+pub replies-in-output : (own : ℕ) (x : Reaction) (out : List ℕ) → owedLength (x .owed) ≤ length out
+    → part (laidOut own x out) 0 (owedLength (x .owed)) ≡ owedBytes own (x .owed)
 unfolding laidOut
 replies-in-output own x out h =
     let l : length (owedBytes own (x .owed)) ≡ owedLength (x .owed) = length-owed own (x .owed) in
@@ -106,7 +111,8 @@ module _ (t : List ℕ) (s : Sections) (p : Standing) (n : ℕ) where
       go true = pull-all-repeats
       go false = pull-one-repeats f id
 
-pub repeats-its-number : (own : ℕ) (t : List ℕ) (s : Sections) (f : Found) (p : Standing) (h : Header) (m : Message) (start len : ℕ) → (IsStatus m → ⊥) → Each (λ (r : Reply). replyNumber r ≡ h .sequence) (replies (reactionTo own t s f p h m start len .owed))
+pub repeats-its-number : (own : ℕ) (t : List ℕ) (s : Sections) (f : Found) (p : Standing) (h : Header) (m : Message) (start len : ℕ)
+    → (IsStatus m → ⊥) → Each (λ (r : Reply). replyNumber r ≡ h .sequence) (replies (reactionTo own t s f p h m start len .owed))
 unfolding reactionTo onOperation
 repeats-its-number own t s f p h (message.PlatformStatus x) start len k = absurd (k tt)
 repeats-its-number own t s f p h message.PlatformStatusRequest start len k = (refl, tt)
@@ -121,7 +127,8 @@ module _ (own : ℕ) (p : Standing) (sender : ℕ) where
   unfolding onStatus
   up-to-up-is-silent e = rw e refl
 
-  pub down-to-up-is-answered : isUp own (p .states) sender ≡ false → replies (onStatus own p sender Up .owed) ≡ StatusUp (p .next) ∷ PullAll (drawn (p .next)) ∷ []
+  pub down-to-up-is-answered : isUp own (p .states) sender ≡ false → replies (onStatus own p sender Up .owed) ≡ StatusUp (p .next)
+      ∷ PullAll (drawn (p .next)) ∷ []
   unfolding onStatus cameUp
   down-to-up-is-answered e = rw e refl
 

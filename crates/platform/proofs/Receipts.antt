@@ -26,7 +26,8 @@ use Rattle.platform.specs.declared.reactions.Heard.the-variants as heard
 use Rattle.platform.specs.declared.Outcome.{Outcome}
 use Rattle.platform.specs.declared.reactions.Reaction.{Reaction}
 use Rattle.platform.specs.Reaction.{operationIn, reactionTo}
-use Rattle.platform.specs.Receiving.{refused, answered, laidOut, outcomeOf, outputOf, outcomeIn, outputIn, receivedBy, receivedOf, leftBy, leftOf, sectionsOutcome, sectionsOutput, payloadHeard}
+use Rattle.platform.specs.Receiving.{refused, answered, laidOut, outcomeOf, outputOf, outcomeIn, outputIn, receivedBy}
+use Rattle.platform.specs.Receiving.{receivedOf, leftBy, leftOf, sectionsOutcome, sectionsOutput, payloadHeard}
 use Rattle.platform.proofs.reactions.Heard.{the-type}
 
 -- the message was refused, or read

@@ -56,7 +56,8 @@ module _ (o : Owed) (out : List ℕ) (w : ℕ) (l : w ≡ owedLength o) where
       unfolding owedBytes
       lay-one r a e v = rw e v
 
-      pub lay-two : (r q : Reply) (a b : List ℕ) → o ≡ Two r q → a ≡ over out 0 (replyBytes own r) → b ≡ over a replyLength (replyBytes own q) → b ≡ written out 0 (owedBytes own o)
+      pub lay-two : (r q : Reply) (a b : List ℕ) → o ≡ Two r q → a ≡ over out 0 (replyBytes own r) → b
+          ≡ over a replyLength (replyBytes own q) → b ≡ written out 0 (owedBytes own o)
       unfolding owedBytes replyBytes
       lay-two r q a b e u v =
           let k : w ≡ replyLength + replyLength = rw e at l in
@@ -75,7 +76,9 @@ reply-writable (Unknown n id) room h = no-lt 10 0 room replyLength h
 
 -- a reply at the output's start: its header, and the field behind it
 module _ (own : ℕ) (r : Reply) (out : List ℕ) where
-  pub reply-put : {h : Header} {i n f : ℕ} {a b : List ℕ} → replyLength ≤ length out → i ≡ replyID r → n ≡ replyNumber r → h ≡ record { domain = platformDomain; platform = own; id = i; «payload_size» = 4; sequence = n } → a ≡ written out 0 (headerBytes h) → f ≡ replyField r → b ≡ written a headerLength (bytes 2 f) → b ≡ written out 0 (replyBytes own r)
+  pub reply-put : {h : Header} {i n f : ℕ} {a b : List ℕ} → replyLength ≤ length out → i ≡ replyID r → n ≡ replyNumber r → h
+      ≡ record { domain = platformDomain; platform = own; id = i; «payload_size» = 4; sequence = n } → a ≡ written out 0 (headerBytes h) → f
+      ≡ replyField r → b ≡ written a headerLength (bytes 2 f) → b ≡ written out 0 (replyBytes own r)
   unfolding replyBytes
   reply-put {h} {i} {n} {f} {a} {b} long ei en eh ea ef eb =
       let H : Header = replyHeader own r in
@@ -90,7 +93,8 @@ module _ (own : ℕ) (r : Reply) (out : List ℕ) where
   no-reply short = sym (written-out out 0 (replyBytes own r) (omega arith))
 
 -- and in the part of the output from p on
-pub reply-laid : {last : List ℕ} (own : ℕ) (r : Reply) (p : ℕ) (out : List ℕ) → p + replyLength ≤ length out → last ≡ written (take (length out - p) (drop p out)) 0 (replyBytes own r) → putMid p (length out - p) out last ≡ over out p (replyBytes own r)
+pub reply-laid : {last : List ℕ} (own : ℕ) (r : Reply) (p : ℕ) (out : List ℕ) → p + replyLength ≤ length out → last
+    ≡ written (take (length out - p) (drop p out)) 0 (replyBytes own r) → putMid p (length out - p) out last ≡ over out p (replyBytes own r)
 reply-laid {last} own r p out h el =
     let D : List ℕ = drop p out in
     let M : List ℕ = replyBytes own r in

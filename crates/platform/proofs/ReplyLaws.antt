@@ -26,7 +26,8 @@ module _ (p : Standing) (h : Header) (x : Reaction) (w : ℕ) (e : w ≡ owedLen
 
   pub fitting : (room : ℕ) (r : Outcome) → w ≤ room → r ≡ taken h x w → r ≡ answered p h x room
   unfolding answered
-  fitting room r l d = d ∙ ap (taken h x) e ∙ sym (no-lt {A = Outcome} (refused p 10) (taken h x (owedLength (x .owed))) room (owedLength (x .owed)) (omega arith))
+  fitting room r l d = d ∙ ap (taken h x) e
+      ∙ sym (no-lt {A = Outcome} (refused p 10) (taken h x (owedLength (x .owed))) room (owedLength (x .owed)) (omega arith))
 
 module _ (own : ℕ) (x : Reaction) (w : ℕ) (e : w ≡ owedLength (x .owed)) (out : List ℕ) where
   pub left-as-it-was : length out < w → out ≡ laidOut own x out

@@ -95,15 +95,18 @@ module _ (own other : ℕ) (t : List ℕ) (s : Sections) (f : Found) (p : Standi
   unfolding answered
   call-lighter r room w = go (ltb room (owedLength (X r .owed)))
     where
-      go : (b : Bool) → Lighter own other p r (cond b (refused p noRoom) (taken (replyHeader other r) (X r) (owedLength (X r .owed))) .standing) (cond b [] (replies (X r .owed)))
+      go : (b : Bool) → Lighter own other p r
+          (cond b (refused p noRoom) (taken (replyHeader other r) (X r) (owedLength (X r .owed))) .standing) (cond b [] (replies (X r .owed)))
       go true = record { sum = omega (arith, weight-pos r); wide = tt; next = hn }
       go false = reaction-lighter r w
 
-arrival-lighter : (own other : ℕ) (c : Setting) (p : Standing) (r : Reply) → other < 256 → (other ≡ own → ⊥) → p .next < 2 ^ 32 → Wide r → Lighter own other p r (keeps own other c p r) (sends own other c p r)
+arrival-lighter : (own other : ℕ) (c : Setting) (p : Standing) (r : Reply) → other < 256 → (other ≡ own → ⊥) → p .next < 2 ^ 32 → Wide r
+    → Lighter own other p r (keeps own other c p r) (sends own other c p r)
 unfolding keeps sends outcomeOf sentOf
 arrival-lighter own other c p r h d n w =
     subst
-    (λ (x : Reading). Lighter own other p r (outcomeOf own (c .table) (c .sections) (c .looked) p x (c .room) .standing) (sentOf own (c .table) (c .sections) (c .looked) p x (c .room)))
+    (λ (x : Reading). Lighter own other p r (outcomeOf own (c .table) (c .sections) (c .looked) p x (c .room) .standing)
+    (sentOf own (c .table) (c .sections) (c .looked) p x (c .room)))
     (sym (reply-reads-back other own r h d w))
     (call-lighter own other (c .table) (c .sections) (c .looked) p h d n r (c .room) w)
 
@@ -158,10 +161,14 @@ module _ (a b : ℕ) (ha : a < 256) (hb : b < 256) (d : a ≡ b → ⊥) where
         omega (arith, l .sum, weights-without before after r, weights-append toA S),
         record { nextA = k .nextA; nextB = l .next; wideA = wide-append toA S (k .wideA) (l .wide); wideB = wide-without before after r (k .wideB) },
       )
-  step-lighter x y (lost-to-a p q before after toB r) k =
-      (omega (arith, weight-pos r, weights-without before after r), record { nextA = k .nextA; nextB = k .nextB; wideA = wide-without before after r (k .wideA); wideB = k .wideB })
-  step-lighter x y (lost-to-b p q before after toA r) k =
-      (omega (arith, weight-pos r, weights-without before after r), record { nextA = k .nextA; nextB = k .nextB; wideA = k .wideA; wideB = wide-without before after r (k .wideB) })
+  step-lighter x y (lost-to-a p q before after toB r) k = (
+    omega (arith, weight-pos r, weights-without before after r),
+    record { nextA = k .nextA; nextB = k .nextB; wideA = wide-without before after r (k .wideA); wideB = k .wideB },
+  )
+  step-lighter x y (lost-to-b p q before after toA r) k = (
+    omega (arith, weight-pos r, weights-without before after r),
+    record { nextA = k .nextA; nextB = k .nextB; wideA = k .wideA; wideB = wide-without before after r (k .wideB) },
+  )
 
   exchange-lighter : (n : ℕ) (x z : Pair) → Exchange a b n x z → Fine x → sumOf z + n ≤ sumOf x
   exchange-lighter n x z (none _) k = omega arith

@@ -34,7 +34,8 @@ use Rattle.platform.specs.declared.reactions.Owed.the-variants as owed
 use Rattle.platform.specs.declared.reactions.Reaction.{Reaction}
 use Rattle.platform.specs.Replies.{replyBytes, replies, owedBytes, owedLength}
 use Rattle.platform.specs.Reaction.{operationIn, reactionTo}
-use Rattle.platform.specs.Receiving.{refused, taken, answered, laidOut, outcomeOf, outputOf, outcomeIn, outputIn, receivedBy, receivedOf, leftBy, leftOf, sectionsOutcome, sectionsOutput, bytesWritten}
+use Rattle.platform.specs.Receiving.{refused, taken, answered, laidOut, outcomeOf, outputOf, outcomeIn, outputIn}
+use Rattle.platform.specs.Receiving.{receivedBy, receivedOf, leftBy, leftOf, sectionsOutcome, sectionsOutput, bytesWritten}
 use Rattle.platform.specs.Exchange.{written, sentOf}
 use Rattle.platform.proofs.ReplyBytes.{length-owed}
 
@@ -47,34 +48,41 @@ pub record Unchanged (p : Standing) (out : List ℕ) (r : Outcome) (left : List 
   pub output : left ≡ out
 
 module _ (own : ℕ) (p : Standing) (n : ℕ) (out : List ℕ) where
-  answered-unchanged : (h : Header) (x : Reaction) → answered p h x (length out) .answer ≡ Refused n → Unchanged p out (answered p h x (length out)) (laidOut own x out)
+  answered-unchanged : (h : Header) (x : Reaction) → answered p h x (length out) .answer ≡ Refused n
+      → Unchanged p out (answered p h x (length out)) (laidOut own x out)
   unfolding answered laidOut
   answered-unchanged h x e = go (ltb (length out) (owedLength (x .owed))) refl e
     where
-      go : (b : Bool) → ltb (length out) (owedLength (x .owed)) ≡ b → cond b (refused p noRoom) (taken h x (owedLength (x .owed))) .answer ≡ Refused n → Unchanged p out (answered p h x (length out)) (laidOut own x out)
+      go : (b : Bool) → ltb (length out) (owedLength (x .owed)) ≡ b → cond b (refused p noRoom) (taken h x (owedLength (x .owed))) .answer
+          ≡ Refused n → Unchanged p out (answered p h x (length out)) (laidOut own x out)
       go true q k = rw q (record { standing = refl; output = refl })
       go false q k = absurd (never k)
 
-  outcome-unchanged : (t : List ℕ) (s : Sections) (f : Found) (x : Reading) → outcomeOf own t s f p x (length out) .answer ≡ Refused n → Unchanged p out (outcomeOf own t s f p x (length out)) (outputOf own t s f p x out)
+  outcome-unchanged : (t : List ℕ) (s : Sections) (f : Found) (x : Reading) → outcomeOf own t s f p x (length out) .answer ≡ Refused n
+      → Unchanged p out (outcomeOf own t s f p x (length out)) (outputOf own t s f p x out)
   unfolding outcomeOf outputOf
   outcome-unchanged t s f (reading.Refused k) e = record { standing = refl; output = refl }
   outcome-unchanged t s f (reading.Read h m start len) e = answered-unchanged h (reactionTo own t s f p h m start len) e
 
   -- the call on table bytes
-  pub refusal-changes-nothing : (t m : List ℕ) → receivedOf own t p m (length out) .answer ≡ Refused n → Unchanged p out (receivedOf own t p m (length out)) (leftOf own t p m out)
+  pub refusal-changes-nothing : (t m : List ℕ) → receivedOf own t p m (length out) .answer ≡ Refused n
+      → Unchanged p out (receivedOf own t p m (length out)) (leftOf own t p m out)
   unfolding receivedOf leftOf receivedBy leftBy
   refusal-changes-nothing t m e = go (checked t) e
     where
-      go : (c : Checked) → receivedBy c own t p m (length out) .answer ≡ Refused n → Unchanged p out (receivedBy c own t p m (length out)) (leftBy c own t p m out)
+      go : (c : Checked) → receivedBy c own t p m (length out) .answer ≡ Refused n
+          → Unchanged p out (receivedBy c own t p m (length out)) (leftBy c own t p m out)
       go (checked.Refused k) q = record { standing = refl; output = refl }
       go (checked.Table s) q = outcome-unchanged t s (operationIn t s (readOf own m)) (readOf own m) q
 
   -- the call on sections
-  pub sections-refusal-changes-nothing : (t : List ℕ) (s : Sections) (m : List ℕ) → sectionsOutcome own t s p m (length out) .answer ≡ Refused n → Unchanged p out (sectionsOutcome own t s p m (length out)) (sectionsOutput own t s p m out)
+  pub sections-refusal-changes-nothing : (t : List ℕ) (s : Sections) (m : List ℕ) → sectionsOutcome own t s p m (length out) .answer
+      ≡ Refused n → Unchanged p out (sectionsOutcome own t s p m (length out)) (sectionsOutput own t s p m out)
   unfolding sectionsOutcome sectionsOutput
   sections-refusal-changes-nothing t s m e = go (within t s) e
     where
-      go : (b : Bool) → cond b (outcomeIn own t s p m (length out)) (refused p cutShort) .answer ≡ Refused n → Unchanged p out (cond b (outcomeIn own t s p m (length out)) (refused p cutShort)) (cond b (outputIn own t s p m out) out)
+      go : (b : Bool) → cond b (outcomeIn own t s p m (length out)) (refused p cutShort) .answer ≡ Refused n
+          → Unchanged p out (cond b (outcomeIn own t s p m (length out)) (refused p cutShort)) (cond b (outputIn own t s p m out) out)
       go true q = outcome-unchanged t s (operationIn t s (readOf own m)) (readOf own m) q
       go false q = record { standing = refl; output = refl }
 
@@ -91,18 +99,22 @@ owed-bytes own (owed.Two r q) = ap (λ (u : List ℕ). replyBytes own r ++ u) (s
 
 -- what a call says that it wrote is the replies that it sends
 module _ (own : ℕ) (p : Standing) (out : List ℕ) where
-  laid-is-sent : (h : Header) (x : Reaction) → part (laidOut own x out) 0 (bytesWritten (answered p h x (length out) .answer)) ≡ allBytes own (written x (length out))
+  laid-is-sent : (h : Header) (x : Reaction) → part (laidOut own x out) 0 (bytesWritten (answered p h x (length out) .answer))
+      ≡ allBytes own (written x (length out))
   unfolding answered laidOut
   laid-is-sent h x = go (ltb (length out) (owedLength (x .owed))) refl
     where
-      go : (b : Bool) → ltb (length out) (owedLength (x .owed)) ≡ b → part (cond b out (over out 0 (owedBytes own (x .owed)))) 0 (bytesWritten (cond b (refused p noRoom) (taken h x (owedLength (x .owed))) .answer)) ≡ allBytes own (cond b [] (replies (x .owed)))
+      go : (b : Bool) → ltb (length out) (owedLength (x .owed)) ≡ b
+          → part (cond b out (over out 0 (owedBytes own (x .owed)))) 0
+          (bytesWritten (cond b (refused p noRoom) (taken h x (owedLength (x .owed))) .answer)) ≡ allBytes own (cond b [] (replies (x .owed)))
       go true q = part-in out 0 0 (omega arith)
       go false q =
           let l : length (owedBytes own (x .owed)) ≡ owedLength (x .owed) = length-owed own (x .owed) in
           let k : owedLength (x .owed) ≤ length out = ltb-false (length out) (owedLength (x .owed)) q in
           ap (part (over out 0 (owedBytes own (x .owed))) 0) (sym l) ∙ part-over out 0 (owedBytes own (x .owed)) (omega arith) ∙ owed-bytes own (x .owed)
 
-  pub written-is-sent : (t : List ℕ) (s : Sections) (f : Found) (x : Reading) → part (outputOf own t s f p x out) 0 (bytesWritten (outcomeOf own t s f p x (length out) .answer)) ≡ allBytes own (sentOf own t s f p x (length out))
+  pub written-is-sent : (t : List ℕ) (s : Sections) (f : Found) (x : Reading)
+      → part (outputOf own t s f p x out) 0 (bytesWritten (outcomeOf own t s f p x (length out) .answer)) ≡ allBytes own (sentOf own t s f p x (length out))
   unfolding outcomeOf outputOf sentOf
   written-is-sent t s f (reading.Refused k) = part-in out 0 0 (omega arith)
   written-is-sent t s f (reading.Read h m start len) = laid-is-sent h (reactionTo own t s f p h m start len)

@@ -49,10 +49,16 @@ pub record Pair : Type 0 where
 
 -- a message under way arrives, or is lost
 pub data Step (a b : ℕ) : Pair → Pair → Type 0 where
-  arrives-at-a : (c : Setting) (p q : Standing) (before after toB : List Reply) (r : Reply) → Step a b (record { a = p; b = q; toA = before ++ (r ∷ after); toB = toB }) (record { a = keeps a b c p r; b = q; toA = before ++ after; toB = toB ++ sends a b c p r })
-  arrives-at-b : (c : Setting) (p q : Standing) (before after toA : List Reply) (r : Reply) → Step a b (record { a = p; b = q; toA = toA; toB = before ++ (r ∷ after) }) (record { a = p; b = keeps b a c q r; toA = toA ++ sends b a c q r; toB = before ++ after })
-  lost-to-a : (p q : Standing) (before after toB : List Reply) (r : Reply) → Step a b (record { a = p; b = q; toA = before ++ (r ∷ after); toB = toB }) (record { a = p; b = q; toA = before ++ after; toB = toB })
-  lost-to-b : (p q : Standing) (before after toA : List Reply) (r : Reply) → Step a b (record { a = p; b = q; toA = toA; toB = before ++ (r ∷ after) }) (record { a = p; b = q; toA = toA; toB = before ++ after })
+  arrives-at-a : (c : Setting) (p q : Standing) (before after toB : List Reply) (r : Reply)
+      → Step a b (record { a = p; b = q; toA = before ++ (r ∷ after); toB = toB })
+      (record { a = keeps a b c p r; b = q; toA = before ++ after; toB = toB ++ sends a b c p r })
+  arrives-at-b : (c : Setting) (p q : Standing) (before after toA : List Reply) (r : Reply)
+      → Step a b (record { a = p; b = q; toA = toA; toB = before ++ (r ∷ after) })
+      (record { a = p; b = keeps b a c q r; toA = toA ++ sends b a c q r; toB = before ++ after })
+  lost-to-a : (p q : Standing) (before after toB : List Reply) (r : Reply)
+      → Step a b (record { a = p; b = q; toA = before ++ (r ∷ after); toB = toB }) (record { a = p; b = q; toA = before ++ after; toB = toB })
+  lost-to-b : (p q : Standing) (before after toA : List Reply) (r : Reply)
+      → Step a b (record { a = p; b = q; toA = toA; toB = before ++ (r ∷ after) }) (record { a = p; b = q; toA = toA; toB = before ++ after })
 
 -- n messages after one another
 pub data Exchange (a b : ℕ) : ℕ → Pair → Pair → Type 0 where

@@ -13,7 +13,9 @@ use message::Status;
 use table::Found;
 use table::Sections;
 ghost use mathlib.Core.Path.{_≡_};
-ghost use Rattle.platform.specs.Reaction.{operationFor, operationIn, isData, notData, noData, silent, replied, noted, cameUp, onStatus, notVersioned, onPullAll, onPullOne, onPull, onOperation, reactionTo};
+ghost use Rattle.platform.specs.Reaction.{operationFor, operationIn, isData, notData, noData, silent, replied, noted};
+ghost use Rattle.platform.specs.Reaction.{cameUp, onStatus, notVersioned, onPullAll, onPullOne, onPull, onOperation};
+ghost use Rattle.platform.specs.Reaction.{reactionTo};
 
 // The kind of an operation that is versioned data.
 const DATA_KIND: u16 = 1;

@@ -16,7 +16,8 @@ use Rattle.platform_words.specs.StateCalls.{upNumber}
 use Rattle.platform_words.specs.Words.{statesIn, standingIn, standingWords}
 
 module _ (ws : List ℕ) where
-  pub states-in : {a b c d : ℕ} → a ≡ getD ws 0 0 → b ≡ getD ws 1 0 → c ≡ getD ws 2 0 → d ≡ getD ws 3 0 → record { w0 = a; w1 = b; w2 = c; w3 = d } ≡ statesIn ws
+  pub states-in : {a b c d : ℕ} → a ≡ getD ws 0 0 → b ≡ getD ws 1 0 → c ≡ getD ws 2 0 → d ≡ getD ws 3 0
+      → record { w0 = a; w1 = b; w2 = c; w3 = d } ≡ statesIn ws
   states-in ea eb ec ed = rw (ea, eb, ec, ed)
 
   pub standing-in : {s : States} {n : ℕ} → s ≡ statesIn ws → n ≡ getD ws 4 0 → record { states = s; next = n % 2 ^ 32 } ≡ standingIn ws

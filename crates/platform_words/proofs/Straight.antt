@@ -58,7 +58,8 @@ module _ (own : ℕ) (t : List ℕ) (s : Sections) (m : List ℕ) (d : ℕ) (ed 
         ex ∙ ap (lookedUp t s) ei ∙ sym (other ∙ yes-eq {A = Found} (lookedUp t s (idIn m)) found.Nothing (readRefusal own m) 0 (sym en ∙ z))
 
 -- `put_operation`
-pub operation-words : {a b c d : ℕ} (m : List ℕ) (i : ℕ) → a ≡ number 2 m 8 → b ≡ number 2 m 4 → c ≡ number 2 m 16 → d ≡ number 2 m 12 → 7 ∷ a ∷ b ∷ c ∷ i ∷ headerLength ∷ d ∷ 0 ∷ [] ≡ operationWords m i
+pub operation-words : {a b c d : ℕ} (m : List ℕ) (i : ℕ) → a ≡ number 2 m 8 → b ≡ number 2 m 4 → c ≡ number 2 m 16 → d ≡ number 2 m 12 → 7
+    ∷ a ∷ b ∷ c ∷ i ∷ headerLength ∷ d ∷ 0 ∷ [] ≡ operationWords m i
 operation-words m i ea eb ec ed = rw (ea, eb, ec, ed)
 
 -- what the general way comes to where there is such an operation
@@ -77,13 +78,15 @@ module _ (own : ℕ) (t : List ℕ) (s : Sections) (p : Standing) (m : List ℕ)
   unfolding operationHeard
   straight e = go (eqb (domainIn m) platformDomain) refl (eqb (readRefusal own m) 0) refl e
     where
-      as-read : readRefusal own m ≡ 0 → eqb (domainIn m) platformDomain ≡ false → readOf own m ≡ reading.Read (headerIn m) message.Operation headerLength (payloadSizeIn m)
+      as-read : readRefusal own m ≡ 0 → eqb (domainIn m) platformDomain ≡ false → readOf own m
+          ≡ reading.Read (headerIn m) message.Operation headerLength (payloadSizeIn m)
       as-read er ed =
           ap (λ (n : ℕ). read.answered n (readOut m)) er
           ∙ ap (λ (y : Message). reading.Read (headerIn m) y headerLength (payloadSizeIn m))
           (no-if {A = Message} (platformMessage (idIn m) (number 2 (payloadIn m) 0)) message.Operation ed)
 
-      go : (a : Bool) → eqb (domainIn m) platformDomain ≡ a → (b : Bool) → eqb (readRefusal own m) 0 ≡ b → cond a found.Nothing (cond b (lookedUp t s (idIn m)) found.Nothing) ≡ found.At i → Straight
+      go : (a : Bool) → eqb (domainIn m) platformDomain ≡ a → (b : Bool) → eqb (readRefusal own m) 0 ≡ b
+          → cond a found.Nothing (cond b (lookedUp t s (idIn m)) found.Nothing) ≡ found.At i → Straight
       go true ea b eb h = absurd (never h)
       go false ea false eb h = absurd (never h)
       go false ea true eb h = record { read-is = as-read (eqb-true (readRefusal own m) 0 eb) ea; looked-is = h }

@@ -17,7 +17,8 @@ use Rattle.platform_words.specs.HeardWords.{heardWords, answerWords, not
 
 -- `put_heard`
 module _ {x : List ℕ} {y : Heard} (h : Header) (n : ℕ) where
-  pub told-status : {v : ℕ} (s : Status) → y ≡ heard.Status s → v ≡ statusValue s → x ≡ 1 ∷ v ∷ h .platform ∷ h .sequence ∷ 0 ∷ 0 ∷ 0 ∷ n ∷ [] → x ≡ heardWords h n y
+  pub told-status : {v : ℕ} (s : Status) → y ≡ heard.Status s → v ≡ statusValue s → x ≡ 1 ∷ v ∷ h .platform ∷ h .sequence ∷ 0 ∷ 0 ∷ 0 ∷ n
+      ∷ [] → x ≡ heardWords h n y
   told-status s e ev f = rw e (f ∙ ap (λ (u : ℕ). 1 ∷ u ∷ h .platform ∷ h .sequence ∷ 0 ∷ 0 ∷ 0 ∷ n ∷ []) ev)
 
   pub told-request : y ≡ heard.Request → x ≡ 2 ∷ 0 ∷ h .platform ∷ h .sequence ∷ 0 ∷ 0 ∷ 0 ∷ n ∷ [] → x ≡ heardWords h n y

@@ -24,9 +24,13 @@ pub fn receive_in(
     heard: &mut [u64; HEARD_WORDS],
 ) -> u32
     ensures { λ r. ⌜ r ≡ receiveInNumber own (now (platform .entry)) (now (table .entry)) (now (sections .entry)) (now (message .entry)) (now (out .entry)) ⌝ }
-    ensures { λ _. ⌜ now (platform .exit) ≡ receiveInWords own (now (platform .entry)) (now (table .entry)) (now (sections .entry)) (now (message .entry)) (now (out .entry)) ⌝ }
-    ensures { λ _. ⌜ now (out .exit) ≡ receiveInOutput own (now (platform .entry)) (now (table .entry)) (now (sections .entry)) (now (message .entry)) (now (out .entry)) ⌝ }
-    ensures { λ _. ⌜ now (heard .exit) ≡ receiveInHeard own (now (platform .entry)) (now (table .entry)) (now (sections .entry)) (now (message .entry)) (now (out .entry)) (now (heard .entry)) ⌝ }
+    ensures { λ _. ⌜ now (platform .exit)
+        ≡ receiveInWords own (now (platform .entry)) (now (table .entry)) (now (sections .entry)) (now (message .entry)) (now (out .entry)) ⌝ }
+    ensures { λ _. ⌜ now (out .exit)
+        ≡ receiveInOutput own (now (platform .entry)) (now (table .entry)) (now (sections .entry)) (now (message .entry)) (now (out .entry)) ⌝ }
+    ensures { λ _. ⌜ now (heard .exit)
+        ≡ receiveInHeard own (now (platform .entry)) (now (table .entry)) (now (sections .entry)) (now (message .entry)) (now (out .entry))
+        (now (heard .entry)) ⌝ }
 {
     let s = table::sections_in(sections);
     if table::within(table, s) {
@@ -55,9 +59,11 @@ fn received(
     heard: &mut [u64; HEARD_WORDS],
 ) -> u32
     ensures { λ r. ⌜ r ≡ numberWithin (own .platform) (now (platform .entry)) (now (table .entry)) s (now (message .entry)) (now (out .entry)) ⌝ }
-    ensures { λ _. ⌜ now (platform .exit) ≡ wordsWithin (own .platform) (now (platform .entry)) (now (table .entry)) s (now (message .entry)) (now (out .entry)) ⌝ }
+    ensures { λ _. ⌜ now (platform .exit)
+        ≡ wordsWithin (own .platform) (now (platform .entry)) (now (table .entry)) s (now (message .entry)) (now (out .entry)) ⌝ }
     ensures { λ _. ⌜ now (out .exit) ≡ outputWithin (own .platform) (now (platform .entry)) (now (table .entry)) s (now (message .entry)) (now (out .entry)) ⌝ }
-    ensures { λ _. ⌜ now (heard .exit) ≡ heardWithin (own .platform) (now (platform .entry)) (now (table .entry)) s (now (message .entry)) (now (out .entry)) (now (heard .entry)) ⌝ }
+    ensures { λ _. ⌜ now (heard .exit)
+        ≡ heardWithin (own .platform) (now (platform .entry)) (now (table .entry)) s (now (message .entry)) (now (out .entry)) (now (heard .entry)) ⌝ }
 {
     match operation_heard(own, table, s, message) {
         Found::At(entry) => {

@@ -20,7 +20,8 @@ pub fn receive(
     ensures { λ r. ⌜ r ≡ receiveNumber own (now (platform .entry)) (now (table .entry)) (now (message .entry)) (now (out .entry)) ⌝ }
     ensures { λ _. ⌜ now (platform .exit) ≡ receiveWords own (now (platform .entry)) (now (table .entry)) (now (message .entry)) (now (out .entry)) ⌝ }
     ensures { λ _. ⌜ now (out .exit) ≡ receiveOutput own (now (platform .entry)) (now (table .entry)) (now (message .entry)) (now (out .entry)) ⌝ }
-    ensures { λ _. ⌜ now (heard .exit) ≡ receiveHeard own (now (platform .entry)) (now (table .entry)) (now (message .entry)) (now (out .entry)) (now (heard .entry)) ⌝ }
+    ensures { λ _. ⌜ now (heard .exit)
+        ≡ receiveHeard own (now (platform .entry)) (now (table .entry)) (now (message .entry)) (now (out .entry)) (now (heard .entry)) ⌝ }
 {
     let standing = standing_words::standing_in(platform);
     let outcome = platform::receive(Own { platform: own }, table, standing, message, out);

@@ -70,7 +70,8 @@ module _ (room : Room) (v : View) (c : ℕ) (q : List ℕ) (m : Matched v) (r : 
     where
       go : (a : Bool) → eqb (length h) 0 ≡ a → (b : Bool) → leb (length h + length q) (room .size) ≡ b → Agrees room v Middle c q
       go true e b f = record { channel = rw (r, counted, e); delivered = rw (r, counted, e); matched = rw (r, counted, e) (eqb-true (length h) 0 e) }
-      go false e true f = record { channel = rw (r, counted, e, f); delivered = rw (r, counted, e, f); matched = rw (r, counted, e, f) (sym (length-append h q)) }
+      go false e true f = record
+          { channel = rw (r, counted, e, f); delivered = rw (r, counted, e, f); matched = rw (r, counted, e, f) (sym (length-append h q)) }
       go false e false f = record { channel = rw (r, counted, e, f); delivered = rw (r, counted, e, f); matched = rw (r, counted, e, f) }
 
   ends : Agrees room v End c q
@@ -99,4 +100,5 @@ unfolding viewAfter viewGiven
 same-deliveries room v [] m = refl
 same-deliveries room v (d ∷ ds) m =
     let a : Agrees room v (partIn d) (counterIn d) (pieceIn d) = agrees room v (partIn d) (counterIn d) (pieceIn d) m in
-    ap₂ _++_ (a .delivered) (same-deliveries room (viewAfter room v d) ds (a .matched) ∙ ap (λ (x : Channel). deliveries (room .size) x (map eventIn ds)) (a .channel))
+    ap₂ _++_ (a .delivered) (same-deliveries room (viewAfter room v d) ds (a .matched)
+    ∙ ap (λ (x : Channel). deliveries (room .size) x (map eventIn ds)) (a .channel))

@@ -44,7 +44,13 @@ is-addressed ids k d e =
 
 pub addressed-is : (ids : List ℕ) (k : ℕ) (d : Datagram) → Addressed ids k d → isOf ids k d ≡ true
 addressed-is ids k d a =
-    rw (le-leb smallestDatagram (length d) (a .long), le-leb (length d) largestDatagram (a .short), eq-eqb (versionIn d) theVersion (a .version), lt-ltb k (length ids) (a .known), eq-eqb (getD ids k 0) (senderIn d) (a .sender))
+    rw (
+      le-leb smallestDatagram (length d) (a .long),
+      le-leb (length d) largestDatagram (a .short),
+      eq-eqb (versionIn d) theVersion (a .version),
+      lt-ltb k (length ids) (a .known),
+      eq-eqb (getD ids k 0) (senderIn d) (a .sender),
+    )
 
 -- the same by the view alone
 abbrev pub given : Outcome → List ℕ → List (List ℕ)
@@ -103,7 +109,8 @@ module _ (ids : List ℕ) (R k : ℕ) (known : k < length ids) where
     its-view : isOf ids k d ≡ true → viewOf (takenOf j rooms d .joiner) (roomsAfter j rooms d) k ≡ viewAfter room (viewOf j rooms k) d
     its-view e = own-view j rooms d (u .stands) k (own e) ∙ ap (λ (r : ℕ). viewAfter (roomOf r k) (viewOf j rooms k) d) (u .size)
 
-    its-message : isOf ids k d ≡ true → handedBack (takenOf j rooms d .outcome) d (roomsAfter j rooms d) ≡ given (viewStep room (viewOf j rooms k) d .outcome) (viewGiven room (viewOf j rooms k) d)
+    its-message : isOf ids k d ≡ true → handedBack (takenOf j rooms d .outcome) d (roomsAfter j rooms d)
+        ≡ given (viewStep room (viewOf j rooms k) d .outcome) (viewGiven room (viewOf j rooms k) d)
     unfolding deliveredOf
     its-message e =
         handed-given (takenOf j rooms d .outcome) d (roomsAfter j rooms d)
@@ -117,7 +124,8 @@ module _ (ids : List ℕ) (R k : ℕ) (known : k < length ids) where
         foreign f = ap₂ (λ (x : Joiner) (y : List ℕ). viewOf x y k) (foreign-joiner j rooms d (u .stands) f) (foreign-rooms j rooms d (u .stands) f)
 
         mine : (i : ℕ) → Addressed (sendersOf j) i d → k ≡ i → ⊥
-        mine i a q = absurd (true≢false (sym (addressed-is ids k d (subst (λ (n : ℕ). Addressed ids n d) (sym q) (subst (λ (l : List ℕ). Addressed l i d) (u .senders) a))) ∙ e))
+        mine i a q = absurd (true≢false
+            (sym (addressed-is ids k d (subst (λ (n : ℕ). Addressed ids n d) (sym q) (subst (λ (l : List ℕ). Addressed l i d) (u .senders) a))) ∙ e))
 
         another : (i : ℕ) × Addressed (sendersOf j) i d → viewOf (takenOf j rooms d .joiner) (roomsAfter j rooms d) k ≡ viewOf j rooms k
         another p = other-view j rooms d (u .stands) (p .0) (p .1) k (omega (arith, known, count)) (mine (p .0) (p .1))

@@ -58,21 +58,25 @@ flip-decides b d f g = decides-same (not-decides b d) f g
 
 module _ {A : Type 0} (refused : ℕ → A) (good : A) where
   -- one check
-  pub by : {C : Type 0} {cs : List Check} {x : A} (b : Bool) (n : ℕ) → Decides b C → Answers refused good cs x → Answers refused good (n when C ∷ cs) (cond b (refused n) x)
+  pub by : {C : Type 0} {cs : List Check} {x : A} (b : Bool) (n : ℕ) → Decides b C → Answers refused good cs x
+      → Answers refused good (n when C ∷ cs) (cond b (refused n) x)
   by true n d a = this (d .yes-is refl)
   by false n d a = next (d .no-is refl) a
 
   -- the other way round: what is good stands first
-  pub unless : {C : Type 0} {cs : List Check} {x : A} (b : Bool) (n : ℕ) → Decides (not b) C → Answers refused good cs x → Answers refused good (n when C ∷ cs) (cond b x (refused n))
+  pub unless : {C : Type 0} {cs : List Check} {x : A} (b : Bool) (n : ℕ) → Decides (not b) C → Answers refused good cs x
+      → Answers refused good (n when C ∷ cs) (cond b x (refused n))
   unless true n d a = next (d .no-is refl) a
   unless false n d a = this (d .yes-is refl)
 
-  pub unless-then : {C : Type 0} {cs : List Check} {x : A} (b : Bool) (n : ℕ) → Decides (not b) C → (b ≡ true → Answers refused good cs x) → Answers refused good (n when C ∷ cs) (cond b x (refused n))
+  pub unless-then : {C : Type 0} {cs : List Check} {x : A} (b : Bool) (n : ℕ) → Decides (not b) C → (b ≡ true → Answers refused good cs x)
+      → Answers refused good (n when C ∷ cs) (cond b x (refused n))
   unless-then true n d a = next (d .no-is refl) (a refl)
   unless-then false n d a = this (d .yes-is refl)
 
   -- one check of a chain of numbers, 0 being none, that g makes the answer of
-  pub by-number : (g : ℕ → A) → ((k : ℕ) → g (suc k) ≡ refused (suc k)) → {C : Type 0} {cs : List Check} (b : Bool) (n m : ℕ) → Decides b C → Answers refused good cs (g m) → Answers refused good (suc n when C ∷ cs) (g (cond b (suc n) m))
+  pub by-number : (g : ℕ → A) → ((k : ℕ) → g (suc k) ≡ refused (suc k)) → {C : Type 0} {cs : List Check} (b : Bool) (n m : ℕ) → Decides b C
+      → Answers refused good cs (g m) → Answers refused good (suc n when C ∷ cs) (g (cond b (suc n) m))
   by-number g e true n m d a = subst (Answers refused good (_ ∷ _)) (sym (e n)) (this (d .yes-is refl))
   by-number g e false n m d a = next (d .no-is refl) a
 
@@ -81,7 +85,8 @@ module _ {A : Type 0} (refused : ℕ → A) (good : A) where
   passing {B} {C} n z a = next {c = n when (B × C)} (λ p. z (p .0)) a
 
 -- what is made of an answer goes on with further checks where it was good
-pub then : {A B : Type 0} (refused : ℕ → A) (good : A) (refused′ : ℕ → B) (good′ : B) (f : A → B) → ((n : ℕ) → f (refused n) ≡ refused′ n) → {cs ds : List Check} {x : A} → Answers refused good cs x → (x ≡ good → Answers refused′ good′ ds (f good)) → Answers refused′ good′ (cs ++ ds) (f x)
+pub then : {A B : Type 0} (refused : ℕ → A) (good : A) (refused′ : ℕ → B) (good′ : B) (f : A → B) → ((n : ℕ) → f (refused n) ≡ refused′ n)
+    → {cs ds : List Check} {x : A} → Answers refused good cs x → (x ≡ good → Answers refused′ good′ ds (f good)) → Answers refused′ good′ (cs ++ ds) (f x)
 then refused good refused′ good′ f e none k = k refl
 then refused good refused′ good′ f e (this {c} {cs} a) k = subst (Answers refused′ good′ (_ ∷ _)) (sym (e (c .number))) (this a)
 then refused good refused′ good′ f e (next n a) k = next n (then refused good refused′ good′ f e a k)

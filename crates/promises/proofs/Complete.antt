@@ -13,9 +13,11 @@ use Rattle.wire.proofs.Cond.{yes-if, no-if, yes-le, both}
 use Rattle.binding.specs.declared.MessagePart.{MessagePart}
 use Rattle.binding.specs.declared.MessagePart.the-variants.{Begin, Middle, End, Whole}
 use Rattle.binding.specs.Header.{counters, largestPiece}
-use Rattle.promises.specs.Senders.{Piece, Message, Sent, sentFrom, sentBy, after, arrived, lossesWithin, together, allArrived, completeOf, goodPieces, goodMessage, goodMessages}
+use Rattle.promises.specs.Senders.{Piece, Message, Sent, sentFrom, sentBy, after, arrived, lossesWithin, together}
+use Rattle.promises.specs.Senders.{allArrived, completeOf, goodPieces, goodMessage, goodMessages}
 use Rattle.promises.proofs.Machine.{Channel, Moved, at, followed, placed, deliveries}
-use Rattle.promises.proofs.OneChannel.{Stands, standsAt, eventsOf, slot-lost, slot-arrived, losses-lost, losses-arrived, after-below, arrives-here, lost-here, stands-next}
+use Rattle.promises.proofs.OneChannel.{Stands, standsAt, eventsOf, slot-lost, slot-arrived, losses-lost, losses-arrived}
+use Rattle.promises.proofs.OneChannel.{after-below, arrives-here, lost-here, stands-next}
 
 -- step 5 with nothing to follow, and with h to follow where there is room
 followed-none : (R c : ℕ) (h q : List ℕ) (joined : Moved) → eqb (length h) 0 ≡ true → followed R c h q joined ≡ at c [] []
@@ -57,13 +59,15 @@ owed-end h e = yes-if _ [] (ap (λ (b : Bool). not b && true) e) ∙ ap (λ (u :
 -- the statement for the messages still to come, from a channel that has nothing to go on with
 abbrev pub Delivers : ℕ → List Message → Type 0
 Delivers R ms =
-    (v : Channel) (c g : ℕ) → Stands v c g [] → c < counters → lossesWithin (v .seen) g (sentBy ms) ≡ true → deliveries R v (eventsOf c (sentBy ms)) ≡ completeOf ms
+    (v : Channel) (c g : ℕ) → Stands v c g [] → c < counters → lossesWithin (v .seen) g (sentBy ms) ≡ true
+    → deliveries R v (eventsOf c (sentBy ms)) ≡ completeOf ms
 
 abbrev sent : MessagePart → Piece → Sent
 sent m p = record { mark = m; piece = p }
 
 -- a piece and what follows it, by what becomes of the piece: it is lost, or it arrives and leaves h′ held
-module _ (R : ℕ) (m : MessagePart) (p : Piece) (v : Channel) (c g : ℕ) (h : List ℕ) (st : Stands v c g h) (b : c < counters) (ss : List Sent) (l : lossesWithin (v .seen) g (sent m p ∷ ss) ≡ true) where
+module _ (R : ℕ) (m : MessagePart) (p : Piece) (v : Channel) (c g : ℕ) (h : List ℕ) (st : Stands v c g h) (b : c < counters)
+    (ss : List Sent) (l : lossesWithin (v .seen) g (sent m p ∷ ss) ≡ true) where
   abbrev Onwards : List ℕ → List (List ℕ) → Type 0
   Onwards h′ rest = (v : Channel) (c g : ℕ) → Stands v c g h′ → c < counters → lossesWithin (v .seen) g ss ≡ true → deliveries R v (eventsOf c ss) ≡ rest
 
@@ -71,7 +75,8 @@ module _ (R : ℕ) (m : MessagePart) (p : Piece) (v : Channel) (c g : ℕ) (h : 
   if-lost rest a go =
       slot-lost R v c g (sent m p) ss a ∙ go v (after c) (suc g) (lost-here v c g h st) (after-below c) (losses-lost R v c g (sent m p) ss a l)
 
-  if-arrived : (h′ : List ℕ) (out rest : List (List ℕ)) → arrived p ≡ true → placed R m c h (p .bytes) ≡ at c h′ out → Onwards h′ rest → deliveries R v (eventsOf c (sent m p ∷ ss)) ≡ out ++ rest
+  if-arrived : (h′ : List ℕ) (out rest : List (List ℕ)) → arrived p ≡ true → placed R m c h (p .bytes) ≡ at c h′ out → Onwards h′ rest
+      → deliveries R v (eventsOf c (sent m p ∷ ss)) ≡ out ++ rest
   if-arrived h′ out rest a e go =
       let w = losses-arrived R v c g (sent m p) ss a l in
       slot-arrived R v c g (sent m p) ss h′ out a (arrives-here R m c g h (p .bytes) v (w .0) st ∙ e)
@@ -91,12 +96,15 @@ module _ (R : ℕ) (ms : List Message) (K : Delivers R ms) where
   -- what is to be shown of the pieces behind a message's first
   abbrev Behind : List Piece → List ℕ → Type 0
   Behind ps h =
-      length h + length (together ps) ≤ R → (v : Channel) (c g : ℕ) → Stands v c g h → c < counters → lossesWithin (v .seen) g (sentFrom false ps ++ sentBy ms) ≡ true → deliveries R v (eventsOf c (sentFrom false ps ++ sentBy ms)) ≡ owed h ps ++ completeOf ms
+      length h + length (together ps) ≤ R → (v : Channel) (c g : ℕ) → Stands v c g h → c < counters
+      → lossesWithin (v .seen) g (sentFrom false ps ++ sentBy ms) ≡ true → deliveries R v (eventsOf c (sentFrom false ps ++ sentBy ms))
+      ≡ owed h ps ++ completeOf ms
 
   end-piece : (p : Piece) (h : List ℕ) → Behind (p ∷ []) h
   end-piece p h fit v c g st b l = go (arrived p) refl (eqb (length h) 0) refl
     where
-      go : (a : Bool) → arrived p ≡ a → (e : Bool) → eqb (length h) 0 ≡ e → deliveries R v (eventsOf c (sentFrom false (p ∷ []) ++ sentBy ms)) ≡ owed h (p ∷ []) ++ completeOf ms
+      go : (a : Bool) → arrived p ≡ a → (e : Bool) → eqb (length h) 0 ≡ e
+          → deliveries R v (eventsOf c (sentFrom false (p ∷ []) ++ sentBy ms)) ≡ owed h (p ∷ []) ++ completeOf ms
       go false a e f = if-lost R End p v c g h st b (sentBy ms) l _ a K ∙ then (owed-lost h p [] a)
       go true a true f = if-arrived R End p v c g h st b (sentBy ms) l [] [] _ a (followed-none R c h (p .bytes) _ f) K ∙ then (owed-none h (p ∷ []) f)
       go true a false f =
@@ -110,9 +118,11 @@ module _ (R : ℕ) (ms : List Message) (K : Delivers R ms) where
       total : length (together (p ∷ q ∷ qs)) ≡ length (p .bytes) + length (together (q ∷ qs))
       total = length-append (p .bytes) (together (q ∷ qs))
 
-      go : (a : Bool) → arrived p ≡ a → (e : Bool) → eqb (length h) 0 ≡ e → deliveries R v (eventsOf c (sentFrom false (p ∷ q ∷ qs) ++ sentBy ms)) ≡ owed h (p ∷ q ∷ qs) ++ completeOf ms
+      go : (a : Bool) → arrived p ≡ a → (e : Bool) → eqb (length h) 0 ≡ e
+          → deliveries R v (eventsOf c (sentFrom false (p ∷ q ∷ qs) ++ sentBy ms)) ≡ owed h (p ∷ q ∷ qs) ++ completeOf ms
       go false a e f =
-          if-lost R Middle p v c g h st b (following (q ∷ qs)) l _ a (I [] (omega (arith, total))) ∙ then (owed-lost h p (q ∷ qs) a ∙ sym (owed-none [] (q ∷ qs) refl))
+          if-lost R Middle p v c g h st b (following (q ∷ qs)) l _ a (I [] (omega (arith, total)))
+          ∙ then (owed-lost h p (q ∷ qs) a ∙ sym (owed-none [] (q ∷ qs) refl))
       go true a true f =
           if-arrived R Middle p v c g h st b (following (q ∷ qs)) l [] [] _ a (followed-none R c h (p .bytes) _ f) (I [] (omega (arith, total)))
           ∙ then (owed-none h (p ∷ q ∷ qs) f ∙ sym (owed-none [] (q ∷ qs) refl))
@@ -128,7 +138,8 @@ module _ (R : ℕ) (ms : List Message) (K : Delivers R ms) where
   -- a whole message
   abbrev Message-delivered : Message → Type 0
   Message-delivered m =
-      (v : Channel) (c g : ℕ) → Stands v c g [] → c < counters → lossesWithin (v .seen) g (sentFrom true m ++ sentBy ms) ≡ true → deliveries R v (eventsOf c (sentFrom true m ++ sentBy ms)) ≡ completeOf (m ∷ ms)
+      (v : Channel) (c g : ℕ) → Stands v c g [] → c < counters → lossesWithin (v .seen) g (sentFrom true m ++ sentBy ms) ≡ true
+      → deliveries R v (eventsOf c (sentFrom true m ++ sentBy ms)) ≡ completeOf (m ∷ ms)
 
   one-piece : (p : Piece) → Message-delivered (p ∷ [])
   one-piece p v c g st b l = go (arrived p) refl
@@ -156,7 +167,8 @@ module _ (R : ℕ) (ms : List Message) (K : Delivers R ms) where
           if-lost R Begin p v c g [] st b (following (q ∷ qs)) l _ a (behind-first q qs [] (omega (arith, total)))
           ∙ then (no-if _ [] (ap (λ (x : Bool). x && allArrived (q ∷ qs)) a) ∙ sym (owed-none [] (q ∷ qs) refl))
       go true a =
-          if-arrived R Begin p v c g [] st b (following (q ∷ qs)) l (p .bytes) [] _ a (yes-le (at c (p .bytes) []) (at c [] []) (length (p .bytes)) R (omega (arith, total)))
+          if-arrived R Begin p v c g [] st b (following (q ∷ qs)) l (p .bytes) [] _ a
+          (yes-le (at c (p .bytes) []) (at c [] []) (length (p .bytes)) R (omega (arith, total)))
           (behind-first q qs (p .bytes) (omega (arith, total)))
           ∙ then (whole a)
 

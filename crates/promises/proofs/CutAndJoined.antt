@@ -21,7 +21,8 @@ use Rattle.binding.specs.declared.BindingHeader.{BindingHeader}
 use Rattle.binding.specs.Cutting.{pieceCount, pieceAt, partOfPiece, counterOf, headerOfPiece, datagramOf}
 use Rattle.binding.proofs.Headers.{Headed, heard-headed, header-octets}
 use Rattle.binding.proofs.Cutting.{Cuttable, cuttable, covered, count-some, one-piece, piece-some, piece-most, counter-lt, datagram-heard}
-use Rattle.promises.specs.Senders.{Piece, Message, Sender, markOf, sentFrom, after, arriving, arrives, lossesWithin, together, allArrived, goodPieces, goodMessage}
+use Rattle.promises.specs.Senders.{Piece, Message, Sender, markOf, sentFrom, after, arriving, arrives, lossesWithin}
+use Rattle.promises.specs.Senders.{together, allArrived, goodPieces, goodMessage}
 use Rattle.promises.specs.Traffic.{Datagram, isOf, ofChannel, AreBytes, none, more}
 use Rattle.channel.proofs.Setups.{accepted}
 use Rattle.promises.proofs.Apart.{addressed-is}
@@ -46,7 +47,8 @@ module _ (msg : List ℕ) (s : ℕ) where
   pieces-together i (suc n) =
       let m : suc n * s ≡ s + n * s = omega (arith, suc-mul n s) in
       let d : i * s + s ≡ suc i * s = sym (suc-mul i s) in
-      ap (λ (u : List ℕ). pieceAt msg s i ++ u) (pieces-together (suc i) n ∙ ap (λ (k : ℕ). take (n * s) (drop k msg)) (sym d) ∙ ap (take (n * s)) (sym (drop-drop s (i * s) msg)))
+      ap (λ (u : List ℕ). pieceAt msg s i ++ u)
+      (pieces-together (suc i) n ∙ ap (λ (k : ℕ). take (n * s) (drop k msg)) (sym d) ∙ ap (take (n * s)) (sym (drop-drop s (i * s) msg)))
       ∙ sym (take-add s (n * s) (drop (i * s) msg))
       ∙ ap (λ (k : ℕ). take k (drop (i * s) msg)) (sym m)
 
@@ -79,14 +81,16 @@ module _ (msg : List ℕ) (s : ℕ) where
     counter-next : (c i : ℕ) → c ≡ counterOf first i → after c ≡ counterOf first (suc i)
     counter-next c i e = ap after e ∙ omega arith
 
-    arriving-later : (i n c : ℕ) → suc i + n ≡ N → c ≡ counterOf first (suc i) → arriving id c (sentFrom false (piecesFrom (suc i) n) ++ []) ≡ datagramsFrom msg s id first (suc i) n
+    arriving-later : (i n c : ℕ) → suc i + n ≡ N → c ≡ counterOf first (suc i) → arriving id c (sentFrom false (piecesFrom (suc i) n) ++ [])
+        ≡ datagramsFrom msg s id first (suc i) n
     arriving-later i zero c e q = refl
     arriving-later i (suc n) c e q =
         ap₂ _∷_
         (ap₂ (λ (p : MessagePart) (x : ℕ). headerBytes (headerOf p id x) ++ pieceAt msg s (suc i)) (mark-later N i n e) q)
         (arriving-later (suc i) n (after c) (omega arith) (counter-next c (suc i) q))
 
-    arriving-all : (n c : ℕ) → suc n ≡ N → c ≡ counterOf first 0 → arriving id c (sentFrom true (piecesFrom 0 (suc n)) ++ []) ≡ datagramsFrom msg s id first 0 (suc n)
+    arriving-all : (n c : ℕ) → suc n ≡ N → c ≡ counterOf first 0 → arriving id c (sentFrom true (piecesFrom 0 (suc n)) ++ [])
+        ≡ datagramsFrom msg s id first 0 (suc n)
     arriving-all n c e q =
         ap₂ _∷_
         (ap₂ (λ (p : MessagePart) (x : ℕ). headerBytes (headerOf p id x) ++ pieceAt msg s 0) (mark-first n ∙ ap (λ (k : ℕ). partOfPiece k 0) e) q)
@@ -102,15 +106,18 @@ module _ (msg : List ℕ) (s : ℕ) where
       (pieces-good w (suc i) n (omega arith))
 
 -- every datagram cut is channel k's, and a string of bytes
-module _ (ids : List ℕ) (k : ℕ) (known : k < length ids) (range : getD ids k 0 < senders) (msg : List ℕ) (s first : ℕ) (w : Cuttable (length msg) s) (o : Octets msg) where
+module _ (ids : List ℕ) (k : ℕ) (known : k < length ids) (range : getD ids k 0 < senders) (msg : List ℕ) (s first : ℕ)
+    (w : Cuttable (length msg) s) (o : Octets msg) where
   abbrev id : ℕ
   id = getD ids k 0
 
   is-own : (i : ℕ) → i < pieceCount (length msg) s → isOf ids k (datagramOf msg s id first i) ≡ true
   is-own i l =
       let d : Datagram = datagramOf msg s id first i in
-      let h : Headed d (headerOfPiece (length msg) s id first i) = heard-headed d (headerOfPiece (length msg) s id first i) (datagram-heard msg s id first i w range l) in
-      addressed-is ids k d (record { long = h .long; short = h .short; version = h .version; known = known; sender = ap (λ (x : BindingHeader). x .sender) (h .fields) })
+      let h : Headed d (headerOfPiece (length msg) s id first i) = heard-headed d (headerOfPiece (length msg) s id first i)
+      (datagram-heard msg s id first i w range l) in
+      addressed-is ids k d (record
+      { long = h .long; short = h .short; version = h .version; known = known; sender = ap (λ (x : BindingHeader). x .sender) (h .fields) })
 
   all-own : (i n : ℕ) → i + n ≤ pieceCount (length msg) s → ofChannel ids k (datagramsFrom msg s id first i n) ≡ datagramsFrom msg s id first i n
   all-own i zero h = refl
@@ -121,7 +128,8 @@ module _ (ids : List ℕ) (k : ℕ) (known : k < length ids) (range : getD ids k
   all-bytes i zero = none
   all-bytes i (suc n) =
       more
-      (header-octets (headerOfPiece (length msg) s id first i) (pieceAt msg s i) range (counter-lt first i) (octets-take s (drop (i * s) msg) (octets-drop (i * s) msg o)))
+      (header-octets (headerOfPiece (length msg) s id first i) (pieceAt msg s i) range (counter-lt first i)
+      (octets-take s (drop (i * s) msg) (octets-drop (i * s) msg o)))
       (all-bytes (suc i) n)
 
 first-counter : (first : ℕ) → first < counters → first ≡ counterOf first 0

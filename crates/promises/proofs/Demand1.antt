@@ -42,7 +42,8 @@ use Rattle.platform.specs.declared.Answer.{Answer as Noting}
 use Rattle.platform.specs.declared.Answer.the-variants as noting
 use Rattle.platform.specs.Replies.{owedLength}
 use Rattle.platform.specs.Reaction.{operationFor, operationIn, reactionTo}
-use Rattle.platform.specs.Receiving.{refused, taken, answered, outcomeOf, outcomeIn, receivedBy, receivedOf, leftOf, sectionsOutcome, sectionsOutput, numberGiven as receiveNumber}
+use Rattle.platform.specs.Receiving.{refused, taken, answered, outcomeOf, outcomeIn, receivedBy, receivedOf, leftOf}
+use Rattle.platform.specs.Receiving.{sectionsOutcome, sectionsOutput, numberGiven as receiveNumber}
 use Rattle.platform.proofs.Unchanged.{Unchanged, refusal-changes-nothing, sections-refusal-changes-nothing}
 use Rattle.promises.specs.Checks.{Check, _when_, Answers, Keeps, none, this, next}
 use Rattle.promises.specs.Order.{InOrder, readChecks}
@@ -103,9 +104,11 @@ noting-refused (noting.Noted h x n) k = absurd (k refl)
 
 module _ (own : ℕ) (t : List ℕ) (p : Standing) (m out : List ℕ) where
   receive-kept : ¬ (receiveNumber (receivedOf own t p m (length out) .answer) ≡ 0) → Unchanged p out (receivedOf own t p m (length out)) (leftOf own t p m out)
-  receive-kept k = refusal-changes-nothing own p (receiveNumber (receivedOf own t p m (length out) .answer)) out t m (noting-refused (receivedOf own t p m (length out) .answer) k)
+  receive-kept k = refusal-changes-nothing own p (receiveNumber (receivedOf own t p m (length out) .answer)) out t m
+      (noting-refused (receivedOf own t p m (length out) .answer) k)
 
-  checked-kept : (s : Sections) → ¬ (receiveNumber (sectionsOutcome own t s p m (length out) .answer) ≡ 0) → Unchanged p out (sectionsOutcome own t s p m (length out)) (sectionsOutput own t s p m out)
+  checked-kept : (s : Sections) → ¬ (receiveNumber (sectionsOutcome own t s p m (length out) .answer) ≡ 0)
+      → Unchanged p out (sectionsOutcome own t s p m (length out)) (sectionsOutput own t s p m out)
   checked-kept s k =
       let r : Received′ = sectionsOutcome own t s p m (length out) in
       sections-refusal-changes-nothing own p (receiveNumber (r .answer)) out t s m (noting-refused (r .answer) k)
@@ -121,7 +124,8 @@ kept p out r o u =
 changes-nothing : ChangesNothing
 changes-nothing =
     record {
-      write-output = λ own domain id seq payload out. write-keeps (writeRefusal domain id payload (length out)) (headerLength + length payload) (over out 0 (messageBytes own domain id seq payload)) out;
+      write-output = λ own domain id seq payload out. write-keeps (writeRefusal domain id payload (length out))
+          (headerLength + length payload) (over out 0 (messageBytes own domain id seq payload)) out;
       cut-output = λ msg s sender counter i out. cut-keeps (madeOf msg s sender counter i (length out)) out (datagramOf msg s sender counter i);
       take-joiner = λ j rooms d k. refusal-keeps-joiner j rooms d _ (taken-refused (takenOf j rooms d .outcome) k);
       take-rooms = λ j rooms d k. refusal-keeps-rooms j rooms d _ (taken-refused (takenOf j rooms d .outcome) k);
@@ -135,7 +139,15 @@ changes-nothing =
     }
 
 in-order : InOrder
-in-order = record { read = read-in-order; write = write-in-order; header = header-in-order; setup = setup-in-order; take = take-in-order; pieces = pieces-in-order; cut = cut-in-order }
+in-order = record {
+  read = read-in-order;
+  write = write-in-order;
+  header = header-in-order;
+  setup = setup-in-order;
+  take = take-in-order;
+  pieces = pieces-in-order;
+  cut = cut-in-order;
+}
 
 -- one call for one message
 module _ (own : ℕ) (t : List ℕ) (p : Standing) (m : List ℕ) (room : ℕ) (ho : own < platforms) (hn : p .next < 2 ^ 32) (o : Octets m) where
@@ -147,28 +159,39 @@ module _ (own : ℕ) (t : List ℕ) (p : Standing) (m : List ℕ) (room : ℕ) (
     receives : Receives own t (sectionsIn t) p m (headerIn m) (kindIn m)
     receives = record { platform = ho; next = hn; bytes = o; table = e; start = headerLength; len = payloadSizeIn m; read = f }
 
-    number-is : receiveNumber (outcomeOf own t (sectionsIn t) (operationIn t (sectionsIn t) (readOut m)) p (readOut m) room .answer) ≡ cond (ltb room replies) 10 0
+    number-is : receiveNumber (outcomeOf own t (sectionsIn t) (operationIn t (sectionsIn t) (readOut m)) p (readOut m) room .answer)
+        ≡ cond (ltb room replies) 10 0
     unfolding outcomeOf answered operationIn receives
     number-is =
         let w : ℕ = owedLength (the own t (sectionsIn t) p m [] (headerIn m) (kindIn m) receives .owed) in
         go (ltb room w) ∙ ap (λ (n : ℕ). cond (ltb room n) 10 0) (its-length own t (sectionsIn t) p m [] (headerIn m) (kindIn m) receives)
       where
-        go : (b : Bool) → receiveNumber (cond b (refused p noRoom) (taken (headerIn m) (the own t (sectionsIn t) p m [] (headerIn m) (kindIn m) receives) (owedLength (the own t (sectionsIn t) p m [] (headerIn m) (kindIn m) receives .owed))) .answer) ≡ cond b 10 0
+        go : (b : Bool) → receiveNumber
+            (cond b (refused p noRoom)
+            (taken (headerIn m) (the own t (sectionsIn t) p m [] (headerIn m) (kindIn m) receives)
+            (owedLength (the own t (sectionsIn t) p m [] (headerIn m) (kindIn m) receives .owed))) .answer) ≡ cond b 10 0
         go true = refl
         go false = refl
 
-    fits-in-order : Answers (λ (n : ℕ). n) 0 (10 when (room < replies) ∷ []) (receiveNumber (outcomeOf own t (sectionsIn t) (operationIn t (sectionsIn t) (readOut m)) p (readOut m) room .answer))
-    fits-in-order = subst (Answers (λ (n : ℕ). n) 0 (10 when (room < replies) ∷ [])) (sym number-is) (by (λ n. n) 0 (ltb room replies) 10 (lt-decides room replies) none)
+    fits-in-order : Answers (λ (n : ℕ). n) 0 (10 when (room < replies) ∷ [])
+        (receiveNumber (outcomeOf own t (sectionsIn t) (operationIn t (sectionsIn t) (readOut m)) p (readOut m) room .answer))
+    fits-in-order = subst (Answers (λ (n : ℕ). n) 0 (10 when (room < replies) ∷ [])) (sym number-is)
+        (by (λ n. n) 0 (ltb room replies) 10 (lt-decides room replies) none)
 
-  message-in-order : checked t ≡ check.Table (sectionsIn t) → Answers (λ (n : ℕ). n) 0 (readChecks own m ++ (10 when (room < replies) ∷ [])) (receiveNumber (receivedBy (check.Table (sectionsIn t)) own t p m room .answer))
+  message-in-order : checked t ≡ check.Table (sectionsIn t)
+      → Answers (λ (n : ℕ). n) 0 (readChecks own m ++ (10 when (room < replies) ∷ []))
+      (receiveNumber (receivedBy (check.Table (sectionsIn t)) own t p m room .answer))
   unfolding receivedBy outcomeOf
   message-in-order e =
-      then reading.Refused (readOut m) (λ n. n) 0 (λ (x : Reading). receiveNumber (outcomeOf own t (sectionsIn t) (operationIn t (sectionsIn t) x) p x room .answer)) (λ n. refl) (read-in-order own m) (fits-in-order e)
+      then reading.Refused (readOut m) (λ n. n) 0
+      (λ (x : Reading). receiveNumber (outcomeOf own t (sectionsIn t) (operationIn t (sectionsIn t) x) p x room .answer)) (λ n. refl)
+      (read-in-order own m) (fits-in-order e)
 
   received-in-order : Answers (λ (n : ℕ). n) 0 (receiveChecks own t p m room) (receiveNumber (receivedOf own t p m room .answer))
   unfolding receivedOf receivedBy
   received-in-order =
-      then check.Refused (check.Table (sectionsIn t)) (λ n. n) 0 (λ (x : Checked). receiveNumber (receivedBy x own t p m room .answer)) (λ n. refl) (table-in-order t) message-in-order
+      then check.Refused (check.Table (sectionsIn t)) (λ n. n) 0 (λ (x : Checked). receiveNumber (receivedBy x own t p m room .answer))
+      (λ n. refl) (table-in-order t) message-in-order
 
 receive-in-order : ReceiveInOrder
 receive-in-order own t p m room ho hn o = received-in-order own t p m room ho hn o
@@ -182,21 +205,31 @@ module _ (own : ℕ) (t : List ℕ) (s : Sections) (p : Standing) (m : List ℕ)
   unfolding outcomeOf answered
   answered-number = go (ltb room (owedIn own t s p m))
     where
-      go : (b : Bool) → receiveNumber (cond b (refused p noRoom) (taken (headerIn m) (reactionTo own t s whatIsFound p (headerIn m) (kindIn m) headerLength (payloadSizeIn m)) (owedIn own t s p m)) .answer) ≡ cond b 10 0
+      go : (b : Bool) → receiveNumber
+          (cond b (refused p noRoom)
+          (taken (headerIn m) (reactionTo own t s whatIsFound p (headerIn m) (kindIn m) headerLength (payloadSizeIn m))
+          (owedIn own t s p m)) .answer) ≡ cond b 10 0
       go true = refl
       go false = refl
 
-  found-in-order : Answers (λ (n : ℕ). n) 0 (readChecks own m ++ (10 when (room < owedIn own t s p m) ∷ [])) (receiveNumber (outcomeIn own t s p m room .answer))
+  found-in-order : Answers (λ (n : ℕ). n) 0 (readChecks own m ++ (10 when (room < owedIn own t s p m) ∷ []))
+      (receiveNumber (outcomeIn own t s p m room .answer))
   unfolding outcomeOf operationIn
   found-in-order =
-      then reading.Refused (readOut m) (λ n. n) 0 (λ (x : Reading). receiveNumber (outcomeOf own t s (operationIn t s x) p x room .answer)) (λ n. refl) (read-in-order own m)
-      (λ _. subst (Answers (λ (n : ℕ). n) 0 (10 when (room < owedIn own t s p m) ∷ [])) (sym answered-number) (by (λ n. n) 0 (ltb room (owedIn own t s p m)) 10 (lt-decides room (owedIn own t s p m)) none))
+      then reading.Refused (readOut m) (λ n. n) 0 (λ (x : Reading). receiveNumber (outcomeOf own t s (operationIn t s x) p x room .answer))
+      (λ n. refl) (read-in-order own m)
+      (λ _. subst (Answers (λ (n : ℕ). n) 0 (10 when (room < owedIn own t s p m) ∷ [])) (sym answered-number)
+      (by (λ n. n) 0 (ltb room (owedIn own t s p m)) 10 (lt-decides room (owedIn own t s p m)) none))
 
-  sections-in-order : Answers (λ (n : ℕ). n) 0 (30 when (within t s ≡ false) ∷ (readChecks own m ++ (10 when (room < owedIn own t s p m) ∷ []))) (receiveNumber (sectionsOutcome own t s p m room .answer))
+  sections-in-order : Answers (λ (n : ℕ). n) 0
+      (30 when (within t s ≡ false) ∷ (readChecks own m ++ (10 when (room < owedIn own t s p m) ∷ [])))
+      (receiveNumber (sectionsOutcome own t s p m room .answer))
   unfolding sectionsOutcome
   sections-in-order = go (within t s) refl
     where
-      go : (b : Bool) → within t s ≡ b → Answers (λ (n : ℕ). n) 0 (30 when (within t s ≡ false) ∷ (readChecks own m ++ (10 when (room < owedIn own t s p m) ∷ []))) (receiveNumber (cond b (outcomeIn own t s p m room) (refused p 30) .answer))
+      go : (b : Bool) → within t s ≡ b
+          → Answers (λ (n : ℕ). n) 0 (30 when (within t s ≡ false) ∷ (readChecks own m ++ (10 when (room < owedIn own t s p m) ∷ [])))
+          (receiveNumber (cond b (outcomeIn own t s p m room) (refused p 30) .answer))
       go true e = next (λ (z : within t s ≡ false). let q : _≡_ {A = ℕ} 0 1 = cc in omega arith) found-in-order
       go false e = this e
 

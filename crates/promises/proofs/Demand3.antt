@@ -38,14 +38,18 @@ module _ (ids : List ℕ) (R : ℕ) (rooms : List ℕ) (ok : setupOf ids R (leng
   at-first k h = ap (λ (j : Joiner). viewOf j rooms k) joiner ∙ fresh-view ids R (accepted ids R (length rooms) ok .few) rooms k h
 
 -- one channel with a genuine sender, whatever the others do
-pub on-channel : (ids : List ℕ) (R : ℕ) (rooms : List ℕ) (s : Sender) (traffic : List Datagram) (k : ℕ) → k < length ids → setupOf ids R (length rooms) .answer ≡ Accepted → Genuine R s → ofChannel ids k traffic ≡ arrives (getD ids k 0) s → AreBytes traffic → deliveredOn ids k (fresh ids R rooms) rooms traffic ≡ completeOf (s .messages)
+pub on-channel : (ids : List ℕ) (R : ℕ) (rooms : List ℕ) (s : Sender) (traffic : List Datagram) (k : ℕ) → k < length ids
+    → setupOf ids R (length rooms) .answer ≡ Accepted → Genuine R s → ofChannel ids k traffic ≡ arrives (getD ids k 0) s → AreBytes traffic
+    → deliveredOn ids k (fresh ids R rooms) rooms traffic ≡ completeOf (s .messages)
 on-channel ids R rooms s traffic k h ok w mixed o =
     let v : View = record { channel = newChannel (getD ids k 0); bytes = [] } in
     through ids R k h traffic o (fresh ids R rooms) rooms (underway ids R rooms ok) .delivered
     ∙ ap (λ (x : View). viewDelivers (roomOf R k) x (ofChannel ids k traffic)) (at-first ids R rooms ok k h)
     ∙ ap (viewDelivers (roomOf R k) v) mixed
     ∙ same-deliveries (roomOf R k) v (arrives (getD ids k 0) s) refl
-    ∙ ap (deliveries R (machine v)) (events (getD ids k 0) (accepted ids R (length rooms) ok .range k h) (s .first) (sentBy (s .messages)) (w .counter) (fit-messages R (s .messages) (w .messages)))
+    ∙ ap (deliveries R (machine v))
+    (events (getD ids k 0) (accepted ids R (length rooms) ok .range k h) (s .first) (sentBy (s .messages)) (w .counter)
+    (fit-messages R (s .messages) (w .messages)))
     ∙ messages R (s .messages) (w .messages) (machine v) (s .first) 0 (inr (record { unseen = refl; empty = refl; hold = refl })) (w .counter) (w .losses)
 
 pub demand-3 : Demand3
@@ -56,7 +60,8 @@ mix-makes-no-difference ids R rooms rooms′ k one other a =
     let ok′ : setupOf ids R (length rooms′) .answer ≡ Accepted = ap (λ (n : ℕ). setupOf ids R n .answer) (a .as-long) ∙ a .set-up in
     let p = through ids R k (a .known) one (a .bytes) (fresh ids R rooms) rooms (underway ids R rooms (a .set-up)) in
     let q = through ids R k (a .known) other (a .bytes′) (fresh ids R rooms′) rooms′ (underway ids R rooms′ ok′) in
-    let v : viewOf (fresh ids R rooms) rooms k ≡ viewOf (fresh ids R rooms′) rooms′ k = at-first ids R rooms (a .set-up) k (a .known) ∙ sym (at-first ids R rooms′ ok′ k (a .known)) in
+    let v : viewOf (fresh ids R rooms) rooms k ≡ viewOf (fresh ids R rooms′) rooms′ k = at-first ids R rooms (a .set-up) k (a .known)
+    ∙ sym (at-first ids R rooms′ ok′ k (a .known)) in
     record {
       delivered = p .delivered ∙ ap₂ (viewDelivers (roomOf R k)) v (a .same) ∙ sym (q .delivered);
       outcomes = p .outcomes ∙ ap₂ (viewOutcomes (roomOf R k)) v (a .same) ∙ sym (q .outcomes);

@@ -34,7 +34,8 @@ pub not-refused : (r k n : ℕ) → writes.answered r k ≡ writing.Written n �
 not-refused zero k n e = (refl, cc)
 not-refused (suc r) k n e = let z : _≡_ {A = ℕ} 0 1 = cc in absurd (omega arith)
 
-pub was-read : (r : ℕ) (x : Reading) (h : Header) (m : Message) (start len : ℕ) → reads.answered r x ≡ reading.Read h m start len → (r ≡ 0) × (x ≡ reading.Read h m start len)
+pub was-read : (r : ℕ) (x : Reading) (h : Header) (m : Message) (start len : ℕ) → reads.answered r x ≡ reading.Read h m start len → (r ≡ 0)
+    × (x ≡ reading.Read h m start len)
 was-read zero x h m start len e = (refl, e)
 was-read (suc r) x h m start len e = let z : _≡_ {A = ℕ} 0 1 = cc in absurd (omega arith)
 
@@ -48,7 +49,9 @@ module _ (own domain id seq : ℕ) (payload out : List ℕ) (w : writeRefusal do
       let b : List ℕ = messageBytes own domain id seq payload in
       ap (take (headerLength + length payload)) written-out ∙ take-at b (drop (0 + length b) out) (headerLength + length payload) (omega arith)
 
-  as-read : (reader : ℕ) → Addressed own reader id seq → ReadsAs reader (take (headerLength + length payload) (outputAfter own domain id seq payload out)) (headerFor own domain id seq payload) (messageOf domain id (number 2 payload 0)) payload
+  as-read : (reader : ℕ) → Addressed own reader id seq
+      → ReadsAs reader (take (headerLength + length payload) (outputAfter own domain id seq payload out))
+      (headerFor own domain id seq payload) (messageOf domain id (number 2 payload 0)) payload
   as-read reader a =
       rw front (record {
         answer = reads-back own domain id seq payload (length out) reader (a .platform) (a .other) (a .id-fits) (a .sequence-fits) w;
@@ -82,15 +85,20 @@ pub read-then-written : ReadThenWritten
 read-then-written own s h m start len out o e l =
     let w = was-read (readRefusal own s) (readOut s) h m start len e in
     let fields : headerIn s ≡ h = ap (headerRead h) (w .1) in
-    let its-payload : payloadIn s ≡ payloadOf s (readOf own s) = sym (ap (λ (r : ℕ). payloadOf s (reads.answered r (readOut s))) (w .0) ∙ payload-stands own s (w .0)) in
-    subst (λ (x : Header). Again s out x (payloadOf s (readOf own s))) fields (subst (λ (p : List ℕ). Again s out (headerIn s) p) its-payload (again own s out o (w .0) l))
+    let its-payload : payloadIn s
+    ≡ payloadOf s (readOf own s) = sym (ap (λ (r : ℕ). payloadOf s (reads.answered r (readOut s))) (w .0) ∙ payload-stands own s (w .0)) in
+    subst (λ (x : Header). Again s out x (payloadOf s (readOf own s))) fields
+    (subst (λ (p : List ℕ). Again s out (headerIn s) p) its-payload (again own s out o (w .0) l))
 
 -- a message whose contents nothing refuses
-sent-as : (domain id : ℕ) (payload : List ℕ) (kind : Message) → domain < 2 → length payload < 2 ^ 32 → contentsRefusal domain id payload ≡ 0 → messageOf domain id (number 2 payload 0) ≡ kind → IsSentAs domain id payload kind
+sent-as : (domain id : ℕ) (payload : List ℕ) (kind : Message) → domain < 2 → length payload < 2 ^ 32 → contentsRefusal domain id payload ≡ 0
+    → messageOf domain id (number 2 payload 0) ≡ kind → IsSentAs domain id payload kind
 sent-as domain id payload kind dom few ok means own reader seq out a room =
-    let w : writeRefusal domain id payload (length out) ≡ 0 = admits domain id payload (length out) (record { domain = dom; size = few; contents = ok; fits = room }) in (
+    let w : writeRefusal domain id payload (length out)
+    ≡ 0 = admits domain id payload (length out) (record { domain = dom; size = few; contents = ok; fits = room }) in (
       ap (λ (r : ℕ). writes.answered r (headerLength + length payload)) w,
-      subst (λ (m : Message). ReadsAs reader (take (headerLength + length payload) (outputAfter own domain id seq payload out)) (headerFor own domain id seq payload) m payload) means
+      subst (λ (m : Message). ReadsAs reader (take (headerLength + length payload) (outputAfter own domain id seq payload out))
+          (headerFor own domain id seq payload) m payload) means
           (as-read own domain id seq payload out w reader a),
     )
 
@@ -99,8 +107,10 @@ each-message =
     record {
       status = status;
       request = sent-as 0 platformStatusRequest [] PlatformStatusRequest (omega arith) (omega arith) refl refl;
-      unknown = λ id h. sent-as 0 unknownOperation (bytes 2 id) (UnknownOperation id) (omega arith) (omega arith) refl (ap UnknownOperation (number-bytes 2 id [] h));
-      pull = λ id h. sent-as 0 versionedDataPull (bytes 2 id) (VersionedDataPull id) (omega arith) (omega arith) refl (ap VersionedDataPull (number-bytes 2 id [] h));
+      unknown = λ id h. sent-as 0 unknownOperation (bytes 2 id) (UnknownOperation id) (omega arith) (omega arith) refl
+          (ap UnknownOperation (number-bytes 2 id [] h));
+      pull = λ id h. sent-as 0 versionedDataPull (bytes 2 id) (VersionedDataPull id) (omega arith) (omega arith) refl
+          (ap VersionedDataPull (number-bytes 2 id [] h));
       operation = λ id payload h. sent-as 1 id payload Operation (omega arith) h refl refl;
     }
   where

@@ -14,7 +14,8 @@ use Rattle.promises.specs.NotRuledOut.{saying, oneMore, elseStray, NotRu
 use Rattle.promises.proofs.Demand3.{demand-3}
 
 module _ (f : Outcome → Outcome) (same : (o : Outcome) (d rooms : List ℕ) → handedBack (f o) d rooms ≡ handedBack o d rooms) where
-  alike : (ids : List ℕ) (k : ℕ) (j : Joiner) (rooms : List ℕ) (ds : List Datagram) → deliveredBy (saying f) ids k j rooms ds ≡ deliveredBy ourJoining ids k j rooms ds
+  alike : (ids : List ℕ) (k : ℕ) (j : Joiner) (rooms : List ℕ) (ds : List Datagram) → deliveredBy (saying f) ids k j rooms ds
+      ≡ deliveredBy ourJoining ids k j rooms ds
   alike ids k j rooms [] = refl
   alike ids k j rooms (d ∷ ds) =
       let t = ourJoining .take j rooms d in

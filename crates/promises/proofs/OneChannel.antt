@@ -63,7 +63,8 @@ within : (v : Channel) (c g : ℕ) (h : List ℕ) → (not (v .seen) || leb g mo
 within v c g h e (inl a) = inl (leb-true g mostLost (ap (λ (b : Bool). not b || leb g mostLost) (sym (a .seen)) ∙ e))
 within v c g h e (inr f) = inr f
 
-pub arrives-here : (R : ℕ) (p : MessagePart) (c g : ℕ) (h q : List ℕ) (v : Channel) → (not (v .seen) || leb g mostLost) ≡ true → Stands v c g h → moved R v p c q ≡ placed R p c h q
+pub arrives-here : (R : ℕ) (p : MessagePart) (c g : ℕ) (h q : List ℕ) (v : Channel) → (not (v .seen) || leb g mostLost) ≡ true
+    → Stands v c g h → moved R v p c q ≡ placed R p c h q
 arrives-here R p c g h q v e (inl a) = ⊎-elim (λ b. arrives-after R p c g h q v a b) (λ f. arrives-fresh R p c g h q v f) (within v c g h e (inl a))
 arrives-here R p c g h q v e (inr f) = arrives-fresh R p c g h q v f
 
@@ -80,7 +81,8 @@ standsAt c h = record { seen = true; last = c; held = h }
 pub stands-next : (c : ℕ) (h : List ℕ) → c < counters → Stands (standsAt c h) (after c) 0 h
 stands-next c h b = inl (record { seen = refl; below = b; next = ap (λ (n : ℕ). n % counters) (omega arith); hold = refl })
 
-repeated : (R c : ℕ) (h q : List ℕ) (p : MessagePart) (n : ℕ) (es : List Event) → deliveries R (standsAt c h) (replicate n (record { mark = p; counter = c; bytes = q }) ++ es) ≡ deliveries R (standsAt c h) es
+repeated : (R c : ℕ) (h q : List ℕ) (p : MessagePart) (n : ℕ) (es : List Event)
+    → deliveries R (standsAt c h) (replicate n (record { mark = p; counter = c; bytes = q }) ++ es) ≡ deliveries R (standsAt c h) es
 repeated R c h q p zero es = refl
 repeated R c h q p (suc n) es =
     let e : eqb c c ≡ true = eq-eqb c c refl in
@@ -101,7 +103,8 @@ module _ (R : ℕ) (v : Channel) (c g : ℕ) (s : Sent) (ss : List Sent) where
   pub slot-lost : arrived (s .piece) ≡ false → deliveries R v (eventsOf c (s ∷ ss)) ≡ deliveries R v (eventsOf (after c) ss)
   slot-lost e = copied 0 (omega (arith, ltb-false 0 (s .piece .copies) e))
 
-  pub slot-arrived : (h : List ℕ) (out : List (List ℕ)) → arrived (s .piece) ≡ true → moved R v (s .mark) c (s .piece .bytes) ≡ at c h out → deliveries R v (eventsOf c (s ∷ ss)) ≡ out ++ deliveries R (standsAt c h) (eventsOf (after c) ss)
+  pub slot-arrived : (h : List ℕ) (out : List (List ℕ)) → arrived (s .piece) ≡ true → moved R v (s .mark) c (s .piece .bytes) ≡ at c h out
+      → deliveries R v (eventsOf c (s ∷ ss)) ≡ out ++ deliveries R (standsAt c h) (eventsOf (after c) ss)
   slot-arrived h out e m =
       let n : ℕ = s .piece .copies - 1 in
       let k : s .piece .copies ≡ suc n = omega (arith, ltb-true 0 (s .piece .copies) e) in
@@ -113,7 +116,8 @@ module _ (R : ℕ) (v : Channel) (c g : ℕ) (s : Sent) (ss : List Sent) where
   pub losses-lost : arrived (s .piece) ≡ false → lossesWithin (v .seen) g (s ∷ ss) ≡ true → lossesWithin (v .seen) (suc g) ss ≡ true
   losses-lost e l = sym (no-if _ _ e) ∙ l
 
-  pub losses-arrived : arrived (s .piece) ≡ true → lossesWithin (v .seen) g (s ∷ ss) ≡ true → ((not (v .seen) || leb g mostLost) ≡ true) × (lossesWithin true 0 ss ≡ true)
+  pub losses-arrived : arrived (s .piece) ≡ true → lossesWithin (v .seen) g (s ∷ ss) ≡ true → ((not (v .seen) || leb g mostLost) ≡ true)
+      × (lossesWithin true 0 ss ≡ true)
   losses-arrived e l = both (not (v .seen) || leb g mostLost) (lossesWithin true 0 ss) (sym (yes-if _ _ e) ∙ l)
 
 pub after-below : (c : ℕ) → after c < counters

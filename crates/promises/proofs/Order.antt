@@ -14,7 +14,8 @@ use Rattle.message.specs.declared.Reading.{Reading}
 use Rattle.message.specs.declared.Reading.the-variants as reading
 use Rattle.message.specs.declared.Writing.{Writing}
 use Rattle.message.specs.declared.Writing.the-variants as writing
-use Rattle.message.specs.Header.{headerLength, theMark, markIn, theVersion, versionIn, platformDomain, reservedDomains, domainIn, senderIn, idIn, payloadSizeIn, payloadIn}
+use Rattle.message.specs.Header.{headerLength, theMark, markIn, theVersion, versionIn, platformDomain, reservedDomains, domainIn}
+use Rattle.message.specs.Header.{senderIn, idIn, payloadSizeIn, payloadIn}
 use Rattle.message.specs.Platform.{platformStatus, versionedDataPull, reservedID, payloadLength, reservedStates}
 use Rattle.message.specs.Refusal.{first, platforms, sizeLimit, addressRefusal, contentsRefusal}
 use Rattle.message.specs.Reading.{readOut, readOf}
@@ -30,7 +31,8 @@ use Rattle.binding.specs.Cutting.{canCut, canHead, pieceCount, datagramOf, coun
 use Rattle.binding.proofs.Cutting.{Cuttable, cuttable, can-cut}
 use Rattle.promises.specs.Checks.{Check, _when_, Answers, Outside, none, below, above}
 use Rattle.promises.specs.Order.{contentsChecks, readChecks, writeChecks, headerChecks, cutChecks}
-use Rattle.promises.proofs.Checks.{Decides, lt-decides, le-decides, eq-decides, not-decides, or-decides, and-decides, decides-same, flip-decides, where-is, not-outside, unless, by-number, passing}
+use Rattle.promises.proofs.Checks.{Decides, lt-decides, le-decides, eq-decides, not-decides, or-decides, and-decides}
+use Rattle.promises.proofs.Checks.{decides-same, flip-decides, where-is, not-outside, unless, by-number, passing}
 
 -- reserved IDs
 reserved-decides : (id : ℕ) → Decides (reservedID id) (Outside 1 4 id)
@@ -45,19 +47,26 @@ reserved-decides id = decides-same (or-decides (eqb id 0) (ltb versionedDataPull
     back (above l) = inr l
 
 -- 7 to 9, and what stands behind them
-module _ {A : Type 0} (refused : ℕ → A) (good : A) (g : ℕ → A) (e : (k : ℕ) → g (suc k) ≡ refused (suc k)) (domain id : ℕ) (payload : List ℕ) (rest : List Check) (a : Answers refused good rest (g 0)) where
+module _ {A : Type 0} (refused : ℕ → A) (good : A) (g : ℕ → A) (e : (k : ℕ) → g (suc k) ≡ refused (suc k)) (domain id : ℕ)
+    (payload : List ℕ) (rest : List Check) (a : Answers refused good rest (g 0)) where
   contents-in-order : Answers refused good (contentsChecks domain id payload ++ rest) (g (contentsRefusal domain id payload))
   contents-in-order = go (eqb domain platformDomain) refl
     where
       in-domain : {C : Type 0} (b : Bool) → domain ≡ 0 → Decides b C → Decides b ((domain ≡ 0) × C)
       in-domain b z d = decides-same d (λ c. (z, c)) (λ p. p .1)
 
-      go : (b : Bool) → eqb domain platformDomain ≡ b → Answers refused good (contentsChecks domain id payload ++ rest) (g (cond (not b) 0 (cond (reservedID id) 7 (cond (not (eqb (length payload) (payloadLength id))) 8 (cond (eqb id platformStatus && leb reservedStates (number 2 payload 0)) 9 0)))))
+      go : (b : Bool) → eqb domain platformDomain ≡ b
+          → Answers refused good (contentsChecks domain id payload ++ rest)
+          (g (cond (not b) 0 (cond (reservedID id) 7
+          (cond (not (eqb (length payload) (payloadLength id))) 8 (cond (eqb id platformStatus && leb reservedStates (number 2 payload 0)) 9 0)))))
       go true q =
           let z : domain ≡ 0 = eq-decides domain platformDomain .yes-is q in
           by-number refused good g e (reservedID id) 6 _ (in-domain (reservedID id) z (reserved-decides id))
-          (by-number refused good g e (not (eqb (length payload) (payloadLength id))) 7 _ (in-domain _ z (not-decides (eqb (length payload) (payloadLength id)) (eq-decides (length payload) (payloadLength id))))
-          (by-number refused good g e (eqb id platformStatus && leb reservedStates (number 2 payload 0)) 8 0 (in-domain _ z (and-decides (eqb id platformStatus) (leb reservedStates (number 2 payload 0)) (eq-decides id platformStatus) (le-decides reservedStates (number 2 payload 0)))) a))
+          (by-number refused good g e (not (eqb (length payload) (payloadLength id))) 7 _
+          (in-domain _ z (not-decides (eqb (length payload) (payloadLength id)) (eq-decides (length payload) (payloadLength id))))
+          (by-number refused good g e (eqb id platformStatus && leb reservedStates (number 2 payload 0)) 8 0
+          (in-domain _ z (and-decides (eqb id platformStatus) (leb reservedStates (number 2 payload 0)) (eq-decides id platformStatus)
+          (le-decides reservedStates (number 2 payload 0)))) a))
       go false q =
           let z : ¬ (domain ≡ 0) = eq-decides domain platformDomain .no-is q in
           passing refused good 7 z (passing refused good 8 z (passing refused good 9 z a))
@@ -71,15 +80,20 @@ read-in-order own s =
     let addressed : ℕ → Reading = λ r. reads.answered (first r contents) (readOut s) in
     let checked : ℕ → Reading = λ r. reads.answered r (readOut s) in
     by-number reading.Refused (readOut s) framed (λ k. refl) (ltb (length s) headerLength) 0 _ (lt-decides (length s) headerLength)
-    (by-number reading.Refused (readOut s) framed (λ k. refl) (not (eqb (markIn s) theMark)) 1 _ (not-decides (eqb (markIn s) theMark) (eq-decides (markIn s) theMark))
-    (by-number reading.Refused (readOut s) framed (λ k. refl) (not (eqb (versionIn s) theVersion)) 2 _ (not-decides (eqb (versionIn s) theVersion) (eq-decides (versionIn s) theVersion))
+    (by-number reading.Refused (readOut s) framed (λ k. refl) (not (eqb (markIn s) theMark)) 1 _
+    (not-decides (eqb (markIn s) theMark) (eq-decides (markIn s) theMark))
+    (by-number reading.Refused (readOut s) framed (λ k. refl) (not (eqb (versionIn s) theVersion)) 2 _
+    (not-decides (eqb (versionIn s) theVersion) (eq-decides (versionIn s) theVersion))
     (by-number reading.Refused (readOut s) framed (λ k. refl) (leb reservedDomains (domainIn s)) 3 0 (le-decides reservedDomains (domainIn s))
-    (by-number reading.Refused (readOut s) addressed (λ k. refl) (not (eqb (payloadSizeIn s) (length s - headerLength))) 4 _ (not-decides (eqb (payloadSizeIn s) (length s - headerLength)) (eq-decides (payloadSizeIn s) (length s - headerLength)))
-    (by-number reading.Refused (readOut s) addressed (λ k. refl) (leb platforms (senderIn s) || eqb (senderIn s) own) 5 0 (or-decides (leb platforms (senderIn s)) (eqb (senderIn s) own) (le-decides platforms (senderIn s)) (eq-decides (senderIn s) own))
+    (by-number reading.Refused (readOut s) addressed (λ k. refl) (not (eqb (payloadSizeIn s) (length s - headerLength))) 4 _
+    (not-decides (eqb (payloadSizeIn s) (length s - headerLength)) (eq-decides (payloadSizeIn s) (length s - headerLength)))
+    (by-number reading.Refused (readOut s) addressed (λ k. refl) (leb platforms (senderIn s) || eqb (senderIn s) own) 5 0
+    (or-decides (leb platforms (senderIn s)) (eqb (senderIn s) own) (le-decides platforms (senderIn s)) (eq-decides (senderIn s) own))
     (contents-in-order reading.Refused (readOut s) checked (λ k. refl) (domainIn s) (idIn s) (payloadIn s) [] none))))))
 
 -- a message written
-pub write-in-order : (domain id : ℕ) (payload : List ℕ) (room : ℕ) → Answers writing.Refused (writing.Written (headerLength + length payload)) (writeChecks domain id payload room) (writeOf domain id payload room)
+pub write-in-order : (domain id : ℕ) (payload : List ℕ) (room : ℕ)
+    → Answers writing.Refused (writing.Written (headerLength + length payload)) (writeChecks domain id payload room) (writeOf domain id payload room)
 write-in-order domain id payload room =
     let n : ℕ = headerLength + length payload in
     let good : Writing = writing.Written n in
@@ -133,7 +147,8 @@ cut-decides m s = flip-decides (canCut m s) (record { yes-is = cuttable m s; no-
 
 head-decides : (sender counter : ℕ) → Decides (not (canHead sender counter)) ((senders ≤ sender) ⊎ (counters ≤ counter))
 head-decides sender counter =
-    flip-decides (canHead sender counter) (and-decides (ltb sender senders) (ltb counter counters) (lt-decides sender senders) (lt-decides counter counters)) there back
+    flip-decides (canHead sender counter)
+    (and-decides (ltb sender senders) (ltb counter counters) (lt-decides sender senders) (lt-decides counter counters)) there back
   where
     there : ¬ ((sender < senders) × (counter < counters)) → (senders ≤ sender) ⊎ (counters ≤ counter)
     there n = go (ltb sender senders) refl (ltb counter counters) refl
@@ -151,13 +166,17 @@ both-decide : {A B : Type 0} (a b : Bool) → Decides (not a) A → Decides (not
 both-decide true b d f = record { yes-is = λ e. inr (f .yes-is e); no-is = λ e. ⊎-elim (d .no-is refl) (f .no-is e) }
 both-decide false b d f = record { yes-is = λ e. inl (d .yes-is refl); no-is = λ e. let z : _≡_ {A = ℕ} 0 1 = cc in absurd (omega arith) }
 
-pub pieces-in-order : (m s : ℕ) → Answers counted.Refused (counted.Pieces (pieceCount m s)) (50 when (Outside 1 65560 m ⊎ Outside 1 65503 s) ∷ []) (countedOf m s)
+pub pieces-in-order : (m s : ℕ)
+    → Answers counted.Refused (counted.Pieces (pieceCount m s)) (50 when (Outside 1 65560 m ⊎ Outside 1 65503 s) ∷ []) (countedOf m s)
 pieces-in-order m s = unless counted.Refused (counted.Pieces (pieceCount m s)) (canCut m s) 50 (cut-decides m s) none
 
-pub cut-in-order : (msg : List ℕ) (s sender counter i room : ℕ) → Answers made.Refused (made.Datagram (length (datagramOf msg s sender counter i))) (cutChecks msg s sender counter i room) (madeOf msg s sender counter i room)
+pub cut-in-order : (msg : List ℕ) (s sender counter i room : ℕ)
+    → Answers made.Refused (made.Datagram (length (datagramOf msg s sender counter i))) (cutChecks msg s sender counter i room)
+    (madeOf msg s sender counter i room)
 cut-in-order msg s sender counter i room =
     let n : ℕ = length (datagramOf msg s sender counter i) in
     let good : Made = made.Datagram n in
-    unless made.Refused good (canCut (length msg) s && canHead sender counter) 50 (both-decide (canCut (length msg) s) (canHead sender counter) (cut-decides (length msg) s) (head-decides sender counter))
+    unless made.Refused good (canCut (length msg) s && canHead sender counter) 50
+    (both-decide (canCut (length msg) s) (canHead sender counter) (cut-decides (length msg) s) (head-decides sender counter))
     (unless made.Refused good (ltb i (pieceCount (length msg) s)) 51 (below-decides i (pieceCount (length msg) s))
     (unless made.Refused good (leb n room) 52 (above-decides n room) none))

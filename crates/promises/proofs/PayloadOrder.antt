@@ -49,7 +49,8 @@ number K (stop n q y) = n
 
 -- a walk F that meets what G says
 abbrev Follows : (Place → List ℕ → Step) → (Place → Stretch) → Type 1
-Follows F G = (p : Place) (x : List ℕ) (K : Place → List ℕ → ℕ) (rest : List Check) → ((y : List ℕ) → Numbers rest (K (G p .end) y)) → Numbers (G p .checks ++ rest) (number K (F p x))
+Follows F G = (p : Place) (x : List ℕ) (K : Place → List ℕ → ℕ) (rest : List Check) → ((y : List ℕ) → Numbers rest (K (G p .end) y))
+    → Numbers (G p .checks ++ rest) (number K (F p x))
 
 item-follows : (c : Codec) (n code : ℕ) (ok : ℕ → Bool) → Follows (item c n code ok) (itemMet c n code ok)
 unfolding item
@@ -72,7 +73,8 @@ unfolding goOn
 number-next K (on q y) f = refl
 number-next K (stop n q y) f = refl
 
-behind-follows : (F : Place → List ℕ → Step) (S : Place → Stretch) (H : Place → Place → List ℕ → Step) (T : Place → Place → Stretch) → Follows F S → ((p : Place) → Follows (H p) (T p)) → Follows (λ p x. goOn (F p x) (H p)) (λ p. behind (S p) (T p))
+behind-follows : (F : Place → List ℕ → Step) (S : Place → Stretch) (H : Place → Place → List ℕ → Step) (T : Place → Place → Stretch)
+    → Follows F S → ((p : Place) → Follows (H p) (T p)) → Follows (λ p x. goOn (F p x) (H p)) (λ p. behind (S p) (T p))
 behind-follows F S H T f h p x K rest a =
     subst (λ (cs : List Check). Numbers cs (number K (goOn (F p x) (H p)))) (sym (append-assoc (S p .checks) (T p (S p .end) .checks) rest))
     (subst (Numbers (S p .checks ++ (T p (S p .end) .checks ++ rest))) (sym (number-next K (F p x) (H p)))
@@ -118,10 +120,12 @@ module _ (c : Codec) (n : ℕ) (t : List ℕ) (s : Sections) (i room : ℕ) wher
   abbrev last : Place
   last = met c (tree t s i) start .end
 
-  type-in-order : Numbers (met c (tree t s i) start .checks ++ (41 when (last .from < n) ∷ 45 when (room < last .to) ∷ [])) (numberOf (answeredType c n t s i room))
+  type-in-order : Numbers (met c (tree t s i) start .checks ++ (41 when (last .from < n) ∷ 45 when (room < last .to) ∷ []))
+      (numberOf (answeredType c n t s i room))
   unfolding answeredType typeWalk
   type-in-order =
-      subst (Numbers (met c (tree t s i) start .checks ++ (41 when (last .from < n) ∷ 45 when (room < last .to) ∷ []))) (sym (number-answered (walk c (tree t s i) start [])))
+      subst (Numbers (met c (tree t s i) start .checks ++ (41 when (last .from < n) ∷ 45 when (room < last .to) ∷ [])))
+      (sym (number-answered (walk c (tree t s i) start [])))
       (walk-follows c (tree t s i) start [] ending (41 when (last .from < n) ∷ 45 when (room < last .to) ∷ [])
       (λ y. by (λ k. k) 0 (ltb (last .from) n) 41 (lt-decides (last .from) n) (by (λ k. k) 0 (ltb room (last .to)) 45 (lt-decides room (last .to)) none)))
 
@@ -138,15 +142,19 @@ module _ (c : Codec) (n : ℕ) (t : List ℕ) (s : Sections) (i room : ℕ) wher
   unfolding answeredIn
   sections-in-order = go (within t s) refl
     where
-      go : (b : Bool) → within t s ≡ b → Numbers (30 when (within t s ≡ false) ∷ walkChecks c n t s i room) (numberOf (cond b (cond (isType s i) (answeredType c n t s i room) (Refused 44)) (Refused 30)))
+      go : (b : Bool) → within t s ≡ b
+          → Numbers (30 when (within t s ≡ false) ∷ walkChecks c n t s i room)
+          (numberOf (cond b (cond (isType s i) (answeredType c n t s i room) (Refused 44)) (Refused 30)))
       go true e = next (λ (f : within t s ≡ false). let z : _≡_ {A = ℕ} 0 1 = cc in omega arith) known-in-order
       go false e = this e
 
 -- on bytes
-bytes-in-order : (c : Codec) (n : ℕ) (t : List ℕ) (i room : ℕ) → Numbers (tableChecks t ++ walkChecks c n t (sectionsIn t) i room) (numberOf (answeredIf (checked t) c n t i room))
+bytes-in-order : (c : Codec) (n : ℕ) (t : List ℕ) (i room : ℕ)
+    → Numbers (tableChecks t ++ walkChecks c n t (sectionsIn t) i room) (numberOf (answeredIf (checked t) c n t i room))
 unfolding answeredIf answeredIn
 bytes-in-order c n t i room =
-    then check.Refused (check.Table (sectionsIn t)) (λ k. k) 0 (λ (x : Checked). numberOf (answeredIf x c n t i room)) (λ k. refl) (table-in-order t) (λ e. rw (is-within t (sectionsIn t) (accepted t (sectionsIn t) e)) (known-in-order c n t (sectionsIn t) i room))
+    then check.Refused (check.Table (sectionsIn t)) (λ k. k) 0 (λ (x : Checked). numberOf (answeredIf x c n t i room)) (λ k. refl)
+    (table-in-order t) (λ e. rw (is-within t (sectionsIn t) (accepted t (sectionsIn t) e)) (known-in-order c n t (sectionsIn t) i room))
 
 pub payload-in-order : PayloadInOrder
 payload-in-order =

@@ -39,7 +39,8 @@ module _ (t : List ℕ) (s : Sections) (i : ℕ) (h : Known t s i) where
   pack-gives : (ws out bs : List ℕ) → packedIn t s i ws (length out) ≡ Gave (length bs) → bytesIn t s i ws out ≡ over out 0 bs → PackGives t i ws out bs
   pack-gives ws out bs a b = (pack-same ws (length out) ∙ a, bytes-same ws out ∙ b)
 
-  unpack-gives : (b words ws : List ℕ) → unpackedIn t s i b (length words) ≡ Gave (length ws) → wordsIn t s i b words ≡ over words 0 ws → UnpackGives t i b words ws
+  unpack-gives : (b words ws : List ℕ) → unpackedIn t s i b (length words) ≡ Gave (length ws) → wordsIn t s i b words ≡ over words 0 ws
+      → UnpackGives t i b words ws
   unpack-gives b words ws a c = (unpack-same b (length words) ∙ a, words-same b words ∙ c)
 
   packs-exactly : PacksExactly t s i
@@ -70,13 +71,16 @@ module _ (t : List ℕ) (s : Sections) (i : ℕ) (h : Known t s i) where
   round-trips : RoundTrips t s i
   round-trips = record { pack-then-unpack = packed-back; unpack-then-pack = unpacked-back }
     where
-      packed-back : (ws out words : List ℕ) (k : ℕ) → packed t i ws (length out) ≡ Gave k → length ws ≤ length words → UnpackGives t i (take k (bytesAfter t i ws out)) words ws
+      packed-back : (ws out words : List ℕ) (k : ℕ) → packed t i ws (length out) ≡ Gave k → length ws ≤ length words
+          → UnpackGives t i (take k (bytesAfter t i ws out)) words ws
       packed-back ws out words k e l =
           let a : packedIn t s i ws (length out) ≡ Gave k = sym (pack-same ws (length out)) ∙ e in
           let p = pack-then-unpack t s i ws out words k a l in
-          subst (λ (b : List ℕ). UnpackGives t i (take k b) words ws) (sym (bytes-same ws out)) (unpack-gives (take k (bytesIn t s i ws out)) words ws (p .0) (p .1))
+          subst (λ (b : List ℕ). UnpackGives t i (take k b) words ws) (sym (bytes-same ws out))
+          (unpack-gives (take k (bytesIn t s i ws out)) words ws (p .0) (p .1))
 
-      unpacked-back : (b words out : List ℕ) (k : ℕ) → Octets b → unpacked t i b (length words) ≡ Gave k → length b ≤ length out → (cs : List ℕ) × BooleansAsOne t s i b cs × (length cs ≡ length b) × PackGives t i (take k (wordsAfter t i b words)) out cs
+      unpacked-back : (b words out : List ℕ) (k : ℕ) → Octets b → unpacked t i b (length words) ≡ Gave k → length b ≤ length out
+          → (cs : List ℕ) × BooleansAsOne t s i b cs × (length cs ≡ length b) × PackGives t i (take k (wordsAfter t i b words)) out cs
       unpacked-back b words out k o e l =
           let a : unpackedIn t s i b (length words) ≡ Gave k = sym (unpack-same b (length words)) ∙ e in
           let ws : List ℕ = take k (wordsIn t s i b words) in

@@ -44,7 +44,8 @@ module _ (own : ℕ) (s : States) (k who : ℕ) where
       go true q = ap (isUp own s) (eqb-true k who q) ∙ e
       go false q = refl
 
-  now-turned : (b : Bool) → isUp own s who ≡ b → k < platforms → who < platforms → (who ≡ own → ⊥) → isUp own (turned s who) k ≡ cond (eqb k who) (not b) (isUp own s k)
+  now-turned : (b : Bool) → isUp own s who ≡ b → k < platforms → who < platforms → (who ≡ own → ⊥) → isUp own (turned s who) k
+      ≡ cond (eqb k who) (not b) (isUp own s k)
   now-turned b e hk hw other = go (eqb k who) refl
     where
       go : (c : Bool) → eqb k who ≡ c → isUp own (turned s who) k ≡ cond c (not b) (isUp own s k)
@@ -92,8 +93,20 @@ module _ (own : ℕ) (t : List ℕ) (s : Sections) (p : Standing) (h : Header) (
     on-down = go (isUp own (p .states) (h .platform)) refl
       where
         go : (b : Bool) → isUp own (p .states) (h .platform) ≡ b → Reacts (message.PlatformStatus Down)
-        go true e = record { owed-is = rw e; long = rw e; wide = rw e tt; next = rw e; states = λ k l. rw e (now-turned own (p .states) k (h .platform) true e l hs other) }
-        go false e = record { owed-is = rw e; long = rw e; wide = rw e tt; next = rw e; states = λ k l. rw e (as-it-was own (p .states) k (h .platform) false e) }
+        go true e = record {
+          owed-is = rw e;
+          long = rw e;
+          wide = rw e tt;
+          next = rw e;
+          states = λ k l. rw e (now-turned own (p .states) k (h .platform) true e l hs other);
+        }
+        go false e = record {
+          owed-is = rw e;
+          long = rw e;
+          wide = rw e tt;
+          next = rw e;
+          states = λ k l. rw e (as-it-was own (p .states) k (h .platform) false e);
+        }
 
     module _ (hq : h .sequence < 2 ^ 32) (hi : h .id < 2 ^ 32) (scan : (id : ℕ) → lookedUp t s id ≡ operationOf t s id) where
       on-request : Reacts message.PlatformStatusRequest
@@ -108,11 +121,20 @@ module _ (own : ℕ) (t : List ℕ) (s : Sections) (p : Standing) (h : Header) (
       unfolding reactionTo operationFor onPull onPullAll onPullOne foundData
       on-pull id l = go (eqb id allData) refl (noData t s) refl (operationOf t s id) refl (scan id)
         where
-          one : (b : Bool) (i : ℕ) → eqb id allData ≡ false → operationOf t s id ≡ found.At i → lookedUp t s id ≡ operationOf t s id → isData t s i ≡ b → Reacts (message.VersionedDataPull id)
-          one true i e f g d = record { owed-is = rw (e, g, f, d); long = rw (e, g, f, d); wide = rw (e, g, f, d) tt; next = rw (e, g, f, d); states = λ k l. rw (e, g, f, d) refl }
-          one false i e f g d = record { owed-is = rw (e, g, f, d); long = rw (e, g, f, d); wide = rw (e, g, f, d) (record { number = hq; field = l }, tt); next = rw (e, g, f, d); states = λ k l. rw (e, g, f, d) refl }
+          one : (b : Bool) (i : ℕ) → eqb id allData ≡ false → operationOf t s id ≡ found.At i → lookedUp t s id ≡ operationOf t s id
+              → isData t s i ≡ b → Reacts (message.VersionedDataPull id)
+          one true i e f g d = record
+              { owed-is = rw (e, g, f, d); long = rw (e, g, f, d); wide = rw (e, g, f, d) tt; next = rw (e, g, f, d); states = λ k l. rw (e, g, f, d) refl }
+          one false i e f g d = record {
+            owed-is = rw (e, g, f, d);
+            long = rw (e, g, f, d);
+            wide = rw (e, g, f, d) (record { number = hq; field = l }, tt);
+            next = rw (e, g, f, d);
+            states = λ k l. rw (e, g, f, d) refl;
+          }
 
-          go : (a : Bool) → eqb id allData ≡ a → (b : Bool) → noData t s ≡ b → (x : Found) → operationOf t s id ≡ x → lookedUp t s id ≡ operationOf t s id → Reacts (message.VersionedDataPull id)
+          go : (a : Bool) → eqb id allData ≡ a → (b : Bool) → noData t s ≡ b → (x : Found) → operationOf t s id ≡ x → lookedUp t s id
+              ≡ operationOf t s id → Reacts (message.VersionedDataPull id)
           go true e true d x f g =
               let q : id ≡ allData = eqb-true id allData e in
               record {
@@ -124,7 +146,13 @@ module _ (own : ℕ) (t : List ℕ) (s : Sections) (p : Standing) (h : Header) (
               }
           go true e false d x f g = record { owed-is = rw (e, d); long = rw (e, d); wide = rw (e, d) tt; next = rw (e, d); states = λ k l. rw (e, d) refl }
           go false e b d (found.At i) f g = one (isData t s i) i e f g refl
-          go false e b d found.Nothing f g = record { owed-is = rw (e, g, f); long = rw (e, g, f); wide = rw (e, g, f) (record { number = hq; field = l }, tt); next = rw (e, g, f); states = λ k l. rw (e, g, f) refl }
+          go false e b d found.Nothing f g = record {
+            owed-is = rw (e, g, f);
+            long = rw (e, g, f);
+            wide = rw (e, g, f) (record { number = hq; field = l }, tt);
+            next = rw (e, g, f);
+            states = λ k l. rw (e, g, f) refl;
+          }
 
       on-operation : Reacts message.Operation
       unfolding reactionTo operationFor onOperation
@@ -132,7 +160,13 @@ module _ (own : ℕ) (t : List ℕ) (s : Sections) (p : Standing) (h : Header) (
         where
           go : (x : Found) → operationOf t s (h .id) ≡ x → lookedUp t s (h .id) ≡ operationOf t s (h .id) → Reacts message.Operation
           go (found.At i) f g = record { owed-is = rw (g, f); long = rw (g, f); wide = rw (g, f) tt; next = rw (g, f); states = λ k l. rw (g, f) refl }
-          go found.Nothing f g = record { owed-is = rw (g, f); long = rw (g, f); wide = rw (g, f) (record { number = hq; field = hi }, tt); next = rw (g, f); states = λ k l. rw (g, f) refl }
+          go found.Nothing f g = record {
+            owed-is = rw (g, f);
+            long = rw (g, f);
+            wide = rw (g, f) (record { number = hq; field = hi }, tt);
+            next = rw (g, f);
+            states = λ k l. rw (g, f) refl;
+          }
 
       pub reacts : (kind : Message) → fieldOf kind < 2 ^ 32 → Reacts kind
       reacts (message.PlatformStatus Up) l = on-up

@@ -53,7 +53,8 @@ module _ (own reader : ℕ) (ho : own < platforms) (other : own ≡ reader → �
           sender = refl;
           number = refl;
         },
-        subst (λ (b : List ℕ). AreReplies reader own b (map said rs)) (sym (drop-at (replyBytes own r) (allBytes own rs) replyLength l)) (are-replies rs (w .1)),
+        subst (λ (b : List ℕ). AreReplies reader own b (map said rs)) (sym (drop-at (replyBytes own r) (allBytes own rs) replyLength l))
+            (are-replies rs (w .1)),
       )
 
 -- a call that reads a message, and the reaction to it
@@ -88,7 +89,8 @@ module _ (own : ℕ) (t : List ℕ) (s : Sections) (p : Standing) (m out : List 
   its-field =
       let e : messageOf (domainIn m) (idIn m) (number 2 (payloadIn m) 0) ≡ kind = ap kindRead (heard-as .1) in
       let l : number 2 (payloadIn m) 0 < span 2 = number-lt 2 (payloadIn m) 0 (octets-drop headerLength m (c .bytes)) in
-      let k : fieldOf kind ≤ number 2 (payloadIn m) 0 = subst (λ (x : Message). fieldOf x ≤ number 2 (payloadIn m) 0) e (field-le (domainIn m) (idIn m) (number 2 (payloadIn m) 0)) in
+      let k : fieldOf kind ≤ number 2 (payloadIn m) 0 = subst (λ (x : Message). fieldOf x ≤ number 2 (payloadIn m) 0) e
+      (field-le (domainIn m) (idIn m) (number 2 (payloadIn m) 0)) in
       omega arith
 
   from-another : h .platform ≡ own → ⊥
@@ -114,7 +116,8 @@ module _ (own : ℕ) (t : List ℕ) (s : Sections) (p : Standing) (m out : List 
 
     taken-is : receivedOf own t p m (length out) ≡ taken h the (owedLength (the .owed))
     unfolding answered
-    taken-is = received-is (length out) ∙ no-lt {A = Outcome} (refused p noRoom) (taken h the (owedLength (the .owed))) (length out) (owedLength (the .owed)) room
+    taken-is = received-is (length out)
+        ∙ no-lt {A = Outcome} (refused p noRoom) (taken h the (owedLength (the .owed))) (length out) (owedLength (the .owed)) room
 
     laid-is : leftOf own t p m out ≡ over out 0 (owedBytes own (the .owed))
     unfolding laidOut
@@ -125,14 +128,16 @@ module _ (own : ℕ) (t : List ℕ) (s : Sections) (p : Standing) (m out : List 
     unfolding answered outcomeOf outputOf sentOf
     sent-is =
         subst
-        (λ (b : Bool). part (laidOut own the out) 0 (bytesWritten (cond b (refused p noRoom) (taken h the (owedLength (the .owed))) .answer)) ≡ allBytes own (cond b [] (replies (the .owed))))
+        (λ (b : Bool). part (laidOut own the out) 0
+        (bytesWritten (cond b (refused p noRoom) (taken h the (owedLength (the .owed))) .answer)) ≡ allBytes own (cond b [] (replies (the .owed))))
         (le-ltb (length out) (owedLength (the .owed)) room)
         (written-is-sent own p out t s (operationFor t s h kind) (reading.Read h kind (c .start) (c .len)))
 
     front-is : take (owedLength (the .owed)) (leftOf own t p m out) ≡ allBytes own (replies (the .owed))
     front-is =
         let n : ℕ = owedLength (the .owed) in
-        let l : length (over out 0 (owedBytes own (the .owed))) ≡ length out = length-over out 0 (owedBytes own (the .owed)) (omega (arith, length-owed own (the .owed), room)) in
+        let l : length (over out 0 (owedBytes own (the .owed)))
+        ≡ length out = length-over out 0 (owedBytes own (the .owed)) (omega (arith, length-owed own (the .owed), room)) in
         let k : length (laidOut own the out) ≡ length out = ap length (sym left-is ∙ laid-is) ∙ l in
         ap (take n) left-is ∙ sym (part-in (laidOut own the out) 0 n (omega (arith, room))) ∙ sent-is
 
@@ -161,4 +166,6 @@ module _ (own : ℕ) (t : List ℕ) (s : Sections) (p : Standing) (m out : List 
   pub too-short : length out < replyLength * length (owedFor own t s p h kind) → receivedOf own t p m (length out) .answer ≡ Refused noRoom
   unfolding answered
   too-short l =
-      ap (λ (x : Outcome). x .answer) (received-is (length out) ∙ yes-lt {A = Outcome} (refused p noRoom) (taken h the (owedLength (the .owed))) (length out) (owedLength (the .owed)) (omega (arith, its-length)))
+      ap (λ (x : Outcome). x .answer)
+      (received-is (length out)
+      ∙ yes-lt {A = Outcome} (refused p noRoom) (taken h the (owedLength (the .owed))) (length out) (owedLength (the .owed)) (omega (arith, its-length)))

@@ -48,7 +48,12 @@ abbrev _and_ : {A B : Type 0} → A → B → A × B
 _and_ a b = (a, b)
 
 pub starred : Starred
-unfolding missedOf keeping notedOf begunOf followedOf placedOf steppedOf goodSizes good freshOf setupOf sentTo heardBy judgedOf takenBy takenOf putBy roomsBy roomsAfter messageOf allBelow above sectionAt after ended afterValues afterMembers afterTypes sectionsOf liesIn within typeAt memberAt valueAt idAt operationAt base bytesOf inSigned finite isValue width allowed fieldsOk memberOk membersOk pointedOk typeOk operationOk sizeOf sizes largest sizeFits entriesOk sizesOk judged judging checked truth extended wordOf form wordAt formOf choice byKind look elementsOf treeOf trees tree answer left next through item counted walk typeWalk reader writer answered answeredType answeredIn leftBy leftIn answeredIf leftIf
+unfolding missedOf keeping notedOf begunOf followedOf placedOf steppedOf goodSizes good freshOf setupOf sentTo heardBy judgedOf
+    takenBy takenOf putBy roomsBy roomsAfter messageOf allBelow above sectionAt after ended afterValues afterMembers afterTypes
+    sectionsOf liesIn within typeAt memberAt valueAt idAt operationAt base bytesOf inSigned finite isValue width allowed fieldsOk
+    memberOk membersOk pointedOk typeOk operationOk sizeOf sizes largest sizeFits entriesOk sizesOk judged judging checked truth
+    extended wordOf form wordAt formOf choice byKind look elementsOf treeOf trees tree answer left next through item counted walk
+    typeWalk reader writer answered answeredType answeredIn leftBy leftIn answeredIf leftIf
 starred =
     refl
     and refl

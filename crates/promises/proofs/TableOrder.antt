@@ -14,7 +14,9 @@ use Rattle.table.specs.declared.Sections.{Sections}
 use Rattle.table.specs.declared.Checked.{Checked}
 use Rattle.table.specs.declared.Checked.the-variants.{Refused, Table}
 use Rattle.table.specs.All.{allBelow}
-use Rattle.table.specs.Layout.{typeWidth, memberWidth, valueWidth, operationWidth, mostTypes, mostMembers, mostValues, mostOperations, sectionEnd, counted, sectionAt, after, ended, afterValues, afterMembers, afterTypes, sectionsOf}
+use Rattle.table.specs.Layout.{typeWidth, memberWidth, valueWidth, operationWidth, mostTypes, mostMembers, mostValues}
+use Rattle.table.specs.Layout.{mostOperations, sectionEnd, counted, sectionAt, after, ended, afterValues, afterMembers}
+use Rattle.table.specs.Layout.{afterTypes, sectionsOf}
 use Rattle.types.specs.Rules.{typeOk}
 use Rattle.types.specs.Operations.{operationOk}
 use Rattle.types.specs.Sizes.{mostBytes, largest, sizeFits}
@@ -38,17 +40,24 @@ outside-decides lo hi x = decides-same (or-decides (ltb x lo) (ltb hi x) (lt-dec
 
 -- a section, and what comes after it
 module _ (width least most : ℕ) (t : List ℕ) (p : ℕ) (go-on : Section → Checked) where
-  section-shape : after (sectionAt width least most t p) go-on ≡ cond (ltb (length t) (p + 2)) (Refused 30) (cond (ltb (counted t p .count) least || ltb most (counted t p .count)) (Refused 31) (cond (ltb (length t) (sectionEnd width (counted t p))) (Refused 30) (go-on (counted t p))))
+  section-shape : after (sectionAt width least most t p) go-on
+      ≡ cond (ltb (length t) (p + 2)) (Refused 30)
+      (cond (ltb (counted t p .count) least || ltb most (counted t p .count)) (Refused 31)
+      (cond (ltb (length t) (sectionEnd width (counted t p))) (Refused 30) (go-on (counted t p))))
   unfolding sectionAt after
-  section-shape = go (ltb (length t) (p + 2)) refl (ltb (counted t p .count) least || ltb most (counted t p .count)) refl (ltb (length t) (sectionEnd width (counted t p))) refl
+  section-shape = go (ltb (length t) (p + 2)) refl (ltb (counted t p .count) least || ltb most (counted t p .count)) refl
+      (ltb (length t) (sectionEnd width (counted t p))) refl
     where
-      go : (a : Bool) → ltb (length t) (p + 2) ≡ a → (b : Bool) → (ltb (counted t p .count) least || ltb most (counted t p .count)) ≡ b → (c : Bool) → ltb (length t) (sectionEnd width (counted t p)) ≡ c → after (sectionAt width least most t p) go-on ≡ cond a (Refused 30) (cond b (Refused 31) (cond c (Refused 30) (go-on (counted t p))))
+      go : (a : Bool) → ltb (length t) (p + 2) ≡ a → (b : Bool) → (ltb (counted t p .count) least || ltb most (counted t p .count)) ≡ b
+          → (c : Bool) → ltb (length t) (sectionEnd width (counted t p)) ≡ c → after (sectionAt width least most t p) go-on
+          ≡ cond a (Refused 30) (cond b (Refused 31) (cond c (Refused 30) (go-on (counted t p))))
       go true ea b eb c ec = rw ea
       go false ea true eb c ec = rw (ea, eb)
       go false ea false eb true ec = rw (ea, eb, ec)
       go false ea false eb false ec = rw (ea, eb, ec)
 
-  section-in-order : (good : Checked) (rest : List Check) → Answers Refused good rest (go-on (counted t p)) → Answers Refused good (sectionChecks width least most t p ++ rest) (after (sectionAt width least most t p) go-on)
+  section-in-order : (good : Checked) (rest : List Check) → Answers Refused good rest (go-on (counted t p))
+      → Answers Refused good (sectionChecks width least most t p ++ rest) (after (sectionAt width least most t p) go-on)
   section-in-order good rest a =
       subst (Answers Refused good (sectionChecks width least most t p ++ rest)) (sym section-shape)
       (by Refused good (ltb (length t) (p + 2)) 30 (lt-decides (length t) (p + 2))
@@ -64,7 +73,8 @@ some-below f (suc n) e = go (λ q. some-below f n q) (allBelow f n) refl (f n) r
     widen : (i : ℕ) × (i < n) × (f i ≡ false) → (i : ℕ) × (i < suc n) × (f i ≡ false)
     widen r = (r .0, (let l : r .0 < n = r .1 in omega arith), r .2)
 
-    go : (allBelow f n ≡ false → (i : ℕ) × (i < n) × (f i ≡ false)) → (a : Bool) → allBelow f n ≡ a → (b : Bool) → f n ≡ b → (a && b) ≡ false → (i : ℕ) × (i < suc n) × (f i ≡ false)
+    go : (allBelow f n ≡ false → (i : ℕ) × (i < n) × (f i ≡ false)) → (a : Bool) → allBelow f n ≡ a → (b : Bool) → f n ≡ b → (a && b)
+        ≡ false → (i : ℕ) × (i < suc n) × (f i ≡ false)
     go before false ea b eb q = widen (before ea)
     go before true ea false eb q = (n, omega arith, eb)
     go before true ea true eb q = let z : _≡_ {A = ℕ} 0 1 = cc in absurd (omega arith)
@@ -87,9 +97,12 @@ module _ (t : List ℕ) (s : Sections) where
       kept a b (BreaksARule.a-type i l e) = all-fail (typeOk t s) (s .types .count) i l e a
       kept a b (an-operation i l e) = all-fail (operationOk t s) (s .operations .count) i l e b
 
-      go : (a : Bool) → allBelow (typeOk t s) (s .types .count) ≡ a → (b : Bool) → allBelow (operationOk t s) (s .operations .count) ≡ b → Decides (not (a && b)) (BreaksARule t s)
-      go false ea b eb = record { yes-is = λ q. typed (some-below (typeOk t s) (s .types .count) ea); no-is = λ q. let z : _≡_ {A = ℕ} 0 1 = cc in absurd (omega arith) }
-      go true ea false eb = record { yes-is = λ q. operated (some-below (operationOk t s) (s .operations .count) eb); no-is = λ q. let z : _≡_ {A = ℕ} 0 1 = cc in absurd (omega arith) }
+      go : (a : Bool) → allBelow (typeOk t s) (s .types .count) ≡ a → (b : Bool) → allBelow (operationOk t s) (s .operations .count) ≡ b
+          → Decides (not (a && b)) (BreaksARule t s)
+      go false ea b eb = record
+          { yes-is = λ q. typed (some-below (typeOk t s) (s .types .count) ea); no-is = λ q. let z : _≡_ {A = ℕ} 0 1 = cc in absurd (omega arith) }
+      go true ea false eb = record
+          { yes-is = λ q. operated (some-below (operationOk t s) (s .operations .count) eb); no-is = λ q. let z : _≡_ {A = ℕ} 0 1 = cc in absurd (omega arith) }
       go true ea true eb = record { yes-is = λ q. let z : _≡_ {A = ℕ} 0 1 = cc in absurd (omega arith); no-is = λ q. kept ea eb }
 
   sizes-decide : Decides (not (sizesOk t s)) (IsTooLarge t s)
@@ -103,7 +116,10 @@ module _ (t : List ℕ) (s : Sections) where
       kept a (IsTooLarge.a-type i l m) = omega (arith, leb-true (largest t s i) mostBytes (at-below (sizeFits t s) (s .types .count) i a l))
 
       go : (a : Bool) → allBelow (sizeFits t s) (s .types .count) ≡ a → Decides (not a) (IsTooLarge t s)
-      go false ea = record { yes-is = λ q. typed (some-below (sizeFits t s) (s .types .count) ea); no-is = λ q. let z : _≡_ {A = ℕ} 0 1 = cc in absurd (omega arith) }
+      go false ea = record {
+        yes-is = λ q. typed (some-below (sizeFits t s) (s .types .count) ea);
+        no-is = λ q. let z : _≡_ {A = ℕ} 0 1 = cc in absurd (omega arith);
+      }
       go true ea = record { yes-is = λ q. let z : _≡_ {A = ℕ} 0 1 = cc in absurd (omega arith); no-is = λ q. kept ea }
 
   judged-in-order : Answers Refused (Table s) (32 when BreaksARule t s ∷ 33 when IsTooLarge t s ∷ []) (judged t s)
@@ -127,8 +143,10 @@ sections-in-order t =
     section-in-order typeWidth 1 mostTypes t 0 (afterTypes t) good _
     (section-in-order memberWidth 0 mostMembers t (sectionEnd typeWidth (s .types)) (afterMembers t (s .types)) good _
     (section-in-order valueWidth 0 mostValues t (sectionEnd memberWidth (s .members)) (afterValues t (s .types) (s .members)) good _
-    (section-in-order operationWidth 0 mostOperations t (sectionEnd valueWidth (s .values)) (λ (o : Section). ended t (record { types = s .types; members = s .members; values = s .values; operations = o })) good _
-    (unless Refused good (eqb (sectionEnd operationWidth (s .operations)) (length t)) 30 (not-decides (eqb (sectionEnd operationWidth (s .operations)) (length t)) (eq-decides (sectionEnd operationWidth (s .operations)) (length t))) none))))
+    (section-in-order operationWidth 0 mostOperations t (sectionEnd valueWidth (s .values))
+    (λ (o : Section). ended t (record { types = s .types; members = s .members; values = s .values; operations = o })) good _
+    (unless Refused good (eqb (sectionEnd operationWidth (s .operations)) (length t)) 30
+    (not-decides (eqb (sectionEnd operationWidth (s .operations)) (length t)) (eq-decides (sectionEnd operationWidth (s .operations)) (length t))) none))))
 
 pub table-in-order : TableInOrder
 unfolding checked judging tableChecks

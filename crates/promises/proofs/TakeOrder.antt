@@ -82,7 +82,10 @@ module _ (j : Joiner) (buffer : ℕ) (w : length (j .channels) ≡ channelLimit)
     Nobody = (k : ℕ) → k < j .count → ¬ (channelAt j k .sender ≡ senderIn d)
 
     sender-decides : Decides (not (ltb (itsChannel j d) (j .count))) Nobody
-    sender-decides = record { yes-is = λ e. nobody (yes (ltb (itsChannel j d) (j .count)) refl e); no-is = λ e n. no (ltb (itsChannel j d) (j .count)) refl e n }
+    sender-decides = record {
+      yes-is = λ e. nobody (yes (ltb (itsChannel j d) (j .count)) refl e);
+      no-is = λ e n. no (ltb (itsChannel j d) (j .count)) refl e n;
+    }
       where
         l : length (sendersOf j) ≡ j .count
         l = senders-length j few w
@@ -104,21 +107,29 @@ module _ (j : Joiner) (buffer : ℕ) (w : length (j .channels) ≡ channelLimit)
         no false q e n = clash e refl
 
 -- what `take` answers, by its four tests
-take-shape : (j : Joiner) (rooms d : List ℕ) → takenOf j rooms d ≡ cond (good j (length rooms)) (cond (leb 5 (length d) && leb (length d) 65507) (cond (eqb (versionIn d) 0) (cond (ltb (itsChannel j d) (j .count)) (moved j d) (keptWith j 23)) (keptWith j 22)) (keptWith j 21)) (keptWith j 20)
+take-shape : (j : Joiner) (rooms d : List ℕ) → takenOf j rooms d
+    ≡ cond (good j (length rooms))
+    (cond (leb 5 (length d) && leb (length d) 65507)
+    (cond (eqb (versionIn d) 0) (cond (ltb (itsChannel j d) (j .count)) (moved j d) (keptWith j 23)) (keptWith j 22)) (keptWith j 21)) (keptWith j 20)
 unfolding takenOf takenBy judgedOf heardBy sentTo
-take-shape j rooms d = go (good j (length rooms)) refl (leb 5 (length d) && leb (length d) 65507) refl (eqb (versionIn d) 0) refl (ltb (itsChannel j d) (j .count)) refl
+take-shape j rooms d = go (good j (length rooms)) refl (leb 5 (length d) && leb (length d) 65507) refl (eqb (versionIn d) 0) refl
+    (ltb (itsChannel j d) (j .count)) refl
   where
-    go : (a : Bool) → good j (length rooms) ≡ a → (b : Bool) → (leb 5 (length d) && leb (length d) 65507) ≡ b → (v : Bool) → eqb (versionIn d) 0 ≡ v → (k : Bool) → ltb (itsChannel j d) (j .count) ≡ k → takenOf j rooms d ≡ cond a (cond b (cond v (cond k (moved j d) (keptWith j 23)) (keptWith j 22)) (keptWith j 21)) (keptWith j 20)
+    go : (a : Bool) → good j (length rooms) ≡ a → (b : Bool) → (leb 5 (length d) && leb (length d) 65507) ≡ b → (v : Bool)
+        → eqb (versionIn d) 0 ≡ v → (k : Bool) → ltb (itsChannel j d) (j .count) ≡ k → takenOf j rooms d
+        ≡ cond a (cond b (cond v (cond k (moved j d) (keptWith j 23)) (keptWith j 22)) (keptWith j 21)) (keptWith j 20)
     go false ea b eb v ev k ek = rw ea
     go true ea false eb v ev k ek = rw (ea, eb)
     go true ea true eb false ev k ek = rw (ea, eb, ev)
     go true ea true eb true ev false ek = rw (ea, eb, ev, ek)
     go true ea true eb true ev true ek = rw (ea, eb, ev, ek)
 
-pub take-in-order : (j : Joiner) (rooms d : List ℕ) → length (j .channels) ≡ 32 → Answers (keptWith j) (moved j d) (takeChecks j (length rooms) d) (takenOf j rooms d)
+pub take-in-order : (j : Joiner) (rooms d : List ℕ) → length (j .channels) ≡ 32
+    → Answers (keptWith j) (moved j d) (takeChecks j (length rooms) d) (takenOf j rooms d)
 take-in-order j rooms d w =
     subst (Answers (keptWith j) (moved j d) (takeChecks j (length rooms) d)) (sym (take-shape j rooms d))
     (unless-then (keptWith j) (moved j d) (good j (length rooms)) 20 (not-decides (good j (length rooms)) (good-decides j (length rooms) w)) (λ g.
     unless (keptWith j) (moved j d) (leb 5 (length d) && leb (length d) 65507) 21 (inside 5 65507 (length d))
     (unless (keptWith j) (moved j d) (eqb (versionIn d) 0) 22 (version-decides d)
-    (unless (keptWith j) (moved j d) (ltb (itsChannel j d) (j .count)) 23 (sender-decides j (length rooms) w d (good-says j (length rooms) w g .sizes .few)) none))))
+    (unless (keptWith j) (moved j d) (ltb (itsChannel j d) (j .count)) 23
+    (sender-decides j (length rooms) w d (good-says j (length rooms) w g .sizes .few)) none))))

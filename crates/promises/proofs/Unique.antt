@@ -3,7 +3,9 @@
 use mathlib.Core.Path.{_≡_, sym, _∙_}
 use Rattle.platform.proofs.Unique.{same-outcome, same-output}
 use Rattle.promises.proofs.Lookups.{accepted-find}
-use Rattle.promises.specs.Unique.{WireUnique, MessageUnique, BindingUnique, ChannelUnique, JoinerUnique, TableUnique, LeafUnique, TypesUnique, WalkUnique, UnpackUnique, PackUnique, PayloadUnique, StatesUnique, PlatformUnique, PlatformWordsUnique, RecordingUnique, OnAccepted, Unique}
+use Rattle.promises.specs.Unique.{WireUnique, MessageUnique, BindingUnique, ChannelUnique, JoinerUnique, TableUnique}
+use Rattle.promises.specs.Unique.{LeafUnique, TypesUnique, WalkUnique, UnpackUnique, PackUnique, PayloadUnique}
+use Rattle.promises.specs.Unique.{StatesUnique, PlatformUnique, PlatformWordsUnique, RecordingUnique, OnAccepted, Unique}
 
 wire : WireUnique
 wire =

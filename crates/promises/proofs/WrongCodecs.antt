@@ -45,7 +45,9 @@ sections =
     }
 
 accepted : checked table ≡ Table sections
-unfolding allBelow above sectionAt after ended afterValues afterMembers afterTypes sectionsOf liesIn within typeAt memberAt valueAt idAt operationAt base bytesOf inSigned finite isValue width allowed fieldsOk memberOk membersOk pointedOk typeOk operationOk sizeOf sizes largest sizeFits entriesOk sizesOk judged judging checked
+unfolding allBelow above sectionAt after ended afterValues afterMembers afterTypes sectionsOf liesIn within typeAt memberAt
+    valueAt idAt operationAt base bytesOf inSigned finite isValue width allowed fieldsOk memberOk membersOk pointedOk typeOk
+    operationOk sizeOf sizes largest sizeFits entriesOk sizesOk judged judging checked
 accepted = refl
 
 -- 258 is a value of uint16
@@ -106,15 +108,31 @@ abbrev late : List ℕ
 late = 0x7F ∷ 0x7F ∷ 0xFF ∷ 0xFF ∷ 0x7F ∷ 0x80 ∷ 0x00 ∷ 0x00 ∷ []
 
 refused-42 : numberOf (unpacked pair 1 late 2) ≡ 42
-unfolding allBelow above sectionAt after ended afterValues afterMembers afterTypes sectionsOf liesIn within typeAt memberAt valueAt idAt operationAt base bytesOf inSigned finite isValue width allowed fieldsOk memberOk membersOk pointedOk typeOk operationOk sizeOf sizes largest sizeFits entriesOk sizesOk judged judging checked truth extended wordOf form wordAt formOf choice byKind look elementsOf treeOf trees tree answer left next through item counted walk typeWalk reader writer answered answeredType answeredIn leftBy leftIn answeredIf leftIf
+unfolding allBelow above sectionAt after ended afterValues afterMembers afterTypes sectionsOf liesIn within typeAt memberAt
+    valueAt idAt operationAt base bytesOf inSigned finite isValue width allowed fieldsOk memberOk membersOk pointedOk typeOk
+    operationOk sizeOf sizes largest sizeFits entriesOk sizesOk judged judging checked truth extended wordOf form wordAt formOf
+    choice byKind look elementsOf treeOf trees tree answer left next through item counted walk typeWalk reader writer answered
+    answeredType answeredIn leftBy leftIn answeredIf leftIf
 refused-42 = refl
 
 pub stores-at-once : KeepsBy storesAtOnce → ⊥
-unfolding allBelow above sectionAt after ended afterValues afterMembers afterTypes sectionsOf liesIn within typeAt memberAt valueAt idAt operationAt base bytesOf inSigned finite isValue width allowed fieldsOk memberOk membersOk pointedOk typeOk operationOk sizeOf sizes largest sizeFits entriesOk sizesOk judged judging checked truth extended wordOf form wordAt formOf choice byKind look elementsOf treeOf trees tree answer left next through item counted walk typeWalk reader writer answered answeredType answeredIn leftBy leftIn answeredIf leftIf
+unfolding allBelow above sectionAt after ended afterValues afterMembers afterTypes sectionsOf liesIn within typeAt memberAt
+    valueAt idAt operationAt base bytesOf inSigned finite isValue width allowed fieldsOk memberOk membersOk pointedOk typeOk
+    operationOk sizeOf sizes largest sizeFits entriesOk sizesOk judged judging checked truth extended wordOf form wordAt formOf
+    choice byKind look elementsOf treeOf trees tree answer left next through item counted walk typeWalk reader writer answered
+    answeredType answeredIn leftBy leftIn answeredIf leftIf
 stores-at-once k =
-    let n : ¬ (numberOf (unpacked pair 1 late 2) ≡ 0) = λ (z : numberOf (unpacked pair 1 late 2) ≡ 0). let y : _≡_ {A = ℕ} 42 0 = sym refused-42 ∙ z in absurd (omega (arith, y)) in
+    let n : ¬ (numberOf (unpacked pair 1 late 2) ≡ 0) = λ (z : numberOf (unpacked pair 1 late 2) ≡ 0). let y : _≡_ {A = ℕ} 42 0 =
+    sym refused-42 ∙ z in absurd (omega (arith, y)) in
     let e : _≡_ {A = ℕ} 0x7F7FFFFF 9 = ap (λ (x : List ℕ). getD x 0 0) (k .unpack-words pair 1 late (lent 2) n) in
     absurd (omega (arith, e))
 
 pub no-wrong-codec : NoWrongCodec
-no-wrong-codec = record { packs-nothing = packs-nothing; unpacks-nothing = unpacks-nothing; packs-alike = packs-alike; plain-copy = plain-copy; ours-keeps = ours-keeps; stores-at-once = stores-at-once }
+no-wrong-codec = record {
+  packs-nothing = packs-nothing;
+  unpacks-nothing = unpacks-nothing;
+  packs-alike = packs-alike;
+  plain-copy = plain-copy;
+  ours-keeps = ours-keeps;
+  stores-at-once = stores-at-once;
+}

@@ -28,7 +28,9 @@ use Rattle.promises.specs.Cases.{sender, datagrams, ids, room}
 use Rattle.promises.specs.Senders.{Piece, Message, Sender, Genuine, sentBy, after, arriving, arrives, mostLost, lossesWithin, goodMessages, completeOf}
 use Rattle.promises.specs.Traffic.{Datagram, isOf, ofChannel, handedBack, Joining, deliveredBy, ourJoining, AreBytes, none, more}
 use Rattle.promises.specs.Demand3.{Granted, Demand3For}
-use Rattle.promises.specs.WrongJoiners.{heardWith, tookBy, delivers, always, NeverDelivers, DeliversOnce, firstOnly, againAnswered, stepping, testing, notAbove, never, beginningKeeps, repeatedPlaced, strayForgotten, sharedRoom, NoWrongJoiner}
+use Rattle.promises.specs.WrongJoiners.{heardWith, tookBy, delivers, always, NeverDelivers, DeliversOnce, firstOnly}
+use Rattle.promises.specs.WrongJoiners.{againAnswered, stepping, testing, notAbove, never, beginningKeeps, repeatedPlaced}
+use Rattle.promises.specs.WrongJoiners.{strayForgotten, sharedRoom, NoWrongJoiner}
 
 -- bytes, by a test
 abbrev octets : List ℕ → Bool
@@ -149,7 +151,8 @@ constant (Stray m) d = silent (always (Stray m)) (not-delivered (Stray m) refl) 
 constant (TooLong m) d = silent (always (TooLong m)) (not-delivered (TooLong m) refl) d
 
 pub greater-than : Demand3For (stepping (testing notAbove)) → ⊥
-unfolding missedOf keeping notedOf begunOf followedOf placedOf steppedOf goodSizes good freshOf setupOf sentTo heardBy judgedOf takenBy takenOf putBy roomsBy roomsAfter messageOf
+unfolding missedOf keeping notedOf begunOf followedOf placedOf steppedOf goodSizes good freshOf setupOf sentTo heardBy judgedOf
+    takenBy takenOf putBy roomsBy roomsAfter messageOf
 greater-than d = let e : _≡_ {A = ℕ} 0 1 = ap length (kept (stepping (testing notAbove)) wraps small-wraps d) in absurd (omega (arith, e))
 
 -- two whole messages
@@ -165,7 +168,8 @@ once J o d =
     absurd (omega (arith, e, o ids 0 24 (room 24) (arrives sender two)))
 
 pub first-only : Demand3For firstOnly → ⊥
-unfolding missedOf keeping notedOf begunOf followedOf placedOf steppedOf goodSizes good freshOf setupOf sentTo heardBy judgedOf takenBy takenOf putBy roomsBy roomsAfter messageOf
+unfolding missedOf keeping notedOf begunOf followedOf placedOf steppedOf goodSizes good freshOf setupOf sentTo heardBy judgedOf
+    takenBy takenOf putBy roomsBy roomsAfter messageOf
 first-only d = let e : _≡_ {A = ℕ} 1 2 = ap length (kept firstOnly two small-two d) in absurd (omega (arith, e))
 
 -- a message that lacks its end, and a whole one in two pieces
@@ -176,7 +180,8 @@ small-brokenOff : Small brokenOff
 small-brokenOff = record { counter = refl; messages = refl; losses = refl; bytes = refl; own = refl }
 
 pub old-length-kept : Demand3For (stepping beginningKeeps) → ⊥
-unfolding missedOf keeping notedOf begunOf followedOf placedOf steppedOf goodSizes good freshOf setupOf sentTo heardBy judgedOf takenBy takenOf putBy roomsBy roomsAfter messageOf
+unfolding missedOf keeping notedOf begunOf followedOf placedOf steppedOf goodSizes good freshOf setupOf sentTo heardBy judgedOf
+    takenBy takenOf putBy roomsBy roomsAfter messageOf
 old-length-kept d = let e : _≡_ {A = ℕ} 4 2 = ap total (kept (stepping beginningKeeps) brokenOff small-brokenOff d) in absurd (omega (arith, e))
 
 -- the network repeats the end
@@ -187,7 +192,8 @@ small-endTwice : Small endTwice
 small-endTwice = record { counter = refl; messages = refl; losses = refl; bytes = refl; own = refl }
 
 pub end-twice : Demand3For againAnswered → ⊥
-unfolding missedOf keeping notedOf begunOf followedOf placedOf steppedOf goodSizes good freshOf setupOf sentTo heardBy judgedOf takenBy takenOf putBy roomsBy roomsAfter messageOf
+unfolding missedOf keeping notedOf begunOf followedOf placedOf steppedOf goodSizes good freshOf setupOf sentTo heardBy judgedOf
+    takenBy takenOf putBy roomsBy roomsAfter messageOf
 end-twice d = let e : _≡_ {A = ℕ} 2 1 = ap length (kept againAnswered endTwice small-endTwice d) in absurd (omega (arith, e))
 
 -- the network repeats a whole message
@@ -198,7 +204,8 @@ small-wholeTwice : Small wholeTwice
 small-wholeTwice = record { counter = refl; messages = refl; losses = refl; bytes = refl; own = refl }
 
 pub whole-twice : Demand3For (stepping (testing never)) → ⊥
-unfolding missedOf keeping notedOf begunOf followedOf placedOf steppedOf goodSizes good freshOf setupOf sentTo heardBy judgedOf takenBy takenOf putBy roomsBy roomsAfter messageOf
+unfolding missedOf keeping notedOf begunOf followedOf placedOf steppedOf goodSizes good freshOf setupOf sentTo heardBy judgedOf
+    takenBy takenOf putBy roomsBy roomsAfter messageOf
 whole-twice d = let e : _≡_ {A = ℕ} 2 1 = ap length (kept (stepping (testing never)) wholeTwice small-wholeTwice d) in absurd (omega (arith, e))
 
 -- the network repeats a middle
@@ -209,7 +216,8 @@ small-middleTwice : Small middleTwice
 small-middleTwice = record { counter = refl; messages = refl; losses = refl; bytes = refl; own = refl }
 
 pub middle-twice : Demand3For (stepping repeatedPlaced) → ⊥
-unfolding missedOf keeping notedOf begunOf followedOf placedOf steppedOf goodSizes good freshOf setupOf sentTo heardBy judgedOf takenBy takenOf putBy roomsBy roomsAfter messageOf
+unfolding missedOf keeping notedOf begunOf followedOf placedOf steppedOf goodSizes good freshOf setupOf sentTo heardBy judgedOf
+    takenBy takenOf putBy roomsBy roomsAfter messageOf
 middle-twice d = let e : _≡_ {A = ℕ} 4 3 = ap total (kept (stepping repeatedPlaced) middleTwice small-middleTwice d) in absurd (omega (arith, e))
 
 -- n whole messages that are lost, and others behind them: by laws, since they are as many as there are counters
@@ -261,16 +269,19 @@ module _ (n : ℕ) (round : (3 + n) % counters ≡ 0) (few : n ≤ mostLost) whe
       record {
         counter = refl;
         messages = lost-good n lastOne;
-        losses = lost-losses n 0 lastOne ∙ ap (λ (x : ℕ). lossesWithin true x (sentBy lastOne)) (zero-add n) ∙ ap (λ (b : Bool). b && true) (le-leb n mostLost few);
+        losses = lost-losses n 0 lastOne ∙ ap (λ (x : ℕ). lossesWithin true x (sentBy lastOne)) (zero-add n)
+            ∙ ap (λ (b : Bool). b && true) (le-leb n mostLost few);
         bytes = ap allOctets arrives-three;
         own = ap (ofChannel ids 0) arrives-three ∙ sym arrives-three;
       }
 
   strays : Demand3For (stepping strayForgotten) → ⊥
-  unfolding missedOf keeping notedOf begunOf followedOf placedOf steppedOf goodSizes good freshOf setupOf sentTo heardBy judgedOf takenBy takenOf putBy roomsBy roomsAfter messageOf
+  unfolding missedOf keeping notedOf begunOf followedOf placedOf steppedOf goodSizes good freshOf setupOf sentTo heardBy judgedOf
+      takenBy takenOf putBy roomsBy roomsAfter messageOf
   strays d =
       let J = stepping strayForgotten in
-      let l : length (deliveredOf J (wayRound n)) ≡ 1 = ap (λ (ds : List Datagram). length (deliveredBy J ids 0 (J .start ids 24 (room 24)) (room 24) ds)) arrives-three in
+      let l : length (deliveredOf J (wayRound n))
+      ≡ 1 = ap (λ (ds : List Datagram). length (deliveredBy J ids 0 (J .start ids 24 (room 24)) (room 24) ds)) arrives-three in
       let r : length (completeOf (wayRound n .messages)) ≡ 2 = ap (λ (ms : List (List ℕ)). suc (length ms)) (lost-complete n lastOne) in
       let e : _≡_ {A = ℕ} 1 2 = sym l ∙ ap length (kept J (wayRound n) small-wayRound d) ∙ r in
       absurd (omega (arith, e))
@@ -312,7 +323,8 @@ abbrev firstByte : List (List ℕ) → ℕ
 firstByte ms = getD (getD ms 0 []) 0 0
 
 pub shared-room : Demand3For (stepping sharedRoom) → ⊥
-unfolding missedOf keeping notedOf begunOf followedOf placedOf steppedOf goodSizes good freshOf setupOf sentTo heardBy judgedOf takenBy takenOf putBy roomsBy roomsAfter messageOf
+unfolding missedOf keeping notedOf begunOf followedOf placedOf steppedOf goodSizes good freshOf setupOf sentTo heardBy judgedOf
+    takenBy takenOf putBy roomsBy roomsAfter messageOf
 shared-room d = let e : _≡_ {A = ℕ} 0xCC 0xAA = ap firstByte (d both-ids 24 (room 48) senders mix granted-mix 0 (omega arith)) in absurd (omega (arith, e))
 
 pub no-wrong-joiner : NoWrongJoiner

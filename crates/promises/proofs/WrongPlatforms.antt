@@ -14,7 +14,8 @@ use Rattle.platform.specs.Receiving.{freshStanding, answered}
 use Rattle.platform.specs.Exchange.{Setting, Pair, Step, Exchange, started}
 use Rattle.platform.specs.Exchange.Step.{arrives-at-a, arrives-at-b, lost-to-a, lost-to-b}
 use Rattle.platform.specs.Exchange.Exchange.{none, more}
-use Rattle.promises.specs.WrongPlatforms.{ourAnswering, StepBy, at-a, at-b, to-a-lost, to-b-lost, ExchangeBy, ended, goes-on, FallSilentBy, reacting, upAnsweredAgain, NoWrongPlatform}
+use Rattle.promises.specs.WrongPlatforms.{ourAnswering, StepBy, at-a, at-b, to-a-lost, to-b-lost, ExchangeBy, ended}
+use Rattle.promises.specs.WrongPlatforms.{goes-on, FallSilentBy, reacting, upAnsweredAgain, NoWrongPlatform}
 use Rattle.promises.proofs.Platforms.{fall-silent}
 
 step : {a b : ℕ} {x y : Pair} → StepBy ourAnswering a b x y → Step a b x y
@@ -61,7 +62,14 @@ pub up-answered-again : FallSilentBy (reacting upAnsweredAgain) → ⊥
 up-answered-again f =
     let h : 8 ≤ 7 =
     f 1 2 (freshStanding 1) (freshStanding 2) 0
-    (record { one = omega arith; other = omega arith; two = λ (e : _≡_ {A = ℕ} 1 2). absurd (omega (arith, e)); next-of-one = omega arith; next-of-other = omega arith; number-fits = omega arith })
+    (record {
+      one = omega arith;
+      other = omega arith;
+      two = λ (e : _≡_ {A = ℕ} 1 2). absurd (omega (arith, e));
+      next-of-one = omega arith;
+      next-of-other = omega arith;
+      number-fits = omega arith;
+    })
     8 (eight .0) (eight .1) in
     absurd (omega (arith, h))
 

@@ -37,7 +37,8 @@ abbrev pub WrittenThenRead : Type 0
 WrittenThenRead =
     (own reader domain id seq n : ℕ) (payload out : List ℕ) → Addressed own reader id seq
     → writeOf domain id payload (length out) ≡ Written n
-    → ReadsAs reader (take n (outputAfter own domain id seq payload out)) (headerFor own domain id seq payload) (messageOf domain id (number 2 payload 0)) payload
+    → ReadsAs reader (take n (outputAfter own domain id seq payload out)) (headerFor own domain id seq payload)
+    (messageOf domain id (number 2 payload 0)) payload
 
 -- what was read, written again with its own fields, is the same bytes
 abbrev pub ReadThenWritten : Type 0

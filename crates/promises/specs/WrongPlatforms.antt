@@ -35,10 +35,16 @@ ourAnswering = record { kept = keeps; sent = sends }
 
 -- the exchanges of platform/specs/Exchange between two such platforms
 pub data StepBy (X : Answering) (a b : ℕ) : Pair → Pair → Type 0 where
-  at-a : (c : Setting) (p q : Standing) (before after toB : List Reply) (r : Reply) → StepBy X a b (record { a = p; b = q; toA = before ++ (r ∷ after); toB = toB }) (record { a = X .kept a b c p r; b = q; toA = before ++ after; toB = toB ++ X .sent a b c p r })
-  at-b : (c : Setting) (p q : Standing) (before after toA : List Reply) (r : Reply) → StepBy X a b (record { a = p; b = q; toA = toA; toB = before ++ (r ∷ after) }) (record { a = p; b = X .kept b a c q r; toA = toA ++ X .sent b a c q r; toB = before ++ after })
-  to-a-lost : (p q : Standing) (before after toB : List Reply) (r : Reply) → StepBy X a b (record { a = p; b = q; toA = before ++ (r ∷ after); toB = toB }) (record { a = p; b = q; toA = before ++ after; toB = toB })
-  to-b-lost : (p q : Standing) (before after toA : List Reply) (r : Reply) → StepBy X a b (record { a = p; b = q; toA = toA; toB = before ++ (r ∷ after) }) (record { a = p; b = q; toA = toA; toB = before ++ after })
+  at-a : (c : Setting) (p q : Standing) (before after toB : List Reply) (r : Reply)
+      → StepBy X a b (record { a = p; b = q; toA = before ++ (r ∷ after); toB = toB })
+      (record { a = X .kept a b c p r; b = q; toA = before ++ after; toB = toB ++ X .sent a b c p r })
+  at-b : (c : Setting) (p q : Standing) (before after toA : List Reply) (r : Reply)
+      → StepBy X a b (record { a = p; b = q; toA = toA; toB = before ++ (r ∷ after) })
+      (record { a = p; b = X .kept b a c q r; toA = toA ++ X .sent b a c q r; toB = before ++ after })
+  to-a-lost : (p q : Standing) (before after toB : List Reply) (r : Reply)
+      → StepBy X a b (record { a = p; b = q; toA = before ++ (r ∷ after); toB = toB }) (record { a = p; b = q; toA = before ++ after; toB = toB })
+  to-b-lost : (p q : Standing) (before after toA : List Reply) (r : Reply)
+      → StepBy X a b (record { a = p; b = q; toA = toA; toB = before ++ (r ∷ after) }) (record { a = p; b = q; toA = toA; toB = before ++ after })
 
 pub data ExchangeBy (X : Answering) (a b : ℕ) : ℕ → Pair → Pair → Type 0 where
   ended : (x : Pair) → ExchangeBy X a b zero x x

@@ -95,7 +95,8 @@ put-first l at x h =
     drop-cons (set l at x) at 0 (rw (length-set l at x) h)
     ∙ rw (getD-set-same l at x 0 h, drop-set-lt (suc at) l at x (omega arith), add-one at)
 
-module _ (end at rest : ℕ) (l : List ℕ) (i : at ≤ end) (j : end < at + digitLimit) (g : digitLimit ≤ end) (f : end ≤ length l) (b : rest < base ^ left end at) where
+module _ (end at rest : ℕ) (l : List ℕ) (i : at ≤ end) (j : end < at + digitLimit) (g : digitLimit ≤ end) (f : end ≤ length l)
+    (b : rest < base ^ left end at) where
   several : base ≤ rest → 2 ≤ left end at
   several h = go (left end at) refl
     where
@@ -115,7 +116,8 @@ module _ (end at rest : ℕ) (l : List ℕ) (i : at ≤ end) (j : end < at + dig
       tenth (left end (at - 1)) rest (rw e at b)
 
   -- the last digit of `rest` is put before what stands there
-  pub digits-more : {d : List ℕ} → base ≤ rest → d ≡ digits (left end at) rest ++ drop at l → d ≡ digits (left end (at - 1)) (rest / base) ++ drop (at - 1) (set l (at - 1) (48 + rest % base))
+  pub digits-more : {d : List ℕ} → base ≤ rest → d ≡ digits (left end at) rest ++ drop at l → d ≡ digits (left end (at - 1)) (rest / base)
+      ++ drop (at - 1) (set l (at - 1) (48 + rest % base))
   digits-more {d} h q =
       let s : 2 ≤ left end at = several h in
       let e : left end at ≡ suc (left end (at - 1)) = omega arith in

@@ -91,9 +91,11 @@ module _ {f : Found} (s : List ℕ) (at : ℕ) (e : f ≡ nextIn s at) (g : f �
   left-says = go (leb (length s) at) refl (leb (at + 2 + number 1 s at) (length s)) refl
     where
       go : (t : Bool) → leb (length s) at ≡ t → (u : Bool) → leb (at + 2 + number 1 s at) (length s) ≡ u → (at < length s) × (length s < at + 2 + number 1 s at)
-      go true h u i = let z : Nothing ≡ Unfinished = nothing-next s at (leb-true (length s) at h) ∙ sym e ∙ g in let y : _≡_ {A = ℕ} 0 1 = cc in absurd (omega arith)
+      go true h u i = let z : Nothing ≡ Unfinished = nothing-next s at (leb-true (length s) at h) ∙ sym e
+          ∙ g in let y : _≡_ {A = ℕ} 0 1 = cc in absurd (omega arith)
       go false h true i =
-          let z : Datagram (at + 2) (number 1 s at) ≡ Unfinished = datagram-next s at (number 1 s at) refl (leb-true (at + 2 + number 1 s at) (length s) i) ∙ sym e ∙ g in
+          let z : Datagram (at + 2) (number 1 s at)
+          ≡ Unfinished = datagram-next s at (number 1 s at) refl (leb-true (at + 2 + number 1 s at) (length s) i) ∙ sym e ∙ g in
           let y : _≡_ {A = ℕ} 0 1 = cc in
           absurd (omega arith)
       go false h false i = (leb-false (length s) at h, leb-false (at + 2 + number 1 s at) (length s) i)

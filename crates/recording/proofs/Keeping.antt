@@ -21,7 +21,8 @@ module _ (s : List ℕ) (from count : ℕ) (h : from + count ≤ length s) where
   moving-length : length (moving s from count) ≡ count
   moving-length = length-take-le count (drop from s) (omega (arith, length-drop from s))
 
-  pub keep-more : {u : List ℕ} (i : ℕ) → i < count → u ≡ over s 0 (take i (moving s from count)) → set u i (getD u (from + i) 0) ≡ over s 0 (take (i + 1) (moving s from count))
+  pub keep-more : {u : List ℕ} (i : ℕ) → i < count → u ≡ over s 0 (take i (moving s from count)) → set u i (getD u (from + i) 0)
+      ≡ over s 0 (take (i + 1) (moving s from count))
   keep-more {u} i l e =
       let r : List ℕ = moving s from count in
       let n : length r ≡ count = moving-length in

@@ -91,7 +91,13 @@ line-words n (TooLong m) = refl
 line-short : (n : ℕ) (o : Outcome) → length (joined (lineWords n o)) ≤ lineLimit
 unfolding lineWords
 line-short n o =
-    omega (arith, length-append (decimal n) (spaced (nameOf o) ++ joined (valueWords o)), length-append (spaced (nameOf o)) (joined (valueWords o)), few n, values-short o)
+    omega (
+      arith,
+      length-append (decimal n) (spaced (nameOf o) ++ joined (valueWords o)),
+      length-append (spaced (nameOf o)) (joined (valueWords o)),
+      few n,
+      values-short o,
+    )
 
 pub line-limit : (n : ℕ) (o : Outcome) → length (lineOf n o) ≤ lineLimit
 line-limit n o = rw (← line-words n o) (line-short n o)

@@ -47,7 +47,8 @@ goes-equal input st a b h = go (nextIn input (st .run .at)) refl
     go Nothing e = refl
 
 -- no more datagrams follow than there are bytes: any count from there on says the same
-pub enough : (k j : ℕ) (input : List ℕ) (st : State) → length input - st .run .at ≤ k → length input - st .run .at ≤ j → playedFor k input st ≡ playedFor j input st
+pub enough : (k j : ℕ) (input : List ℕ) (st : State) → length input - st .run .at ≤ k → length input - st .run .at ≤ j
+    → playedFor k input st ≡ playedFor j input st
 unfolding playedFor goingOn
 enough zero zero input st a b = refl
 enough zero (suc j) input st a b = ap (goingOn input st (λ (t : State). playedFor j input t)) (nothing-next input (st .run .at) (omega arith))
@@ -61,7 +62,8 @@ enough (suc k) (suc j) input st a b =
     enough k j input (steppedOf st (part input p n) (p + n)) (omega arith) (omega arith))
 
 -- one turn
-pub played-step : (input : List ℕ) (st : State) (p n : ℕ) → nextIn input (st .run .at) ≡ Datagram p n → hasRoom st ≡ true → played input st ≡ played input (steppedOf st (part input p n) (p + n))
+pub played-step : (input : List ℕ) (st : State) (p n : ℕ) → nextIn input (st .run .at) ≡ Datagram p n → hasRoom st ≡ true → played input st
+    ≡ played input (steppedOf st (part input p n) (p + n))
 unfolding played playedFor goingOn
 played-step input st p n e h =
     let w : Within input (st .run .at) p n = found-within input (st .run .at) p n e in
@@ -76,7 +78,8 @@ played-step input st p n e h =
     turn k = ap (goingOn input st (λ (t : State). playedFor k input t)) e ∙ yes-if _ _ h
 
 -- and the end
-stopped : (input : List ℕ) (st : State) (f : Found) → nextIn input (st .run .at) ≡ f → ((on : State → State) → goingOn input st on f ≡ st) → played input st ≡ st
+stopped : (input : List ℕ) (st : State) (f : Found) → nextIn input (st .run .at) ≡ f → ((on : State → State) → goingOn input st on f ≡ st)
+    → played input st ≡ st
 unfolding played playedFor
 stopped input st f e h = go (length input - st .run .at)
   where
@@ -99,7 +102,8 @@ module _ {x : State} {f : Found} (input rooms output : List ℕ) (r : Run) (e : 
       ∙ played-step input (stateOf r rooms output) p n (sym e ∙ g) (sym h ∙ o)
       ∙ ap (played input) (ap (λ (u : List ℕ). steppedOf (stateOf r rooms output) u (p + n)) (sym a) ∙ sym b)
 
-  pub play-full : {t : Bool} (p n : ℕ) → x ≡ played input (stateOf r rooms output) → f ≡ Datagram p n → t ≡ leb (r .made + lineLimit) (length output) → t ≡ false → stateOf r rooms output ≡ x
+  pub play-full : {t : Bool} (p n : ℕ) → x ≡ played input (stateOf r rooms output) → f ≡ Datagram p n → t
+      ≡ leb (r .made + lineLimit) (length output) → t ≡ false → stateOf r rooms output ≡ x
   unfolding goingOn
   play-full p n i g h o = sym (i ∙ stopped input (stateOf r rooms output) (Datagram p n) (sym e ∙ g) (λ on. no-if _ _ (sym h ∙ o)))
 

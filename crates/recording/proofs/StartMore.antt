@@ -38,7 +38,8 @@ module _ (s more : List ℕ) where
       unfinished : closed opening.Unfinished ≡ openedIn s → ⊥
       unfinished e = z (ap (λ (o : Opened). o .opening) (sym e))
 
-      go : (t : Bool) → ltb (length s) sizesLength ≡ t → (u : Bool) → goodStart n R ≡ u → (v : Bool) → ltb (length s) (idPlace n) ≡ v → openedIn (s ++ more) ≡ openedIn s
+      go : (t : Bool) → ltb (length s) sizesLength ≡ t → (u : Bool) → goodStart n R ≡ u → (v : Bool) → ltb (length s) (idPlace n) ≡ v
+          → openedIn (s ++ more) ≡ openedIn s
       go true h u i v j = absurd (unfinished (no-sizes s (ltb-true (length s) sizesLength h) refl))
       go false h u i v j = judged u i v j
         where

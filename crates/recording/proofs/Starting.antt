@@ -34,7 +34,8 @@ closed-made o e = rw e
 
 -- count and R
 module _ (n R : ℕ) where
-  pub start-judged : {t : ℕ} → (leb 1 n && leb n channelLimit) ≡ true → (leb smallestRoom R && leb R largestRoom) ≡ true → t ≡ roomStart R n → leb t roomsLimit ≡ goodStart n R
+  pub start-judged : {t : ℕ} → (leb 1 n && leb n channelLimit) ≡ true → (leb smallestRoom R && leb R largestRoom) ≡ true → t ≡ roomStart R n
+      → leb t roomsLimit ≡ goodStart n R
   unfolding goodStart
   start-judged e f g = rw (e, f, g)
 
@@ -47,7 +48,8 @@ module _ (n R : ℕ) where
   wrong-count e = rw e
 
 -- the IDs, one after the other
-pub ids-more : {x : ℕ} (s ids : List ℕ) (i n : ℕ) → length ids ≡ channelLimit → i < n → n ≤ channelLimit → take i ids ≡ idsIn s i → x ≡ number 1 s (6 + 2 * i) → take (i + 1) (set ids i x) ≡ idsIn s (i + 1)
+pub ids-more : {x : ℕ} (s ids : List ℕ) (i n : ℕ) → length ids ≡ channelLimit → i < n → n ≤ channelLimit → take i ids ≡ idsIn s i → x
+    ≡ number 1 s (6 + 2 * i) → take (i + 1) (set ids i x) ≡ idsIn s (i + 1)
 ids-more {x} s ids i n l h m e f =
     rw (add-one i) (take-suc-set ids i x (omega arith) ∙ ap (λ (u : List ℕ). u ++ (x ∷ [])) e ∙ ap (λ (y : ℕ). idsIn s i ++ (y ∷ [])) f)
 
@@ -135,7 +137,8 @@ setup-refuses ids R b k e = go (leb (length ids) channelLimit && good (freshOf i
 
 -- what is known of a start in each case: one that is not finished is short, one that is refused has number 20, and one that
 -- is open has rooms within the limit
-module _ (P : Opening → Type 0) (s : List ℕ) (short : length s < idPlace channelLimit → P Unfinished) (bad : P (Refused badSetup)) (ready : (p b : ℕ) → b ≤ roomsLimit → P (Open p b)) where
+module _ (P : Opening → Type 0) (s : List ℕ) (short : length s < idPlace channelLimit → P Unfinished) (bad : P (Refused badSetup))
+    (ready : (p b : ℕ) → b ≤ roomsLimit → P (Open p b)) where
   opening-says : P (openedIn s .opening)
   unfolding openedIn openedBy goodStart
   opening-says = start (ltb (length s) sizesLength) refl (goodStart n R) refl

@@ -63,7 +63,8 @@ module _ (st : State) (d : List ℕ) (e : ℕ) (r : hasRoom st ≡ true) where
       ∙ ap (λ (u : List ℕ). take m o ++ u) (take-append-seam line (drop (m + length line) o))
 
 -- any count from the number of bytes on says the same
-lines-enough : (k i : ℕ) (s : List ℕ) (j : Joiner) (rooms : List ℕ) (number p : ℕ) → length s - p ≤ k → length s - p ≤ i → linesFor k s j rooms number p ≡ linesFor i s j rooms number p
+lines-enough : (k i : ℕ) (s : List ℕ) (j : Joiner) (rooms : List ℕ) (number p : ℕ) → length s - p ≤ k → length s - p ≤ i
+    → linesFor k s j rooms number p ≡ linesFor i s j rooms number p
 unfolding linesFor behindIt
 lines-enough zero zero s j rooms number p a b = refl
 lines-enough zero (suc i) s j rooms number p a b = ap (behindIt _) (nothing-next s p (omega arith))
@@ -72,9 +73,12 @@ lines-enough (suc k) (suc i) s j rooms number p a b =
     go (nextIn s p) refl (λ (x : Joiner) (y : List ℕ) (m q : ℕ) (f : length s - q ≤ k) (g : length s - q ≤ i). lines-enough k i s x y m q f g)
   where
     on : ℕ → ℕ → ℕ → List ℕ
-    on c q n = lineOf number (takenOf j rooms (part s q n) .outcome) ++ linesFor c s (takenOf j rooms (part s q n) .joiner) (roomsAfter j rooms (part s q n)) (following number) (q + n)
+    on c q n = lineOf number (takenOf j rooms (part s q n) .outcome)
+        ++ linesFor c s (takenOf j rooms (part s q n) .joiner) (roomsAfter j rooms (part s q n)) (following number) (q + n)
 
-    go : (f : Found) → nextIn s p ≡ f → ((x : Joiner) (y : List ℕ) (m q : ℕ) → length s - q ≤ k → length s - q ≤ i → linesFor k s x y m q ≡ linesFor i s x y m q) → behindIt (on k) f ≡ behindIt (on i) f
+    go : (f : Found) → nextIn s p ≡ f
+        → ((x : Joiner) (y : List ℕ) (m q : ℕ) → length s - q ≤ k → length s - q ≤ i → linesFor k s x y m q ≡ linesFor i s x y m q)
+        → behindIt (on k) f ≡ behindIt (on i) f
     go (Datagram q n) e r =
         let w : Within s p q n = found-within s p q n e in
         let h : q ≡ p + 2 = w .starts in
@@ -85,7 +89,8 @@ lines-enough (suc k) (suc i) s j rooms number p a b =
     go Nothing e r = refl
 
 -- the next line, and those behind it
-lines-next : (s : List ℕ) (st : State) (q n : ℕ) → nextIn s (st .run .at) ≡ Datagram q n → linesFrom s st ≡ lineFor st (part s q n) ++ linesFrom s (steppedOf st (part s q n) (q + n))
+lines-next : (s : List ℕ) (st : State) (q n : ℕ) → nextIn s (st .run .at) ≡ Datagram q n → linesFrom s st ≡ lineFor st (part s q n)
+    ++ linesFrom s (steppedOf st (part s q n) (q + n))
 unfolding linesFrom linesFor behindIt lineFor steppedOf
 lines-next s st q n e =
     let p : ℕ = st .run .at in
@@ -102,7 +107,8 @@ lines-next s st q n e =
   where
     turn : (k : ℕ) → linesFor (suc k) s (st .run .joiner) (st .rooms) (st .run .number) (st .run .at)
         ≡ lineOf (st .run .number) (takenOf (st .run .joiner) (st .rooms) (part s q n) .outcome)
-        ++ linesFor k s (takenOf (st .run .joiner) (st .rooms) (part s q n) .joiner) (roomsAfter (st .run .joiner) (st .rooms) (part s q n)) (following (st .run .number)) (q + n)
+        ++ linesFor k s (takenOf (st .run .joiner) (st .rooms) (part s q n) .joiner) (roomsAfter (st .run .joiner) (st .rooms) (part s q n))
+        (following (st .run .number)) (q + n)
     turn k = ap (behindIt _) e
 
 -- and none where nothing whole is left
@@ -125,22 +131,28 @@ part-moved s a q n h f =
     let l : length (drop a s) ≡ length s - a = length-drop a s in
     part-in s (a + q) n (omega arith) ∙ ap (take n) (sym (drop-drop q a s)) ∙ sym (part-in (drop a s) q n f)
 
-lines-moved : (k : ℕ) (s : List ℕ) (a : ℕ) (j : Joiner) (rooms : List ℕ) (number p : ℕ) → a ≤ length s → linesFor k s j rooms number (a + p) ≡ linesFor k (drop a s) j rooms number p
+lines-moved : (k : ℕ) (s : List ℕ) (a : ℕ) (j : Joiner) (rooms : List ℕ) (number p : ℕ) → a ≤ length s → linesFor k s j rooms number (a + p)
+    ≡ linesFor k (drop a s) j rooms number p
 unfolding linesFor behindIt ahead
 lines-moved zero s a j rooms number p h = refl
 lines-moved (suc k) s a j rooms number p h =
     ap (behindIt (on s)) (next-moved s a p h) ∙ go (nextIn (drop a s) p) refl (λ (x : Joiner) (y : List ℕ) (m q : ℕ). lines-moved k s a x y m q h)
   where
     on : List ℕ → ℕ → ℕ → List ℕ
-    on u q n = lineOf number (takenOf j rooms (part u q n) .outcome) ++ linesFor k u (takenOf j rooms (part u q n) .joiner) (roomsAfter j rooms (part u q n)) (following number) (q + n)
+    on u q n = lineOf number (takenOf j rooms (part u q n) .outcome)
+        ++ linesFor k u (takenOf j rooms (part u q n) .joiner) (roomsAfter j rooms (part u q n)) (following number) (q + n)
 
-    go : (f : Found) → nextIn (drop a s) p ≡ f → ((x : Joiner) (y : List ℕ) (m q : ℕ) → linesFor k s x y m (a + q) ≡ linesFor k (drop a s) x y m q) → behindIt (on s) (ahead a f) ≡ behindIt (on (drop a s)) f
+    go : (f : Found) → nextIn (drop a s) p ≡ f
+        → ((x : Joiner) (y : List ℕ) (m q : ℕ) → linesFor k s x y m (a + q) ≡ linesFor k (drop a s) x y m q) → behindIt (on s) (ahead a f)
+        ≡ behindIt (on (drop a s)) f
     go (Datagram q n) e r =
         let w : Within (drop a s) p q n = found-within (drop a s) p q n e in
         let d : part s (a + q) n ≡ part (drop a s) q n = part-moved s a q n h (w .ends) in
         let b : a + q + n ≡ a + (q + n) = omega arith in
-        ap (λ (u : List ℕ). lineOf number (takenOf j rooms u .outcome) ++ linesFor k s (takenOf j rooms u .joiner) (roomsAfter j rooms u) (following number) (a + q + n)) d
-        ∙ ap (λ (m : ℕ). lineOf number (takenOf j rooms (part (drop a s) q n) .outcome) ++ linesFor k s (takenOf j rooms (part (drop a s) q n) .joiner) (roomsAfter j rooms (part (drop a s) q n)) (following number) m) b
+        ap (λ (u : List ℕ). lineOf number (takenOf j rooms u .outcome)
+        ++ linesFor k s (takenOf j rooms u .joiner) (roomsAfter j rooms u) (following number) (a + q + n)) d
+        ∙ ap (λ (m : ℕ). lineOf number (takenOf j rooms (part (drop a s) q n) .outcome)
+        ++ linesFor k s (takenOf j rooms (part (drop a s) q n) .joiner) (roomsAfter j rooms (part (drop a s) q n)) (following number) m) b
         ∙ ap (λ (u : List ℕ). lineOf number (takenOf j rooms (part (drop a s) q n) .outcome) ++ u)
         (r (takenOf j rooms (part (drop a s) q n) .joiner) (roomsAfter j rooms (part (drop a s) q n)) (following number) (q + n))
     go Unfinished e r = refl
@@ -163,7 +175,8 @@ pub record Sound (s : List ℕ) (st : State) : Type 0 where
 
 -- playing keeps it, and what is told with what is still to come, whatever comes behind s
 module _ (s more : List ℕ) where
-  pub play-keeps : (k : ℕ) (st : State) → Sound s st → Sound s (playedFor k s st) × (told (playedFor k s st) ++ linesFrom (s ++ more) (playedFor k s st) ≡ told st ++ linesFrom (s ++ more) st)
+  pub play-keeps : (k : ℕ) (st : State) → Sound s st → Sound s (playedFor k s st)
+      × (told (playedFor k s st) ++ linesFrom (s ++ more) (playedFor k s st) ≡ told st ++ linesFrom (s ++ more) st)
   unfolding playedFor goingOn steppedOf
   play-keeps zero st h = (h, refl)
   play-keeps (suc k) st h = go (nextIn s (st .run .at)) refl (λ (t : State) (g : Sound s t). play-keeps k t g)
@@ -171,7 +184,9 @@ module _ (s more : List ℕ) where
       Kept : State → Type 0
       Kept t = Sound s t × (told t ++ linesFrom (s ++ more) t ≡ told st ++ linesFrom (s ++ more) st)
 
-      go : (f : Found) → nextIn s (st .run .at) ≡ f → ((t : State) → Sound s t → Sound s (playedFor k s t) × (told (playedFor k s t) ++ linesFrom (s ++ more) (playedFor k s t) ≡ told t ++ linesFrom (s ++ more) t)) →
+      go : (f : Found) → nextIn s (st .run .at) ≡ f
+          → ((t : State) → Sound s t → Sound s (playedFor k s t)
+          × (told (playedFor k s t) ++ linesFrom (s ++ more) (playedFor k s t) ≡ told t ++ linesFrom (s ++ more) t)) →
           Kept (goingOn s st (λ (t : State). playedFor k s t) f)
       go Unfinished e r = (h, refl)
       go Nothing e r = (h, refl)
@@ -200,7 +215,8 @@ module _ (s more : List ℕ) where
           by false room = subst⁻¹ Kept (no-if (playedFor k s next) st room) (h, refl)
           by true room =
               let g : Sound s next = record { place = omega (arith, at, ends); room = next-within st d (p + n) room } in
-              let i : Sound s (playedFor k s next) × (told (playedFor k s next) ++ linesFrom (s ++ more) (playedFor k s next) ≡ told next ++ linesFrom (s ++ more) next) = r next g in
+              let i : Sound s (playedFor k s next)
+              × (told (playedFor k s next) ++ linesFrom (s ++ more) (playedFor k s next) ≡ told next ++ linesFrom (s ++ more) next) = r next g in
               subst⁻¹ Kept (yes-if (playedFor k s next) st room) (i .0, i .1 ∙ same room)
 
 -- the whole: in whatever blocks the rest comes, and whenever lines are written
@@ -210,7 +226,8 @@ in-blocks [] s st h o =
     sym (append-nil (told st)) ∙ ap (λ (u : List ℕ). told st ++ u) (sym (no-lines s st o)) ∙ ap (λ (u : List ℕ). told st ++ linesFrom u st) (sym (append-nil s))
 in-blocks (plays ∷ ds) s st h o =
     let k : ℕ = length s - st .run .at in
-    let i : Sound s (playedFor k s st) × (told (playedFor k s st) ++ linesFrom (s ++ come ds) (playedFor k s st) ≡ told st ++ linesFrom (s ++ come ds) st) = play-keeps s (come ds) k st h in
+    let i : Sound s (playedFor k s st)
+    × (told (playedFor k s st) ++ linesFrom (s ++ come ds) (playedFor k s st) ≡ told st ++ linesFrom (s ++ come ds) st) = play-keeps s (come ds) k st h in
     in-blocks ds s (playedFor k s st) (i .0) o ∙ i .1
 in-blocks (writes ∷ ds) s st h o =
     let g : Sound s (emptied st) = record { place = h .place; room = omega arith } in
@@ -221,7 +238,8 @@ in-blocks (writes ∷ ds) s st h o =
 in-blocks (reads more ∷ ds) s st h o =
     let a : ℕ = st .run .at in
     let g : Sound (drop a s ++ more) (atFront st) = record { place = omega arith; room = omega (arith, h .room) } in
-    let e : drop a s ++ more ++ come ds ≡ drop a (s ++ (more ++ come ds)) = append-assoc (drop a s) more (come ds) ∙ sym (drop-append-le a s (more ++ come ds) (h .place)) in
+    let e : drop a s ++ more ++ come ds ≡ drop a (s ++ (more ++ come ds)) = append-assoc (drop a s) more (come ds)
+    ∙ sym (drop-append-le a s (more ++ come ds) (h .place)) in
     let l : a ≤ length (s ++ (more ++ come ds)) = omega (arith, length-append s (more ++ come ds), h .place) in
     in-blocks ds (drop a s ++ more) (atFront st) g o
     ∙ ap (λ (u : List ℕ). told st ++ linesFrom u (atFront st)) e

@@ -25,7 +25,8 @@ unfoldable pub linesFor : ℕ → List ℕ → Joiner → List ℕ → ℕ → �
 linesFor zero s j rooms number p = []
 linesFor (suc k) s j rooms number p =
     behindIt
-    (λ (q n : ℕ). lineOf number (takenOf j rooms (part s q n) .outcome) ++ linesFor k s (takenOf j rooms (part s q n) .joiner) (roomsAfter j rooms (part s q n)) (following number) (q + n))
+    (λ (q n : ℕ). lineOf number (takenOf j rooms (part s q n) .outcome)
+    ++ linesFor k s (takenOf j rooms (part s q n) .joiner) (roomsAfter j rooms (part s q n)) (following number) (q + n))
     (nextIn s p)
 
 -- all lines that are still to come in a run over s

@@ -54,7 +54,8 @@ pub fn next(input: &[u8], at: usize) -> Found
 // Takes the whole datagrams that stand in the input, one after the other, and puts their lines into the output, until it
 // has no room for another line.
 pub fn play(run: Run, rooms: &mut [u8], input: &[u8], output: &mut [u8]) -> Run
-    ensures { λ r. ⌜ stateOf r (now (rooms .exit)) (now (output .exit)) ≡ played (now (input .entry)) (stateOf run (now (rooms .entry)) (now (output .entry))) ⌝ }
+    ensures { λ r. ⌜ stateOf r (now (rooms .exit)) (now (output .exit))
+        ≡ played (now (input .entry)) (stateOf run (now (rooms .entry)) (now (output .entry))) ⌝ }
 {
     let mut run = run;
     loop {
@@ -80,7 +81,8 @@ pub fn play(run: Run, rooms: &mut [u8], input: &[u8], output: &mut [u8]) -> Run
 
 // One datagram, which ends at `end` of the input.
 fn play_one(run: Run, rooms: &mut [u8], datagram: &[u8], end: usize, output: &mut [u8]) -> Run
-    ensures { λ r. ⌜ stateOf r (now (rooms .exit)) (now (output .exit)) ≡ steppedOf (stateOf run (now (rooms .entry)) (now (output .entry))) (now (datagram .entry)) end ⌝ }
+    ensures { λ r. ⌜ stateOf r (now (rooms .exit)) (now (output .exit))
+        ≡ steppedOf (stateOf run (now (rooms .entry)) (now (output .entry))) (now (datagram .entry)) end ⌝ }
 {
     let taken = joiner::take(run.joiner, rooms, datagram);
     let outcome = taken.outcome;

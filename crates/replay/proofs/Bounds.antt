@@ -76,7 +76,8 @@ module _ (s : List ℕ) (n : ℕ) (l : length s ≡ inputLength) (h : n ≤ inpu
   pub left-within : {f : Found} (at : ℕ) → f ≡ nextIn (take n s) at → f ≡ Unfinished → at ≤ n
   left-within at e g = omega (arith, filled-part, left-starts (take n s) at e g)
 
-  pub kept-room : {f : Found} {k : ℕ} (at : ℕ) → ((i : ℕ) → Fits w8 (getD s i 0)) → f ≡ nextIn (take n s) at → f ≡ Unfinished → k ≡ length (part s at (n - at)) → k < inputLength
+  pub kept-room : {f : Found} {k : ℕ} (at : ℕ) → ((i : ℕ) → Fits w8 (getD s i 0)) → f ≡ nextIn (take n s) at → f ≡ Unfinished → k
+      ≡ length (part s at (n - at)) → k < inputLength
   kept-room {f} {k} at o e g q =
       omega (arith, filled-part, left-short (take n s) at e g (octets-take n s (λ i. omega (arith, o i))), length-part s at (n - at))
 

@@ -57,12 +57,14 @@ xor-bit w m j = ap (λ (n : ℕ). n % 2) (xor-shr w m j) ∙ xor-mod (w / 2 ^ j)
 
 module _ (w b : ℕ) where
   pub set-there : bit (bitOr w (2 ^ b)) b ≡ 1
-  set-there = or-bit w (2 ^ b) b ∙ ap (bitOr (bit w b)) (bit-same b) ∙ ⊎-elim (λ (e : bit w b ≡ 0). ap (λ (n : ℕ). bitOr n 1) e) (λ (e : bit w b ≡ 1). ap (λ (n : ℕ). bitOr n 1) e) (bit-or w b)
+  set-there = or-bit w (2 ^ b) b ∙ ap (bitOr (bit w b)) (bit-same b)
+      ∙ ⊎-elim (λ (e : bit w b ≡ 0). ap (λ (n : ℕ). bitOr n 1) e) (λ (e : bit w b ≡ 1). ap (λ (n : ℕ). bitOr n 1) e) (bit-or w b)
 
   pub turned-there : bit (bitXor w (2 ^ b)) b ≡ 1 - bit w b
   turned-there =
       xor-bit w (2 ^ b) b ∙ ap (bitXor (bit w b)) (bit-same b)
-      ∙ ⊎-elim (λ (e : bit w b ≡ 0). ap (λ (n : ℕ). bitXor n 1) e ∙ ap (λ (n : ℕ). 1 - n) (sym e)) (λ (e : bit w b ≡ 1). ap (λ (n : ℕ). bitXor n 1) e ∙ ap (λ (n : ℕ). 1 - n) (sym e)) (bit-or w b)
+      ∙ ⊎-elim (λ (e : bit w b ≡ 0). ap (λ (n : ℕ). bitXor n 1) e ∙ ap (λ (n : ℕ). 1 - n) (sym e))
+      (λ (e : bit w b ≡ 1). ap (λ (n : ℕ). bitXor n 1) e ∙ ap (λ (n : ℕ). 1 - n) (sym e)) (bit-or w b)
 
   module _ (j : ℕ) (h : j ≡ b → ⊥) where
     pub set-elsewhere : bit (bitOr w (2 ^ b)) j ≡ bit w j

@@ -70,7 +70,8 @@ module _ (s : States) (k j : ℕ) (hk : k < 256) (hj : j < 256) (h : j ≡ k →
       go : (b : Bool) → eqb (j / 64) (k / 64) ≡ b → bitOf (turned s k) j ≡ bitOf s j
       go true e =
           let q : j / 64 ≡ k / 64 = eqb-true (j / 64) (k / 64) e in
-          in-its-word s (bitXor (wordOf s (k / 64)) (mask k)) k j hk hj q ∙ turned-elsewhere (wordOf s (k / 64)) (k % 64) (j % 64) (apart q) ∙ ap (λ (i : ℕ). bit (wordOf s i) (j % 64)) (sym q)
+          in-its-word s (bitXor (wordOf s (k / 64)) (mask k)) k j hk hj q ∙ turned-elsewhere (wordOf s (k / 64)) (k % 64) (j % 64) (apart q)
+          ∙ ap (λ (i : ℕ). bit (wordOf s i) (j % 64)) (sym q)
       go false e = in-another s (bitXor (wordOf s (k / 64)) (mask k)) k j hk hj (eqb-false (j / 64) (k / 64) e)
 
   own-other : bitOf (withOwn k s) j ≡ bitOf s j
@@ -80,7 +81,8 @@ module _ (s : States) (k j : ℕ) (hk : k < 256) (hj : j < 256) (h : j ≡ k →
       go : (b : Bool) → eqb (j / 64) (k / 64) ≡ b → bitOf (withOwn k s) j ≡ bitOf s j
       go true e =
           let q : j / 64 ≡ k / 64 = eqb-true (j / 64) (k / 64) e in
-          in-its-word s (bitOr (wordOf s (k / 64)) (mask k)) k j hk hj q ∙ set-elsewhere (wordOf s (k / 64)) (k % 64) (j % 64) (apart q) ∙ ap (λ (i : ℕ). bit (wordOf s i) (j % 64)) (sym q)
+          in-its-word s (bitOr (wordOf s (k / 64)) (mask k)) k j hk hj q ∙ set-elsewhere (wordOf s (k / 64)) (k % 64) (j % 64) (apart q)
+          ∙ ap (λ (i : ℕ). bit (wordOf s i) (j % 64)) (sym q)
       go false e = in-another s (bitOr (wordOf s (k / 64)) (mask k)) k j hk hj (eqb-false (j / 64) (k / 64) e)
 
 turned-same : (s : States) (k : ℕ) → k < 256 → bitOf (turned s k) k ≡ 1 - bitOf s k
@@ -168,7 +170,8 @@ word-fits s (suc (suc (suc i))) a = a .fourth
 with-own-words : (own : ℕ) (s : States) → Words s → Words (withOwn own s)
 unfolding withOwn
 with-own-words own s a =
-    words-stay s (own / 64) (bitOr (wordOf s (own / 64)) (mask own)) a (or-lt 64 (wordOf s (own / 64)) (mask own) (word-fits s (own / 64) a) (pow-lt (mod-lt own (zero-lt-suc 63))))
+    words-stay s (own / 64) (bitOr (wordOf s (own / 64)) (mask own)) a
+    (or-lt 64 (wordOf s (own / 64)) (mask own) (word-fits s (own / 64) a) (pow-lt (mod-lt own (zero-lt-suc 63))))
 
 pub count-is : (own : ℕ) (s : States) → own < 256 → Words s → howManyUp own s ≡ countBelow (isUp own s) 256
 unfolding howManyUp sumOfOnes wordOf countBelow
@@ -176,7 +179,10 @@ count-is own s ho a =
     let v : States = withOwn own s in
     let b : Words v = with-own-words own s a in
     let f : ℕ → Bool = isUp own s in
-    let c0 : countBelow f 64 ≡ ones (v .w0) = count-split f 0 64 ∙ ap (λ (n : ℕ). 0 + n) (block own s ho 0 (v .w0) (omega arith) refl (b .first)) ∙ zero-add (ones (v .w0)) in
-    let c1 : countBelow f 128 ≡ ones (v .w0) + ones (v .w1) = count-split f 64 64 ∙ ap₂ (λ (x y : ℕ). x + y) c0 (block own s ho 1 (v .w1) (omega arith) refl (b .second)) in
-    let c2 : countBelow f 192 ≡ ones (v .w0) + ones (v .w1) + ones (v .w2) = count-split f 128 64 ∙ ap₂ (λ (x y : ℕ). x + y) c1 (block own s ho 2 (v .w2) (omega arith) refl (b .third)) in
+    let c0 : countBelow f 64 ≡ ones (v .w0) = count-split f 0 64
+    ∙ ap (λ (n : ℕ). 0 + n) (block own s ho 0 (v .w0) (omega arith) refl (b .first)) ∙ zero-add (ones (v .w0)) in
+    let c1 : countBelow f 128 ≡ ones (v .w0) + ones (v .w1) = count-split f 64 64
+    ∙ ap₂ (λ (x y : ℕ). x + y) c0 (block own s ho 1 (v .w1) (omega arith) refl (b .second)) in
+    let c2 : countBelow f 192 ≡ ones (v .w0) + ones (v .w1) + ones (v .w2) = count-split f 128 64
+    ∙ ap₂ (λ (x y : ℕ). x + y) c1 (block own s ho 2 (v .w2) (omega arith) refl (b .third)) in
     sym (count-split f 192 64 ∙ ap₂ (λ (x y : ℕ). x + y) c2 (block own s ho 3 (v .w3) (omega arith) refl (b .fourth)))

@@ -43,7 +43,8 @@ chain t s e =
     let a = linked (sectionAt typeWidth 1 mostTypes t 0) (afterTypes t) s e in
     let b = linked (sectionAt memberWidth 0 mostMembers t (sectionEnd typeWidth (a .0))) (afterMembers t (a .0)) s (a .1 .1) in
     let c = linked (sectionAt valueWidth 0 mostValues t (sectionEnd memberWidth (b .0))) (afterValues t (a .0) (b .0)) s (b .1 .1) in
-    let d = linked (sectionAt operationWidth 0 mostOperations t (sectionEnd valueWidth (c .0))) (λ (u : Section). ended t (record { types = a .0; members = b .0; values = c .0; operations = u })) s (c .1 .1) in
+    let d = linked (sectionAt operationWidth 0 mostOperations t (sectionEnd valueWidth (c .0)))
+    (λ (u : Section). ended t (record { types = a .0; members = b .0; values = c .0; operations = u })) s (c .1 .1) in
     let x : Sections = record { types = a .0; members = b .0; values = c .0; operations = d .0 } in
     let f = finished (eqb (sectionEnd operationWidth (d .0)) (length t)) cutShort x s (d .1 .1) in
     let y : Chain t x =

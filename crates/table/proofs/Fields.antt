@@ -36,7 +36,8 @@ module _ (s : Sections) (i : ℕ) (e : Entry) (r : Bool) where
   unfolding fieldsOk
   array-entry k h = rw k h
 
-pub no-entry : (s : Sections) (i : ℕ) (e : Entry) → (e .kind ≡ 0 → ⊥) → (e .kind ≡ 1 → ⊥) → (e .kind ≡ 2 → ⊥) → (e .kind ≡ 3 → ⊥) → (e .kind ≡ 4 → ⊥) → false ≡ fieldsOk s i e
+pub no-entry : (s : Sections) (i : ℕ) (e : Entry) → (e .kind ≡ 0 → ⊥) → (e .kind ≡ 1 → ⊥) → (e .kind ≡ 2 → ⊥) → (e .kind ≡ 3 → ⊥)
+    → (e .kind ≡ 4 → ⊥) → false ≡ fieldsOk s i e
 unfolding fieldsOk
 no-entry s i e a b c d f = simp (ne-eqb (e .kind) 0 a, ne-eqb (e .kind) 1 b, ne-eqb (e .kind) 2 c, ne-eqb (e .kind) 3 d, ne-eqb (e .kind) 4 f)
 
@@ -49,9 +50,11 @@ module _ (s : Sections) (i : ℕ) (e : Entry) (f : Bool) (p : f ≡ fieldsOk s i
   enum-code k = three (isEnumBase (e .of)) (leb 1 (e .count)) (leb (e .first + e .count) (s .values .count)) (enum-passes k) .0
 
   pub enum-inside : e .kind ≡ 1 → e .first + e .count ≤ s .values .count
-  enum-inside k = leb-true (e .first + e .count) (s .values .count) (three (isEnumBase (e .of)) (leb 1 (e .count)) (leb (e .first + e .count) (s .values .count)) (enum-passes k) .1 .1)
+  enum-inside k = leb-true (e .first + e .count) (s .values .count)
+      (three (isEnumBase (e .of)) (leb 1 (e .count)) (leb (e .first + e .count) (s .values .count)) (enum-passes k) .1 .1)
 
   pub record-inside : e .kind ≡ 2 → e .first + e .count ≤ s .members .count
   record-inside k =
       leb-true (e .first + e .count) (s .members .count)
-      (three (eqb (e .of) 0) (leb 1 (e .count)) (leb (e .first + e .count) (s .members .count)) (record-entry s i e (recordFields s e) k refl ∙ sym p ∙ h) .1 .1)
+      (three (eqb (e .of) 0) (leb 1 (e .count)) (leb (e .first + e .count) (s .members .count))
+      (record-entry s i e (recordFields s e) k refl ∙ sym p ∙ h) .1 .1)

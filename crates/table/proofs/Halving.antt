@@ -29,7 +29,8 @@ pub whole-is : (len : ℕ) (s : Sections) (e : ℕ) → e ≡ operationPlace s (
 whole-is len s e is = ap (λ (n : ℕ). leb n len) is
 
 -- the ID of an entry of a section that lies within the bytes
-pub id-within : (len : ℕ) (s : Sections) (i : ℕ) (whole : Bool) → i < s .operations .count → whole ≡ leb (operationPlace s (s .operations .count)) len → whole ≡ true → operationPlace s i + 4 ≤ len
+pub id-within : (len : ℕ) (s : Sections) (i : ℕ) (whole : Bool) → i < s .operations .count → whole
+    ≡ leb (operationPlace s (s .operations .count)) len → whole ≡ true → operationPlace s i + 4 ≤ len
 id-within len s i whole h e t = omega (arith, held (operationPlace s (s .operations .count)) len e t)
 
 -- one look

@@ -23,7 +23,8 @@ pub above : (n x : ℕ) → n ≤ x → (x ≡ n → ⊥) → n + 1 ≤ x
 above n x h d = omega arith
 
 -- a number that is none of the thirteen
-module _ (x : ℕ) (d0 : x ≡ 0 → ⊥) (d1 : x ≡ 1 → ⊥) (d2 : x ≡ 2 → ⊥) (d3 : x ≡ 3 → ⊥) (d4 : x ≡ 4 → ⊥) (d5 : x ≡ 5 → ⊥) (d6 : x ≡ 6 → ⊥) (d7 : x ≡ 7 → ⊥) (d8 : x ≡ 8 → ⊥) (d9 : x ≡ 9 → ⊥) (d10 : x ≡ 10 → ⊥) (d11 : x ≡ 11 → ⊥) (d12 : x ≡ 12 → ⊥) where
+module _ (x : ℕ) (d0 : x ≡ 0 → ⊥) (d1 : x ≡ 1 → ⊥) (d2 : x ≡ 2 → ⊥) (d3 : x ≡ 3 → ⊥) (d4 : x ≡ 4 → ⊥) (d5 : x ≡ 5 → ⊥) (d6 : x ≡ 6 → ⊥)
+    (d7 : x ≡ 7 → ⊥) (d8 : x ≡ 8 → ⊥) (d9 : x ≡ 9 → ⊥) (d10 : x ≡ 10 → ⊥) (d11 : x ≡ 11 → ⊥) (d12 : x ≡ 12 → ⊥) where
   none-of : base x ≡ none
   none-of =
       let h4 : 4 ≤ x = above 3 x (above 2 x (above 1 x (above 0 x (omega arith) d0) d1) d2) d3 in

@@ -19,22 +19,28 @@ use Rattle.table.specs.declared.Operation.{Operation}
 use Rattle.table.specs.Layout.{typePlace, memberPlace, valuePlace, operationPlace}
 use Rattle.table.specs.Entries.{typeAt, memberAt, valueAt, idAt, operationAt}
 
-pub type-read : (t : List ℕ) (s : Sections) (i p k o f n : ℕ) → p ≡ typePlace s i → k ≡ number 1 t p → o ≡ number 1 t (p + 2) → f ≡ number 1 t (p + 4) → n ≡ number 1 t (p + 6) → _≡_ {A = Entry} (record { kind = k; of = o; first = f; count = n }) (typeAt t s i)
+pub type-read : (t : List ℕ) (s : Sections) (i p k o f n : ℕ) → p ≡ typePlace s i → k ≡ number 1 t p → o ≡ number 1 t (p + 2) → f
+    ≡ number 1 t (p + 4) → n ≡ number 1 t (p + 6) → _≡_ {A = Entry} (record { kind = k; of = o; first = f; count = n }) (typeAt t s i)
 unfolding typeAt
 type-read t s i p k o f n a b d e g = rw (b, d, e, g, a) refl
 
 -- the four 16-bit numbers of which a 64-bit one is made
-quarters : (a b c d w : ℕ) → a < 65536 → b < 65536 → c < 65536 → d < 65536 → w ≡ (a * 65536 + b) * 4294967296 + (c * 65536 + d) → (w / 281474976710656 ≡ a) × ((w / 4294967296 % 65536 ≡ b) × ((w / 65536 % 65536 ≡ c) × (w % 65536 ≡ d)))
+quarters : (a b c d w : ℕ) → a < 65536 → b < 65536 → c < 65536 → d < 65536 → w ≡ (a * 65536 + b) * 4294967296 + (c * 65536 + d)
+    → (w / 281474976710656 ≡ a) × ((w / 4294967296 % 65536 ≡ b) × ((w / 65536 % 65536 ≡ c) × (w % 65536 ≡ d)))
 quarters a b c d w ha hb hc hd e = (omega arith, (omega arith, (omega arith, omega arith)))
 
-pub type-word : (t : List ℕ) (s : Sections) (i p w : ℕ) → ((k : ℕ) → Fits w8 (getD t k 0)) → p ≡ typePlace s i → w ≡ number 3 t p → _≡_ {A = Entry} (record { kind = w / 281474976710656; of = w / 4294967296 % 65536; first = w / 65536 % 65536; count = w % 65536 }) (typeAt t s i)
+pub type-word : (t : List ℕ) (s : Sections) (i p w : ℕ) → ((k : ℕ) → Fits w8 (getD t k 0)) → p ≡ typePlace s i → w ≡ number 3 t p
+    → _≡_ {A = Entry} (record { kind = w / 281474976710656; of = w / 4294967296 % 65536; first = w / 65536 % 65536; count = w % 65536 }) (typeAt t s i)
 type-word t s i p w known a b =
     let below : (q : ℕ) → number 1 t q < 65536 = λ q. number-lt 1 t q (λ k. known k .fits) in
-    let e : w ≡ (number 1 t p * 65536 + number 1 t (p + 2)) * 4294967296 + (number 1 t (p + 4) * 65536 + number 1 t (p + 6)) = omega (arith, ap (number 1 t) (add-assoc p 4 2)) in
-    let q = quarters (number 1 t p) (number 1 t (p + 2)) (number 1 t (p + 4)) (number 1 t (p + 6)) w (below p) (below (p + 2)) (below (p + 4)) (below (p + 6)) e in
+    let e : w ≡ (number 1 t p * 65536 + number 1 t (p + 2)) * 4294967296 + (number 1 t (p + 4) * 65536 + number 1 t (p + 6)) = omega
+    (arith, ap (number 1 t) (add-assoc p 4 2)) in
+    let q = quarters (number 1 t p) (number 1 t (p + 2)) (number 1 t (p + 4)) (number 1 t (p + 6)) w (below p) (below (p + 2))
+    (below (p + 4)) (below (p + 6)) e in
     type-read t s i p (w / 281474976710656) (w / 4294967296 % 65536) (w / 65536 % 65536) (w % 65536) a (q .0) (q .1 .0) (q .1 .1 .0) (q .1 .1 .1)
 
-pub operation-read : (t : List ℕ) (s : Sections) (i p d k o : ℕ) → p ≡ operationPlace s i → d ≡ number 2 t p → k ≡ number 1 t (p + 4) → o ≡ number 1 t (p + 6) → _≡_ {A = Operation} (record { id = d; kind = k; carries = o }) (operationAt t s i)
+pub operation-read : (t : List ℕ) (s : Sections) (i p d k o : ℕ) → p ≡ operationPlace s i → d ≡ number 2 t p → k ≡ number 1 t (p + 4) → o
+    ≡ number 1 t (p + 6) → _≡_ {A = Operation} (record { id = d; kind = k; carries = o }) (operationAt t s i)
 unfolding operationAt idAt
 operation-read t s i p d k o a b e f = rw (b, e, f, a) refl
 

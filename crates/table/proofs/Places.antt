@@ -18,7 +18,8 @@ use Rattle.table.specs.declared.Checked.{Checked}
 use Rattle.table.specs.declared.Checked.the-variants.{Refused, Table}
 use Rattle.table.specs.declared.Part.{Part}
 use Rattle.table.specs.declared.Part.the-variants.{Missing, Found}
-use Rattle.table.specs.Layout.{cutShort, countOutside, typeWidth, memberWidth, valueWidth, operationWidth, mostTypes, mostMembers, mostValues, mostOperations}
+use Rattle.table.specs.Layout.{cutShort, countOutside, typeWidth, memberWidth, valueWidth, operationWidth, mostTypes}
+use Rattle.table.specs.Layout.{mostMembers, mostValues, mostOperations}
 use Rattle.table.specs.Layout.{sectionAt, sectionEnd, after, ended, liesIn, within}
 
 -- a 16-bit width times a 32-bit index
@@ -92,7 +93,8 @@ unfolding sectionAt
 holds w least most t p s f =
     let n : ℕ = number 1 t p in
     let x : Section = record { at = p + 2; count = n } in
-    let a = passed (ltb (length t) (p + 2)) cutShort (cond (ltb n least || ltb most n) (Missing countOutside) (cond (ltb (length t) (p + 2 + w * n)) (Missing cutShort) (Found x))) s f in
+    let a = passed (ltb (length t) (p + 2)) cutShort
+    (cond (ltb n least || ltb most n) (Missing countOutside) (cond (ltb (length t) (p + 2 + w * n)) (Missing cutShort) (Found x))) s f in
     let b = passed (ltb n least || ltb most n) countOutside (cond (ltb (length t) (p + 2 + w * n)) (Missing cutShort) (Found x)) s (a .1) in
     let d = passed (ltb (length t) (p + 2 + w * n)) cutShort (Found x) s (b .1) in
     let g : Found x ≡ Found s = d .1 in
@@ -104,7 +106,8 @@ holds w least most t p s f =
     }
 
 -- how far a section reaches that starts no further than b
-pub reach : (w most b least : ℕ) (t : List ℕ) (p : ℕ) (s : Section) (r : Part) (q : ℕ) → r ≡ sectionAt w least most t p → r ≡ Found s → p ≡ q → q ≤ b → sectionEnd w s ≤ b + 2 + w * most
+pub reach : (w most b least : ℕ) (t : List ℕ) (p : ℕ) (s : Section) (r : Part) (q : ℕ) → r ≡ sectionAt w least most t p → r ≡ Found s → p
+    ≡ q → q ≤ b → sectionEnd w s ≤ b + 2 + w * most
 reach w most b least t p s r q is f e h =
     let k : Holds w most t p s = holds w least most t p s (sym is ∙ f) in
     omega (arith, k .starts, mul-le-mul-left w (k .few))
@@ -117,6 +120,8 @@ unfolding liesIn
 lies w most len s e is = rw is refl
 
 -- the four sections one by one
-pub all-lie : (t : List ℕ) (s : Sections) (a b c d : Bool) → a ≡ liesIn typeWidth mostTypes (length t) (s .types) → b ≡ liesIn memberWidth mostMembers (length t) (s .members) → c ≡ liesIn valueWidth mostValues (length t) (s .values) → d ≡ liesIn operationWidth mostOperations (length t) (s .operations) → (a && b && c && d) ≡ within t s
+pub all-lie : (t : List ℕ) (s : Sections) (a b c d : Bool) → a ≡ liesIn typeWidth mostTypes (length t) (s .types) → b
+    ≡ liesIn memberWidth mostMembers (length t) (s .members) → c ≡ liesIn valueWidth mostValues (length t) (s .values) → d
+    ≡ liesIn operationWidth mostOperations (length t) (s .operations) → (a && b && c && d) ≡ within t s
 unfolding within
 all-lie t s a b c d p q r u = rw (p, q, r, u) refl

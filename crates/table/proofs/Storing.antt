@@ -36,7 +36,8 @@ module _ (ws : List ℕ) (k : ℕ) where
 
   pub count-fits : {a : ℕ} → isSection ws k ≡ true → a ≡ getD ws (k + 1) 0 → Fits w16 a
   count-fits t e =
-      let h : getD ws (k + 1) 0 < wordLimit = ltb-true (getD ws (k + 1) 0) wordLimit (both-right (ltb (getD ws k 0) wordLimit) (ltb (getD ws (k + 1) 0) wordLimit) t) in
+      let h : getD ws (k + 1) 0 < wordLimit = ltb-true (getD ws (k + 1) 0) wordLimit
+      (both-right (ltb (getD ws k 0) wordLimit) (ltb (getD ws (k + 1) 0) wordLimit) t) in
       record { fits = omega arith }
 
   pub section-in : {a b : ℕ} → a ≡ getD ws k 0 → b ≡ getD ws (k + 1) 0 → record { at = a; count = b } ≡ sectionIn ws k
@@ -44,7 +45,8 @@ module _ (ws : List ℕ) (k : ℕ) where
 
 -- the four of them
 module _ (ws : List ℕ) where
-  pub are-sections : {a b c d : Bool} → a ≡ isSection ws 0 → b ≡ isSection ws 2 → c ≡ isSection ws 4 → d ≡ isSection ws 6 → (a && (b && (c && d))) ≡ areSections ws
+  pub are-sections : {a b c d : Bool} → a ≡ isSection ws 0 → b ≡ isSection ws 2 → c ≡ isSection ws 4 → d ≡ isSection ws 6
+      → (a && (b && (c && d))) ≡ areSections ws
   are-sections ea eb ec ed = rw (ea, eb, ec, ed)
 
   module _ {t : Bool} (e : t ≡ areSections ws) where
@@ -71,7 +73,8 @@ module _ (ws : List ℕ) where
       pub operations-there : isSection ws 6 ≡ true
       operations-there = both-right (isSection ws 4) (isSection ws 6) (both-right (isSection ws 2) (isSection ws 4 && isSection ws 6) behind)
 
-      pub sections-in : {a b c d : Section} → a ≡ sectionIn ws 0 → b ≡ sectionIn ws 2 → c ≡ sectionIn ws 4 → d ≡ sectionIn ws 6 → record { types = a; members = b; values = c; operations = d } ≡ sectionsIn ws
+      pub sections-in : {a b c d : Section} → a ≡ sectionIn ws 0 → b ≡ sectionIn ws 2 → c ≡ sectionIn ws 4 → d ≡ sectionIn ws 6
+          → record { types = a; members = b; values = c; operations = d } ≡ sectionsIn ws
       unfolding sectionsIn
       sections-in ea eb ec ed = rw (sym e ∙ f, ea, eb, ec, ed)
 
@@ -86,7 +89,17 @@ pub record Narrow (s : Section) : Type 0 where
   pub count : s .count < wordLimit
 
 -- the words of sections, whatever stands behind them, read back as those sections
-pub read-back : (s : Sections) (ws : List ℕ) → Narrow (s .types) → Narrow (s .members) → Narrow (s .values) → Narrow (s .operations) → sectionsIn (wordsOf s ++ ws) ≡ s
+pub read-back : (s : Sections) (ws : List ℕ) → Narrow (s .types) → Narrow (s .members) → Narrow (s .values) → Narrow (s .operations)
+    → sectionsIn (wordsOf s ++ ws) ≡ s
 unfolding sectionsIn
 read-back s ws a b c d =
-    rw (lt-ltb (s .types .at) wordLimit (a .at), lt-ltb (s .types .count) wordLimit (a .count), lt-ltb (s .members .at) wordLimit (b .at), lt-ltb (s .members .count) wordLimit (b .count), lt-ltb (s .values .at) wordLimit (c .at), lt-ltb (s .values .count) wordLimit (c .count), lt-ltb (s .operations .at) wordLimit (d .at), lt-ltb (s .operations .count) wordLimit (d .count))
+    rw (
+      lt-ltb (s .types .at) wordLimit (a .at),
+      lt-ltb (s .types .count) wordLimit (a .count),
+      lt-ltb (s .members .at) wordLimit (b .at),
+      lt-ltb (s .members .count) wordLimit (b .count),
+      lt-ltb (s .values .at) wordLimit (c .at),
+      lt-ltb (s .values .count) wordLimit (c .count),
+      lt-ltb (s .operations .at) wordLimit (d .at),
+      lt-ltb (s .operations .count) wordLimit (d .count),
+    )

@@ -75,8 +75,10 @@ module _ (t : List ℕ) (s : Sections) (id : ℕ) where
       abbrev m : ℕ
       m = middle low high
 
-      module _ (above : Between (m + 1) high → Bears count (halved t s id n (m + 1) high)) (below : m ≤ count → Between low m → Bears count (halved t s id n low m)) where
-        in-half : (l : low < high) → m < count → (a : Bool) → ltb (idAt t s m) id ≡ a → (b : Bool) → ltb id (idAt t s m) ≡ b → Bears count (halved t s id (suc n) low high)
+      module _ (above : Between (m + 1) high → Bears count (halved t s id n (m + 1) high))
+          (below : m ≤ count → Between low m → Bears count (halved t s id n low m)) where
+        in-half : (l : low < high) → m < count → (a : Bool) → ltb (idAt t s m) id ≡ a → (b : Bool) → ltb id (idAt t s m) ≡ b
+            → Bears count (halved t s id (suc n) low high)
         in-half l i true p b q =
             let h : idAt t s m < id = ltb-true (idAt t s m) id p in
             subst (Bears count) (sym (above-it t s id low high n l h))
@@ -106,4 +108,5 @@ module _ (t : List ℕ) (s : Sections) (id : ℕ) where
     -- where the IDs rise, and the count is one of 16 bits
     pub found-is : count < 65536 → lookedUp t s id ≡ operationOf t s id
     unfolding lookedUp operationOf
-    found-is h = one-bears (halved t s id mostLooks 0 count) (firstBelow t s id count) (searched mostLooks 0 count (omega arith) h (λ k l q. (omega arith, l))) (scanned count)
+    found-is h = one-bears (halved t s id mostLooks 0 count) (firstBelow t s id count)
+        (searched mostLooks 0 count (omega arith) h (λ k l q. (omega arith, l))) (scanned count)

@@ -133,7 +133,8 @@ module _ (t : List ℕ) (s : Sections) (a : Accepted t s) where
           values = λ n l. at-below (valueOk t s x) (x .count) n ok l;
           differ = λ j n l m.
               eqb-false (valueAt t s (x .first + j)) (valueAt t s (x .first + n))
-              (not-true (eqb (valueAt t s (x .first + j)) (valueAt t s (x .first + n))) (at-below (unlike t s x (valueOf t s x n)) n j (at-below (unlikeBefore t s x) (x .count) n apart m) l));
+              (not-true (eqb (valueAt t s (x .first + j)) (valueAt t s (x .first + n)))
+              (at-below (unlike t s x (valueOf t s x n)) n j (at-below (unlikeBefore t s x) (x .count) n apart m) l));
         }
 
     pub record-is : typeAt t s i .kind ≡ 2 → IsRecord t s i (typeAt t s i)
@@ -187,7 +188,8 @@ module _ (t : List ℕ) (s : Sections) (a : Accepted t s) where
         let c : Bool = ltb (o .carries) (s .types .count) in
         let d : Bool = eqb (o .kind) 0 in
         let f : Bool = eqb (o .carries) noType in
-        let g : operationFields s o ≡ true = and-right (above (idAt t s) i) (operationFields s o) (at-below (operationOk t s) (s .operations .count) i operations-keep h) in
+        let g : operationFields s o
+        ≡ true = and-right (above (idAt t s) i) (operationFields s o) (at-below (operationOk t s) (s .operations .count) i operations-keep h) in
         record {
           id-below = ltb-true (o .id) noId (and-left (ltb (o .id) noId) ((b && c) || (d && f)) g);
           carried =

@@ -47,7 +47,8 @@ module _ (t : List ℕ) (s : Sections) (k word : ℕ) (is : word ≡ valueAt t s
     not-here h p d = rw (ne-eqb (valueAt t s (j - 1)) word (λ q. d (p ∙ q))) at (stepped h)
 
 -- filling the room
-pub fill-alikes : (t : List ℕ) (s : Sections) (room before : List ℕ) (k n v : ℕ) → Alikes t s k room → length room ≡ length before → n ≤ length before → k < n → v ≡ lastAlike t s k → Alikes t s (k + 1) (set room k v)
+pub fill-alikes : (t : List ℕ) (s : Sections) (room before : List ℕ) (k n v : ℕ) → Alikes t s k room → length room ≡ length before
+    → n ≤ length before → k < n → v ≡ lastAlike t s k → Alikes t s (k + 1) (set room k v)
 fill-alikes t s room before k n v a l m h e j g =
     let b : j ≤ k = omega arith in
     ⊎-elim
@@ -77,7 +78,8 @@ unlike-since f word first (suc k) =
     let e : first + suc k ≡ suc (first + k) = omega arith in
     rw e (go (eqb (f (first + k)) word) refl (allBelow (λ (j : ℕ). not (eqb (f (first + j)) word)) k) (unlike-since f word first k))
   where
-    go : (b : Bool) → eqb (f (first + k)) word ≡ b → (a : Bool) → a ≡ leb (lastEqual f word (first + k)) first → (a && not (eqb (f (first + k)) word)) ≡ leb (lastEqual f word (suc (first + k))) first
+    go : (b : Bool) → eqb (f (first + k)) word ≡ b → (a : Bool) → a ≡ leb (lastEqual f word (first + k)) first
+        → (a && not (eqb (f (first + k)) word)) ≡ leb (lastEqual f word (suc (first + k))) first
     go true p true h = rw p (sym (lt-leb (suc (first + k)) first (omega arith)))
     go true p false h = rw p (sym (lt-leb (suc (first + k)) first (omega arith)))
     go false p true h = rw p h
@@ -89,14 +91,16 @@ unfolding allBelow
 same-below f g zero h = refl
 same-below f g (suc n) h = rw (same-below f g n (λ k l. h k (omega arith)), h n (omega arith)) refl
 
-pub room-distinct : (t : List ℕ) (s : Sections) (e : Entry) (room : List ℕ) → Alikes t s (s .values .count) room → e .first + e .count ≤ s .values .count → allBelow (unlikeIn room (e .first)) (e .count) ≡ distinct t s e
+pub room-distinct : (t : List ℕ) (s : Sections) (e : Entry) (room : List ℕ) → Alikes t s (s .values .count) room
+    → e .first + e .count ≤ s .values .count → allBelow (unlikeIn room (e .first)) (e .count) ≡ distinct t s e
 unfolding distinct unlikeIn unlikeBefore unlike lastAlike
 room-distinct t s e room a h =
     same-below (unlikeIn room (e .first)) (unlikeBefore t s e) (e .count)
     (λ k l. ap (λ (n : ℕ). leb n (e .first)) (a (e .first + k) (omega arith)) ∙ sym (unlike-since (valueAt t s) (valueOf t s e k) (e .first) k))
 
 module _ (t : List ℕ) (s : Sections) (i : ℕ) (e : Entry) (is : e ≡ typeAt t s i) where
-  pub enum-compared : (room : List ℕ) (r : Bool) → e .kind ≡ 1 → e .first + e .count ≤ s .values .count → Alikes t s (s .values .count) room → r ≡ allBelow (unlikeIn room (e .first)) (e .count) → r ≡ enumApart t s i
+  pub enum-compared : (room : List ℕ) (r : Bool) → e .kind ≡ 1 → e .first + e .count ≤ s .values .count → Alikes t s (s .values .count) room
+      → r ≡ allBelow (unlikeIn room (e .first)) (e .count) → r ≡ enumApart t s i
   unfolding enumApart valuesApart
   enum-compared room r k h a q = rw (← is, eq-eqb (e .kind) 1 k, le-leb (e .first + e .count) (s .values .count) h) (q ∙ room-distinct t s e room a h)
 

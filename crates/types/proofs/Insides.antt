@@ -16,10 +16,12 @@ use Rattle.table.proofs.Chain.{Chain, chain}
 use Rattle.table.proofs.Lookups.{type-read, operation-read, member-read}
 
 module _ (t : List ℕ) (s : Sections) (i : ℕ) where
-  pub type-inside : {k o f n : ℕ} → k ≡ number 1 t (typePlace s i) → o ≡ number 1 t (typePlace s i + 2) → f ≡ number 1 t (typePlace s i + 4) → n ≡ number 1 t (typePlace s i + 6) → _≡_ {A = Entry} (record { kind = k; of = o; first = f; count = n }) (typeAt t s i)
+  pub type-inside : {k o f n : ℕ} → k ≡ number 1 t (typePlace s i) → o ≡ number 1 t (typePlace s i + 2) → f ≡ number 1 t (typePlace s i + 4)
+      → n ≡ number 1 t (typePlace s i + 6) → _≡_ {A = Entry} (record { kind = k; of = o; first = f; count = n }) (typeAt t s i)
   type-inside {k} {o} {f} {n} a b c d = type-read t s i (typePlace s i) k o f n refl a b c d
 
-  pub operation-inside : {d k o : ℕ} → d ≡ number 2 t (operationPlace s i) → k ≡ number 1 t (operationPlace s i + 4) → o ≡ number 1 t (operationPlace s i + 6) → _≡_ {A = Operation} (record { id = d; kind = k; carries = o }) (operationAt t s i)
+  pub operation-inside : {d k o : ℕ} → d ≡ number 2 t (operationPlace s i) → k ≡ number 1 t (operationPlace s i + 4) → o
+      ≡ number 1 t (operationPlace s i + 6) → _≡_ {A = Operation} (record { id = d; kind = k; carries = o }) (operationAt t s i)
   operation-inside {d} {k} {o} a b c = operation-read t s i (operationPlace s i) d k o refl a b c
 
   pub member-inside : {r : ℕ} → r ≡ number 1 t (memberPlace s i) → r ≡ memberAt t s i

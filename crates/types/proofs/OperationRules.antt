@@ -21,7 +21,8 @@ module _ (s : Sections) (o : Operation) where
   unfolding fieldsOk
   carries-a-type h = rw (lt-ltb (o .carries) (s .types .count) h) (go (leb (o .kind) 1) refl)
     where
-      go : (b : Bool) → leb (o .kind) 1 ≡ b → (ltb (o .id) noId && leb (o .kind) 1) ≡ (ltb (o .id) noId && ((leb (o .kind) 1 && true) || (eqb (o .kind) 0 && eqb (o .carries) noType)))
+      go : (b : Bool) → leb (o .kind) 1 ≡ b → (ltb (o .id) noId && leb (o .kind) 1)
+          ≡ (ltb (o .id) noId && ((leb (o .kind) 1 && true) || (eqb (o .kind) 0 && eqb (o .carries) noType)))
       go true p = rw p refl
       go false p = rw (p, ne-eqb (o .kind) 0 (omega (arith, leb-false (o .kind) 1 p))) refl
 
@@ -29,7 +30,8 @@ module _ (s : Sections) (o : Operation) where
   unfolding fieldsOk
   carries-none h = rw (le-ltb (o .carries) (s .types .count) h) (go (leb (o .kind) 1) refl (ltb (o .id) noId))
     where
-      go : (b : Bool) → leb (o .kind) 1 ≡ b → (l : Bool) → (l && eqb (o .kind) 0 && eqb (o .carries) noType) ≡ (l && ((leb (o .kind) 1 && false) || (eqb (o .kind) 0 && eqb (o .carries) noType)))
+      go : (b : Bool) → leb (o .kind) 1 ≡ b → (l : Bool) → (l && eqb (o .kind) 0 && eqb (o .carries) noType)
+          ≡ (l && ((leb (o .kind) 1 && false) || (eqb (o .kind) 0 && eqb (o .carries) noType)))
       go true p true = rw p refl
       go true p false = refl
       go false p true = rw p refl
@@ -40,7 +42,8 @@ module _ (t : List ℕ) (s : Sections) (i last : ℕ) (o : Operation) (carried :
   unfolding operationAt
   the-id = ap (λ (x : Operation). x .id) is
 
-  pub operation-next : (a : Bool) → a ≡ fieldsOk s o → a ≡ true → (eqb i 0 || ltb last (o .id)) ≡ true → allBelow (operationOk t s) i ≡ true → allBelow (operationOk t s) (i + 1) ≡ true
+  pub operation-next : (a : Bool) → a ≡ fieldsOk s o → a ≡ true → (eqb i 0 || ltb last (o .id)) ≡ true → allBelow (operationOk t s) i ≡ true
+      → allBelow (operationOk t s) (i + 1) ≡ true
   unfolding operationOk
   operation-next a p h r b =
       next-below (operationOk t s) i true b (rw (← carried-test (idAt t s) i last (o .id) carried the-id, r, ← is, ← p, h) refl) refl

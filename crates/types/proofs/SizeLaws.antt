@@ -68,7 +68,8 @@ module _ (t : List ℕ) (s : Sections) (known : List ℕ) (first : ℕ) where
   unfolding sumFrom
   sum-none = refl
 
-  pub sum-more : (k total m z : ℕ) → total ≡ sumFrom t s known first k → m ≡ memberAt t s (first + k) → z ≡ getD known m 0 → total + z ≡ sumFrom t s known first (k + 1)
+  pub sum-more : (k total m z : ℕ) → total ≡ sumFrom t s known first k → m ≡ memberAt t s (first + k) → z ≡ getD known m 0 → total + z
+      ≡ sumFrom t s known first (k + 1)
   unfolding sumFrom
   sum-more k total m z h p q = rw (add-one k, ← h, ← p, ← q) refl
 
@@ -115,7 +116,8 @@ module _ (t : List ℕ) (s : Sections) where
   unfolding sizes
   fill-none room = refl
 
-  module _ (room : List ℕ) (i : ℕ) (e : Entry) (z : ℕ) (so-far : take i room ≡ sizes t s i) (here : e ≡ typeAt t s i) (is : z ≡ sizeOf t s (take i room) e) where
+  module _ (room : List ℕ) (i : ℕ) (e : Entry) (z : ℕ) (so-far : take i room ≡ sizes t s i) (here : e ≡ typeAt t s i)
+      (is : z ≡ sizeOf t s (take i room) e) where
     pub the-largest : z ≡ largest t s i
     unfolding largest
     the-largest = is ∙ ap (λ (l : List ℕ). sizeOf t s l e) so-far ∙ ap (sizeOf t s (sizes t s i)) here
@@ -142,7 +144,8 @@ module _ (t : List ℕ) (s : Sections) where
   filled room i n h a b _ = let e : i ≡ n = omega arith in subst (λ (k : ℕ). take k room ≡ sizes t s k) e h
 
   module _ (i : ℕ) (f : Bool) (p : f ≡ allBelow (sizeFits t s) i) where
-    pub below-known : (room : List ℕ) (e : Entry) (z : ℕ) (b : Largest) → f ≡ true → (f ≡ true → take i room ≡ sizes t s i) → e ≡ typeAt t s i → z ≡ sizeOf t s (take i room) e → b ≡ bytesUpTo z → b ≡ largestBelow t s i
+    pub below-known : (room : List ℕ) (e : Entry) (z : ℕ) (b : Largest) → f ≡ true → (f ≡ true → take i room ≡ sizes t s i) → e
+        ≡ typeAt t s i → z ≡ sizeOf t s (take i room) e → b ≡ bytesUpTo z → b ≡ largestBelow t s i
     unfolding largestBelow
     below-known room e z b h k q r u = rw (← p, h) (known-bytes room i e z (k h) q r b u)
 

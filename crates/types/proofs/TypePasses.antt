@@ -90,7 +90,8 @@ module _ (t : List ℕ) (s : Sections) (i : ℕ) where
   split : typeOk t s i ≡ (looseOk t s i && enumDistinct t s i)
   unfolding typeOk pointedOk valuesOk looseOk enumDistinct rest
   split =
-      apart (fieldsOk s i (typeAt t s i)) (eqb (typeAt t s i .kind) 1) (allBelow (valueOk t s (typeAt t s i)) (typeAt t s i .count)) (distinct t s (typeAt t s i)) rest
+      apart (fieldsOk s i (typeAt t s i)) (eqb (typeAt t s i .kind) 1) (allBelow (valueOk t s (typeAt t s i)) (typeAt t s i .count))
+      (distinct t s (typeAt t s i)) rest
 
   quick-type : Octets t → quickOk t s i ≡ true → typeOk t s i ≡ true
   unfolding quickOk typeOk pointedOk rest
@@ -108,14 +109,16 @@ module _ (t : List ℕ) (s : Sections) (i : ℕ) where
   no-type : quickOk t s i ≡ false → enumOk t s i ≡ false → typeOk t s i ≡ false
   unfolding quickOk enumOk typeOk pointedOk valuesOk rest
   no-type p q =
-      neither (fieldsOk s i (typeAt t s i)) (eqb (typeAt t s i .kind) 1) (allBelow (valueOk t s (typeAt t s i)) (typeAt t s i .count)) (inOrder t s (typeAt t s i)) (distinct t s (typeAt t s i)) rest p q
+      neither (fieldsOk s i (typeAt t s i)) (eqb (typeAt t s i .kind) 1) (allBelow (valueOk t s (typeAt t s i)) (typeAt t s i .count))
+      (inOrder t s (typeAt t s i)) (distinct t s (typeAt t s i)) rest p q
 
   -- the loop over the types
   module _ (q : Bool) (p : q ≡ quickOk t s i) where
     pub quick-loose : ((j : ℕ) → Fits w8 (getD t j 0)) → q ≡ true → allBelow (looseOk t s) i ≡ true → allBelow (looseOk t s) (i + 1) ≡ true
     quick-loose o h a = next-below (looseOk t s) i true a (sym (type-loose (quick-type (λ j. o j .fits) (sym p ∙ h)))) refl
 
-    pub quick-next : ((j : ℕ) → Fits w8 (getD t j 0)) → (b : Bool) → q ≡ true → (b ≡ true → allBelow (typeOk t s) i ≡ true) → b ≡ true → allBelow (typeOk t s) (i + 1) ≡ true
+    pub quick-next : ((j : ℕ) → Fits w8 (getD t j 0)) → (b : Bool) → q ≡ true → (b ≡ true → allBelow (typeOk t s) i ≡ true) → b ≡ true
+        → allBelow (typeOk t s) (i + 1) ≡ true
     quick-next o b h a g = next-below (typeOk t s) i true (a g) (sym (quick-type (λ j. o j .fits) (sym p ∙ h))) refl
 
     pub types-end : (r : Bool) (n : ℕ) → r ≡ enumOk t s i → q ≡ false → r ≡ false → i < n → false ≡ allBelow (typeOk t s) n
@@ -130,19 +133,25 @@ module _ (t : List ℕ) (s : Sections) (i : ℕ) where
   pub loose-inside : (e : Entry) → e ≡ typeAt t s i → looseOk t s i ≡ true → e .kind ≡ 1 → e .first + e .count ≤ s .values .count
   unfolding looseOk rest
   loose-inside e is h k =
-      enum-inside s i e true (sym (ap (fieldsOk s i) is ∙ and-left (fieldsOk s i (typeAt t s i)) (cond (eqb (typeAt t s i .kind) 1) (allBelow (valueOk t s (typeAt t s i)) (typeAt t s i .count)) rest) h)) refl k
+      enum-inside s i e true (sym
+      (ap (fieldsOk s i) is ∙ and-left (fieldsOk s i (typeAt t s i))
+      (cond (eqb (typeAt t s i .kind) 1) (allBelow (valueOk t s (typeAt t s i)) (typeAt t s i .count)) rest) h)) refl k
 
   -- and so being distinct is all that is left to see of an enum
   apart-loose : looseOk t s i ≡ true → enumApart t s i ≡ enumDistinct t s i
   unfolding enumApart valuesApart enumDistinct
   apart-loose h = go (eqb (typeAt t s i .kind) 1) refl
     where
-      go : (b : Bool) → eqb (typeAt t s i .kind) 1 ≡ b → cond b (leb (typeAt t s i .first + typeAt t s i .count) (s .values .count) && distinct t s (typeAt t s i)) true ≡ cond b (distinct t s (typeAt t s i)) true
-      go true p = rw (le-leb (typeAt t s i .first + typeAt t s i .count) (s .values .count) (loose-inside (typeAt t s i) refl h (eqb-true (typeAt t s i .kind) 1 p))) refl
+      go : (b : Bool) → eqb (typeAt t s i .kind) 1 ≡ b
+          → cond b (leb (typeAt t s i .first + typeAt t s i .count) (s .values .count) && distinct t s (typeAt t s i)) true
+          ≡ cond b (distinct t s (typeAt t s i)) true
+      go true p = rw (le-leb (typeAt t s i .first + typeAt t s i .count) (s .values .count)
+          (loose-inside (typeAt t s i) refl h (eqb-true (typeAt t s i .kind) 1 p))) refl
       go false p = refl
 
 -- types that keep their rules, as the sizes want them
-pub kept-record : (t : List ℕ) (s : Sections) (n i m : ℕ) (e : Entry) → Kept t s n → i < n → e ≡ typeAt t s i → m ≡ i → e .kind ≡ 2 → Smaller t s m (e .first) (e .count)
+pub kept-record : (t : List ℕ) (s : Sections) (n i m : ℕ) (e : Entry) → Kept t s n → i < n → e ≡ typeAt t s i → m ≡ i → e .kind ≡ 2
+    → Smaller t s m (e .first) (e .count)
 unfolding typeOk membersOk memberOk
 kept-record t s n i m e k l is g h =
     let a : typeOk t s i ≡ true = at-below (typeOk t s) n i (k .keep) l in
@@ -176,7 +185,8 @@ module _ (t : List ℕ) (s : Sections) (i n : ℕ) (a : allBelow (looseOk t s) i
   pub loose-all : allBelow (looseOk t s) n ≡ true
   loose-all = sym (done-below (looseOk t s) n i a h l)
 
-pub types-compared : (t : List ℕ) (s : Sections) (i : ℕ) (r : Bool) → Lying t s → allBelow (looseOk t s) i ≡ true → i ≤ s .types .count → s .types .count ≤ i → r ≡ allApart t s → r ≡ allBelow (typeOk t s) (s .types .count)
+pub types-compared : (t : List ℕ) (s : Sections) (i : ℕ) (r : Bool) → Lying t s → allBelow (looseOk t s) i ≡ true → i ≤ s .types .count
+    → s .types .count ≤ i → r ≡ allApart t s → r ≡ allBelow (typeOk t s) (s .types .count)
 unfolding allApart
 types-compared t s i r l a h g q =
     let n : ℕ = s .types .count in
@@ -188,5 +198,6 @@ types-compared t s i r l a h g q =
 pub not-risen : (t : List ℕ) (s : Sections) (n : ℕ) → false ≡ true → allBelow (typeOk t s) n ≡ true
 not-risen t s n h = absurd (let z : _≡_ {A = ℕ} 0 1 = cc in omega arith)
 
-pub types-rise : (t : List ℕ) (s : Sections) (i n : ℕ) (b : Bool) → (b ≡ true → allBelow (typeOk t s) i ≡ true) → b ≡ true → i ≤ n → n ≤ i → true ≡ allBelow (typeOk t s) n
+pub types-rise : (t : List ℕ) (s : Sections) (i n : ℕ) (b : Bool) → (b ≡ true → allBelow (typeOk t s) i ≡ true) → b ≡ true → i ≤ n → n ≤ i
+    → true ≡ allBelow (typeOk t s) n
 types-rise t s i n b a g h l = done-below (typeOk t s) n i (a g) h l

@@ -22,7 +22,8 @@ use Rattle.table.proofs.AllBelow.{all-below, at-below, next-below, stop-below, 
 use Rattle.table.proofs.Rising.{Carried, carried-next, carried-test, rising-apart}
 
 -- one value after the other, the last of them carried along
-module _ (t : List ℕ) (s : Sections) (e : Entry) (k last v n z m : ℕ) (carried : Carried (rank t s e) k last) (is : v ≡ valueAt t s (e .first + k)) (zero : z ≡ offset (e .of)) (most : m ≡ top (e .of)) (ranked : n ≡ (v + z) % 2 ^ 64) where
+module _ (t : List ℕ) (s : Sections) (e : Entry) (k last v n z m : ℕ) (carried : Carried (rank t s e) k last)
+    (is : v ≡ valueAt t s (e .first + k)) (zero : z ≡ offset (e .of)) (most : m ≡ top (e .of)) (ranked : n ≡ (v + z) % 2 ^ 64) where
   the-rank : n ≡ rank t s e k
   unfolding rank
   the-rank = rw (← is, ← zero) ranked
@@ -109,7 +110,8 @@ module _ (t : List ℕ) (s : Sections) (e : Entry) (octets : Octets t) (code : i
   unfolding next rank valueOk valueAt
   order-allowed =
       all-below (valueOk t s e) (e .count)
-      (λ k l. counted-in (e .of) (valueOf t s e k) code (number-lt 3 t (valuePlace s (e .first + k)) octets) (leb-true (rank t s e k) (top (e .of)) (and-right (above (rank t s e) k) (leb (rank t s e k) (top (e .of))) (here k l))))
+      (λ k l. counted-in (e .of) (valueOf t s e k) code (number-lt 3 t (valuePlace s (e .first + k)) octets)
+      (leb-true (rank t s e k) (top (e .of)) (and-right (above (rank t s e) k) (leb (rank t s e k) (top (e .of))) (here k l))))
 
   order-distinct : distinct t s e ≡ true
   unfolding distinct unlikeBefore unlike

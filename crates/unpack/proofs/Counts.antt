@@ -67,7 +67,8 @@ module _ (b : List ℕ) where
   there-all [] from = refl
   there-all (c ∷ cs) from = go (isThere b c from) refl (there-all cs (from + width c))
     where
-      go : (t : Bool) → isThere b c from ≡ t → allThere b (take (thereCount b cs (from + width c)) cs) (from + width c) ≡ true → allThere b (take (cond t (suc (thereCount b cs (from + width c))) 0) (c ∷ cs)) from ≡ true
+      go : (t : Bool) → isThere b c from ≡ t → allThere b (take (thereCount b cs (from + width c)) cs) (from + width c) ≡ true
+          → allThere b (take (cond t (suc (thereCount b cs (from + width c))) 0) (c ∷ cs)) from ≡ true
       go true e h = and-true (isThere b c from) (allThere b (take (thereCount b cs (from + width c)) cs) (from + width c)) e h
       go false e h = refl
 
@@ -99,7 +100,8 @@ module _ (b : List ℕ) where
       ap (λ (u : List ℕ). laid b cs (behind c p) u) e ∙ laid-out cs (behind c p) x (omega arith)
 
   -- so the codes for which there is room say all
-  pub laid-cut : (cs : List ℕ) (n : ℕ) (p : Place) (x : List ℕ) → (n < length cs → length x ≤ p .to + n) → laid b (take (wholeCount b (take n cs) (p .from)) (take n cs)) p x ≡ laid b (take (wholeCount b cs (p .from)) cs) p x
+  pub laid-cut : (cs : List ℕ) (n : ℕ) (p : Place) (x : List ℕ) → (n < length cs → length x ≤ p .to + n)
+      → laid b (take (wholeCount b (take n cs) (p .from)) (take n cs)) p x ≡ laid b (take (wholeCount b cs (p .from)) cs) p x
   unfolding laid wholeCount
   laid-cut [] zero p x h = refl
   laid-cut [] (suc n) p x h = refl
@@ -114,6 +116,7 @@ module _ (b : List ℕ) where
       k : ℕ
       k = wholeCount b cs (p .from + width c)
 
-      go : (t : Bool) → laid b (take m (take n cs)) (behind c p) (stored b c p x) ≡ laid b (take k cs) (behind c p) (stored b c p x) → laid b (take (cond t (suc m) 0) (c ∷ take n cs)) p x ≡ laid b (take (cond t (suc k) 0) (c ∷ cs)) p x
+      go : (t : Bool) → laid b (take m (take n cs)) (behind c p) (stored b c p x) ≡ laid b (take k cs) (behind c p) (stored b c p x)
+          → laid b (take (cond t (suc m) 0) (c ∷ take n cs)) p x ≡ laid b (take (cond t (suc k) 0) (c ∷ cs)) p x
       go true e = e
       go false e = refl

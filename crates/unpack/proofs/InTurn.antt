@@ -39,14 +39,16 @@ module _ (b : List ℕ) where
       ∙ ap (λ (n : ℕ). laid b c (record { from = ends a (p .from + width k); to = n }) (laid b a (behind k p) (stored b k p x))) e
 
   -- a walk that reads leaves of these codes goes over them
-  pub codes-on : (f : ℕ → Place → List ℕ → Step) (p₀ : Place) (x₀ : List ℕ) (cs : List ℕ) (m : ℕ) (p : Place) (x : List ℕ) → ReadsCodes b cs m f → allThere b cs (p .from) ≡ true → through m f p₀ x₀ ≡ on p x → through (m + length cs) f p₀ x₀ ≡ on (past cs p) (laid b cs p x)
+  pub codes-on : (f : ℕ → Place → List ℕ → Step) (p₀ : Place) (x₀ : List ℕ) (cs : List ℕ) (m : ℕ) (p : Place) (x : List ℕ)
+      → ReadsCodes b cs m f → allThere b cs (p .from) ≡ true → through m f p₀ x₀ ≡ on p x → through (m + length cs) f p₀ x₀ ≡ on (past cs p) (laid b cs p x)
   unfolding ends allThere laid
   codes-on f p₀ x₀ [] m p x reads there so-far =
       ap (λ (n : ℕ). through n f p₀ x₀) (add-zero m) ∙ so-far ∙ ap (λ (n : ℕ). on (record { from = p .from; to = n }) x) (sym (add-zero (p .to)))
   codes-on f p₀ x₀ (c ∷ cs) m p x reads there so-far =
       let h : isThere b c (p .from) ≡ true = and-left (isThere b c (p .from)) (allThere b cs (p .from + width c)) there in
       let g : allThere b cs (p .from + width c) ≡ true = and-right (isThere b c (p .from)) (allThere b cs (p .from + width c)) there in
-      let one : through (m + 1) f p₀ x₀ ≡ on (behind c p) (stored b c p x) = through-more f p₀ x₀ m p x so-far ∙ ap (λ (n : ℕ). f n p x) (sym (add-zero m)) ∙ reads 0 p x (omega arith) h in
+      let one : through (m + 1) f p₀ x₀ ≡ on (behind c p) (stored b c p x) = through-more f p₀ x₀ m p x so-far
+      ∙ ap (λ (n : ℕ). f n p x) (sym (add-zero m)) ∙ reads 0 p x (omega arith) h in
       let u : m + suc (length cs) ≡ m + 1 + length cs = omega arith in
       let v : p .to + 1 + length cs ≡ p .to + suc (length cs) = omega arith in
       ap (λ (n : ℕ). through n f p₀ x₀) u

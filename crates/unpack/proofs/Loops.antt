@@ -42,7 +42,8 @@ module _ (b codes : List ℕ) (p : Place) (x : List ℕ) where
   pub room-in : (n : ℕ) → p .to < length x → n ≤ length codes → n ≤ length x - p .to → p .to + length (take n codes) ≤ length x
   room-in n h l g = omega (arith, length-take-le n codes l)
 
-  pub room-stored : (n : ℕ) (y : List ℕ) → (n < length codes → length x - p .to ≤ n) → y ≡ laid b (take (wholeCount b (take n codes) (p .from)) (take n codes)) p x → y ≡ laid b (take (wholeCount b codes (p .from)) codes) p x
+  pub room-stored : (n : ℕ) (y : List ℕ) → (n < length codes → length x - p .to ≤ n) → y
+      ≡ laid b (take (wholeCount b (take n codes) (p .from)) (take n codes)) p x → y ≡ laid b (take (wholeCount b codes (p .from)) codes) p x
   room-stored n y h e = e ∙ laid-cut b codes n p x (λ l. omega (arith, h l))
 
 -- judging
@@ -72,7 +73,8 @@ module _ (b codes : List ℕ) (first : ℕ) where
       next = ap (λ (u : List ℕ). k + thereCount b u from) (sym (drop-cons codes k 0 less)) ∙ left
 
       pub stop-counted : r ≡ false → k ≡ thereCount b codes first
-      stop-counted refused = sym (add-zero k) ∙ ap (λ (m : ℕ). k + m) (sym (no-if (suc (thereCount b (drop (suc k) codes) (from + width (getD codes k 0)))) 0 (sym there ∙ refused))) ∙ next
+      stop-counted refused = sym (add-zero k)
+          ∙ ap (λ (m : ℕ). k + m) (sym (no-if (suc (thereCount b (drop (suc k) codes) (from + width (getD codes k 0)))) 0 (sym there ∙ refused))) ∙ next
 
       pub one-counted : r ≡ true → (n : ℕ) → n ≡ width (getD codes k 0) → k + 1 + thereCount b (drop (k + 1) codes) (from + n) ≡ thereCount b codes first
       one-counted found n is =
@@ -96,7 +98,8 @@ module _ (l from code n : ℕ) (room : from + width code ≤ l) (is : n ≡ widt
 abbrev pub rest : List ℕ → List ℕ → ℕ → Place → List ℕ → List ℕ
 rest b codes k p x = laid b (take (wholeCount b (drop k codes) (p .from)) (drop k codes)) p x
 
-pub start-stored : (b codes : List ℕ) (p : Place) (x : List ℕ) → rest b codes 0 (record { from = p .from; to = p .to + 0 }) x ≡ laid b (take (wholeCount b codes (p .from)) codes) p x
+pub start-stored : (b codes : List ℕ) (p : Place) (x : List ℕ) → rest b codes 0 (record { from = p .from; to = p .to + 0 }) x
+    ≡ laid b (take (wholeCount b codes (p .from)) codes) p x
 start-stored b codes p x = ap (λ (n : ℕ). laid b (take (wholeCount b codes (p .from)) codes) (record { from = p .from; to = n }) x) (add-zero (p .to))
 
 module _ (b codes : List ℕ) (k from to : ℕ) (x z : List ℕ) (left : rest b codes k (record { from = from; to = to + k }) x ≡ z) where
@@ -106,7 +109,9 @@ module _ (b codes : List ℕ) (k from to : ℕ) (x z : List ℕ) (left : rest b 
       ap (λ (u : List ℕ). laid b (take (wholeCount b u from) u) (record { from = from; to = to + k }) x) (sym (drop-of-length-le codes done)) ∙ left
 
   module _ (less : k < length codes) (n : ℕ) (is : n ≡ width (getD codes k 0)) (within : from ≤ length b) where
-    next-left : laid b (take (cond (leb (from + width (getD codes k 0)) (length b)) (suc (wholeCount b (drop (suc k) codes) (from + width (getD codes k 0)))) 0) (getD codes k 0 ∷ drop (suc k) codes)) (record { from = from; to = to + k }) x ≡ z
+    next-left : laid b (take (cond (leb (from + width (getD codes k 0)) (length b))
+        (suc (wholeCount b (drop (suc k) codes) (from + width (getD codes k 0)))) 0) (getD codes k 0 ∷ drop (suc k) codes))
+        (record { from = from; to = to + k }) x ≡ z
     unfolding wholeCount
     next-left =
         ap (λ (u : List ℕ). laid b (take (wholeCount b u from) u) (record { from = from; to = to + k }) x) (sym (drop-cons codes k 0 less)) ∙ left
@@ -121,12 +126,14 @@ module _ (b codes : List ℕ) (k from to : ℕ) (x z : List ℕ) (left : rest b 
       pub next-room : from + width (getD codes k 0) ≤ length b
       next-room = omega arith
 
-      pub next-stored : (w : ℕ) (x₀ : List ℕ) → w ≡ wordAt (getD codes k 0) b from → length x ≡ length x₀ → to + length codes ≤ length x₀ → rest b codes (k + 1) (record { from = from + n; to = to + (k + 1) }) (set x (to + k) w) ≡ z
+      pub next-stored : (w : ℕ) (x₀ : List ℕ) → w ≡ wordAt (getD codes k 0) b from → length x ≡ length x₀ → to + length codes ≤ length x₀
+          → rest b codes (k + 1) (record { from = from + n; to = to + (k + 1) }) (set x (to + k) w) ≡ z
       unfolding laid
       next-stored w x₀ word as-long room =
           let c : ℕ = getD codes k 0 in
           let e : leb (from + width c) (length b) ≡ true = le-leb (from + width c) (length b) next-room in
-          let g : laid b (take (wholeCount b (drop (suc k) codes) (from + width c)) (drop (suc k) codes)) (record { from = from + width c; to = to + k + 1 }) (stored b c (record { from = from; to = to + k }) x) ≡ z = rw e at next-left in
+          let g : laid b (take (wholeCount b (drop (suc k) codes) (from + width c)) (drop (suc k) codes))
+          (record { from = from + width c; to = to + k + 1 }) (stored b c (record { from = from; to = to + k }) x) ≡ z = rw e at next-left in
           let put : set x (to + k) w ≡ stored b c (record { from = from; to = to + k }) x = stored-word x (to + k) w b from c (omega arith) word in
           let v : to + suc k ≡ to + k + 1 = omega arith in
           rw (put, is, add-one k, v) g

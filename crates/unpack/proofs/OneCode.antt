@@ -79,7 +79,8 @@ module _ (b : List ℕ) (code from : ℕ) where
   unfolding allBelow
   judged-none = refl
 
-  pub judged-more : (k n v r w : ℕ) → w ≡ width code → v ≡ wordAt code b (from + k * w) → r ≡ cond (allowed code v) 0 1 → eqb n 0 ≡ allBelow (isGood b code from) k → eqb (n + r) 0 ≡ allBelow (isGood b code from) (k + 1)
+  pub judged-more : (k n v r w : ℕ) → w ≡ width code → v ≡ wordAt code b (from + k * w) → r ≡ cond (allowed code v) 0 1 → eqb n 0
+      ≡ allBelow (isGood b code from) k → eqb (n + r) 0 ≡ allBelow (isGood b code from) (k + 1)
   judged-more k n v r w is e g h = counted-more (isGood b code from) k n r h (g ∙ rw (e, is) refl)
 
   pub judged-all : (k m n : ℕ) → eqb n 0 ≡ allBelow (isGood b code from) k → k ≤ m → m ≤ k → eqb n 0 ≡ allBelow (isGood b code from) m
@@ -102,7 +103,8 @@ module _ (b : List ℕ) (code : ℕ) (p : Place) (x : List ℕ) where
   pub same-many : (n : ℕ) (y : List ℕ) → y ≡ filled b code p n x → length y ≡ length x
   same-many n y h = ap length h ∙ length-filled n
 
-  pub filled-more : (n k w v : ℕ) (y : List ℕ) → w ≡ width code → v ≡ wordAt code b (p .from + k * w) → p .to + n ≤ length x → k < n → y ≡ filled b code p k x → set y (p .to + k) v ≡ filled b code p (k + 1) x
+  pub filled-more : (n k w v : ℕ) (y : List ℕ) → w ≡ width code → v ≡ wordAt code b (p .from + k * w) → p .to + n ≤ length x → k < n → y
+      ≡ filled b code p k x → set y (p .to + k) v ≡ filled b code p (k + 1) x
   unfolding filled
   filled-more n k w v y is e h l g =
       put-in y (p .to + k) v (omega (arith, same-many k y g))
@@ -117,7 +119,8 @@ module _ (b : List ℕ) (code : ℕ) (p : Place) (x : List ℕ) where
   past (suc n) m h l =
       ⊎-elim
       (λ (e : m ≡ suc n). ap (λ (j : ℕ). filled b code p j x) e)
-      (λ (g : m < suc n). past n m h (omega arith) ∙ sym (written-out (filled b code p n x) (p .to + n) (wordAt code b (p .from + n * width code) ∷ []) (omega (arith, length-filled n))))
+      (λ (g : m < suc n). past n m h (omega arith)
+      ∙ sym (written-out (filled b code p n x) (p .to + n) (wordAt code b (p .from + n * width code) ∷ []) (omega (arith, length-filled n))))
       (eq-or-lt-of-le l)
 
   pub no-room-left : (n : ℕ) → length x ≤ p .to → x ≡ filled b code p n x
@@ -137,7 +140,8 @@ same-place : {a b c d : ℕ} (y : List ℕ) → a ≡ c → b ≡ d → on (reco
 same-place y e h = rw (e, h) refl
 
 module _ (b : List ℕ) (code : ℕ) (p : Place) (x : List ℕ) (f : ℕ → Place → List ℕ → Step) (reads : Reads b code f) where
-  pub run-on : (n : ℕ) → p .from + n * width code ≤ length b → ((k : ℕ) → k < n → isGood b code (p .from) k ≡ true) → through n f p x ≡ on (along code p n) (filled b code p n x)
+  pub run-on : (n : ℕ) → p .from + n * width code ≤ length b → ((k : ℕ) → k < n → isGood b code (p .from) k ≡ true) → through n f p x
+      ≡ on (along code p n) (filled b code p n x)
   unfolding filled isThere
   run-on zero h g = through-none f p x ∙ rw (zero-mul (width code), add-zero (p .from), add-zero (p .to)) refl
   run-on (suc n) h g =

@@ -23,7 +23,8 @@ pub room-of : (n w : ℕ) → w ≡ width n → (p l code : ℕ) → code ≡ n 
 room-of n w e p l code h r = rw (e, ← h) r
 
 -- a store of the word that was read
-pub stored-word : (x : List ℕ) (p w : ℕ) (b : List ℕ) (from code : ℕ) → p < length x → w ≡ wordAt code b from → set x p w ≡ written x p (wordAt code b from ∷ [])
+pub stored-word : (x : List ℕ) (p w : ℕ) (b : List ℕ) (from code : ℕ) → p < length x → w ≡ wordAt code b from → set x p w
+    ≡ written x p (wordAt code b from ∷ [])
 stored-word x p w b from code h e = put-in x p w h ∙ ap (λ (v : ℕ). written x p (v ∷ [])) e
 
 -- every word of an integer that is read is allowed
@@ -79,7 +80,8 @@ module _ (b : List ℕ) (from code n : ℕ) (in-payload : from ≤ length b) (is
 -- where it is there, its bytes are
 pub there-room : (b : List ℕ) (from code : ℕ) (r : Bool) → r ≡ isThere b code from → r ≡ true → from + width code ≤ length b
 unfolding isThere
-there-room b from code r h g = leb-true (from + width code) (length b) (and-left (leb (from + width code) (length b)) (allowed code (wordAt code b from)) (sym h ∙ g))
+there-room b from code r h g = leb-true (from + width code) (length b)
+    (and-left (leb (from + width code) (length b)) (allowed code (wordAt code b from)) (sym h ∙ g))
 
 -- and it has a byte at least
 pub there-some : (b : List ℕ) (from code : ℕ) → isThere b code from ≡ true → 1 ≤ width code

@@ -59,7 +59,9 @@ module _ (b : List ℕ) (code : ℕ) (p : Place) (x : List ℕ) (n : ℕ) (is : 
   one-more : (k v : ℕ) (y : List ℕ) → v ≡ number 2 b (p .from + k * 4) → k < n → y ≡ filled b code p k x → set y (p .to + k) v ≡ filled b code p (k + 1) x
   one-more k v y e l g = filled-more b code p x n k 4 v y (sym (width-four code is)) (e ∙ sym (word-four code b (p .from + k * 4) is)) room l g
 
-  pub pair-more : (k two : ℕ) (y : List ℕ) → two / 4294967296 ≡ number 2 b (p .from + k * 8) → two % 4294967296 ≡ number 2 b (p .from + k * 8 + 4) → k < n / 2 → y ≡ filled b code p (2 * k) x → set (set y (p .to + 2 * k) (two / 4294967296)) (p .to + 2 * k + 1) (two % 4294967296) ≡ filled b code p (2 * (k + 1)) x
+  pub pair-more : (k two : ℕ) (y : List ℕ) → two / 4294967296 ≡ number 2 b (p .from + k * 8) → two % 4294967296
+      ≡ number 2 b (p .from + k * 8 + 4) → k < n / 2 → y ≡ filled b code p (2 * k) x
+      → set (set y (p .to + 2 * k) (two / 4294967296)) (p .to + 2 * k + 1) (two % 4294967296) ≡ filled b code p (2 * (k + 1)) x
   pair-more k two y high low l g =
       let y₁ : List ℕ = set y (p .to + 2 * k) (two / 4294967296) in
       let e₁ : p .from + k * 8 ≡ p .from + 2 * k * 4 = omega arith in
@@ -71,7 +73,8 @@ module _ (b : List ℕ) (code : ℕ) (p : Place) (x : List ℕ) (n : ℕ) (is : 
       ∙ one-more (2 * k + 1) (two % 4294967296) y₁ (low ∙ ap (number 2 b) e₂) (omega arith) first
       ∙ ap (λ (m : ℕ). filled b code p m x) e₄
 
-  pub last-more : (k v : ℕ) (y : List ℕ) → v ≡ wordAt code b (p .from + n / 2 * 8) → k ≤ n / 2 → n / 2 ≤ k → 2 * (n / 2) < n → y ≡ filled b code p (2 * k) x → set y (p .to + 2 * (n / 2)) v ≡ filled b code p n x
+  pub last-more : (k v : ℕ) (y : List ℕ) → v ≡ wordAt code b (p .from + n / 2 * 8) → k ≤ n / 2 → n / 2 ≤ k → 2 * (n / 2) < n → y
+      ≡ filled b code p (2 * k) x → set y (p .to + 2 * (n / 2)) v ≡ filled b code p n x
   last-more k v y e i j l g =
       let m : ℕ = 2 * (n / 2) in
       let e₁ : p .from + n / 2 * 8 ≡ p .from + m * 4 = omega arith in
@@ -84,5 +87,6 @@ pub pairs-none : (b : List ℕ) (code : ℕ) (p : Place) (x : List ℕ) → x �
 unfolding filled
 pairs-none b code p x = refl
 
-pub pairs-all : (b : List ℕ) (code : ℕ) (p : Place) (x : List ℕ) (n k : ℕ) (y : List ℕ) → k ≤ n / 2 → n / 2 ≤ k → n ≤ 2 * (n / 2) → y ≡ filled b code p (2 * k) x → y ≡ filled b code p n x
+pub pairs-all : (b : List ℕ) (code : ℕ) (p : Place) (x : List ℕ) (n k : ℕ) (y : List ℕ) → k ≤ n / 2 → n / 2 ≤ k → n ≤ 2 * (n / 2) → y
+    ≡ filled b code p (2 * k) x → y ≡ filled b code p n x
 pairs-all b code p x n k y i j l g = filled-all b code p x (2 * k) n y g (omega arith) (omega arith)

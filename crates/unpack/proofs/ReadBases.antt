@@ -35,7 +35,8 @@ module _ (b t : List ℕ) (s : Sections) (i c code : ℕ) (is : code ≡ baseAt 
   pub base-reads : walk (reader b) (child t s i c) p x ≡ on (behind code p) (stored b code p x)
   unfolding isThere reader
   base-reads =
-      let h : (leb (p .from + width code) (length b) ≡ true) × (allowed code (wordAt code b (p .from)) ≡ true) = both (leb (p .from + width code) (length b)) (allowed code (wordAt code b (p .from))) there in
+      let h : (leb (p .from + width code) (length b) ≡ true)
+      × (allowed code (wordAt code b (p .from)) ≡ true) = both (leb (p .from + width code) (length b)) (allowed code (wordAt code b (p .from))) there in
       base-on t s i c (reader b) code p x is (h .0) (h .1)
 
 pub element-reads : (b t : List ℕ) (s : Sections) (i c code : ℕ) → code ≡ baseAt t s i c → Reads b code (λ k q y. walk (reader b) (child t s i c) q y)
@@ -65,7 +66,8 @@ module _ (b codes : List ℕ) (first c : ℕ) (counts : c ≡ thereCount b codes
     pub upto-most : m + c ≤ m + length codes
     upto-most = omega (arith, part-in)
 
-module _ (b codes : List ℕ) (p : Place) (c e : ℕ) (counts : c ≡ thereCount b codes (p .from)) (end : e ≡ ends (take (thereCount b codes (p .from)) codes) (p .from)) where
+module _ (b codes : List ℕ) (p : Place) (c e : ℕ) (counts : c ≡ thereCount b codes (p .from))
+    (end : e ≡ ends (take (thereCount b codes (p .from)) codes) (p .from)) where
   length-is : c ≡ length (take c codes)
   length-is = part-length b codes (p .from) c counts
 
@@ -100,7 +102,8 @@ module _ (b : List ℕ) (code : ℕ) (p : Place) (r : Bool) (here : Reading b p)
   along-reading : (n : ℕ) → r ≡ runThere b code (p .from) n → r ≡ true → Reading b (along code p n)
   along-reading zero judged found = rw (zero-mul (width code), add-zero (p .from), add-zero (p .to)) here
   along-reading (suc n) judged found =
-      let good : isGood b code (p .from) 0 ≡ true = at-below (isGood b code (p .from)) (suc n) 0 (run-good b code (p .from) (suc n) (sym judged ∙ found)) (omega arith) in
+      let good : isGood b code (p .from) 0
+      ≡ true = at-below (isGood b code (p .from)) (suc n) 0 (run-good b code (p .from) (suc n) (sym judged ∙ found)) (omega arith) in
       let some : 1 ≤ width code = some-bytes code (wordAt code b (p .from + 0 * width code)) good in
       let much : suc n * 1 ≤ suc n * width code = mul-le-mul-left (suc n) some in
       (omega (arith, here .0), run-room b code (p .from) (suc n) (sym judged ∙ found))
@@ -115,10 +118,12 @@ module _ (b : List ℕ) (code : ℕ) (p : Place) (r : Bool) (here : Reading b p)
     pub run-to-fits : length b * 1 < 2 ^ 63 → Fits w64 (p .to + n)
     run-to-fits few = record { fits = omega (arith, run-reading .0, run-reading .1) }
 
-    pub run-goes : (x y : List ℕ) → y ≡ cond (leb (p .from + n * width code) (length b)) (filled b code p n x) x → (f : ℕ → Place → List ℕ → Step) → Reads b code f → through n f p x ≡ on (record { from = p .from + n * w; to = p .to + n }) y
+    pub run-goes : (x y : List ℕ) → y ≡ cond (leb (p .from + n * width code) (length b)) (filled b code p n x) x
+        → (f : ℕ → Place → List ℕ → Step) → Reads b code f → through n f p x ≡ on (record { from = p .from + n * w; to = p .to + n }) y
     run-goes x y put f reads = run-walked b code n p x y (sym judged ∙ found) put f reads ∙ rw is refl
 
-pub run-many : (b : List ℕ) (code n : ℕ) (p : Place) (x y : List ℕ) → y ≡ cond (leb (p .from + n * width code) (length b)) (filled b code p n x) x → length y ≡ length x
+pub run-many : (b : List ℕ) (code n : ℕ) (p : Place) (x y : List ℕ) → y
+    ≡ cond (leb (p .from + n * width code) (length b)) (filled b code p n x) x → length y ≡ length x
 run-many b code n p x y put = go (leb (p .from + n * width code) (length b)) put
   where
     go : (t : Bool) → y ≡ cond t (filled b code p n x) x → length y ≡ length x

@@ -16,7 +16,8 @@ use Rattle.unpack.specs.Steps.{ReadsCodes}
 use Rattle.unpack.specs.Reading.{memberRead}
 use Rattle.unpack.proofs.ReadBases.{base-reads}
 
-module _ (t : List ℕ) (s : Sections) (i : ℕ) (e : Entry) (m r : ℕ) (u v : List ℕ) (counts : r ≡ codeCount t s i e m (length u)) (given : v ≡ over u 0 (codesOf t s i e m (length u))) where
+module _ (t : List ℕ) (s : Sections) (i : ℕ) (e : Entry) (m r : ℕ) (u v : List ℕ) (counts : r ≡ codeCount t s i e m (length u))
+    (given : v ≡ over u 0 (codesOf t s i e m (length u))) where
   pub codes-in : r ≤ length v
   codes-in = omega (arith, codes-fit t s i e m r u counts, codes-as-long t s i e m r u counts v given)
 
@@ -35,4 +36,5 @@ module _ (t : List ℕ) (s : Sections) (i : ℕ) (e : Entry) (m r : ℕ) (u v : 
   pub codes-read : (b : List ℕ) → ReadsCodes b (take r v) m (memberRead b t s i e)
   codes-read b j q y less there =
       let k : j < r = omega (arith, as-given) in
-      base-reads b t s i (memberAt t s (e .first + (m + j))) (getD (take r v) j 0) (code-is t s i e m r u counts v given j (getD (take r v) j 0) k (getD-take r v j 0 k)) q y there
+      base-reads b t s i (memberAt t s (e .first + (m + j))) (getD (take r v) j 0)
+      (code-is t s i e m r u counts v given j (getD (take r v) j 0) k (getD-take r v j 0 k)) q y there

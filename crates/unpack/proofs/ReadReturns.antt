@@ -36,7 +36,8 @@ module _ (n : ℕ) (p : Place) (k : ℕ) (r : (p .to ≤ p .from) × (p .from �
   next-to = record { fits = omega (arith, r .0, r .1) }
 
 -- reading a leaf
-module _ (t : List ℕ) (s : Sections) (e : Entry) (b : List ℕ) (p : Place) (x : List ℕ) (n : ℕ) (h : Bool) (is : n ≡ width (e .of)) (room : h ≡ leb (p .from + n) (length b)) where
+module _ (t : List ℕ) (s : Sections) (e : Entry) (b : List ℕ) (p : Place) (x : List ℕ) (n : ℕ) (h : Bool) (is : n ≡ width (e .of))
+    (room : h ≡ leb (p .from + n) (length b)) where
   pub leaf-short : h ≡ false → Did (leafWalk (reader b) t s e p x) (Stopped 40 p) x
   unfolding leafWalk reader
   leaf-short f = did-stop (leafWalk (reader b) t s e p x) 40 p x (item-short (reader b) 42 (e .of) (choice t s e) p x (rw (← is) (sym room ∙ f)))
@@ -48,7 +49,8 @@ module _ (t : List ℕ) (s : Sections) (e : Entry) (b : List ℕ) (p : Place) (x
         did-stop (leafWalk (reader b) t s e p x) 42 p x
         (item-bad (reader b) 42 (e .of) (choice t s e) p x (rw (← is) (sym room ∙ f)) (rw (← word) (sym taken ∙ g)))
 
-    pub leaf-went : (y : List ℕ) → k ≡ true → y ≡ written x (p .to) (w ∷ []) → Did (leafWalk (reader b) t s e p x) (Went (record { from = p .from + n; to = p .to + 1 })) y
+    pub leaf-went : (y : List ℕ) → k ≡ true → y ≡ written x (p .to) (w ∷ [])
+        → Did (leafWalk (reader b) t s e p x) (Went (record { from = p .from + n; to = p .to + 1 })) y
     unfolding leafWalk reader takes
     leaf-went y g q =
         did-on (leafWalk (reader b) t s e p x) (record { from = p .from + n; to = p .to + 1 }) y (written x (p .to) (wordAt (e .of) b (p .from) ∷ []))
@@ -80,7 +82,8 @@ module _ (e : Entry) (b : List ℕ) (p : Place) where
           no-and true v q = q
           no-and false v q = refl
 
-      pub count-went : (y : List ℕ) → n ≤ e .count → n < 2 ^ 32 → y ≡ written x (p .to) (n ∷ []) → Did (begun (reader b) e p x) (Went (record { from = p .from + 4; to = p .to + 1 })) y
+      pub count-went : (y : List ℕ) → n ≤ e .count → n < 2 ^ 32 → y ≡ written x (p .to) (n ∷ [])
+          → Did (begun (reader b) e p x) (Went (record { from = p .from + 4; to = p .to + 1 })) y
       unfolding counted reader width base bytesOf wordAt wordOf allowed isValue
       count-went y g l q =
           did-on (begun (reader b) e p x) (record { from = p .from + 4; to = p .to + 1 }) y (written x (p .to) (number 2 b (p .from) ∷ []))
@@ -94,7 +97,8 @@ module _ (b : List ℕ) (n : ℕ) where
   abbrev Read : Place → List ℕ → Type 0
   Read p x = Reading b p × (length x ≡ n)
 
-  read-over : (code : ℕ) (p : Place) (x : List ℕ) → reader b .there code p ≡ true → allowed code (reader b .word code p) ≡ true → Read p x → Read (reader b .after code p) (written x (p .to) (reader b .gives code (reader b .word code p)))
+  read-over : (code : ℕ) (p : Place) (x : List ℕ) → reader b .there code p ≡ true → allowed code (reader b .word code p) ≡ true → Read p x
+      → Read (reader b .after code p) (written x (p .to) (reader b .gives code (reader b .word code p)))
   unfolding reader
   read-over code p x e a h =
       let w : ℕ = wordAt code b (p .from) in

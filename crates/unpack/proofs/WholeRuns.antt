@@ -64,11 +64,14 @@ module _ (b : List ℕ) (code n : ℕ) (p : Place) (x : List ℕ) where
     pub run-left : h ≡ false → x ≡ cond (leb (p .from + n * width code) (length b)) (filled b code p n x) x
     run-left f = sym (no-if (filled b code p n x) x (sym (has b code (p .from) n w is h room) ∙ f))
 
-  pub arm-stored : (m : ℕ) (y : List ℕ) → y ≡ cond (leb (p .from + n * width m) (length b)) (filled b m p n x) x → code ≡ m → y ≡ cond (leb (p .from + n * width code) (length b)) (filled b code p n x) x
+  pub arm-stored : (m : ℕ) (y : List ℕ) → y ≡ cond (leb (p .from + n * width m) (length b)) (filled b m p n x) x → code ≡ m → y
+      ≡ cond (leb (p .from + n * width code) (length b)) (filled b code p n x) x
   arm-stored m y e c = e ∙ ap (λ (k : ℕ). cond (leb (p .from + n * width k) (length b)) (filled b k p n x) x) (sym c)
 
   -- a run that is there, and stored, is walked over
-  pub run-walked : (y : List ℕ) → runThere b code (p .from) n ≡ true → y ≡ cond (leb (p .from + n * width code) (length b)) (filled b code p n x) x → (f : ℕ → Place → List ℕ → Step) → Reads b code f → through n f p x ≡ on (along code p n) y
+  pub run-walked : (y : List ℕ) → runThere b code (p .from) n ≡ true → y
+      ≡ cond (leb (p .from + n * width code) (length b)) (filled b code p n x) x → (f : ℕ → Place → List ℕ → Step) → Reads b code f
+      → through n f p x ≡ on (along code p n) y
   run-walked y h e f reads =
       run-on b code p x f reads n (run-room b code (p .from) n h) (λ k l. at-below (isGood b code (p .from)) n k (run-good b code (p .from) n h) l)
       ∙ ap (on (along code p n)) (sym (e ∙ yes-if (filled b code p n x) x (le-leb (p .from + n * width code) (length b) (run-room b code (p .from) n h))))
@@ -98,7 +101,9 @@ module _ (b : List ℕ) (code from : ℕ) where
       ∙ with-false (leb (from + suc n * width code) (length b)) (allBelow (isGood b code from) n) (allowed code (wordAt code b (from + n * width code)))
       (ap (λ (l : Leaf). isValue l (wordAt code b (from + n * width code))) e)
 
-  pub arm-none : (code ≡ 0 → ⊥) → (code ≡ 1 → ⊥) → (code ≡ 2 → ⊥) → (code ≡ 3 → ⊥) → (code ≡ 4 → ⊥) → (code ≡ 5 → ⊥) → (code ≡ 6 → ⊥) → (code ≡ 7 → ⊥) → (code ≡ 8 → ⊥) → (code ≡ 9 → ⊥) → (code ≡ 10 → ⊥) → (code ≡ 11 → ⊥) → (code ≡ 12 → ⊥) → (n : ℕ) → (eqb n 0 && leb from (length b)) ≡ runThere b code from n
+  pub arm-none : (code ≡ 0 → ⊥) → (code ≡ 1 → ⊥) → (code ≡ 2 → ⊥) → (code ≡ 3 → ⊥) → (code ≡ 4 → ⊥) → (code ≡ 5 → ⊥) → (code ≡ 6 → ⊥)
+      → (code ≡ 7 → ⊥) → (code ≡ 8 → ⊥) → (code ≡ 9 → ⊥) → (code ≡ 10 → ⊥) → (code ≡ 11 → ⊥) → (code ≡ 12 → ⊥) → (n : ℕ)
+      → (eqb n 0 && leb from (length b)) ≡ runThere b code from n
   arm-none d0 d1 d2 d3 d4 d5 d6 d7 d8 d9 d10 d11 d12 n =
       let h4 : 4 ≤ code = above 3 code (above 2 code (above 1 code (above 0 code (omega arith) d0) d1) d2) d3 in
       let h8 : 8 ≤ code = above 7 code (above 6 code (above 5 code (above 4 code h4 d4) d5) d6) d7 in

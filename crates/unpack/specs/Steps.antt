@@ -14,4 +14,5 @@ Reads b code f = (k : ℕ) (q : Place) (y : List ℕ) → isThere b code (q .fro
 
 -- and of the codes of a list from the m-th step on
 abbrev pub ReadsCodes : List ℕ → List ℕ → ℕ → (ℕ → Place → List ℕ → Step) → Type 0
-ReadsCodes b codes m f = (j : ℕ) (q : Place) (y : List ℕ) → j < length codes → isThere b (getD codes j 0) (q .from) ≡ true → f (m + j) q y ≡ on (behind (getD codes j 0) q) (stored b (getD codes j 0) q y)
+ReadsCodes b codes m f = (j : ℕ) (q : Place) (y : List ℕ) → j < length codes → isThere b (getD codes j 0) (q .from) ≡ true → f (m + j) q y
+    ≡ on (behind (getD codes j 0) q) (stored b (getD codes j 0) q y)

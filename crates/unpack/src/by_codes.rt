@@ -50,7 +50,8 @@ fn judge_within(payload: &[u8], codes: &[u8], first: usize) -> Part
 
 // Stores the words of leaves of these codes, each where there is room for it, up to one whose bytes are not all there.
 pub(crate) fn store_codes(payload: &[u8], words: &mut [u64], codes: &[u8], p: Place)
-    ensures { λ _. ⌜ now (words .exit) ≡ laid (now (payload .entry)) (take (wholeCount (now (payload .entry)) (now (codes .entry)) (p .from)) (now (codes .entry))) p (now (words .entry)) ⌝ }
+    ensures { λ _. ⌜ now (words .exit)
+        ≡ laid (now (payload .entry)) (take (wholeCount (now (payload .entry)) (now (codes .entry)) (p .from)) (now (codes .entry))) p (now (words .entry)) ⌝ }
 {
     if payload.len() < p.from {
         return;
@@ -64,7 +65,8 @@ pub(crate) fn store_codes(payload: &[u8], words: &mut [u64], codes: &[u8], p: Pl
 
 fn store_within(payload: &[u8], words: &mut [u64], codes: &[u8], p: Place)
     requires { ⌜ (p .from ≤ length (now payload)) × (p .to + length (now codes) ≤ length (now words)) ⌝ }
-    ensures { λ _. ⌜ now (words .exit) ≡ laid (now (payload .entry)) (take (wholeCount (now (payload .entry)) (now (codes .entry)) (p .from)) (now (codes .entry))) p (now (words .entry)) ⌝ }
+    ensures { λ _. ⌜ now (words .exit)
+        ≡ laid (now (payload .entry)) (take (wholeCount (now (payload .entry)) (now (codes .entry)) (p .from)) (now (codes .entry))) p (now (words .entry)) ⌝ }
 {
     let mut from = p.from;
     let mut k: usize = 0;

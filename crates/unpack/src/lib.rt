@@ -19,7 +19,8 @@ ghost use Rattle.unpack.specs.Reading.{reader};
 // twice: over no room, to judge, and once more to store. Answers what the walk comes to.
 pub fn read_type(table: &[u8], s: Sections, i: u16, payload: &[u8], words: &mut [u64]) -> Walked
     ensures { λ r. ⌜ r ≡ answer (typeWalk (reader (now (payload .entry))) (now (table .entry)) s i start []) ⌝ }
-    ensures { λ _. ⌜ now (words .exit) ≡ allOrNothing (reader (now (payload .entry))) (length (now (payload .entry))) (now (table .entry)) s i (now (words .entry)) ⌝ }
+    ensures { λ _. ⌜ now (words .exit)
+        ≡ allOrNothing (reader (now (payload .entry))) (length (now (payload .entry))) (now (table .entry)) s i (now (words .entry)) ⌝ }
 {
     match first_read(table, s, i, payload, words) {
         Walked::Stopped(n, q) => Walked::Stopped(n, q),

@@ -72,7 +72,9 @@ fn refused(code: u16, word: u64) -> u32
 
 // Stores the words of so many leaves of one code where all their bytes are there, each word where there is room for it.
 pub(crate) fn store_run(payload: &[u8], words: &mut [u64], code: u16, count: u32, p: Place)
-    ensures { λ _. ⌜ now (words .exit) ≡ cond (leb (p .from + count * width code) (length (now (payload .entry)))) (filled (now (payload .entry)) code p count (now (words .entry))) (now (words .entry)) ⌝ }
+    ensures { λ _. ⌜ now (words .exit)
+        ≡ cond (leb (p .from + count * width code) (length (now (payload .entry))))
+        (filled (now (payload .entry)) code p count (now (words .entry))) (now (words .entry)) ⌝ }
 {
     match code {
         leaf::BOOLEAN8 => store_each(payload, words, leaf::BOOLEAN8, count, p),
@@ -93,7 +95,9 @@ pub(crate) fn store_run(payload: &[u8], words: &mut [u64], code: u16, count: u32
 }
 
 fn store_each(payload: &[u8], words: &mut [u64], code: u16, count: u32, p: Place)
-    ensures { λ _. ⌜ now (words .exit) ≡ cond (leb (p .from + count * width code) (length (now (payload .entry)))) (filled (now (payload .entry)) code p count (now (words .entry))) (now (words .entry)) ⌝ }
+    ensures { λ _. ⌜ now (words .exit)
+        ≡ cond (leb (p .from + count * width code) (length (now (payload .entry))))
+        (filled (now (payload .entry)) code p count (now (words .entry))) (now (words .entry)) ⌝ }
 {
     let many = count as usize;
     if wire::has_room(payload.len(), p.from, many * leaf::width(code)) {

@@ -240,7 +240,8 @@ fn read_codes(payload: &[u8], words: &mut [u64], codes: &[u8], from: u32, p: Pla
     requires { ⌜ Reading (now payload) p × (from + length (now codes) ≤ 65535) ⌝ }
     ensures { λ r. ⌜ (from ≤ r .upto) × (r .upto ≤ from + length (now (codes .entry))) × Reading (now (payload .entry)) (r .at) ⌝ }
     ensures { λ _. ⌜ length (now (words .exit)) ≡ length (now (words .entry)) ⌝ }
-    ensures { λ r. ⌜ ((f : ℕ → Place → List ℕ → Step) → ReadsCodes (now (payload .entry)) (now (codes .entry)) from f → Goes f from p (now (words .entry)) (r .upto) (r .at) (now (words .exit))) ⌝ }
+    ensures { λ r. ⌜ ((f : ℕ → Place → List ℕ → Step) → ReadsCodes (now (payload .entry)) (now (codes .entry)) from f
+        → Goes f from p (now (words .entry)) (r .upto) (r .at) (now (words .exit))) ⌝ }
 {
     let part = by_codes::judge_codes(payload, codes, p.from);
     by_codes::store_codes(payload, words, &codes[..part.count], p);
@@ -258,7 +259,8 @@ fn read_run(payload: &[u8], words: &mut [u64], code: u16, count: u32, p: Place) 
     requires { ⌜ Reading (now payload) p ⌝ }
     ensures { λ r. ⌜ (r .upto ≤ count) × Reading (now (payload .entry)) (r .at) ⌝ }
     ensures { λ _. ⌜ length (now (words .exit)) ≡ length (now (words .entry)) ⌝ }
-    ensures { λ r. ⌜ ((f : ℕ → Place → List ℕ → Step) → Reads (now (payload .entry)) code f → through (r .upto) f p (now (words .entry)) ≡ on (r .at) (now (words .exit))) ⌝ }
+    ensures { λ r. ⌜ ((f : ℕ → Place → List ℕ → Step) → Reads (now (payload .entry)) code f → through (r .upto) f p (now (words .entry))
+        ≡ on (r .at) (now (words .exit))) ⌝ }
 {
     if runs::judge_run(payload, p.from, code, count) {
         runs::store_run(payload, words, code, count, p);

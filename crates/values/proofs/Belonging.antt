@@ -41,7 +41,8 @@ pub record Goes (st : Step) (p : Place) (x xs ys : List ℕ) : Type 0 where
   pub given : p .to + length ys ≤ length x → y ≡ over x (p .to) ys
 
 -- one stretch behind another
-two-over : (x y z : List ℕ) (p : ℕ) (ms ns : List ℕ) → (p + length ms ≤ length x → y ≡ over x p ms) → (p + length ms + length ns ≤ length y → z ≡ over y (p + length ms) ns) → p + length (ms ++ ns) ≤ length x → z ≡ over x p (ms ++ ns)
+two-over : (x y z : List ℕ) (p : ℕ) (ms ns : List ℕ) → (p + length ms ≤ length x → y ≡ over x p ms)
+    → (p + length ms + length ns ≤ length y → z ≡ over y (p + length ms) ns) → p + length (ms ++ ns) ≤ length x → z ≡ over x p (ms ++ ns)
 two-over x y z p ms ns f g h =
     let l : length (ms ++ ns) ≡ length ms + length ns = length-append ms ns in
     let a : p + length ms ≤ length x = omega arith in
@@ -49,7 +50,8 @@ two-over x y z p ms ns f g h =
     let m : length y ≡ length x = ap length e ∙ length-over x p ms a in
     g (omega arith) ∙ ap (λ (u : List ℕ). over u (p + length ms) ns) e ∙ over-over x p ms ns h
 
-took-both : (A B : List ℕ → List ℕ → Type 0) (input : List ℕ) (p q r : Place) (x y z : List ℕ) → Took A input p q x y → Took B input q r y z → Took (λ us vs. Behind A B us vs) input p r x z
+took-both : (A B : List ℕ → List ℕ → Type 0) (input : List ℕ) (p q r : Place) (x y z : List ℕ) → Took A input p q x y → Took B input q r y z
+    → Took (λ us vs. Behind A B us vs) input p r x z
 took-both A B input p q r x y z a b =
     let lx : length (a .xs ++ b .xs) ≡ length (a .xs) + length (b .xs) = length-append (a .xs) (b .xs) in
     let ly : length (a .ys ++ b .ys) ≡ length (a .ys) + length (b .ys) = length-append (a .ys) (b .ys) in
@@ -113,7 +115,8 @@ pub record Complete (c : Codec) (code w : ℕ) (p : Place) (xs ys : List ℕ) : 
 
 module _ (c : Codec) (input : List ℕ) (L : ℕ → ℕ → List ℕ → List ℕ → Type 0) where
   module _ (sound : (code : ℕ) (p : Place) → c .there code p ≡ true → allowed code (c .word code p) ≡ true → Sound c input L code (c .word code p) p) where
-    item-sound : (n code : ℕ) (ok : ℕ → Bool) (p q : Place) (x y : List ℕ) → item c n code ok p x ≡ on q y → Took (λ us vs. One L code ok (c .word code p) us vs) input p q x y
+    item-sound : (n code : ℕ) (ok : ℕ → Bool) (p q : Place) (x y : List ℕ) → item c n code ok p x ≡ on q y
+        → Took (λ us vs. One L code ok (c .word code p) us vs) input p q x y
     item-sound n code ok p q x y h = go (c .there code p) (allowed code w && ok w) refl refl
       where
         w : ℕ
@@ -139,16 +142,27 @@ module _ (c : Codec) (input : List ℕ) (L : ℕ → ℕ → List ℕ → List �
         go true false e g = absurd (let m : stop n p x ≡ on q y = sym (item-bad c n code ok p x e g) ∙ h in let v : _≡_ {A = ℕ} 0 1 = cc in omega arith)
         go false b e g = absurd (let m : stop 40 p x ≡ on q y = sym (item-short c n code ok p x e) ∙ h in let v : _≡_ {A = ℕ} 0 1 = cc in omega arith)
 
-    through-sound : (F : ℕ → List ℕ → List ℕ → Type 0) (f : ℕ → Place → List ℕ → Step) → ((k : ℕ) (p q : Place) (x y : List ℕ) → f k p x ≡ on q y → Took (F k) input p q x y) → (n : ℕ) (p q : Place) (x y : List ℕ) → through n f p x ≡ on q y → Took (λ us vs. Row F n us vs) input p q x y
+    through-sound : (F : ℕ → List ℕ → List ℕ → Type 0) (f : ℕ → Place → List ℕ → Step)
+        → ((k : ℕ) (p q : Place) (x y : List ℕ) → f k p x ≡ on q y → Took (F k) input p q x y) → (n : ℕ) (p q : Place) (x y : List ℕ)
+        → through n f p x ≡ on q y → Took (λ us vs. Row F n us vs) input p q x y
     unfolding through Row
     through-sound F f each zero p q x y h = none-taken (λ us vs. Row F 0 us vs) input p q x y (refl, refl) h
     through-sound F f each (suc n) p q x y h =
         let b : Between (through n f p x) (f n) q y = between (through n f p x) (f n) q y h in
-        took-both (λ us vs. Row F n us vs) (F n) input p (b .r) q x (b .z) y (through-sound F f each n p (b .r) x (b .z) (b .one)) (each n (b .r) q (b .z) y (b .two))
+        took-both (λ us vs. Row F n us vs) (F n) input p (b .r) q x (b .z) y (through-sound F f each n p (b .r) x (b .z) (b .one))
+        (each n (b .r) q (b .z) y (b .two))
 
     some-of : (P : ℕ → List ℕ → List ℕ → Type 0) (n : ℕ) (p q : Place) (x y : List ℕ) → Took (P n) input p q x y → Took (λ us vs. Some P us vs) input p q x y
     some-of P n p q x y k =
-        record { xs = k .xs; ys = k .ys; belong = record { it = n; is = k .belong }; taken = k .taken; from-there = k .from-there; to-there = k .to-there; given = k .given }
+        record {
+          xs = k .xs;
+          ys = k .ys;
+          belong = record { it = n; is = k .belong };
+          taken = k .taken;
+          from-there = k .from-there;
+          to-there = k .to-there;
+          given = k .given;
+        }
 
     -- what a walk has taken and given belongs together
     pub walk-sound : (tr : Tree) (p q : Place) (x y : List ℕ) → walk c tr p x ≡ on q y → Took (λ us vs. Over L tr us vs) input p q x y
@@ -174,7 +188,8 @@ past : (input : List ℕ) (p : ℕ) (xs ys rest : List ℕ) → drop p input ≡
 past input p xs ys rest h =
     sym (drop-drop (length xs) p input) ∙ ap (drop (length xs)) (h ∙ append-assoc xs ys rest) ∙ drop-append-seam xs (ys ++ rest)
 
-goes-both : (a : Step) (f : Place → List ℕ → Step) (p : Place) (x xs₁ xs₂ ys₁ ys₂ : List ℕ) → Goes a p x xs₁ ys₁ → ((z : List ℕ) → Goes (f (behind p xs₁ ys₁) z) (behind p xs₁ ys₁) z xs₂ ys₂) → Goes (next a f) p x (xs₁ ++ xs₂) (ys₁ ++ ys₂)
+goes-both : (a : Step) (f : Place → List ℕ → Step) (p : Place) (x xs₁ xs₂ ys₁ ys₂ : List ℕ) → Goes a p x xs₁ ys₁
+    → ((z : List ℕ) → Goes (f (behind p xs₁ ys₁) z) (behind p xs₁ ys₁) z xs₂ ys₂) → Goes (next a f) p x (xs₁ ++ xs₂) (ys₁ ++ ys₂)
 unfolding next
 goes-both a f p x xs₁ xs₂ ys₁ ys₂ g h =
     let k : Goes (f (behind p xs₁ ys₁) (g .y)) (behind p xs₁ ys₁) (g .y) xs₂ ys₂ = h (g .y) in
@@ -184,7 +199,8 @@ goes-both a f p x xs₁ xs₂ ys₁ ys₂ g h =
       y = k .y;
       goes = ap (λ (st : Step). next st f) (g .goes) ∙ k .goes
           ∙ ap (λ (o : Place). on o (k .y))
-          (place-is (p .from + length xs₁ + length xs₂) (p .from + length (xs₁ ++ xs₂)) (p .to + length ys₁ + length ys₂) (p .to + length (ys₁ ++ ys₂)) (omega arith) (omega arith));
+          (place-is (p .from + length xs₁ + length xs₂) (p .from + length (xs₁ ++ xs₂)) (p .to + length ys₁ + length ys₂)
+          (p .to + length (ys₁ ++ ys₂)) (omega arith) (omega arith));
       given = λ l. two-over x (g .y) (k .y) (p .to) ys₁ ys₂ (g .given) (k .given) l;
     }
 
@@ -192,12 +208,16 @@ none-goes : (p : Place) (x xs ys : List ℕ) → xs ≡ [] → ys ≡ [] → Goe
 none-goes p x xs ys a b =
     record {
       y = x;
-      goes = ap (λ (o : Place). on o x) (place-is (p .from) (p .from + length xs) (p .to) (p .to + length ys) (omega (arith, ap length a)) (omega (arith, ap length b)));
+      goes = ap (λ (o : Place). on o x)
+          (place-is (p .from) (p .from + length xs) (p .to) (p .to + length ys) (omega (arith, ap length a)) (omega (arith, ap length b)));
       given = λ l. over-none x (p .to) [] ∙ ap (over x (p .to)) (sym b);
     }
 
-module _ (c : Codec) (input : List ℕ) (L : ℕ → ℕ → List ℕ → List ℕ → Type 0) (complete : (code w : ℕ) (p : Place) (xs ys rest : List ℕ) → L code w xs ys → allowed code w ≡ true → drop (p .from) input ≡ xs ++ rest → Complete c code w p xs ys) where
-  item-complete : (n code : ℕ) (ok : ℕ → Bool) (w : ℕ) (p : Place) (x xs ys rest : List ℕ) → One L code ok w xs ys → drop (p .from) input ≡ xs ++ rest → Goes (item c n code ok p x) p x xs ys
+module _ (c : Codec) (input : List ℕ) (L : ℕ → ℕ → List ℕ → List ℕ → Type 0)
+    (complete : (code w : ℕ) (p : Place) (xs ys rest : List ℕ) → L code w xs ys → allowed code w ≡ true → drop (p .from) input ≡ xs ++ rest
+    → Complete c code w p xs ys) where
+  item-complete : (n code : ℕ) (ok : ℕ → Bool) (w : ℕ) (p : Place) (x xs ys rest : List ℕ) → One L code ok w xs ys → drop (p .from) input
+      ≡ xs ++ rest → Goes (item c n code ok p x) p x xs ys
   item-complete n code ok w p x xs ys rest o h =
       let k : Complete c code w p xs ys = complete code w p xs ys rest (o .says) (o .in-range) h in
       let both : (allowed code (c .word code p) && ok (c .word code p)) ≡ true = rw (k .word, o .in-range, o .taken) refl in
@@ -210,7 +230,9 @@ module _ (c : Codec) (input : List ℕ) (L : ℕ → ℕ → List ℕ → List �
         given = λ l. written-in x (p .to) ys l;
       }
 
-  through-complete : (F : ℕ → List ℕ → List ℕ → Type 0) (f : ℕ → Place → List ℕ → Step) → ((k : ℕ) (p : Place) (x xs ys rest : List ℕ) → F k xs ys → drop (p .from) input ≡ xs ++ rest → Goes (f k p x) p x xs ys) → (n : ℕ) (p : Place) (x xs ys rest : List ℕ) → Row F n xs ys → drop (p .from) input ≡ xs ++ rest → Goes (through n f p x) p x xs ys
+  through-complete : (F : ℕ → List ℕ → List ℕ → Type 0) (f : ℕ → Place → List ℕ → Step)
+      → ((k : ℕ) (p : Place) (x xs ys rest : List ℕ) → F k xs ys → drop (p .from) input ≡ xs ++ rest → Goes (f k p x) p x xs ys)
+      → (n : ℕ) (p : Place) (x xs ys rest : List ℕ) → Row F n xs ys → drop (p .from) input ≡ xs ++ rest → Goes (through n f p x) p x xs ys
   unfolding through Row
   through-complete F f each zero p x xs ys rest r h = none-goes p x xs ys (r .0) (r .1)
   through-complete F f each (suc n) p x xs ys rest r h =
@@ -225,7 +247,8 @@ module _ (c : Codec) (input : List ℕ) (L : ℕ → ℕ → List ℕ → List �
   unfolding walk Over counted
   walk-complete (leaf code ok) p x xs ys rest o h = item-complete 42 code ok (o .it) p x xs ys rest (o .is) h
   walk-complete (row n f) p x xs ys rest o h =
-      through-complete (λ k us vs. Over L (f k) us vs) (λ k q u. walk c (f k) q u) (λ k q u as' bs' r g e. walk-complete (f k) q u as' bs' r g e) n p x xs ys rest o h
+      through-complete (λ k us vs. Over L (f k) us vs) (λ k q u. walk c (f k) q u)
+      (λ k q u as' bs' r g e. walk-complete (f k) q u as' bs' r g e) n p x xs ys rest o h
   walk-complete (array most a) p x xs ys rest o h =
       let n : ℕ = o .it in
       let r = o .is in
@@ -233,11 +256,14 @@ module _ (c : Codec) (input : List ℕ) (L : ℕ → ℕ → List ℕ → List �
       let e₁ : drop (p .from) input ≡ r .xs₁ ++ (r .xs₂ ++ rest) = e ∙ append-assoc (r .xs₁) (r .xs₂) rest in
       let k : Complete c countCode n p (r .xs₁) (r .ys₁) = complete countCode n p (r .xs₁) (r .ys₁) (r .xs₂ ++ rest) (r .first .says) (r .first .in-range) e₁ in
       rw (r .is-xs, r .is-ys)
-      (goes-both (item c 43 countCode (λ w. leb w most) p x) (λ q u. through (c .word countCode p) (λ j q z. walk c a q z) q u) p x (r .xs₁) (r .xs₂) (r .ys₁) (r .ys₂)
+      (goes-both (item c 43 countCode (λ w. leb w most) p x) (λ q u. through (c .word countCode p) (λ j q z. walk c a q z) q u) p x (r .xs₁)
+      (r .xs₂) (r .ys₁) (r .ys₂)
       (item-complete 43 countCode (λ w. leb w most) n p x (r .xs₁) (r .ys₁) (r .xs₂ ++ rest) (r .first) e₁)
       (λ z.
-      subst (λ (m : ℕ). Goes (through m (λ j q z. walk c a q z) (behind p (r .xs₁) (r .ys₁)) z) (behind p (r .xs₁) (r .ys₁)) z (r .xs₂) (r .ys₂)) (sym (k .word))
-      (through-complete (λ j us vs. Over L a us vs) (λ j q u. walk c a q u) (λ j q u as' bs' s g d. walk-complete a q u as' bs' s g d) n (behind p (r .xs₁) (r .ys₁)) z (r .xs₂) (r .ys₂) rest (r .second) (past input (p .from) (r .xs₁) (r .xs₂) rest e))))
+      subst (λ (m : ℕ). Goes (through m (λ j q z. walk c a q z) (behind p (r .xs₁) (r .ys₁)) z) (behind p (r .xs₁) (r .ys₁)) z (r .xs₂)
+      (r .ys₂)) (sym (k .word))
+      (through-complete (λ j us vs. Over L a us vs) (λ j q u. walk c a q u) (λ j q u as' bs' s g d. walk-complete a q u as' bs' s g d) n
+      (behind p (r .xs₁) (r .ys₁)) z (r .xs₂) (r .ys₂) rest (r .second) (past input (p .from) (r .xs₁) (r .xs₂) rest e))))
   walk-complete broken p x xs ys rest o h = absurd o
 
 -- relations over a leaf carried over a type
@@ -246,15 +272,35 @@ module _ (L M : ℕ → ℕ → List ℕ → List ℕ → Type 0) where
   unfolding Row
   row-map F G f zero xs ys r = r
   row-map F G f (suc n) xs ys r =
-      record { xs₁ = r .xs₁; xs₂ = r .xs₂; ys₁ = r .ys₁; ys₂ = r .ys₂; is-xs = r .is-xs; is-ys = r .is-ys; first = row-map F G f n (r .xs₁) (r .ys₁) (r .first); second = f n (r .xs₂) (r .ys₂) (r .second) }
+      record {
+        xs₁ = r .xs₁;
+        xs₂ = r .xs₂;
+        ys₁ = r .ys₁;
+        ys₂ = r .ys₂;
+        is-xs = r .is-xs;
+        is-ys = r .is-ys;
+        first = row-map F G f n (r .xs₁) (r .ys₁) (r .first);
+        second = f n (r .xs₂) (r .ys₂) (r .second);
+      }
 
-  row-flip : (F G : ℕ → List ℕ → List ℕ → Type 0) → ((k : ℕ) (xs ys : List ℕ) → F k xs ys → G k ys xs) → (n : ℕ) (xs ys : List ℕ) → Row F n xs ys → Row G n ys xs
+  row-flip : (F G : ℕ → List ℕ → List ℕ → Type 0) → ((k : ℕ) (xs ys : List ℕ) → F k xs ys → G k ys xs) → (n : ℕ) (xs ys : List ℕ)
+      → Row F n xs ys → Row G n ys xs
   unfolding Row
   row-flip F G f zero xs ys r = (r .1, r .0)
   row-flip F G f (suc n) xs ys r =
-      record { xs₁ = r .ys₁; xs₂ = r .ys₂; ys₁ = r .xs₁; ys₂ = r .xs₂; is-xs = r .is-ys; is-ys = r .is-xs; first = row-flip F G f n (r .xs₁) (r .ys₁) (r .first); second = f n (r .xs₂) (r .ys₂) (r .second) }
+      record {
+        xs₁ = r .ys₁;
+        xs₂ = r .ys₂;
+        ys₁ = r .xs₁;
+        ys₂ = r .xs₂;
+        is-xs = r .is-ys;
+        is-ys = r .is-xs;
+        first = row-flip F G f n (r .xs₁) (r .ys₁) (r .first);
+        second = f n (r .xs₂) (r .ys₂) (r .second);
+      }
 
-  pub over-map : ((code w : ℕ) (xs ys : List ℕ) → allowed code w ≡ true → L code w xs ys → M code w xs ys) → (tr : Tree) (xs ys : List ℕ) → Over L tr xs ys → Over M tr xs ys
+  pub over-map : ((code w : ℕ) (xs ys : List ℕ) → allowed code w ≡ true → L code w xs ys → M code w xs ys) → (tr : Tree) (xs ys : List ℕ)
+      → Over L tr xs ys → Over M tr xs ys
   unfolding Over
   over-map f (leaf code ok) xs ys o =
       record { it = o .it; is = record { in-range = o .is .in-range; taken = o .is .taken; says = f code (o .it) xs ys (o .is .in-range) (o .is .says) } }
@@ -270,7 +316,11 @@ module _ (L M : ℕ → ℕ → List ℕ → List ℕ → Type 0) where
           ys₂ = r .ys₂;
           is-xs = r .is-xs;
           is-ys = r .is-ys;
-          first = record { in-range = r .first .in-range; taken = r .first .taken; says = f countCode (o .it) (r .xs₁) (r .ys₁) (r .first .in-range) (r .first .says) };
+          first = record {
+            in-range = r .first .in-range;
+            taken = r .first .taken;
+            says = f countCode (o .it) (r .xs₁) (r .ys₁) (r .first .in-range) (r .first .says);
+          };
           second = row-map (λ k us vs. Over L a us vs) (λ k us vs. Over M a us vs) (λ k us vs d. over-map f a us vs d) (o .it) (r .xs₂) (r .ys₂) (r .second);
         };
       }

@@ -61,7 +61,8 @@ unfolding next
 next-own (on p x) f h g = g p x
 next-own (stop n p x) f h g = h
 
-through-own : (n : ℕ) (f : ℕ → Place → List ℕ → Step) (p : Place) (x : List ℕ) → ((k : ℕ) → k < n → (q : Place) (y : List ℕ) → Own (f k q y)) → Own (through n f p x)
+through-own : (n : ℕ) (f : ℕ → Place → List ℕ → Step) (p : Place) (x : List ℕ)
+    → ((k : ℕ) → k < n → (q : Place) (y : List ℕ) → Own (f k q y)) → Own (through n f p x)
 unfolding through
 through-own zero f p x g = omega arith
 through-own (suc n) f p x g = next-own (through n f p x) (f n) (through-own n f p x (λ k l. g k (omega arith))) (g n (omega arith))
@@ -95,7 +96,8 @@ own-numbers : (n room : ℕ) (st : Step) → Own st → Numbers (answered n room
 unfolding answered answer
 own-numbers n room (on q x) o = go (ltb (q .from) n) (ltb room (q .to)) refl refl
   where
-    go : (a b : Bool) → ltb (q .from) n ≡ a → ltb room (q .to) ≡ b → Numbers (cond (ltb (q .from) n) (Stopped 41) (cond (ltb room (q .to)) (Refused 45) (Gave (q .to))))
+    go : (a b : Bool) → ltb (q .from) n ≡ a → ltb room (q .to) ≡ b
+        → Numbers (cond (ltb (q .from) n) (Stopped 41) (cond (ltb room (q .to)) (Refused 45) (Gave (q .to))))
     go true b e g = rw e (omega arith, omega arith)
     go false true e g = rw (e, g) (inr refl)
     go false false e g = rw (e, g) (omega arith)
@@ -143,8 +145,10 @@ module _ (t : List ℕ) (s : Sections) (a : Accepted t s) where
   unfolding answeredIn answeredType typeWalk
   numbers c n i room = rw (is-within t s a) (go (ltb i (s .types .count)) refl)
     where
-      go : (b : Bool) → ltb i (s .types .count) ≡ b → Numbers (cond (ltb i (s .types .count)) (answered n room (answer (walk c (tree t s i) start []))) (Refused 44))
-      go true e = rw e (own-numbers n room (walk c (tree t s i) start []) (walk-own c (tree t s i) start [] (trees-whole (suc i) i (omega arith) (ltb-true i (s .types .count) e))))
+      go : (b : Bool) → ltb i (s .types .count) ≡ b
+          → Numbers (cond (ltb i (s .types .count)) (answered n room (answer (walk c (tree t s i) start []))) (Refused 44))
+      go true e = rw e (own-numbers n room (walk c (tree t s i) start [])
+          (walk-own c (tree t s i) start [] (trees-whole (suc i) i (omega arith) (ltb-true i (s .types .count) e))))
       go false e = rw e (inl refl)
 
 -- a refusal leaves everything as it was, on sections and on bytes

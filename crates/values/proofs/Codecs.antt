@@ -39,7 +39,8 @@ the-place a b m n e h = cc
 
 -- writing: an item's word and its bytes
 module _ (ws : List ℕ) where
-  pub write-sound : (code : ℕ) (p : Place) → writer ws .there code p ≡ true → allowed code (writer ws .word code p) ≡ true → Sound (writer ws) ws exact code (writer ws .word code p) p
+  pub write-sound : (code : ℕ) (p : Place) → writer ws .there code p ≡ true → allowed code (writer ws .word code p) ≡ true
+      → Sound (writer ws) ws exact code (writer ws .word code p) p
   unfolding writer formOf width
   write-sound code p e a =
       let w : ℕ = getD ws (p .from) 0 in
@@ -51,7 +52,8 @@ module _ (ws : List ℕ) where
         to-there = ap (λ (n : ℕ). p .to + n) (sym (length-form (base code) w));
       }
 
-  pub write-complete : (code w : ℕ) (p : Place) (xs ys rest : List ℕ) → exact code w xs ys → allowed code w ≡ true → drop (p .from) ws ≡ xs ++ rest → Complete (writer ws) code w p xs ys
+  pub write-complete : (code w : ℕ) (p : Place) (xs ys rest : List ℕ) → exact code w xs ys → allowed code w ≡ true → drop (p .from) ws ≡ xs
+      ++ rest → Complete (writer ws) code w p xs ys
   unfolding writer formOf width
   write-complete code w p xs ys rest o a h =
       let one : length xs ≡ 1 = ap length (o .0) in
@@ -68,14 +70,16 @@ module _ (ws : List ℕ) where
 -- a leaf reads the same in what is left of a list
 word-dropped : (l : Leaf) (b : List ℕ) (p : ℕ) → p ≤ length b → wordOf l b p ≡ wordOf l (drop p b) 0
 word-dropped l b p h =
-    ap (λ (u : List ℕ). wordOf l u p) (sym (take-append-drop p b)) ∙ ap (wordOf l (take p b ++ drop p b)) (sym (length-take-le p b h)) ∙ word-append l (take p b) (drop p b)
+    ap (λ (u : List ℕ). wordOf l u p) (sym (take-append-drop p b)) ∙ ap (wordOf l (take p b ++ drop p b)) (sym (length-take-le p b h))
+    ∙ word-append l (take p b) (drop p b)
 
 -- reading: an item's byte form and its word
 abbrev pub heard : ℕ → ℕ → List ℕ → List ℕ → Type 0
 heard code w bs ws = loose code w ws bs
 
 module _ (b : List ℕ) where
-  pub read-sound : Octets b → (code : ℕ) (p : Place) → reader b .there code p ≡ true → allowed code (reader b .word code p) ≡ true → Sound (reader b) b heard code (reader b .word code p) p
+  pub read-sound : Octets b → (code : ℕ) (p : Place) → reader b .there code p ≡ true → allowed code (reader b .word code p) ≡ true
+      → Sound (reader b) b heard code (reader b .word code p) p
   unfolding reader wordAt width
   read-sound o code p e a =
       let n : ℕ = bytesOf (base code) in
@@ -89,14 +93,16 @@ module _ (b : List ℕ) where
         to-there = refl;
       }
 
-  pub read-complete : (code w : ℕ) (p : Place) (xs ys rest : List ℕ) → heard code w xs ys → allowed code w ≡ true → drop (p .from) b ≡ xs ++ rest → Complete (reader b) code w p xs ys
+  pub read-complete : (code w : ℕ) (p : Place) (xs ys rest : List ℕ) → heard code w xs ys → allowed code w ≡ true → drop (p .from) b ≡ xs
+      ++ rest → Complete (reader b) code w p xs ys
   unfolding reader wordAt width allowed
   read-complete code w p xs ys rest o a h =
       let n : length xs ≡ bytesOf (base code) = length-said (base code) w xs (o .1) in
       let one : length ys ≡ 1 = ap length (o .0) in
       let l : p .from + length xs ≤ length b = fits-there b (p .from) xs rest h (omega (arith, value-bytes (base code) w a)) in
       let is : wordOf (base code) b (p .from) ≡ w =
-      word-dropped (base code) b (p .from) (omega arith) ∙ ap (λ (u : List ℕ). wordOf (base code) u 0) h ∙ word-said (base code) w xs rest (real code) a (o .1) in
+      word-dropped (base code) b (p .from) (omega arith) ∙ ap (λ (u : List ℕ). wordOf (base code) u 0) h
+      ∙ word-said (base code) w xs rest (real code) a (o .1) in
       record {
         there = le-leb (p .from + bytesOf (base code)) (length b) (omega arith);
         word = is;

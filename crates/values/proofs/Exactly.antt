@@ -47,7 +47,8 @@ ends n room (walked.Stopped m q) k h = absurd (go (eqb m 32) h)
     go false e = let z : _≡_ {A = ℕ} 0 1 = cc in omega arith
 ends n room (walked.Went q) k h = go (ltb (q .from) n) (ltb room (q .to)) refl refl h
   where
-    go : (a b : Bool) → ltb (q .from) n ≡ a → ltb room (q .to) ≡ b → cond a (Stopped 41) (cond b (Refused 45) (Gave (q .to))) ≡ Gave k → Ends n room (walked.Went q) k
+    go : (a b : Bool) → ltb (q .from) n ≡ a → ltb room (q .to) ≡ b → cond a (Stopped 41) (cond b (Refused 45) (Gave (q .to))) ≡ Gave k
+        → Ends n room (walked.Went q) k
     go true b e g d = absurd (let z : _≡_ {A = ℕ} 0 1 = cc in omega arith)
     go false true e g d = absurd (let z : _≡_ {A = ℕ} 0 1 = cc in omega arith)
     go false false e g d = record { q = q; is = refl; all = ltb-false (q .from) n e; room-is = ltb-false room (q .to) g; gives = cc }
@@ -64,7 +65,8 @@ pub callable : (c : Codec) (n : ℕ) (t : List ℕ) (s : Sections) (i room k : �
 unfolding answeredIn
 callable c n t s i room k h = go (within t s) (isType s i) refl refl h
   where
-    go : (a b : Bool) → within t s ≡ a → isType s i ≡ b → cond a (cond b (answeredType c n t s i room) (Refused 44)) (Refused 30) ≡ Gave k → (within t s ≡ true) × (isType s i ≡ true)
+    go : (a b : Bool) → within t s ≡ a → isType s i ≡ b → cond a (cond b (answeredType c n t s i room) (Refused 44)) (Refused 30) ≡ Gave k
+        → (within t s ≡ true) × (isType s i ≡ true)
     go true true e g d = (e, g)
     go true false e g d = absurd (let z : _≡_ {A = ℕ} 0 1 = cc in omega arith)
     go false b e g d = absurd (let z : _≡_ {A = ℕ} 0 1 = cc in omega arith)
@@ -81,7 +83,8 @@ whole-is : (input xs : List ℕ) (n : ℕ) → input ≡ xs ++ drop n input → 
 whole-is input xs n h l = h ∙ ap (λ (u : List ℕ). xs ++ u) (drop-of-length-le input l) ∙ append-nil xs
 
 module _ (c : Codec) (L : ℕ → ℕ → List ℕ → List ℕ → Type 0) (t : List ℕ) (s : Sections) (i : ℕ) (input x : List ℕ) where
-  took-all : (k : ℕ) (q : Place) (y : List ℕ) → Took (λ us vs. Over L (tree t s i) us vs) input start q x y → length input ≤ q .from → q .to ≤ length x → k ≡ q .to → leftIn c (length input) t s i x ≡ y → Calls L c t s i input x k
+  took-all : (k : ℕ) (q : Place) (y : List ℕ) → Took (λ us vs. Over L (tree t s i) us vs) input start q x y → length input ≤ q .from
+      → q .to ≤ length x → k ≡ q .to → leftIn c (length input) t s i x ≡ y → Calls L c t s i input x k
   took-all k q y m l f g d =
       let to : q .to ≡ 0 + length (m .ys) = m .to-there in
       record {
@@ -102,9 +105,11 @@ module _ (c : Codec) (L : ℕ → ℕ → List ℕ → List ℕ → Type 0) (t :
   ends-there : (k : ℕ) → answeredIn c (length input) t s i (length x) ≡ Gave k → Ends (length input) (length x) (answer (walk c (tree t s i) start [])) k
   unfolding answeredType typeWalk
   ends-there k h =
-      ends (length input) (length x) (answer (walk c (tree t s i) start [])) k (sym (in-call c (length input) t s i (length x) (callable c (length input) t s i (length x) k h)) ∙ h)
+      ends (length input) (length x) (answer (walk c (tree t s i) start [])) k
+      (sym (in-call c (length input) t s i (length x) (callable c (length input) t s i (length x) k h)) ∙ h)
 
-  call-sound : ((code : ℕ) (p : Place) → c .there code p ≡ true → allowed code (c .word code p) ≡ true → Sound c input L code (c .word code p) p) → (k : ℕ) → answeredIn c (length input) t s i (length x) ≡ Gave k → Calls L c t s i input x k
+  call-sound : ((code : ℕ) (p : Place) → c .there code p ≡ true → allowed code (c .word code p) ≡ true
+      → Sound c input L code (c .word code p) p) → (k : ℕ) → answeredIn c (length input) t s i (length x) ≡ Gave k → Calls L c t s i input x k
   call-sound sound k h = go (ends-there k h)
     where
       go : Ends (length input) (length x) (answer (walk c (tree t s i) start [])) k → Calls L c t s i input x k
@@ -113,11 +118,15 @@ module _ (c : Codec) (L : ℕ → ℕ → List ℕ → List ℕ → Type 0) (t :
           (walk-sound c input L sound (tree t s i) start (e .q) x (left (walk c (tree t s i) start x)) (goes-there (e .q) (e .is)))
           (e .all) (e .room-is) (e .gives) (left-there k h)
 
-  call-complete : ((code w : ℕ) (p : Place) (xs ys rest : List ℕ) → L code w xs ys → allowed code w ≡ true → drop (p .from) input ≡ xs ++ rest → Complete c code w p xs ys) → (ys : List ℕ) → Callable t s i → Over L (tree t s i) input ys → length ys ≤ length x → (answeredIn c (length input) t s i (length x) ≡ Gave (length ys)) × (leftIn c (length input) t s i x ≡ over x 0 ys)
+  call-complete : ((code w : ℕ) (p : Place) (xs ys rest : List ℕ) → L code w xs ys → allowed code w ≡ true → drop (p .from) input ≡ xs
+      ++ rest → Complete c code w p xs ys) → (ys : List ℕ) → Callable t s i → Over L (tree t s i) input ys → length ys ≤ length x
+      → (answeredIn c (length input) t s i (length x) ≡ Gave (length ys)) × (leftIn c (length input) t s i x ≡ over x 0 ys)
   unfolding answeredType typeWalk leftIn leftBy answered answer left
   call-complete complete ys u o l =
-      let z : Goes (walk c (tree t s i) start []) start [] input ys = walk-complete c input L complete (tree t s i) start [] input ys [] o (sym (append-nil input)) in
-      let g : Goes (walk c (tree t s i) start x) start x input ys = walk-complete c input L complete (tree t s i) start x input ys [] o (sym (append-nil input)) in
+      let z : Goes (walk c (tree t s i) start []) start [] input ys = walk-complete c input L complete (tree t s i) start [] input ys [] o
+      (sym (append-nil input)) in
+      let g : Goes (walk c (tree t s i) start x) start x input ys = walk-complete c input L complete (tree t s i) start x input ys [] o
+      (sym (append-nil input)) in
       let q : Place = behind start input ys in
       let b : 0 + length ys ≡ length ys = omega arith in
       let ans : answeredIn c (length input) t s i (length x) ≡ Gave (length ys) =
@@ -129,10 +138,12 @@ module _ (c : Codec) (L : ℕ → ℕ → List ℕ → List ℕ → Type 0) (t :
       (ans, ap (λ (a : Answer). leftBy a x (left (walk c (tree t s i) start x))) ans ∙ ap left (g .goes) ∙ g .given (omega arith))
 
 -- packing accepts exactly the values of a type, and gives their bytes
-pub packs-values : (t : List ℕ) (s : Sections) (i : ℕ) (ws out : List ℕ) (k : ℕ) → packedIn t s i ws (length out) ≡ Gave k → Calls exact (writer ws) t s i ws out k
+pub packs-values : (t : List ℕ) (s : Sections) (i : ℕ) (ws out : List ℕ) (k : ℕ) → packedIn t s i ws (length out) ≡ Gave k
+    → Calls exact (writer ws) t s i ws out k
 packs-values t s i ws out k h = call-sound (writer ws) exact t s i ws out (write-sound ws) k h
 
-pub values-pack : (t : List ℕ) (s : Sections) (i : ℕ) (ws bs out : List ℕ) → Callable t s i → Value t s i ws bs → length bs ≤ length out → (packedIn t s i ws (length out) ≡ Gave (length bs)) × (bytesIn t s i ws out ≡ over out 0 bs)
+pub values-pack : (t : List ℕ) (s : Sections) (i : ℕ) (ws bs out : List ℕ) → Callable t s i → Value t s i ws bs → length bs ≤ length out
+    → (packedIn t s i ws (length out) ≡ Gave (length bs)) × (bytesIn t s i ws out ≡ over out 0 bs)
 unfolding Value
 values-pack t s i ws bs out u v l = call-complete (writer ws) exact t s i ws out (write-complete ws) bs u v l
 
@@ -144,7 +155,8 @@ pub record Unpacks (t : List ℕ) (s : Sections) (i : ℕ) (b words : List ℕ) 
   pub fit : length ws ≤ length words
   pub given : wordsIn t s i b words ≡ over words 0 ws
 
-pub unpacks-forms : (t : List ℕ) (s : Sections) (i : ℕ) (b words : List ℕ) (k : ℕ) → Octets b → unpackedIn t s i b (length words) ≡ Gave k → Unpacks t s i b words k
+pub unpacks-forms : (t : List ℕ) (s : Sections) (i : ℕ) (b words : List ℕ) (k : ℕ) → Octets b → unpackedIn t s i b (length words) ≡ Gave k
+    → Unpacks t s i b words k
 unfolding Spoken
 unpacks-forms t s i b words k o h =
     let m : Calls heard (reader b) t s i b words k = call-sound (reader b) heard t s i b words (read-sound b o) k h in
@@ -156,7 +168,8 @@ unpacks-forms t s i b words k o h =
       given = m .given;
     }
 
-pub forms-unpack : (t : List ℕ) (s : Sections) (i : ℕ) (ws b words : List ℕ) → Callable t s i → Spoken t s i ws b → length ws ≤ length words → (unpackedIn t s i b (length words) ≡ Gave (length ws)) × (wordsIn t s i b words ≡ over words 0 ws)
+pub forms-unpack : (t : List ℕ) (s : Sections) (i : ℕ) (ws b words : List ℕ) → Callable t s i → Spoken t s i ws b → length ws ≤ length words
+    → (unpackedIn t s i b (length words) ≡ Gave (length ws)) × (wordsIn t s i b words ≡ over words 0 ws)
 unfolding Spoken
 forms-unpack t s i ws b words u v l =
     call-complete (reader b) heard t s i b words (read-complete b) ws u (over-flip loose heard (λ code w xs ys d. d) (tree t s i) ws b v) l

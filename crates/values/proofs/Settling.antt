@@ -43,7 +43,8 @@ settler b =
       gives = λ code w. formOf code w;
     }
 
-settle-complete : (b : List ℕ) (code w : ℕ) (p : Place) (xs ys rest : List ℕ) → settled code w xs ys → allowed code w ≡ true → drop (p .from) b ≡ xs ++ rest → Complete (settler b) code w p xs ys
+settle-complete : (b : List ℕ) (code w : ℕ) (p : Place) (xs ys rest : List ℕ) → settled code w xs ys → allowed code w ≡ true
+    → drop (p .from) b ≡ xs ++ rest → Complete (settler b) code w p xs ys
 unfolding reader formOf width
 settle-complete b code w p xs ys rest o a h =
     let k : Complete (reader b) code w p xs (w ∷ []) = read-complete b code w p xs (w ∷ []) rest (refl, o .0) a h in
@@ -66,8 +67,10 @@ module _ (tr : Tree) (bs cs ds : List ℕ) (a : Over settled tr bs cs) (b : Over
   one-over =
       let x : List ℕ = cs ++ ds in
       let l : length x ≡ length cs + length ds = length-append cs ds in
-      let g : Goes (walk (settler bs) tr start x) start x bs cs = walk-complete (settler bs) bs settled (settle-complete bs) tr start x bs cs [] a (sym (append-nil bs)) in
-      let k : Goes (walk (settler bs) tr start x) start x bs ds = walk-complete (settler bs) bs settled (settle-complete bs) tr start x bs ds [] b (sym (append-nil bs)) in
+      let g : Goes (walk (settler bs) tr start x) start x bs cs = walk-complete (settler bs) bs settled (settle-complete bs) tr start x bs
+      cs [] a (sym (append-nil bs)) in
+      let k : Goes (walk (settler bs) tr start x) start x bs ds = walk-complete (settler bs) bs settled (settle-complete bs) tr start x bs
+      ds [] b (sym (append-nil bs)) in
       let same = same-step (behind start bs cs) (behind start bs ds) (g .y) (k .y) (sym (g .goes) ∙ k .goes) in
       let to : 0 + length cs ≡ 0 + length ds = ap (λ (q : Place). q .to) (same .0) in
       sym (take-front x cs (length cs) refl)
@@ -79,7 +82,8 @@ unfolding BooleansAsOne
 booleans-one t s i bs cs ds a b = one-over (tree t s i) bs cs ds a b
 
 -- so unpacking and packing again gives that form and no other
-pub packs-settled : (t : List ℕ) (s : Sections) (i : ℕ) (b words out cs : List ℕ) (k : ℕ) → Octets b → unpackedIn t s i b (length words) ≡ Gave k → length b ≤ length out → BooleansAsOne t s i b cs → bytesIn t s i (take k (wordsIn t s i b words)) out ≡ over out 0 cs
+pub packs-settled : (t : List ℕ) (s : Sections) (i : ℕ) (b words out cs : List ℕ) (k : ℕ) → Octets b → unpackedIn t s i b (length words)
+    ≡ Gave k → length b ≤ length out → BooleansAsOne t s i b cs → bytesIn t s i (take k (wordsIn t s i b words)) out ≡ over out 0 cs
 packs-settled t s i b words out cs k o h l d =
     let m : PacksAgain t s i b (take k (wordsIn t s i b words)) out = unpack-then-pack t s i b words out k o h l in
     m .given ∙ ap (over out 0) (booleans-one t s i b (m .cs) cs (m .settled-is) d)

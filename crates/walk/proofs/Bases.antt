@@ -43,7 +43,8 @@ pub record Fields (e : Entry) : Type 0 where
 
 pub fields : (e : Entry) → Plain e ≡ true → Fields e
 fields e h =
-    let a : ((eqb (e .kind) 0 && ltb (e .of) 13 && eqb (e .first) 0) ≡ true) × (eqb (e .count) 0 ≡ true) = both (eqb (e .kind) 0 && ltb (e .of) 13 && eqb (e .first) 0) (eqb (e .count) 0) h in
+    let a : ((eqb (e .kind) 0 && ltb (e .of) 13 && eqb (e .first) 0) ≡ true)
+    × (eqb (e .count) 0 ≡ true) = both (eqb (e .kind) 0 && ltb (e .of) 13 && eqb (e .first) 0) (eqb (e .count) 0) h in
     let b : ((eqb (e .kind) 0 && ltb (e .of) 13) ≡ true) × (eqb (e .first) 0 ≡ true) = both (eqb (e .kind) 0 && ltb (e .of) 13) (eqb (e .first) 0) (a .0) in
     let d : (eqb (e .kind) 0 ≡ true) × (ltb (e .of) 13 ≡ true) = both (eqb (e .kind) 0) (ltb (e .of) 13) (b .0) in
     record { kind = eqb-true (e .kind) 0 (d .0); of = ltb-true (e .of) 13 (d .1); first = eqb-true (e .first) 0 (b .1); count = eqb-true (e .count) 0 (a .1) }
@@ -66,7 +67,8 @@ module _ (t : List ℕ) (s : Sections) (i c : ℕ) where
   no-base-met h = sym (no-lt (baseOf (typeAt t s c)) 13 c i h)
 
   -- a base that is there and whose word is allowed is walked over
-  module _ (w : Codec) (code : ℕ) (p : Place) (x : List ℕ) (is : code ≡ baseAt t s i c) (there : w .there code p ≡ true) (good : allowed code (w .word code p) ≡ true) where
+  module _ (w : Codec) (code : ℕ) (p : Place) (x : List ℕ) (is : code ≡ baseAt t s i c) (there : w .there code p ≡ true)
+      (good : allowed code (w .word code p) ≡ true) where
     none : code ≡ 13 → ⊥
     unfolding allowed base isValue
     none h = let z : false ≡ true = rw h at good in let y : _≡_ {A = ℕ} 0 1 = cc in omega arith
@@ -75,14 +77,18 @@ module _ (t : List ℕ) (s : Sections) (i c : ℕ) where
     unfolding baseAt baseOf walk treeOf
     base-on = go (ltb c i) (Plain (typeAt t s c)) refl refl
       where
-        go : (a b : Bool) → ltb c i ≡ a → Plain (typeAt t s c) ≡ b → walk w (child t s i c) p x ≡ on (w .after code p) (written x (p .to) (w .gives code (w .word code p)))
+        go : (a b : Bool) → ltb c i ≡ a → Plain (typeAt t s c) ≡ b → walk w (child t s i c) p x
+            ≡ on (w .after code p) (written x (p .to) (w .gives code (w .word code p)))
         go false b g h = absurd (none (is ∙ no-if (baseOf (typeAt t s c)) 13 g))
         go true false g h = absurd (none (is ∙ yes-if (baseOf (typeAt t s c)) 13 g ∙ no-if (typeAt t s c .of) 13 h))
         go true true g h =
             let e : Entry = typeAt t s c in
             let f : Fields (typeAt t s c) = fields (typeAt t s c) h in
             let k : code ≡ typeAt t s c .of = is ∙ yes-if (baseOf (typeAt t s c)) 13 g ∙ yes-if (typeAt t s c .of) 13 h in
-            let m : Leaf (typeAt t s c) ≡ meet t s i c = met t s i c (Leaf (typeAt t s c)) (ltb-true c i g) (looked t s c (typeAt t s c) true (Leaf (typeAt t s c)) refl (base-fields s c (typeAt t s c) f) refl (a-leaf (typeAt t s c) (omega (arith, f .kind)))) in
+            let m : Leaf (typeAt t s c)
+            ≡ meet t s i c = met t s i c (Leaf (typeAt t s c)) (ltb-true c i g)
+            (looked t s c (typeAt t s c) true (Leaf (typeAt t s c)) refl (base-fields s c (typeAt t s c) f) refl
+            (a-leaf (typeAt t s c) (omega (arith, f .kind)))) in
             ap (λ u. walk w u p x) (child-met t s i c (Leaf (typeAt t s c)) m)
             ∙ ap (λ (n : ℕ). item w 42 n (choice t s (typeAt t s c)) p x) (sym k)
             ∙ item-on w 42 code (choice t s (typeAt t s c)) p x there (rw (good, all-taken t s (typeAt t s c) (w .word code p) (f .kind)) refl)

@@ -154,7 +154,8 @@ module _ (t : List ℕ) (s : Sections) (i : ℕ) (e : Entry) (m room : ℕ) wher
   unfolding codeCount
   few-codes = go (areThere (length t) (typePlace s 0) (memberPlace s (e .first + m)) i (mostCodes e m room)) refl
     where
-      go : (b : Bool) → areThere (length t) (typePlace s 0) (memberPlace s (e .first + m)) i (mostCodes e m room) ≡ b → codeCount t s i e m room ≤ mostCodes e m room
+      go : (b : Bool) → areThere (length t) (typePlace s 0) (memberPlace s (e .first + m)) i (mostCodes e m room) ≡ b
+          → codeCount t s i e m room ≤ mostCodes e m room
       go true h = omega (arith, yes-if (leading (codeAt t s i e m) (mostCodes e m room)) 0 h, leading-most (codeAt t s i e m) (mostCodes e m room))
       go false h = omega (arith, no-if (leading (codeAt t s i e m) (mostCodes e m room)) 0 h)
 

@@ -21,7 +21,8 @@ use Rattle.table.specs.declared.Entry.{Entry}
 use Rattle.table.specs.Layout.{typePlace, memberPlace}
 use Rattle.table.specs.Entries.{typeAt, memberAt}
 use Rattle.walk.specs.Tree.{noBase, baseOf, baseAt}
-use Rattle.walk.specs.Codes.{Parts, allBases, leading, firsts, codeAt, areThere, smaller, codeCount, codesOf, turned, placed, placedCode, placedCount, placedCodes, alone, partCode}
+use Rattle.walk.specs.Codes.{Parts, allBases, leading, firsts, codeAt, areThere, smaller, codeCount, codesOf, turned}
+use Rattle.walk.specs.Codes.{placed, placedCode, placedCount, placedCodes, alone, partCode}
 use Rattle.walk.proofs.Bases.{Plain, Fields, fields, a-base, no-base, base-met, no-base-met}
 use Rattle.walk.proofs.Codes.{up-to, leading-most, leading-same, firsts-same, none-stored, smaller-right, few-codes}
 
@@ -45,7 +46,8 @@ pub turned-here : (w : ℕ) → w % 4294967296 * 4294967296 + w / 4294967296 ≡
 unfolding turned
 turned-here w = refl
 
-turned-is : (a b c d w : ℕ) → a < 65536 → b < 65536 → c < 65536 → d < 65536 → w ≡ (a * 65536 + b) * 4294967296 + (c * 65536 + d) → turned w ≡ (c * 65536 + d) * 4294967296 + (a * 65536 + b)
+turned-is : (a b c d w : ℕ) → a < 65536 → b < 65536 → c < 65536 → d < 65536 → w ≡ (a * 65536 + b) * 4294967296 + (c * 65536 + d) → turned w
+    ≡ (c * 65536 + d) * 4294967296 + (a * 65536 + b)
 unfolding turned
 turned-is a b c d w ha hb hc hd e =
     let h : w / 4294967296 ≡ a * 65536 + b = omega arith in
@@ -68,7 +70,8 @@ module _ (e : Entry) (w : ℕ) (n : Narrow e) (h : w ≡ asOne e) where
 
   turned-base : turned w < 13 → turned w ≡ baseOf e
   turned-base l =
-      let q : (e .kind ≡ 0) × ((e .of ≡ turned w) × ((e .first ≡ 0) × (e .count ≡ 0))) = only-second (e .kind) (e .of) (e .first) (e .count) (turned w) turned-so l in
+      let q : (e .kind ≡ 0) × ((e .of ≡ turned w) × ((e .first ≡ 0) × (e .count ≡ 0))) = only-second (e .kind) (e .of) (e .first) (e .count)
+      (turned w) turned-so l in
       let b : e .of < 13 = subst (λ (x : ℕ). x < 13) (sym (q .1 .0)) l in
       let p : Plain e ≡ true = rw (eq-eqb (e .kind) 0 (q .0), lt-ltb (e .of) 13 b, eq-eqb (e .first) 0 (q .1 .1 .0), eq-eqb (e .count) 0 (q .1 .1 .1)) refl in
       sym (q .1 .0) ∙ a-base e p
@@ -80,7 +83,9 @@ module _ (e : Entry) (w : ℕ) (n : Narrow e) (h : w ≡ asOne e) where
       go false p = no-base e p
       go true p =
           let f : Fields e = fields e p in
-          absurd (not-both (turned w) l (subst (λ (x : ℕ). x < 13) (sym (second-only (e .kind) (e .of) (e .first) (e .count) (turned w) turned-so (f .kind) (f .first) (f .count))) (f .of)))
+          absurd (not-both (turned w) l
+          (subst (λ (x : ℕ). x < 13)
+          (sym (second-only (e .kind) (e .of) (e .first) (e .count) (turned w) turned-so (f .kind) (f .first) (f .count))) (f .of)))
 
 -- an entry of a table
 module _ (t : List ℕ) (s : Sections) (c : ℕ) (known : Octets t) where
@@ -88,7 +93,12 @@ module _ (t : List ℕ) (s : Sections) (c : ℕ) (known : Octets t) where
   unfolding typeAt
   narrow =
       let p : ℕ = typePlace s c in
-      record { kind = number-lt 1 t (typePlace s c) known; of = number-lt 1 t (typePlace s c + 2) known; first = number-lt 1 t (typePlace s c + 4) known; count = number-lt 1 t (typePlace s c + 6) known }
+      record {
+        kind = number-lt 1 t (typePlace s c) known;
+        of = number-lt 1 t (typePlace s c + 2) known;
+        first = number-lt 1 t (typePlace s c + 4) known;
+        count = number-lt 1 t (typePlace s c + 6) known;
+      }
 
   as-one : number 3 t (typePlace s c) ≡ asOne (typeAt t s c)
   unfolding typeAt
@@ -109,7 +119,8 @@ module _ (types members : List ℕ) (i n k : ℕ) (child : ℕ) (there : length 
   own-part : i ≤ child → partCode types members i k ≡ 13
   own-part h = sym (no-base-met types alone i child h ∙ of-child)
 
-  module _ (w : ℕ) (known : (j : ℕ) → Fits w8 (getD types j 0)) (room : length types ≡ 8 * i) (h : child < i) (read : w ≡ whole 3 types (8 * child)) (code : ℕ) (so : code ≡ turned w) where
+  module _ (w : ℕ) (known : (j : ℕ) → Fits w8 (getD types j 0)) (room : length types ≡ 8 * i) (h : child < i)
+      (read : w ≡ whole 3 types (8 * child)) (code : ℕ) (so : code ≡ turned w) where
     word-is : w ≡ asOne (typeAt types alone child)
     word-is =
         let z : 8 * child ≡ 0 + 8 * child = omega arith in
@@ -149,7 +160,8 @@ module _ (t : List ℕ) (p n : ℕ) where
   length-slice : p + n ≤ length t → length slice ≡ n
   length-slice h = ap (λ (z : ℕ). length (take z (drop p t))) (add-sub-cancel-left p n) ∙ length-take-le n (drop p t) (omega (arith, length-drop p t))
 
-entry-same : {a b c d a′ b′ c′ d′ : ℕ} → a ≡ a′ → b ≡ b′ → c ≡ c′ → d ≡ d′ → _≡_ {A = Entry} (record { kind = a; of = b; first = c; count = d }) (record { kind = a′; of = b′; first = c′; count = d′ })
+entry-same : {a b c d a′ b′ c′ d′ : ℕ} → a ≡ a′ → b ≡ b′ → c ≡ c′ → d ≡ d′
+    → _≡_ {A = Entry} (record { kind = a; of = b; first = c; count = d }) (record { kind = a′; of = b′; first = c′; count = d′ })
 entry-same h k l m = rw (h, k, l, m) refl
 
 module _ (t : List ℕ) (a b i n : ℕ) where
@@ -171,7 +183,8 @@ module _ (t : List ℕ) (a b i n : ℕ) where
   base-same c = go (ltb c i) refl
     where
       go : (r : Bool) → ltb c i ≡ r → baseAt (slice t a (8 * i)) alone i c ≡ baseAt t (placed a b) i c
-      go true h = yes-if (baseOf (typeAt (slice t a (8 * i)) alone c)) 13 h ∙ ap baseOf (type-same c (ltb-true c i h)) ∙ sym (yes-if (baseOf (typeAt t (placed a b) c)) 13 h)
+      go true h = yes-if (baseOf (typeAt (slice t a (8 * i)) alone c)) 13 h ∙ ap baseOf (type-same c (ltb-true c i h))
+          ∙ sym (yes-if (baseOf (typeAt t (placed a b) c)) 13 h)
       go false h = no-if (baseOf (typeAt (slice t a (8 * i)) alone c)) 13 h ∙ sym (no-if (baseOf (typeAt t (placed a b) c)) 13 h)
 
   abbrev inParts : ℕ → ℕ
@@ -207,7 +220,8 @@ module _ (t : List ℕ) (a b i n : ℕ) where
     unfolding placedCodes
     stored-in u v h =
         let l : leading inParts n ≤ n = leading-most inParts n in
-        h ∙ ap (over u 0) (firsts-same inParts (placedCode t a b i) (leading inParts n) (λ k g. code-same k (omega arith)) ∙ ap (firsts (placedCode t a b i)) (counted-in (leading inParts n) refl))
+        h ∙ ap (over u 0) (firsts-same inParts (placedCode t a b i) (leading inParts n) (λ k g. code-same k (omega arith))
+        ∙ ap (firsts (placedCode t a b i)) (counted-in (leading inParts n) refl))
 
   -- where one does not, there are none
   pub not-there : (x : Bool) → x ≡ areThere (length t) a b i n → x ≡ false → 0 ≡ placedCount t a b i n
@@ -219,7 +233,8 @@ module _ (t : List ℕ) (a b i n : ℕ) where
   none-placed u h = none-stored (placedCode t a b i) u ∙ ap (λ (k : ℕ). over u 0 (firsts (placedCode t a b i) k)) h
 
 -- the places of a table's sections
-module _ (t : List ℕ) (s : Sections) (i : ℕ) (e : Entry) (m n a b room : ℕ) (types-at : a ≡ typePlace s 0) (members-at : b ≡ memberPlace s (e .first + m)) (most : n ≡ smaller room (e .count - m)) where
+module _ (t : List ℕ) (s : Sections) (i : ℕ) (e : Entry) (m n a b room : ℕ) (types-at : a ≡ typePlace s 0)
+    (members-at : b ≡ memberPlace s (e .first + m)) (most : n ≡ smaller room (e .count - m)) where
   type-placed : (c : ℕ) → typeAt t (placed a b) c ≡ typeAt t s c
   unfolding typeAt
   type-placed c =
@@ -246,7 +261,8 @@ module _ (t : List ℕ) (s : Sections) (i : ℕ) (e : Entry) (m n a b room : ℕ
   pub codes-placed : (u v : List ℕ) → v ≡ over u 0 (placedCodes t a b i n) → v ≡ over u 0 (codesOf t s i e m room)
   unfolding placedCodes codesOf
   codes-placed u v h =
-      h ∙ ap (over u 0) (firsts-same (placedCode t a b i) (codeAt t s i e m) (placedCount t a b i n) (λ k l. code-placed k) ∙ ap (firsts (codeAt t s i e m)) same-count)
+      h ∙ ap (over u 0) (firsts-same (placedCode t a b i) (codeAt t s i e m) (placedCount t a b i n) (λ k l. code-placed k)
+      ∙ ap (firsts (codeAt t s i e m)) same-count)
 
 -- no member is left
 module _ (t : List ℕ) (s : Sections) (i : ℕ) (e : Entry) (m room : ℕ) (end : e .count ≤ m) where

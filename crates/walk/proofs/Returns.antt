@@ -50,7 +50,8 @@ module _ (c : Codec) (n code : ℕ) (ok : ℕ → Bool) (p : Place) (x : List �
   unfolding item
   item-bad h g = rw (h, g) refl
 
-  pub item-on : c .there code p ≡ true → (allowed code (c .word code p) && ok (c .word code p)) ≡ true → item c n code ok p x ≡ on (c .after code p) (written x (p .to) (c .gives code (c .word code p)))
+  pub item-on : c .there code p ≡ true → (allowed code (c .word code p) && ok (c .word code p)) ≡ true → item c n code ok p x
+      ≡ on (c .after code p) (written x (p .to) (c .gives code (c .word code p)))
   unfolding item
   item-on h g = rw (h, g) refl
 
@@ -92,13 +93,16 @@ module _ (w : Codec) (t : List ℕ) (s : Sections) (c : ℕ) (tr : Tree) (p : Pl
   unfolding metWalk treeOf walk
   broken-is = refl
 
-  pub met-leaf : (e : Entry) (r : Walked) (y : List ℕ) → m ≡ Leaf e → r ≡ answer (leafWalk w t s e p x) → y ≡ left (leafWalk w t s e p x) → Did (walk w tr p x) r y
+  pub met-leaf : (e : Entry) (r : Walked) (y : List ℕ) → m ≡ Leaf e → r ≡ answer (leafWalk w t s e p x) → y ≡ left (leafWalk w t s e p x)
+      → Did (walk w tr p x) r y
   met-leaf e r y h u v = did (leafWalk w t s e p x) r y (met-walk ∙ ap (λ o. metWalk w t s c o p x) h ∙ leaf-is e) (u, v)
 
-  pub met-members : (e : Entry) (r : Walked) (y : List ℕ) → m ≡ Members e → r ≡ answer (metWalk w t s c (Members e) p x) → y ≡ left (metWalk w t s c (Members e) p x) → Did (walk w tr p x) r y
+  pub met-members : (e : Entry) (r : Walked) (y : List ℕ) → m ≡ Members e → r ≡ answer (metWalk w t s c (Members e) p x) → y
+      ≡ left (metWalk w t s c (Members e) p x) → Did (walk w tr p x) r y
   met-members e r y h u v = did (metWalk w t s c (Members e) p x) r y (met-walk ∙ ap (λ o. metWalk w t s c o p x) h) (u, v)
 
-  pub met-elements : (e : Entry) (r : Walked) (y : List ℕ) → m ≡ Elements e → r ≡ answer (metWalk w t s c (Elements e) p x) → y ≡ left (metWalk w t s c (Elements e) p x) → Did (walk w tr p x) r y
+  pub met-elements : (e : Entry) (r : Walked) (y : List ℕ) → m ≡ Elements e → r ≡ answer (metWalk w t s c (Elements e) p x) → y
+      ≡ left (metWalk w t s c (Elements e) p x) → Did (walk w tr p x) r y
   met-elements e r y h u v = did (metWalk w t s c (Elements e) p x) r y (met-walk ∙ ap (λ o. metWalk w t s c o p x) h) (u, v)
 
   pub met-broken : m ≡ Broken → Did (walk w tr p x) (Stopped 32 p) x
@@ -123,7 +127,8 @@ memberStep w t s i e k q y = walk w (child t s i (memberAt t s (e .first + k))) 
 abbrev pub elementStep : Codec → List ℕ → Sections → ℕ → ℕ → ℕ → Place → List ℕ → Step
 elementStep w t s i c k q y = walk w (child t s i c) q y
 
-pub as-member : (w : Codec) (t : List ℕ) (s : Sections) (i : ℕ) (e : Entry) (k : ℕ) (q : Place) (y : List ℕ) (c : ℕ) (r : Walked) (z : List ℕ) → c ≡ memberAt t s (e .first + k) → Did (walk w (child t s i c) q y) r z → Did (memberStep w t s i e k q y) r z
+pub as-member : (w : Codec) (t : List ℕ) (s : Sections) (i : ℕ) (e : Entry) (k : ℕ) (q : Place) (y : List ℕ) (c : ℕ) (r : Walked)
+    (z : List ℕ) → c ≡ memberAt t s (e .first + k) → Did (walk w (child t s i c) q y) r z → Did (memberStep w t s i e k q y) r z
 as-member w t s i e k q y c r z h d = subst (λ (n : ℕ). Did (walk w (child t s i n) q y) r z) h d
 
 as-did : (a st : Step) (r : Walked) (y : List ℕ) → a ≡ st → Did st r y → Did a r y
@@ -141,7 +146,8 @@ module _ (w : Codec) (t : List ℕ) (s : Sections) (i : ℕ) (e : Entry) (p : Pl
   unfolding metWalk treeOf walk child elementsOf begun times next
   elements-are = go (eqb (e .kind) 3) refl
     where
-      go : (u : Bool) → eqb (e .kind) 3 ≡ u → metWalk w t s i (Elements e) p x ≡ next (begun w e p x) (λ q y. through (times w e p) (elementStep w t s i (e .of)) q y)
+      go : (u : Bool) → eqb (e .kind) 3 ≡ u → metWalk w t s i (Elements e) p x
+          ≡ next (begun w e p x) (λ q y. through (times w e p) (elementStep w t s i (e .of)) q y)
       go true h = rw h refl
       go false h = rw h refl
 
@@ -154,7 +160,8 @@ module _ (w : Codec) (t : List ℕ) (s : Sections) (i : ℕ) (e : Entry) (p : Pl
         ∙ ap (λ st. next st (λ q y. through (times w e p) (elementStep w t s i (e .of)) q y))
         (stopped (begun w e p x) n o (sym h ∙ begins .0) ∙ ap (stop n o) (sym (begins .1))))
 
-    pub elements-did : (q : Place) (n : ℕ) (v : Walked) (z : List ℕ) → r ≡ Went q → n ≡ times w e p → Did (through n (elementStep w t s i (e .of)) q y) v z → Did (metWalk w t s i (Elements e) p x) v z
+    pub elements-did : (q : Place) (n : ℕ) (v : Walked) (z : List ℕ) → r ≡ Went q → n ≡ times w e p
+        → Did (through n (elementStep w t s i (e .of)) q y) v z → Did (metWalk w t s i (Elements e) p x) v z
     unfolding next
     elements-did q n v z h c d =
         as-did (metWalk w t s i (Elements e) p x) (through n (elementStep w t s i (e .of)) q y) v z
@@ -189,6 +196,7 @@ pub tree-looked : (t : List ℕ) (s : Sections) (i : ℕ) (m : Met) → m ≡ lo
 unfolding tree
 tree-looked t s i m h = ap (treeOf t s (trees t s i)) (sym h)
 
-pub type-did : (w : Codec) (t : List ℕ) (s : Sections) (i : ℕ) (p : Place) (x : List ℕ) (r : Walked) (y : List ℕ) → Did (walk w (tree t s i) p x) r y → Did (typeWalk w t s i p x) r y
+pub type-did : (w : Codec) (t : List ℕ) (s : Sections) (i : ℕ) (p : Place) (x : List ℕ) (r : Walked) (y : List ℕ)
+    → Did (walk w (tree t s i) p x) r y → Did (typeWalk w t s i p x) r y
 unfolding typeWalk
 type-did w t s i p x r y d = d

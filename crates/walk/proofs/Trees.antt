@@ -37,11 +37,13 @@ unfolding byKind
 an-array e h k = sym (no-le (Leaf e) (cond (eqb (e .kind) 2) (Members e) (Elements e)) (e .kind) 1 h ∙ no-eq (Members e) (Elements e) (e .kind) 2 k)
 
 -- an entry as one number
-pub packed-in : (e : Entry) → e .kind < 65536 → e .of < 65536 → e .first < 65536 → e .count < 65536 → entryIn (e .kind * 281474976710656 + e .of * 4294967296 + e .first * 65536 + e .count) ≡ e
+pub packed-in : (e : Entry) → e .kind < 65536 → e .of < 65536 → e .first < 65536 → e .count < 65536
+    → entryIn (e .kind * 281474976710656 + e .of * 4294967296 + e .first * 65536 + e .count) ≡ e
 unfolding entryIn
 packed-in e a b c d = go (e .kind) (e .of) (e .first) (e .count) a b c d
   where
-    go : (k o f n : ℕ) → k < 65536 → o < 65536 → f < 65536 → n < 65536 → _≡_ {A = Entry} (entryIn (k * 281474976710656 + o * 4294967296 + f * 65536 + n)) (record { kind = k; of = o; first = f; count = n })
+    go : (k o f n : ℕ) → k < 65536 → o < 65536 → f < 65536 → n < 65536
+        → _≡_ {A = Entry} (entryIn (k * 281474976710656 + o * 4294967296 + f * 65536 + n)) (record { kind = k; of = o; first = f; count = n })
     go k o f n a b c d =
         let w = k * 281474976710656 + o * 4294967296 + f * 65536 + n in
         let q0 : w / 281474976710656 ≡ k = omega arith in
@@ -58,7 +60,14 @@ kind-few s i e h = go (leb (e .kind) 4) refl
     go true t = leb-true (e .kind) 4 t
     go false t =
         let l : 4 < e .kind = leb-false (e .kind) 4 t in
-        let f : fieldsOk s i e ≡ false = rw (ne-eqb (e .kind) 0 (λ q. omega arith), ne-eqb (e .kind) 1 (λ q. omega arith), ne-eqb (e .kind) 2 (λ q. omega arith), ne-eqb (e .kind) 3 (λ q. omega arith), ne-eqb (e .kind) 4 (λ q. omega arith)) refl in
+        let f : fieldsOk s i e ≡ false =
+        rw (
+          ne-eqb (e .kind) 0 (λ q. omega arith),
+          ne-eqb (e .kind) 1 (λ q. omega arith),
+          ne-eqb (e .kind) 2 (λ q. omega arith),
+          ne-eqb (e .kind) 3 (λ q. omega arith),
+          ne-eqb (e .kind) 4 (λ q. omega arith),
+        ) refl in
         absurd (true≢false (sym h ∙ f))
 
 pub met-good : (w : ℕ) → w / 281474976710656 ≤ 4 → {m : Met} → m ≡ byKind (entryIn w) → m ≡ metIn w
@@ -76,7 +85,8 @@ kind-of : (w : ℕ) (e : Entry) → entryIn w ≡ e → w / 281474976710656 ≡ 
 unfolding entryIn
 kind-of w e r = ap (λ (x : Entry). x .kind) r
 
-pub an-entry : (w : ℕ) → _≡_ {A = Entry} (record { kind = w / 281474976710656; of = w / 4294967296 % 65536; first = w / 65536 % 65536; count = w % 65536 }) (entryIn w)
+pub an-entry : (w : ℕ) → _≡_ {A = Entry}
+    (record { kind = w / 281474976710656; of = w / 4294967296 % 65536; first = w / 65536 % 65536; count = w % 65536 }) (entryIn w)
 unfolding entryIn
 an-entry w = refl
 
@@ -127,7 +137,8 @@ module _ (t : List ℕ) (s : Sections) where
   known (suc n) c h =
       let l : c ≤ n = omega arith in
       ⊎-elim
-      (λ (e : c ≡ n). ap (λ (k : ℕ). getD (trees t s (suc n)) k broken) e ∙ getD-at (trees t s n) (tree t s n) [] broken n (length-trees n) ∙ ap (tree t s) (sym e))
+      (λ (e : c ≡ n). ap (λ (k : ℕ). getD (trees t s (suc n)) k broken) e ∙ getD-at (trees t s n) (tree t s n) [] broken n (length-trees n)
+      ∙ ap (tree t s) (sym e))
       (λ (g : c < n). List·getD-append (trees t s n) (tree t s n ∷ []) broken c (omega (arith, length-trees n)) ∙ known n c g)
       (eq-or-lt-of-le l)
 

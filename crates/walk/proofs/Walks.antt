@@ -65,12 +65,14 @@ module _ (P : Place → List ℕ → Type 0) where
   next-holds (on p x) f h g = g p x h
   next-holds (stop n p x) f h g = h
 
-  through-holds : (n : ℕ) (f : ℕ → Place → List ℕ → Step) (p : Place) (x : List ℕ) → P p x → ((k : ℕ) (q : Place) (y : List ℕ) → P q y → Holds (f k q y)) → Holds (through n f p x)
+  through-holds : (n : ℕ) (f : ℕ → Place → List ℕ → Step) (p : Place) (x : List ℕ) → P p x
+      → ((k : ℕ) (q : Place) (y : List ℕ) → P q y → Holds (f k q y)) → Holds (through n f p x)
   unfolding through
   through-holds zero f p x h g = h
   through-holds (suc n) f p x h g = next-holds (through n f p x) (f n) (through-holds n f p x h g) (g n)
 
-  module _ (c : Codec) (over : (code : ℕ) (p : Place) (x : List ℕ) → c .there code p ≡ true → allowed code (c .word code p) ≡ true → P p x → P (c .after code p) (written x (p .to) (c .gives code (c .word code p)))) where
+  module _ (c : Codec) (over : (code : ℕ) (p : Place) (x : List ℕ) → c .there code p ≡ true → allowed code (c .word code p) ≡ true → P p x
+      → P (c .after code p) (written x (p .to) (c .gives code (c .word code p)))) where
     item-holds : (n code : ℕ) (ok : ℕ → Bool) (p : Place) (x : List ℕ) → P p x → Holds (item c n code ok p x)
     unfolding item
     item-holds n code ok p x h = go (c .there code p) (allowed code (c .word code p) && ok (c .word code p)) refl refl
@@ -127,14 +129,16 @@ pub width-few : (n code : ℕ) → n ≡ width code → n ≤ 8
 width-few n code h = omega (arith, few-bytes code)
 
 -- what is written into makes no difference to where a walk comes
-next-same : (a b : Step) (f : Place → List ℕ → Step) → answer a ≡ answer b → ((q : Place) (y z : List ℕ) → answer (f q y) ≡ answer (f q z)) → answer (next a f) ≡ answer (next b f)
+next-same : (a b : Step) (f : Place → List ℕ → Step) → answer a ≡ answer b → ((q : Place) (y z : List ℕ) → answer (f q y) ≡ answer (f q z))
+    → answer (next a f) ≡ answer (next b f)
 unfolding next answer
 next-same (on p x) (on q y) f h g = g p x y ∙ ap (λ (o : Place). answer (f o y)) cc
 next-same (on p x) (stop n q y) f h g = absurd (let z : _≡_ {A = ℕ} 0 1 = cc in omega arith)
 next-same (stop n p x) (on q y) f h g = absurd (let z : _≡_ {A = ℕ} 0 1 = cc in omega arith)
 next-same (stop n p x) (stop m q y) f h g = h
 
-through-same : (n : ℕ) (f : ℕ → Place → List ℕ → Step) (p : Place) (x y : List ℕ) → ((k : ℕ) (q : Place) (u v : List ℕ) → answer (f k q u) ≡ answer (f k q v)) → answer (through n f p x) ≡ answer (through n f p y)
+through-same : (n : ℕ) (f : ℕ → Place → List ℕ → Step) (p : Place) (x y : List ℕ)
+    → ((k : ℕ) (q : Place) (u v : List ℕ) → answer (f k q u) ≡ answer (f k q v)) → answer (through n f p x) ≡ answer (through n f p y)
 unfolding through answer
 through-same zero f p x y g = refl
 through-same (suc n) f p x y g = next-same (through n f p x) (through n f p y) (f n) (through-same n f p x y g) (g n)
@@ -143,7 +147,8 @@ item-same : (c : Codec) (n code : ℕ) (ok : ℕ → Bool) (p : Place) (x y : Li
 unfolding item answer
 item-same c n code ok p x y = go (c .there code p) (allowed code (c .word code p) && ok (c .word code p)) refl refl
   where
-    go : (a b : Bool) → c .there code p ≡ a → (allowed code (c .word code p) && ok (c .word code p)) ≡ b → answer (item c n code ok p x) ≡ answer (item c n code ok p y)
+    go : (a b : Bool) → c .there code p ≡ a → (allowed code (c .word code p) && ok (c .word code p)) ≡ b → answer (item c n code ok p x)
+        ≡ answer (item c n code ok p y)
     go true true e g = rw (e, g) refl
     go true false e g = rw (e, g) refl
     go false b e g = rw e refl

@@ -67,7 +67,8 @@ module _ (c : Codec) (n : ℕ) (t : List ℕ) (s : Sections) (i : ℕ) (x : List
             (f ∙ walk-same c (tree t s i) start y [], all z (g ∙ ap (λ (u : List ℕ). left (typeWalk c t s i start u)) same) (whole-is ∙ e))
 
   -- a walk that goes to q whatever it writes into, of which nothing was stored before it had
-  pub gone : (q : Place) (l : List ℕ → List ℕ) → ((z : List ℕ) → typeWalk c t s i start z ≡ on q (l z)) → (r : Walked) (y : List ℕ) → r ≡ Went q → y ≡ cond (fits n (length x) q) (l x) x → Gives r y
+  pub gone : (q : Place) (l : List ℕ → List ℕ) → ((z : List ℕ) → typeWalk c t s i start z ≡ on q (l z)) → (r : Walked) (y : List ℕ) → r
+      ≡ Went q → y ≡ cond (fits n (length x) q) (l x) x → Gives r y
   unfolding allOrNothing isWhole answer left
   gone q l goes r y h e = (
     h ∙ ap answer (sym (goes [])),

@@ -65,7 +65,9 @@ fn are_there(len: usize, types: usize, members: usize, i: u16, n: usize) -> bool
 fn codes_in(types: &[u8], members: &[u8], i: u16, n: usize, codes: &mut [u8]) -> usize
     requires { ⌜ Parts (now types) (now members) i n (now codes) ⌝ }
     ensures { λ r. ⌜ r ≡ leading (partCode (now (types .entry)) (now (members .entry)) i) n ⌝ }
-    ensures { λ _. ⌜ now (codes .exit) ≡ over (now (codes .entry)) 0 (firsts (partCode (now (types .entry)) (now (members .entry)) i) (leading (partCode (now (types .entry)) (now (members .entry)) i) n)) ⌝ }
+    ensures { λ _. ⌜ now (codes .exit)
+        ≡ over (now (codes .entry)) 0
+        (firsts (partCode (now (types .entry)) (now (members .entry)) i) (leading (partCode (now (types .entry)) (now (members .entry)) i) n)) ⌝ }
 {
     let mut k: usize = 0;
     while k < n {

@@ -118,7 +118,13 @@ number-bytes (suc k) x ys h =
     let b : List ℕ = bytes k (x % span k) in
     let q : x / span k < span k = div-lt-iff-lt-mul (span-pos k) .1 (subst (λ (n : ℕ). x < n) (span-suc k) h) in
     let l : length a + 0 ≡ 0 + 2 ^ k = omega (arith, length-bytes k (x / span k)) in
-    rw (append-assoc a b ys, number-bytes k (x / span k) (b ++ ys) q, ← l, number-append k a (b ++ ys) 0, number-bytes k (x % span k) ys (mod-lt x (span-pos k)))
+    rw (
+      append-assoc a b ys,
+      number-bytes k (x / span k) (b ++ ys) q,
+      ← l,
+      number-append k a (b ++ ys) 0,
+      number-bytes k (x % span k) ys (mod-lt x (span-pos k)),
+    )
     (div-add-mod' x (span k))
 
 pub bytes-number : (k : ℕ) (s : List ℕ) (p : ℕ) → Octets s → p + 2 ^ k ≤ length s → bytes k (number k s p) ≡ take (2 ^ k) (drop p s)

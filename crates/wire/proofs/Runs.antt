@@ -60,7 +60,8 @@ over-over s p a b h =
     rw (e, take-at x d (p + length a) n, g, l) (simp (append-assoc, add-assoc))
 
 -- a run written behind what was written at the start
-pub written-behind : {m e : List ℕ} (s a b : List ℕ) (p : ℕ) → m ≡ over s 0 a → p ≡ length a → length a + length b ≤ length s → e ≡ written m p b → e ≡ over s 0 (a ++ b)
+pub written-behind : {m e : List ℕ} (s a b : List ℕ) (p : ℕ) → m ≡ over s 0 a → p ≡ length a → length a + length b ≤ length s → e
+    ≡ written m p b → e ≡ over s 0 (a ++ b)
 written-behind {m} s a b p i q h w =
     let l : length (a ++ b) ≡ length a + length b = length-append a b in
     let n : length m ≡ length s = ap length i ∙ length-over s 0 a (omega arith) in
@@ -89,7 +90,8 @@ over-none s p r = sym (ap (λ (k : ℕ). take p s ++ drop k s) (add-zero p) ∙ 
 pub set-over : (s : List ℕ) (p x : ℕ) → p < length s → set s p x ≡ over s p (x ∷ [])
 set-over s p x h = set-split s p x h ∙ ap (λ (k : ℕ). take p s ++ (x ∷ drop k s)) (sym (add-one p))
 
-pub over-more : {u : List ℕ} (s : List ℕ) (p : ℕ) (r : List ℕ) (j : ℕ) → u ≡ over s p (take j r) → p + length r ≤ length s → j < length r → set u (p + j) (getD r j 0) ≡ over s p (take (j + 1) r)
+pub over-more : {u : List ℕ} (s : List ℕ) (p : ℕ) (r : List ℕ) (j : ℕ) → u ≡ over s p (take j r) → p + length r ≤ length s → j < length r
+    → set u (p + j) (getD r j 0) ≡ over s p (take (j + 1) r)
 over-more s p r j e h i =
     let l : length (take j r) ≡ j = length-take-le j r (omega arith) in
     let m : length (over s p (take j r)) ≡ length s = length-over s p (take j r) (omega arith) in

@@ -58,15 +58,18 @@ pub wrote-swapped : (k : ℕ) {y : ℕ} {e : List ℕ} (s : List ℕ) (p x : ℕ
 wrote-swapped k s p x h y e = e ∙ ap (λ (z : ℕ). over s p (lowFirst k z)) y ∙ ap (over s p) (low-swapped k x h)
 
 -- four bytes, each by its weight, are two halves; so are those of a swapped number
-pub four-little : {a b c d : ℕ} (s : List ℕ) (p : ℕ) → a ≡ number 0 s p → b ≡ number 0 s (p + 1) → c ≡ number 0 s (p + 2) → d ≡ number 0 s (p + 3) → a + b * 256 + c * 65536 + d * 16777216 ≡ little 2 s p
+pub four-little : {a b c d : ℕ} (s : List ℕ) (p : ℕ) → a ≡ number 0 s p → b ≡ number 0 s (p + 1) → c ≡ number 0 s (p + 2) → d
+    ≡ number 0 s (p + 3) → a + b * 256 + c * 65536 + d * 16777216 ≡ little 2 s p
 four-little s p a b c d = omega (arith, ap (number 0 s) (add-assoc p 2 1))
 
 -- the bytes of a number's two halves are the number's
 low-byte : (x : ℕ) → x % 65536 % 256 ≡ x % 256
-low-byte x = ap (λ (n : ℕ). n % 256) (mod-mul x {m = 256} {c = 256} (zero-lt-suc 255) (zero-lt-suc 255)) ∙ digits-mod (x / 256 % 256) (mod-lt x (zero-lt-suc 255))
+low-byte x = ap (λ (n : ℕ). n % 256) (mod-mul x {m = 256} {c = 256} (zero-lt-suc 255) (zero-lt-suc 255))
+    ∙ digits-mod (x / 256 % 256) (mod-lt x (zero-lt-suc 255))
 
 next-byte : (x : ℕ) → x % 65536 / 256 ≡ x / 256 % 256
-next-byte x = ap (λ (n : ℕ). n / 256) (mod-mul x {m = 256} {c = 256} (zero-lt-suc 255) (zero-lt-suc 255)) ∙ digits-div (x / 256 % 256) (mod-lt x (zero-lt-suc 255))
+next-byte x = ap (λ (n : ℕ). n / 256) (mod-mul x {m = 256} {c = 256} (zero-lt-suc 255) (zero-lt-suc 255))
+    ∙ digits-div (x / 256 % 256) (mod-lt x (zero-lt-suc 255))
 
 top-byte : (x : ℕ) → x / 65536 / 256 ≡ x / 16777216
 top-byte x = div-div-eq-div-mul x 65536 256
@@ -76,13 +79,15 @@ weighed a b c d = omega arith
 
 pub four-swapped : (x : ℕ) → x % 256 * 16777216 + x / 256 % 256 * 65536 + x / 65536 % 256 * 256 + x / 16777216 ≡ swapped 2 x
 four-swapped x =
-    let e : (x % 65536 % 256 * 256 + x % 65536 / 256) * 65536 + (x / 65536 % 256 * 256 + x / 65536 / 256) ≡ (x % 256 * 256 + x / 256 % 256) * 65536 + (x / 65536 % 256 * 256 + x / 16777216) =
+    let e : (x % 65536 % 256 * 256 + x % 65536 / 256) * 65536 + (x / 65536 % 256 * 256 + x / 65536 / 256)
+    ≡ (x % 256 * 256 + x / 256 % 256) * 65536 + (x / 65536 % 256 * 256 + x / 16777216) =
     rw (low-byte x, next-byte x, top-byte x) in
     weighed (x % 256) (x / 256 % 256) (x / 65536 % 256) (x / 16777216) ∙ sym e
 
 -- two halves that are written one behind the other
 module _ (k : ℕ) (s : List ℕ) (p x : ℕ) where
-  pub halves : {m e : List ℕ} → p + 2 ^ suc k ≤ length s → m ≡ over s p (lowFirst k (x % span k)) → e ≡ over m (p + 2 ^ k) (lowFirst k (x / span k)) → e ≡ over s p (lowFirst (suc k) x)
+  pub halves : {m e : List ℕ} → p + 2 ^ suc k ≤ length s → m ≡ over s p (lowFirst k (x % span k)) → e
+      ≡ over m (p + 2 ^ k) (lowFirst k (x / span k)) → e ≡ over s p (lowFirst (suc k) x)
   halves {m} {e} h a b =
       let ha : List ℕ = lowFirst k (x % span k) in
       let hb : List ℕ = lowFirst k (x / span k) in
@@ -95,7 +100,8 @@ module _ (k : ℕ) (s : List ℕ) (p x : ℕ) where
 pub still-in : (n p i m : ℕ) → p + m ≤ n → i < m → p + i < n
 still-in n p i m h l = omega arith
 
-set-behind : {u : List ℕ} (s : List ℕ) (p x : ℕ) (b : List ℕ) (n : ℕ) → u ≡ over s p b → length b ≡ n → p + n < length s → set u (p + n) x ≡ over s p (b ++ (x ∷ []))
+set-behind : {u : List ℕ} (s : List ℕ) (p x : ℕ) (b : List ℕ) (n : ℕ) → u ≡ over s p b → length b ≡ n → p + n < length s → set u (p + n) x
+    ≡ over s p (b ++ (x ∷ []))
 set-behind {u} s p x b n e l h =
     let m : length (b ++ (x ∷ [])) ≡ length b + 1 = length-append b (x ∷ []) in
     let k : length (over s p b) ≡ length s = length-over s p b (omega arith) in
@@ -107,7 +113,8 @@ set-behind {u} s p x b n e l h =
 pub two-stored : (s : List ℕ) (p a b : ℕ) → p + 2 ≤ length s → set (set s p a) (p + 1) b ≡ over s p (a ∷ b ∷ [])
 two-stored s p a b h = set-behind s p b (a ∷ []) 1 (set-over s p a (omega arith)) refl (omega arith)
 
-pub four-stored : (s : List ℕ) (p x : ℕ) → p + 4 ≤ length s → set (set (set (set s p (x % 256)) (p + 1) (x / 256 % 256)) (p + 2) (x / 65536 % 256)) (p + 3) (x / 16777216) ≡ over s p (lowFirst 2 x)
+pub four-stored : (s : List ℕ) (p x : ℕ) → p + 4 ≤ length s
+    → set (set (set (set s p (x % 256)) (p + 1) (x / 256 % 256)) (p + 2) (x / 65536 % 256)) (p + 3) (x / 16777216) ≡ over s p (lowFirst 2 x)
 four-stored s p x h =
     let a : ℕ = x % 256 in
     let b : ℕ = x / 256 % 256 in

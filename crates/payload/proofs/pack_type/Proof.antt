@@ -12,4 +12,6 @@ pack-type-spec =
     (λ c κs. search needs)
     (λ c κs. search needs)
     (λ c. search needs)
-    (λ c. type-answered _ _ _ _ _ _ _ _ _ (c .before .before .before .write-type .ensures .0) (c .before .before .before .write-type .ensures .1) (c .answered .ensures)))
+    (λ c.
+    let at-write-type = c .before .before .before in
+    type-answered _ _ _ _ _ _ _ _ _ (at-write-type .write-type .ensures .0) (at-write-type .write-type .ensures .1) (c .answered .ensures)))

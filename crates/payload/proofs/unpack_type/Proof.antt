@@ -12,4 +12,6 @@ unpack-type-spec =
     (λ c κs. search needs)
     (λ c κs. search needs)
     (λ c. search needs)
-    (λ c. type-answered _ _ _ _ _ _ _ _ _ (c .before .before .before .read-type .ensures .0) (c .before .before .before .read-type .ensures .1) (c .answered .ensures)))
+    (λ c.
+    let at-read-type = c .before .before .before in
+    type-answered _ _ _ _ _ _ _ _ _ (at-read-type .read-type .ensures .0) (at-read-type .read-type .ensures .1) (c .answered .ensures)))

@@ -23,6 +23,8 @@ read-spec =
     (λ c. search needs)
     (λ c. search needs)
     (λ c κs. search needs)
-    (λ c. let k = c .before .before .before .before .before in let o : Octets (k .before .args .datagram .now) = λ i. omega (arith, k .shared-slice-known .given i) in search a-header)
-    (λ c. let k = c .before .before .before in let o : Octets (k .before .args .datagram .now) = λ i. omega (arith, k .shared-slice-known .given i) in search no-version)
+    (λ c. let k = c .before .before .before .before .before in let o : Octets (k .before .args .datagram .now) = λ i. omega
+    (arith, k .shared-slice-known .given i) in search a-header)
+    (λ c. let k = c .before .before .before in let o : Octets (k .before .args .datagram .now) = λ i. omega
+    (arith, k .shared-slice-known .given i) in search no-version)
     (λ c. search not-so-long))

@@ -42,7 +42,10 @@ rise-spec =
     (λ c. search needs)
     (λ c. search needs)
     (λ c. search needs)
-    (λ c. record { fits = omega (arith, c .before .before .before .before .shared-slice-known3 .given (recordAt (c .before .before .before .before .before .before .loop .i))) })
+    (λ c.
+    let at-shared-slice-known3 = c .before .before .before .before in
+    let turn = at-shared-slice-known3 .before .before in
+    record { fits = omega (arith, at-shared-slice-known3 .shared-slice-known3 .given (recordAt (turn .loop .i))) })
     (λ c. search needs)
     (λ c. search needs)
     (λ c.

@@ -18,4 +18,5 @@ is-other-spec =
     (λ c. let l = c .before in
     let b = l .before in
     let a = b .before in
-    sender-judged (a .before .before .args .own .platform) (now (a .before .before .args .message)) (λ i. a .before .shared-slice-known .given i .fits) (a .u16-at .ensures) (b .u8-at .ensures) (l .u8-at2 .ensures)))
+    sender-judged (a .before .before .args .own .platform) (now (a .before .before .args .message))
+    (λ i. a .before .shared-slice-known .given i .fits) (a .u16-at .ensures) (b .u8-at .ensures) (l .u8-at2 .ensures)))

@@ -34,12 +34,23 @@ store-codes-spec =
     (λ c. search needs)
     (λ c κs. search needs)
     (λ c κs. search needs)
-    (λ c. next-fits _ _ _ _ _ (c .width .ensures) (c .before .before .before .before .before .before .before .if2 .left) (c .before .before .before .before .before .before .before .before .before .loop .inv .1) (c .before .before .before .before .before .before .before .before .before .before .before .before .before .before .before .good .1 .0 .1))
+    (λ c.
+    let at-if2 = c .before .before .before .before .before .before .before in
+    let turn = at-if2 .before .before in
+    let at-good = turn .before .before .before .before .before .before in
+    next-fits _ _ _ _ _ (c .width .ensures) (at-if2 .if2 .left) (turn .loop .inv .1) (at-good .good .1 .0 .1))
     (λ c. search needs)
     (λ c. search needs)
     (λ c.
     let n = c .before .before .before .before .before .before .before .before .before .before .least .ensures in
-    let l = c .before .before .before .before .before .before .before .before .before .loop in
-    (leads-on _ _ _ (l .k) _ (n .0) (n .1) (c .before .before .before .before .before .before .before .before .loop-test .taken) _ (l .to) _ (l .inv .0) _ (c .width .ensures) _ (c .before .before .before .put-base .ensures), search as-many, search needs))
+    let l = c .before .before .before .before .before .before .before .before .before .loop in (
+      leads-on _ _ _ (l .k) _ (n .0) (n .1) (c .before .before .before .before .before .before .before .before .loop-test .taken) _ (l .to) _
+          (l .inv .0) _ (c .width .ensures) _ (c .before .before .before .put-base .ensures),
+      search as-many,
+      search needs,
+    ))
     (λ c. search needs)
-    (λ c. let l = c .before .before .least .ensures in leads-end _ _ _ (c .before .loop .k) _ (l .0) (l .1) (c .loop-test .left) (l .2) _ (c .before .loop .to) _ (c .before .loop .inv .0)))
+    (λ c.
+    let at-least = c .before .before in
+    let l = at-least .least .ensures in leads-end _ _ _ (c .before .loop .k) _ (l .0) (l .1) (c .loop-test .left) (l .2) _
+    (c .before .loop .to) _ (c .before .loop .inv .0)))

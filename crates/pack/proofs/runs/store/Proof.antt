@@ -17,5 +17,12 @@ store-spec =
     (λ c κs. search needs)
     (λ c κs. (search needs, search fit-in))
     (λ c. search needs)
-    (λ c. all-that-fit _ _ _ _ (c .before .before .before .before .before .before .before .before .before .before .before .pre .0) _ _ _ _ (c .before .before .before .before .before .width .ensures) (c .before .before .before .before .before .before .before .if1 .taken) refl (c .before .before .before .least .ensures .1) (c .before .before .before .least .ensures .2) (c .before .before .store-each .ensures))
+    (λ c.
+    let at-store-each = c .before .before in
+    let at-least = at-store-each .before in
+    let at-width = at-least .before .before in
+    let at-if1 = at-width .before .before in
+    let at-pre = at-if1 .before .before .before .before in
+    all-that-fit _ _ _ _ (at-pre .pre .0) _ _ _ _ (at-width .width .ensures) (at-if1 .if1 .taken) refl (at-least .least .ensures .1)
+    (at-least .least .ensures .2) (at-store-each .store-each .ensures))
     (λ c. search none-fits))

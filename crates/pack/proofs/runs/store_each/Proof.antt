@@ -27,9 +27,18 @@ store-each-spec =
     (λ c. search at-place)
     (λ c. search needs)
     (λ c. search needs)
-    (λ c κs. at-room _ _ _ _ _ _ (c .before .before .before .before .before .before .width .ensures) (c .before .before .before .before .loop-test .taken) (c .before .before .before .before .before .before .before .before .before .pre .1) (as-long _ _ _ _ _ (c .before .before .before .before .before .loop .inv .1)))
+    (λ c κs.
+    let at-loop-test = c .before .before .before .before in
+    let turn = at-loop-test .before in
+    let at-width = turn .before in
+    let at-pre = at-width .before .before .before in
+    at-room _ _ _ _ _ _ (at-width .width .ensures) (at-loop-test .loop-test .taken) (at-pre .pre .1) (as-long _ _ _ _ _ (turn .loop .inv .1)))
     (λ c. search needs)
     (λ c. search needs)
-    (λ c. (search needs, one-stored _ _ _ _ _ _ (c .before .before .before .before .before .before .before .before .before .width .ensures) (c .before .before .before .before .before .before .before .before .loop .inv .1) (c .before .before .set .ensures)))
+    (λ c. (
+      search needs,
+      one-stored _ _ _ _ _ _ (c .before .before .before .before .before .before .before .before .before .width .ensures)
+          (c .before .before .before .before .before .before .before .before .loop .inv .1) (c .before .before .set .ensures),
+    ))
     (λ c. as-long _ _ _ _ _ (c .before .loop .inv .1))
     (λ c. all-stored _ _ _ _ _ _ (c .before .loop .inv .1) (c .before .loop .inv .0) (c .loop-test .left)))

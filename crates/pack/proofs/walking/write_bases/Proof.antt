@@ -43,5 +43,14 @@ write-bases-spec =
     let a = c .before .before .before .before .before .before .before .before .before .before .before .before .before .before .before .before in
     let b = c .before .before .before .before .before .before .before .before .before .before .before .base-codes .ensures in
     let j = c .before .before .before .before .before .before .before .before .judge-codes .ensures in
-    let s = c .before .before .before .before .before .store-codes .ensures in
-    ((search needs, taken-end _ _ _ _ _ _ _ (replicate 64 0) _ (b .0) (b .1) (a .args .p) _ _ (j .0) (j .1) (a .pre .1), writing-taken _ _ _ _ _ _ _ (replicate 64 0) _ (b .0) (b .1) (a .args .p) _ _ (j .0) (j .1) (a .pre .0)), (taken-long _ _ _ _ _ _ _ (replicate 64 0) _ (b .0) (b .1) (a .args .p) _ _ (j .0) (j .1) _ _ s, taken-written _ _ _ _ _ _ _ (replicate 64 0) _ (b .0) (b .1) (a .args .p) _ _ (j .0) (j .1) _ _ s))))
+    let s = c .before .before .before .before .before .store-codes .ensures in (
+      (
+        search needs,
+        taken-end _ _ _ _ _ _ _ (replicate 64 0) _ (b .0) (b .1) (a .args .p) _ _ (j .0) (j .1) (a .pre .1),
+        writing-taken _ _ _ _ _ _ _ (replicate 64 0) _ (b .0) (b .1) (a .args .p) _ _ (j .0) (j .1) (a .pre .0),
+      ),
+      (
+        taken-long _ _ _ _ _ _ _ (replicate 64 0) _ (b .0) (b .1) (a .args .p) _ _ (j .0) (j .1) _ _ s,
+        taken-written _ _ _ _ _ _ _ (replicate 64 0) _ (b .0) (b .1) (a .args .p) _ _ (j .0) (j .1) _ _ s,
+      ),
+    )))

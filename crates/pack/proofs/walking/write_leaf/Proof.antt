@@ -14,9 +14,24 @@ write-leaf-spec =
     (λ c κs. search needs)
     (λ c κs. search needs)
     (λ c κs. search needs)
-    (λ c. next-from _ _ (c .before .before .before .before .before .before .before .before .before .if1 .taken) (c .before .before .before .before .before .before .before .before .before .before .before .before .before .before .good .1 .1 .1 .0 .1))
-    (λ c. next-to _ _ _ (c .before .before .before .before .before .before .before .before .before .before .before .before .before .before .before .pre) (width-few _ _ (c .before .before .before .before .before .before .width .ensures)) (c .before .before .before .before .before .before .before .before .before .before .if1 .taken) (c .before .before .before .before .before .before .before .before .before .before .before .before .before .before .before .good .1 .1 .1 .0 .1))
+    (λ c.
+    let at-if1 = c .before .before .before .before .before .before .before .before .before in
+    let at-good = at-if1 .before .before .before .before .before in
+    next-from _ _ (at-if1 .if1 .taken) (at-good .good .1 .1 .1 .0 .1))
+    (λ c.
+    let at-width = c .before .before .before .before .before .before in
+    let at-if1 = at-width .before .before .before .before in
+    let at-pre = at-if1 .before .before .before .before .before in
+    next-to _ _ _ (at-pre .pre) (width-few _ _ (at-width .width .ensures)) (at-if1 .if1 .taken) (at-pre .good .1 .1 .1 .0 .1))
     (λ c. search needs)
-    (λ c. leaf-went _ _ _ _ _ _ (c .before .before .before .before .before .before .before .before .before .before .if1 .taken) _ (c .before .before .before .before .before .before .before .before .before .word-at .ensures) _ (c .before .before .before .before .before .before .before .before .takes .ensures) _ _ (c .before .before .before .before .before .before .before .if2 .taken) (c .before .before .before .before .before .before .width .ensures) (c .before .before .before .before .put .ensures))
+    (λ c.
+    let at-put = c .before .before .before .before in
+    let at-width = at-put .before .before in
+    let at-if2 = at-width .before in
+    let at-takes = at-if2 .before in
+    let at-word-at = at-takes .before in
+    let at-if1 = at-word-at .before in
+    leaf-went _ _ _ _ _ _ (at-if1 .if1 .taken) _ (at-word-at .word-at .ensures) _ (at-takes .takes .ensures) _ _ (at-if2 .if2 .taken)
+    (at-width .width .ensures) (at-put .put .ensures))
     (λ c. leaf-bad _ _ _ _ _ _ (c .before .before .before .if1 .taken) _ (c .before .before .word-at .ensures) _ (c .before .takes .ensures) (c .if2 .left))
     (λ c. leaf-short _ _ _ _ _ _ (c .if1 .left)))

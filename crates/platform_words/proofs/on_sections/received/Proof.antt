@@ -1,7 +1,8 @@
 -- `platform_words::received` meets its contract: an operation straight from its bytes, or what is answered.
 -- Assumes nothing.
 use borrow.Author.Needs.{needs}
-use Rattle.platform_words.proofs.Straight.{straight-number, straight-words, straight-output, straight-heard, answered-number, answered-words, answered-output, answered-heard}
+use Rattle.platform_words.proofs.Straight.{straight-number, straight-words, straight-output, straight-heard}
+use Rattle.platform_words.proofs.Straight.{answered-number, answered-words, answered-output, answered-heard}
 use Rattle.platform_words.proofs.on_sections.received.Statement.{statement}
 use Rattle.platform_words.proofs.on_sections.received.Tie as tie
 

@@ -7,4 +7,5 @@ use Rattle.recording.proofs.start.is_good_start.Statement.{statement}
 use Rattle.recording.proofs.start.is_good_start.Tie as tie
 
 pub is-good-start-spec : {M : Type 1} → statement M
-is-good-start-spec = tie.close (tie.spec (λ c. search count-fits) (λ c κs. search needs) (λ c. search start-judged) (λ c. search wrong-room) (λ c. search wrong-count))
+is-good-start-spec = tie.close
+    (tie.spec (λ c. search count-fits) (λ c κs. search needs) (λ c. search start-judged) (λ c. search wrong-room) (λ c. search wrong-count))

@@ -28,11 +28,17 @@ types-ok-spec =
     (λ c κs. search needs)
     (λ c. search needs)
     (λ c. search needs)
-    (λ c. let octets = c .before .before .before .before .shared-slice-known .given in (search needs, search (quick-loose, octets), λ h. search (quick-next, octets)))
+    (λ c. let octets = c .before .before .before .before .shared-slice-known .given
+    in (search needs, search (quick-loose, octets), λ h. search (quick-next, octets)))
     (λ c κs. search needs)
     (λ c. search needs)
     (λ c. search needs)
-    (λ c. (search needs, loose-next _ _ _ _ (c .before .enum-ok .ensures) (c .if2 .taken) (c .before .before .before .before .before .loop .inv .1), λ h. search not-risen))
+    (λ c. (
+      search needs,
+      loose-next _ _ _ _ (c .before .enum-ok .ensures) (c .if2 .taken)
+          (c .before .before .before .before .before .loop .inv .1),
+      λ h. search not-risen,
+    ))
     (λ c. search types-end)
     (λ c κs. search needs)
     (λ c. search types-rise)

@@ -13,7 +13,12 @@ is-there-spec =
     (λ c. search needs)
     (λ c κs. search needs)
     (λ c. search cut-off)
-    (λ c. surely _ _ _ _ (c .before .before .before .before .pre) (c .before .before .width .ensures) (c .before .if1 .left) (λ k. omega (arith, c .before .before .before .shared-slice-known .given k)) (c .if2 .taken))
+    (λ c.
+    let at-width = c .before .before in
+    let at-shared-slice-known = at-width .before in
+    let at-pre = at-shared-slice-known .before in
+    surely _ _ _ _ (at-pre .pre) (at-width .width .ensures) (c .before .if1 .left)
+    (λ k. omega (arith, at-shared-slice-known .shared-slice-known .given k)) (c .if2 .taken))
     (λ c κs. search all-there)
     (λ c κs. search needs)
     (λ c. search judged))

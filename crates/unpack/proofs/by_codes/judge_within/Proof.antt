@@ -13,7 +13,8 @@ use Rattle.unpack.proofs.by_codes.judge_within.Statement.{statement}
 use Rattle.unpack.proofs.by_codes.judge_within.Tie as tie
 
 abbrev Inv-loop : tie.InvT-loop
-Inv-loop payload codes first from₀ k₀ from k = (k + thereCount payload (drop k codes) from ≡ thereCount payload codes first) × (from ≡ ends (take k codes) first) × (k ≤ length codes) × (from ≤ length payload)
+Inv-loop payload codes first from₀ k₀ from k = (k + thereCount payload (drop k codes) from ≡ thereCount payload codes first)
+    × (from ≡ ends (take k codes) first) × (k ≤ length codes) × (from ≤ length payload)
 
 abbrev μ-loop : tie.MeasureT-loop
 μ-loop payload codes first from₀ k₀ from k = length codes - k

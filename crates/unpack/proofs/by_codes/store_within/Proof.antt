@@ -11,7 +11,9 @@ use Rattle.unpack.proofs.by_codes.store_within.Statement.{statement}
 use Rattle.unpack.proofs.by_codes.store_within.Tie as tie
 
 abbrev Inv-loop : tie.InvT-loop
-Inv-loop payload words₀ codes p from₀ k₀ words from k = (rest payload codes k (record { from = from; to = p .to + k }) words ≡ laid payload (take (wholeCount payload codes (p .from)) codes) p words₀) × (length words ≡ length words₀) × (k ≤ length codes) × (from ≤ length payload)
+Inv-loop payload words₀ codes p from₀ k₀ words from k =
+    (rest payload codes k (record { from = from; to = p .to + k }) words
+    ≡ laid payload (take (wholeCount payload codes (p .from)) codes) p words₀) × (length words ≡ length words₀) × (k ≤ length codes) × (from ≤ length payload)
 
 abbrev μ-loop : tie.MeasureT-loop
 μ-loop payload words₀ codes p from₀ k₀ words from k = length codes - k

@@ -16,4 +16,5 @@ two-in-spec =
     (λ c. search needs)
     (λ c. search needs)
     (λ c κs. search needs)
-    (λ c. let o : Octets (c .before .before .before .args .payload .now) = λ k. omega (arith, c .before .before .shared-slice-known .given k) in (search first-of-two, search second-of-two)))
+    (λ c. let o : Octets (c .before .before .before .args .payload .now) = λ k. omega
+    (arith, c .before .before .shared-slice-known .given k) in (search first-of-two, search second-of-two)))

@@ -16,7 +16,28 @@ read-bases-spec =
     (λ c. search needs)
     (λ c κs. search needs)
     (λ c. codes-in _ _ _ _ _ _ (replicate 64 0) _ (c .before .before .base-codes .ensures .0) (c .before .before .base-codes .ensures .1))
-    (λ c. sym (length-take-le _ _ (codes-in _ _ _ _ _ _ (replicate 64 0) _ (c .before .before .before .base-codes .ensures .0) (c .before .before .before .base-codes .ensures .1))))
-    (λ c κs. (c .before .before .before .before .before .before .before .before .pre .0, members-few _ _ _ _ _ _ (replicate 64 0) _ (c .before .before .before .base-codes .ensures .0) (c .before .before .before .base-codes .ensures .1) (c .before .before .before .before .before .before .before .before .pre .1) (search needs)))
+    (λ c.
+    let at-base-codes = c .before .before .before in
+    sym (length-take-le _ _ (codes-in _ _ _ _ _ _ (replicate 64 0) _ (at-base-codes .base-codes .ensures .0) (at-base-codes .base-codes .ensures .1))))
+    (λ c κs. (
+      c .before .before .before .before .before .before .before .before .pre .0,
+      members-few _ _ _ _ _ _ (replicate 64 0) _ (c .before .before .before .base-codes .ensures .0)
+          (c .before .before .before .base-codes .ensures .1) (c .before .before .before .before .before .before .before .before .pre .1) (search needs),
+    ))
     (λ c. search needs)
-    (λ c. ((c .before .before .read-codes .ensures .0 .0, upto-in _ _ _ _ _ _ (replicate 64 0) _ (c .before .before .before .before .before .before .base-codes .ensures .0) (c .before .before .before .before .before .before .base-codes .ensures .1) _ (c .before .before .before .before .before .before .before .before .before .before .before .pre .1) (c .before .before .read-codes .ensures .0 .1), c .before .before .read-codes .ensures .0 .2), (c .before .before .read-codes .ensures .1 .0, c .before .before .read-codes .ensures .1 .1 _ (codes-read _ _ _ _ _ _ (replicate 64 0) _ (c .before .before .before .before .before .before .base-codes .ensures .0) (c .before .before .before .before .before .before .base-codes .ensures .1) _)))))
+    (λ c.
+    let at-read-codes = c .before .before in
+    let at-base-codes = at-read-codes .before .before .before .before in
+    let at-pre = at-base-codes .before .before .before .before .before in (
+      (
+        at-read-codes .read-codes .ensures .0 .0,
+        upto-in _ _ _ _ _ _ (replicate 64 0) _ (at-base-codes .base-codes .ensures .0) (at-base-codes .base-codes .ensures .1) _
+            (at-pre .pre .1) (at-read-codes .read-codes .ensures .0 .1),
+        at-read-codes .read-codes .ensures .0 .2,
+      ),
+      (
+        at-read-codes .read-codes .ensures .1 .0,
+        at-read-codes .read-codes .ensures .1 .1 _
+            (codes-read _ _ _ _ _ _ (replicate 64 0) _ (at-base-codes .base-codes .ensures .0) (at-base-codes .base-codes .ensures .1) _),
+      ),
+    )))

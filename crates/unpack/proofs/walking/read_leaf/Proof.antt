@@ -16,9 +16,29 @@ read-leaf-spec =
     (λ c κs. search needs)
     (λ c κs. search needs)
     (λ c κs. search needs)
-    (λ c. next-from _ _ _ (c .before .before .before .before .before .before .before .before .before .before .before .before .before .before .pre) (width-few _ _ (c .before .before .before .before .before .before .before .before .before .before .width .ensures)) (c .before .before .before .before .before .before .before .before .before .before .before .before .before .before .good .1 .1 .1 .0 .1))
-    (λ c. next-to _ _ _ (c .before .before .before .before .before .before .before .before .before .before .before .before .before .before .before .pre) (omega arith) (c .before .before .before .before .before .before .before .before .before .before .before .before .before .before .before .good .1 .1 .1 .0 .1))
+    (λ c.
+    let at-width = c .before .before .before .before .before .before .before .before .before .before in
+    let at-pre = at-width .before .before .before .before in
+    next-from _ _ _ (at-pre .pre) (width-few _ _ (at-width .width .ensures)) (at-pre .good .1 .1 .1 .0 .1))
+    (λ c.
+    let at-pre = c .before .before .before .before .before .before .before .before .before .before .before .before .before .before .before in
+    next-to _ _ _ (at-pre .pre) (omega arith) (at-pre .good .1 .1 .1 .0 .1))
     (λ c. search needs)
-    (λ c. leaf-went _ _ _ _ _ _ _ _ (c .before .before .before .before .before .before .before .before .before .before .before .width .ensures) (c .before .before .before .before .before .before .before .before .before .before .has-room .ensures) (c .before .before .before .before .before .before .before .before .before .if1 .taken) _ (c .before .before .before .before .before .before .before .before .word-at .ensures) _ (c .before .before .before .before .before .before .before .takes .ensures) _ (c .before .before .before .before .before .before .if2 .taken) (c .before .before .before .before .put-word .ensures))
-    (λ c. leaf-bad _ _ _ _ _ _ _ _ (c .before .before .before .before .before .width .ensures) (c .before .before .before .before .has-room .ensures) (c .before .before .before .if1 .taken) _ (c .before .before .word-at .ensures) _ (c .before .takes .ensures) (c .if2 .left))
+    (λ c.
+    let at-put-word = c .before .before .before .before in
+    let at-if2 = at-put-word .before .before in
+    let at-takes = at-if2 .before in
+    let at-word-at = at-takes .before in
+    let at-if1 = at-word-at .before in
+    let at-has-room = at-if1 .before in
+    let at-width = at-has-room .before in
+    leaf-went _ _ _ _ _ _ _ _ (at-width .width .ensures) (at-has-room .has-room .ensures) (at-if1 .if1 .taken) _
+    (at-word-at .word-at .ensures) _ (at-takes .takes .ensures) _ (at-if2 .if2 .taken) (at-put-word .put-word .ensures))
+    (λ c.
+    let at-word-at = c .before .before in
+    let at-if1 = at-word-at .before in
+    let at-has-room = at-if1 .before in
+    let at-width = at-has-room .before in
+    leaf-bad _ _ _ _ _ _ _ _ (at-width .width .ensures) (at-has-room .has-room .ensures) (at-if1 .if1 .taken) _
+    (at-word-at .word-at .ensures) _ (c .before .takes .ensures) (c .if2 .left))
     (λ c. leaf-short _ _ _ _ _ _ _ _ (c .before .before .width .ensures) (c .before .has-room .ensures) (c .if1 .left)))

@@ -19,9 +19,24 @@ read-once-spec =
     (λ c κs. (omega arith, omega arith))
     (λ c. search needs)
     (λ c. search needs)
-    (λ c. type-did _ _ _ _ _ _ _ _ (met-leaf _ _ _ _ _ _ _ _ (tree-looked _ _ _ _ (c .before .before .before .before .before .before .before .look .ensures)) _ _ _ (c .before .before .before .before .before .e .given .1) (c .before .before .read-leaf .ensures .0) (c .before .before .read-leaf .ensures .1)))
+    (λ c.
+    let at-read-leaf = c .before .before in
+    let at-e = at-read-leaf .before .before .before in
+    let at-look = at-e .before .before in
+    type-did _ _ _ _ _ _ _ _ (met-leaf _ _ _ _ _ _ _ _ (tree-looked _ _ _ _ (at-look .look .ensures)) _ _ _ (at-e .e .given .1)
+    (at-read-leaf .read-leaf .ensures .0) (at-read-leaf .read-leaf .ensures .1)))
     (λ c. search needs)
-    (λ c. type-did _ _ _ _ _ _ _ _ (met-members _ _ _ _ _ _ _ _ (tree-looked _ _ _ _ (c .before .before .before .before .before .before .before .look .ensures)) _ _ _ (c .before .before .before .before .before .e2 .given .1) (c .before .before .read-members .ensures .0) (c .before .before .read-members .ensures .1)))
+    (λ c.
+    let at-read-members = c .before .before in
+    let at-e2 = at-read-members .before .before .before in
+    let at-look = at-e2 .before .before in
+    type-did _ _ _ _ _ _ _ _ (met-members _ _ _ _ _ _ _ _ (tree-looked _ _ _ _ (at-look .look .ensures)) _ _ _ (at-e2 .e2 .given .1)
+    (at-read-members .read-members .ensures .0) (at-read-members .read-members .ensures .1)))
     (λ c. search needs)
-    (λ c. type-did _ _ _ _ _ _ _ _ (met-elements _ _ _ _ _ _ _ _ (tree-looked _ _ _ _ (c .before .before .before .before .before .before .before .look .ensures)) _ _ _ (c .before .before .before .before .before .e3 .given .1) (c .before .before .read-elements .ensures .0) (c .before .before .read-elements .ensures .1)))
+    (λ c.
+    let at-read-elements = c .before .before in
+    let at-e3 = at-read-elements .before .before .before in
+    let at-look = at-e3 .before .before in
+    type-did _ _ _ _ _ _ _ _ (met-elements _ _ _ _ _ _ _ _ (tree-looked _ _ _ _ (at-look .look .ensures)) _ _ _ (at-e3 .e3 .given .1)
+    (at-read-elements .read-elements .ensures .0) (at-read-elements .read-elements .ensures .1)))
     (λ c. type-did _ _ _ _ _ _ _ _ (met-broken _ _ _ _ _ _ _ _ (tree-looked _ _ _ _ (c .before .before .look .ensures)) (c .enum-told .given .1))))
