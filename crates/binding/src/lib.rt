@@ -1,4 +1,5 @@
 // The UDP binding header of 000, annex A: what stands before each piece of a message, and how it is read.
+// A message is cut into datagrams by `cutter`.
 mod cutter;
 
 pub use cutter::CANNOT_CUT;

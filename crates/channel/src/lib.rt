@@ -1,5 +1,5 @@
-// Joining: what a datagram does to its channel, before anything is written. `taking` takes datagrams one at a time, puts each
-// channel's pieces behind one another in its own room, and hands back the messages that they make.
+// One channel: its record, and what a datagram does to it before anything is written (01, Joining, steps 1 to 5). `joiner` takes
+// datagrams one at a time, puts each channel's pieces behind one another in its own room, and hands back the messages they make.
 ghost use mathlib.Core.Path.{_≡_};
 ghost use Rattle.channel.specs.Take.{canMove, movedOf};
 use binding::BindingHeader;

@@ -1,4 +1,4 @@
-// A joiner and its channels, by value: their records, sizes and rooms. `lent_channels` looks at them, `setups` sets them up.
+// A joiner and its channels, by value: their records, sizes and rooms. `joiner` sets them up and looks at them.
 
 // 01, Numbers given back.
 pub const BAD_SETUP: u32 = 20;

@@ -1,4 +1,4 @@
-// leaf: codes, leaves.
+// The 13 base codes: how wide a leaf is on the wire and which words it takes (`codes`), its word and its bytes (`words`).
 mod codes;
 mod words;
 

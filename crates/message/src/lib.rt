@@ -48,7 +48,7 @@ pub enum Message {
 
 pub enum Reading {
     Refused(u32),
-    // The payload is the `length` bytes from `start` on: `reader::payload` hands them back.
+    // The payload is the `length` bytes from `start` on: `payload` hands them back.
     Read {
         header: Header,
         message: Message,

@@ -1,4 +1,4 @@
-// Joining. A joiner is 130 words of 32 bits, what was taken five of 64 (`lent_joiner`).
+// Joining. A joiner is 130 words of 32 bits, what was taken five of 64 (`joiner::words`).
 ghost use mathlib.Core.Path.{_≡_};
 ghost use Rattle.joiner.specs.Calls.{setupNumber, setupWords, takeNumber, takeWords, takeRooms, takeAnswer};
 use joiner::JOINER_WORDS;

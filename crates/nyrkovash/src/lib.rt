@@ -1,6 +1,6 @@
-// The library as programs in C, C++, Ada and Rust link it: numbers and lent slices only, a slice being a pointer and a
-// length. A call answers 0 or 01's number, but for the two that ask states, and each is one call of a crate below under that
-// call's own contract.
+// The library as programs in C, C++, Ada and Rust link it (include/nyrkovash.h): a slice is a pointer and a length, and what has a
+// fixed size an array behind a reference. A call answers 0 or 01's number, but for the two that ask states; where it is refused
+// all that was lent is as it was.
 mod joining;
 mod messages;
 mod payloads;

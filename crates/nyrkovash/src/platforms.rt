@@ -1,4 +1,4 @@
-// The platform calls. A platform is five words (`lent_states`), what was heard eight (`lent_heard`).
+// The platform calls (`platform_words`). A platform is five words, what was heard eight.
 ghost use mathlib.Core.Path.{_≡_};
 ghost use Rattle.states.specs.States.{howManyUp};
 ghost use Rattle.platform.specs.Receiving.{freshStanding};

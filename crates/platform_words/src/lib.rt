@@ -1,4 +1,5 @@
-// platform_words: lent_states, lent_heard, lent_platform, lent_receiving.
+// The platform call with its state and what was heard in words that the caller keeps: a platform fresh and asked, and a message
+// noted and answered by a table's bytes (`on_table`) or by the sections that a check gave (`on_sections`).
 mod heard_words;
 mod on_sections;
 mod on_table;

@@ -13,7 +13,7 @@ use table::Found;
 use table::SECTIONS_WORDS;
 use table::Sections;
 
-// `lent_platform::receive` by the sections that a check gave: 30 where these do not lie in the table.
+// `on_table::receive` by the sections that a check gave: 30 where these do not lie in the table.
 pub fn receive_in(
     own: u8,
     platform: &mut [u64; PLATFORM_WORDS],

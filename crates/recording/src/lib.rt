@@ -1,5 +1,6 @@
 // A recording: where its datagrams stand, and how they are played, one after the other. It is read a block at a time: each call
-// is handed what has come so far and says what it needs more of. How it starts is `opening`'s.
+// is handed what has come so far and says what it needs more of. How it starts is `start`'s, and what a line
+// says `lines`'s.
 mod blocks;
 mod lines;
 mod start;

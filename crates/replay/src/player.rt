@@ -1,5 +1,5 @@
-// Replays a recording: reads it in blocks of a fixed buffer, and writes its lines in blocks. What stands in a recording is
-// `recording`'s and what its lines say is `lines`'s; here blocks only come and go.
+// Replays a recording: reads it in blocks of a fixed buffer, and writes its lines in blocks. What stands in a recording and
+// what its lines say is `recording`'s; here blocks only come and go.
 ghost use Prim.Native.Nat.{_≤_, _<_};
 ghost use mathlib.Core.Path.{_≡_};
 ghost use lib.ListN.{length};

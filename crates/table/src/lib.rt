@@ -1,6 +1,6 @@
-// The bytes of a type table (01, "The type table"): where the entries of its four sections stand, and what stands in each.
-// Nothing here judges an entry. All definitions of such bytes are here, and crates of their own have what is made of them:
-// `sections` reads where the sections lie, `codes` the base codes, `lookup` an operation by its ID.
+// The bytes of a type table (01, "The type table"): where its four sections lie (`bounds`, and in words `stored`), where
+// their entries stand and what they say (`layout`, `entries`), the rule of one entry by itself (`rules`), and an operation looked
+// up by its ID (`lookup`). A table is judged as a whole by `types`.
 mod bounds;
 pub mod entries;
 pub mod layout;
