@@ -35,7 +35,7 @@ pub enum Heard {
 }
 
 // 01's numbers: a datagram's length, or a header field's value, that is not allowed.
-pub const WRONG_LENGTH: u32 = 21;
+pub const WRONG_DATAGRAM_LENGTH: u32 = 21;
 
 pub const WRONG_FIELD: u32 = 22;
 
@@ -93,7 +93,7 @@ impl BindingHeader {
                 Heard::Refused(WRONG_FIELD)
             }
         } else {
-            Heard::Refused(WRONG_LENGTH)
+            Heard::Refused(WRONG_DATAGRAM_LENGTH)
         }
     }
 }

@@ -12,6 +12,7 @@ pub use refusal::behind_header;
 pub use refusal::contents_refusal;
 pub use refusal::frame_refusal;
 pub use refusal::read_refusal;
+pub use writer::NO_ROOM;
 pub use writer::put_header;
 pub use writer::write;
 ghost use mathlib.Core.Path.{_≡_};

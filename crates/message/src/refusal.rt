@@ -18,9 +18,9 @@ const WRONG_MARK: u32 = 2;
 
 const WRONG_VERSION: u32 = 3;
 
-const RESERVED_DOMAIN: u32 = 4;
+pub(crate) const RESERVED_DOMAIN: u32 = 4;
 
-const WRONG_SIZE: u32 = 5;
+pub(crate) const WRONG_SIZE: u32 = 5;
 
 const WRONG_SENDER: u32 = 6;
 

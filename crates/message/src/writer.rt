@@ -9,13 +9,11 @@ use crate::Header;
 use crate::Own;
 use crate::Writing;
 use crate::refusal;
+use crate::refusal::RESERVED_DOMAIN;
+use crate::refusal::WRONG_SIZE;
 
-// 01, "Numbers given back"; 7 to 9 are `message`'s.
-const RESERVED_DOMAIN: u32 = 4;
-
-const WRONG_SIZE: u32 = 5;
-
-const NO_ROOM: u32 = 10;
+// 01, "Numbers given back": an output shorter than what must be written. The others are `refusal`'s.
+pub const NO_ROOM: u32 = 10;
 
 // One more than the largest payload size.
 const SIZE_LIMIT: usize = 4294967296;

@@ -16,13 +16,8 @@ ghost use Rattle.pack.specs.Writing.{writer, Writing, Writes, memberWrit
 use crate::by_codes;
 use crate::limits;
 use crate::runs;
-
-// An array's count: its base code, uint32, its bytes on the wire, and its words.
-const COUNT_CODE: u16 = 9;
-
-const COUNT_BYTES: usize = 4;
-
-const COUNT_WORDS: usize = 1;
+use walk::COUNT_BYTES;
+use walk::COUNT_WORDS;
 
 // How many members' codes are got at once.
 const CODES: usize = 64;
@@ -156,7 +151,7 @@ fn begin(words: &[u64], out: &mut [u8], e: Entry, p: Place) -> Walked
     if p.from < words.len() {
         let count = word_at(words, p.from);
         if count <= e.count as u64 {
-            leaf::put(out, p.to, COUNT_CODE, count);
+            leaf::put(out, p.to, leaf::UINT32, count);
             Walked::Went(Place {
                 from: p.from + COUNT_WORDS,
                 to: p.to + COUNT_BYTES,

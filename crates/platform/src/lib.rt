@@ -13,14 +13,12 @@ pub use reactions::Reply;
 pub use reactions::Standing;
 ghost use mathlib.Core.Path.{_≡_};
 ghost use lib.ListN.{length};
-ghost use Rattle.states.specs.States.{isUp, howManyUp};
 ghost use Rattle.platform.specs.Receiving.{freshStanding, refused, taken, answered, laidOut, outcomeOf, outputOf};
 ghost use Rattle.platform.specs.Receiving.{outcomeIn, outputIn, receivedOf, leftOf, sectionsOutcome, sectionsOutput};
 ghost use Rattle.platform.specs.Receiving.{payloadHeard};
 use message::Header;
 use message::Own;
 use message::Reading;
-use states::States;
 use table::CUT_SHORT;
 use table::Checked;
 use table::Found;
@@ -41,8 +39,6 @@ pub struct Outcome {
     pub answer: Answer,
 }
 
-const NO_ROOM: u32 = 10;
-
 // This platform is UP, the others are DOWN, and own numbers start at 0.
 pub fn fresh(own: Own) -> Standing
     ensures { λ r. ⌜ r ≡ freshStanding (own .platform) ⌝ }
@@ -51,19 +47,6 @@ pub fn fresh(own: Own) -> Standing
         states: states::fresh(own),
         next: 0,
     }
-}
-
-pub fn is_up(own: Own, states: States, platform: u8) -> bool
-    ensures { λ r. ⌜ r ≡ isUp (own .platform) states platform ⌝ }
-{
-    states::is_up(own, states, platform as u32)
-}
-
-// How many of the 256 are UP, this one counted.
-pub fn how_many_up(own: Own, states: States) -> u32
-    ensures { λ r. ⌜ r ≡ howManyUp (own .platform) states ⌝ }
-{
-    states::how_many_up(own, states)
 }
 
 // Reads a message, notes the state that it tells, and writes the owed replies at the output's start.
@@ -183,7 +166,7 @@ fn answered(
     let owed = reaction.owed;
     let written = replies::length_of(owed);
     if out.len() < written {
-        refused(standing, NO_ROOM)
+        refused(standing, message::NO_ROOM)
     } else {
         replies::lay(own, owed, out);
         taken(header, reaction, written)

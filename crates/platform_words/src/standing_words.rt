@@ -46,7 +46,7 @@ pub fn is_up(own: u8, platform: &[u64; PLATFORM_WORDS], number: u32) -> u32
 pub fn how_many_up(own: u8, platform: &[u64; PLATFORM_WORDS]) -> u32
     ensures { λ r. ⌜ r ≡ howManyUp own (statesIn (now (platform .entry))) ⌝ }
 {
-    platform::how_many_up(Own { platform: own }, states_in(platform))
+    states::how_many_up(Own { platform: own }, states_in(platform))
 }
 
 pub(crate) fn standing_in(words: &[u64; PLATFORM_WORDS]) -> Standing

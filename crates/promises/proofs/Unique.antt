@@ -165,8 +165,6 @@ platform : PlatformUnique
 platform =
     record {
       fresh = λ k a z z′ e e′ p q. p ∙ sym q;
-      is-up = λ k a z z′ e e′ p q. p ∙ sym q;
-      how-many-up = λ k a z z′ e e′ p q. p ∙ sym q;
       receive = λ k a z z′ e e′ p q. p .0 ∙ sym (q .0);
       receive-out = λ k a z z′ e e′ p q. p .1 ∙ sym (q .1);
       receive-checked = λ k a z z′ e e′ p q. p .0 ∙ sym (q .0);

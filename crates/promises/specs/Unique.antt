@@ -91,8 +91,6 @@ use Rattle.states.proofs.is_up.Reads.{Post as states-is-up}
 use Rattle.states.proofs.how_many_up.Reads.{Post as states-how-many-up}
 use Rattle.states.proofs.turned.Reads.{Post as states-turned}
 use Rattle.platform.proofs.fresh.Reads.{Post as platform-fresh}
-use Rattle.platform.proofs.is_up.Reads.{Post as platform-is-up}
-use Rattle.platform.proofs.how_many_up.Reads.{Post as platform-how-many-up}
 use Rattle.platform.proofs.receive.Reads.{Post as platform-receive}
 use Rattle.platform.proofs.receive_checked.Reads.{Post as platform-receive-checked}
 use Rattle.platform.proofs.receive_within.Reads.{Post as platform-receive-within}
@@ -237,8 +235,6 @@ pub record StatesUnique : Type 0 where
 
 pub record PlatformUnique : Type 0 where
   pub fresh : Answer platform-fresh
-  pub is-up : Answer platform-is-up
-  pub how-many-up : Answer platform-how-many-up
   pub receive : Answer platform-receive
   pub receive-out : Lent platform-receive (λ k e. now (e .1 .1 .1 .1 .0))
   pub receive-checked : Answer platform-receive-checked

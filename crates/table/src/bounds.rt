@@ -21,7 +21,7 @@ const MOST_TYPES: u16 = 256;
 
 const MOST_MEMBERS: u16 = 1024;
 
-const MOST_VALUES: u16 = 1024;
+pub const MOST_VALUES: u16 = 1024;
 
 const MOST_OPERATIONS: u16 = 1024;
 

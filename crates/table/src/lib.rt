@@ -8,6 +8,7 @@ mod lookup;
 mod rules;
 mod stored;
 
+pub use bounds::MOST_VALUES;
 pub use bounds::read;
 pub use bounds::within;
 pub use lookup::find;

@@ -1,5 +1,6 @@
 // Whether the values of each enum are distinct, in any order. Each value of the table is compared with those before it once,
 // however many enums share it; an enum's values are distinct if for none the last one alike is the enum's too.
+use table::MOST_VALUES;
 use table::Sections;
 use table::entries;
 ghost use mathlib.Core.Path.{_≡_};
@@ -8,9 +9,6 @@ ghost use lib.ListN.{length};
 ghost use Rattle.table.specs.All.{allBelow};
 ghost use Rattle.table.specs.Layout.{mostValues};
 ghost use Rattle.types.specs.Alike.{lastAlike, Alikes, unlikeIn, enumApart, allApart};
-
-// How many values a table has at most.
-const MOST_VALUES: u16 = 1024;
 
 // Whether the values of each enum lie in their section, which is no longer than it may be, and are distinct.
 pub(crate) fn all_distinct(table: &[u8], s: Sections) -> bool

@@ -17,11 +17,8 @@ ghost use Rattle.unpack.specs.Steps.{Reads, ReadsCodes};
 ghost use Rattle.unpack.specs.Reading.{reader, Reading, memberRead, Goes};
 use crate::by_codes;
 use crate::runs;
-
-// An array's count: its bytes on the wire, and its words.
-const COUNT_BYTES: usize = 4;
-
-const COUNT_WORDS: usize = 1;
+use walk::COUNT_BYTES;
+use walk::COUNT_WORDS;
 
 // How many base codes of a record's members are read at once.
 const MOST_CODES: usize = 64;

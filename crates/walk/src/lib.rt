@@ -17,6 +17,11 @@ pub const NOT_ALLOWED: u32 = 42;
 
 pub const COUNT_OVER: u32 = 43;
 
+// An array's count: its bytes on the wire, and its words.
+pub const COUNT_BYTES: usize = 4;
+
+pub const COUNT_WORDS: usize = 1;
+
 // The code that stands for no base: the base codes are below it.
 pub const NO_BASE: u16 = 13;
 

@@ -10,9 +10,9 @@ ghost use Rattle.wire.specs.Bytes.{over};
 ghost use Rattle.walk.specs.Codes.{Places, Parts, areThere, leading, firsts, partCode, smaller, turned, codeCount, codesOf, placedCount, placedCodes};
 
 // The bytes of a type's entry and of a member's.
-const TYPE_BYTES: usize = 8;
+const TYPE_BYTES: usize = table::layout::TYPE_WIDTH as usize;
 
-const MEMBER_BYTES: usize = 2;
+const MEMBER_BYTES: usize = table::layout::MEMBER_WIDTH as usize;
 
 // How many numbers there are of half an entry.
 const HALF: u64 = 4294967296;
