@@ -4,7 +4,6 @@ pub mod Rising
 pub mod Places
 pub mod Lookups
 pub mod Chain
-pub mod Unique
 pub mod Storing
 pub mod Halving
 pub mod WhereIDsRise

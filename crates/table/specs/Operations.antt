@@ -1,7 +1,6 @@
 -- 01, "The type table": an operation looked up by its ID.
-use Prim.Native.Nat.{ℕ, zero, suc, _<_}
-use mathlib.Core.Path.{_≡_}
-use mathlib.Core.Bool.{Bool, true, cond}
+use Prim.Native.Nat.{ℕ, zero, suc}
+use mathlib.Core.Bool.{Bool, cond}
 use mathlib.Core.List.{List}
 use lib.Dec.{eqb}
 use Rattle.table.specs.declared.Sections.{Sections}
@@ -13,12 +12,6 @@ use Rattle.table.specs.Entries.{idAt}
 -- IDs strictly rise
 unfoldable pub idsRise : List ℕ → Sections → Bool
 idsRise t s = allBelow (above (idAt t s)) (s .operations .count)
-
--- an operation looked up: an entry that bears the ID, or none; and none means absent where the IDs rise (docs/DECISIONS.md,
--- calls on a checked table)
-unfoldable pub Answers : List ℕ → Sections → ℕ → Found → Type 0
-Answers t s id (At i) = (i < s .operations .count) × (idAt t s i ≡ id)
-Answers t s id Nothing = idsRise t s ≡ true → (i : ℕ) → i < s .operations .count → idAt t s i ≡ id → ⊥
 
 -- the first of the entries below n that bears the ID; the operation of an ID is the first of all
 abbrev pub orElse : Found → Found → Found
