@@ -64,6 +64,10 @@ static void unpack(uint32_t id, const uint8_t *payload, size_t length)
         puts("  no payload");
         return;
     }
+    if (length == 0 && operation.kind == NYR_VERSIONED_DATA) {
+        puts("  not published yet");
+        return;
+    }
     number = nyr_unpack_in(table, table_length, &sections, (uint16_t)operation.carries, payload, length, words,
                            MOST_WORDS, &given);
     if (number != NYR_OK) {

@@ -277,7 +277,8 @@ uint32_t nyr_start(uint8_t own, nyr_platform *platform);
  * Reads a message, notes in platform the state that it tells, and writes the replies that its sender is owed at the
  * start of output, one behind another, each of NYR_REPLY_BYTES.
  *   30 to 33 for the table; then 1 to 9 for the message; then 10 where the replies do not fit.
- * Stack 4096; time: the logarithm of the operations; and, but for _in, the table's check.
+ * Stack 4096; time: the logarithm of the operations, or where all data is pulled their number; and, but for _in, the
+ * table's check.
  */
 uint32_t nyr_receive(uint8_t own, nyr_platform *platform, const uint8_t *table, size_t table_length,
                      const uint8_t *message, size_t message_length, uint8_t *output, size_t output_length,

@@ -9,7 +9,9 @@ ghost use Rattle.binding.specs.declared.MessagePart.the-variants.{Begin,
 ghost use Rattle.binding.specs.Header.{headerLength, senders, largestPiece, codeOf, headerBytes};
 ghost use Rattle.binding.specs.Cutting.{canCut, canHead, pieceCount, partOfPiece, countedOf, behind, madeIn, madeOf, cutInto};
 use crate::BindingHeader;
+use crate::COUNTERS;
 use crate::MessagePart;
+use crate::SENDERS;
 
 // How many pieces there are, or the number of the refusal.
 pub enum Counted {
@@ -35,10 +37,6 @@ pub const LARGEST_MESSAGE: usize = 65560;
 
 // How many values each field of the header has that stands behind another.
 const PARTS: u8 = BindingHeader::PARTS as u8;
-
-const SENDERS: u32 = BindingHeader::SENDERS as u32;
-
-const COUNTERS: u32 = BindingHeader::COUNTERS as u32;
 
 // How many pieces a message of `total` bytes is cut into: 50, or the number.
 pub fn pieces(total: usize, size: usize) -> Counted
