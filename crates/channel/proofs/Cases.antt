@@ -4,21 +4,35 @@ use Prim.Native.Nat.{ℕ, _+_, _-_, _≤_, _<_}
 use mathlib.Core.Path.{_≡_, refl}
 use mathlib.Core.Bool.{Bool, true, false, _&&_, cond}
 use native.Mathlib.Omega.{arith}
-use borrow.Author.Tests.{leb-true, eqb-true, eqb-false, lt-ltb, le-leb, lt-leb}
+use borrow.Author.Tests.{leb-true, ltb-true, eqb-true, eqb-false, lt-ltb, le-leb, lt-leb}
 use lib.Dec.{leb, ltb, eqb}
-use Rattle.wire.proofs.Cond.{and-true}
+use Rattle.wire.proofs.Cond.{and-true, and-left, and-right}
 use Rattle.binding.specs.Header.{senders, counters}
 use Rattle.binding.specs.declared.MessagePart.{MessagePart}
 use Rattle.binding.specs.declared.MessagePart.the-variants.{Begin, Middle, End, Whole}
-use Rattle.channel.specs.declared.records.Channel.{Channel}
+use Rattle.channel.specs.declared.Channel.{Channel}
 use Rattle.channel.specs.declared.Room.{Room}
 use Rattle.channel.specs.declared.Step.{Step}
 use Rattle.channel.specs.declared.Put.the-variants.{Nowhere, At}
 use Rattle.channel.specs.declared.Place.the-variants.{Rooms}
 use Rattle.channel.specs.declared.Outcome.the-variants.{Refused, Repeated, Delivered, Held, Stray, TooLong}
 use Rattle.channel.specs.Channel.{missedOf, repeated, keeping, notedOf, holding, tooLong, wholeOf, begunOf, joinedOf, followedOf, placedOf, steppedOf}
-use Rattle.channel.specs.Setup.{goodChannel, newChannel}
-use Rattle.channel.proofs.Judging.{Sound}
+use Rattle.channel.specs.Record.{goodChannel, newChannel}
+
+-- what a good record is
+pub record Sound (R : ℕ) (ch : Channel) : Type 0 where
+  pub sender : ch .sender < senders
+  pub held : ch .held ≤ R
+  pub last : ch .last < counters
+
+pub channel-says : (R : ℕ) (ch : Channel) → goodChannel R ch ≡ true → Sound R ch
+channel-says R ch e =
+    let q : (leb (ch .held) R && ltb (ch .last) counters) ≡ true = and-right (ltb (ch .sender) senders) (leb (ch .held) R && ltb (ch .last) counters) e in
+    record {
+      sender = ltb-true (ch .sender) senders (and-left (ltb (ch .sender) senders) (leb (ch .held) R && ltb (ch .last) counters) e);
+      held = leb-true (ch .held) R (and-left (leb (ch .held) R) (ltb (ch .last) counters) q);
+      last = ltb-true (ch .last) counters (and-right (leb (ch .held) R) (ltb (ch .last) counters) q);
+    }
 
 -- the seven: what a step is, where ch is the record before it
 pub data Stepped (room : Room) (ch : Channel) (c n : ℕ) : MessagePart → Step → Type 0 where

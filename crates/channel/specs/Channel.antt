@@ -2,16 +2,19 @@
 -- to 5.
 use Prim.Native.Nat.{ℕ, _+_, _-_, _%_, _^_, _≤_, _<_}
 use mathlib.Core.Bool.{Bool, true, false, _&&_, cond}
-use lib.Dec.{leb, eqb}
-use Rattle.binding.specs.Header.{headerLength, largestPiece, counters}
+use lib.Dec.{leb, ltb, eqb}
+use Rattle.binding.specs.Header.{headerLength, largestPiece, largestDatagram, counters}
+use Rattle.binding.specs.declared.BindingHeader.{BindingHeader}
 use Rattle.binding.specs.declared.MessagePart.{MessagePart}
 use Rattle.binding.specs.declared.MessagePart.the-variants.{Begin, Middle, End, Whole}
-use Rattle.channel.specs.Setup.{largestRoom, roomStart}
-use Rattle.channel.specs.declared.records.Channel.{Channel}
+use Rattle.channel.specs.Record.{channelLimit, badSetup, largestRoom, roomStart}
+use Rattle.channel.specs.declared.Channel.{Channel}
 use Rattle.channel.specs.declared.Room.{Room}
 use Rattle.channel.specs.declared.Step.{Step}
 use Rattle.channel.specs.declared.Put.{Put}
 use Rattle.channel.specs.declared.Put.the-variants.{Nowhere, At}
+use Rattle.channel.specs.declared.Judged.{Judged}
+use Rattle.channel.specs.declared.Judged.the-variants.{Refusal, Move}
 use Rattle.channel.specs.declared.Place.the-variants.{Datagram, Rooms}
 use Rattle.channel.specs.declared.Outcome.the-variants.{Repeated, Delivered, Held, Stray, TooLong}
 
@@ -86,3 +89,11 @@ placedOf room ch End n m = followedOf true room ch n m
 unfoldable pub steppedOf : Room → Channel → MessagePart → ℕ → ℕ → Step
 steppedOf room ch p c n =
     cond (repeated ch c) (record { outcome = Repeated; channel = ch; put = Nowhere }) (placedOf room (notedOf ch c) p n (missedOf ch c))
+
+-- what holds of every record that is found in a good joiner, and of every datagram whose header is read
+abbrev pub canMove : ℕ → ℕ → Channel → ℕ → Bool
+canMove k R ch n = (ltb k channelLimit && leb R largestRoom) && ((leb (ch .held) R && ltb (ch .last) counters) && (leb headerLength n && leb n largestDatagram))
+
+-- the step of channel k, with rooms of R bytes and a datagram of n; 20 for what no look finds
+unfoldable pub movedOf : ℕ → ℕ → Channel → BindingHeader → ℕ → Judged
+movedOf k R ch h n = cond (canMove k R ch n) (Move k (steppedOf (roomOf R k) ch (h .part) (h .counter) (n - headerLength))) (Refusal badSetup)

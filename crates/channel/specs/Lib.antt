@@ -1,5 +1,3 @@
+pub mod Record
 pub mod Channel
-pub mod Take
 pub mod Outcomes
-pub mod View
-pub mod Setup

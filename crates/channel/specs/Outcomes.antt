@@ -2,17 +2,10 @@
 -- bytes held or delivered, else 0).
 use Prim.Native.Nat.{ℕ}
 use mathlib.Core.List.{List, [], _∷_}
-use Rattle.channel.specs.declared.records.Answer.{Answer}
-use Rattle.channel.specs.declared.records.Answer.the-variants as answer
 use Rattle.channel.specs.declared.Place.{Place}
 use Rattle.channel.specs.declared.Place.the-variants.{Datagram, Rooms}
 use Rattle.channel.specs.declared.Outcome.{Outcome}
 use Rattle.channel.specs.declared.Outcome.the-variants.{Refused, Repeated, Delivered, Held, Stray, TooLong}
-
--- a set-up's number: 20, or 0 where it is accepted
-abbrev pub answerIn : Answer → ℕ
-answerIn answer.Accepted = 0
-answerIn (answer.Refused n) = n
 
 -- the number of a refusal, 0 where nothing is refused
 abbrev pub refusalIn : Outcome → ℕ

@@ -1,25 +1,29 @@
-// One channel: its record, and what a datagram does to it before anything is written (01, Joining, steps 1 to 5). `joiner` takes
-// datagrams one at a time, puts each channel's pieces behind one another in its own room, and hands back the messages they make.
+// One channel: its record, and what a datagram does to it before anything is written (01, Joining, steps 1 to 5). `joiner` sets
+// channels up, finds the one that a datagram is for, and writes what its step says.
 ghost use mathlib.Core.Path.{_≡_};
-ghost use Rattle.channel.specs.Take.{canMove, movedOf};
+ghost use Rattle.channel.specs.Channel.{canMove, movedOf};
+ghost use Rattle.channel.specs.Record.{roomStart};
 use binding::BindingHeader;
 use binding::COUNTERS;
 
-mod records;
-mod sizes;
 mod steps;
 
-pub use records::Answer;
-pub use records::BAD_SETUP;
-pub use records::CHANNELS;
-pub use records::Channel;
-pub use records::Found;
-pub use records::Joiner;
-pub use records::LARGEST_ROOM;
-pub use records::NewJoiner;
-pub use records::SMALLEST_ROOM;
-pub use sizes::has_good_sizes;
-pub use sizes::room_start;
+// 01, Numbers given back.
+pub const BAD_SETUP: u32 = 20;
+
+// How many channels a joiner can have, and how large their rooms are.
+pub const CHANNELS: usize = 32;
+
+pub const LARGEST_ROOM: u32 = 65560;
+
+// One channel: whether a counter was seen, the last counter, and how many bytes are held (0: nothing). Each number is
+// wider than its range, so that one handed in can be judged.
+pub struct Channel {
+    pub sender: u16,
+    pub seen: bool,
+    pub last: u32,
+    pub held: u32,
+}
 
 // Where a delivered message lies: in the datagram it came in, or in the rooms.
 pub enum Place {
@@ -34,11 +38,6 @@ pub enum Outcome {
     Held { missed: u32, held: u32 },
     Stray { missed: u32 },
     TooLong { missed: u32 },
-}
-
-pub struct Taken {
-    pub outcome: Outcome,
-    pub joiner: Joiner,
 }
 
 // A channel's part of the lent buffer.
@@ -74,7 +73,7 @@ pub fn moved(at: usize, size: u32, channel: Channel, header: BindingHeader, leng
     if can_move(at, size, channel, length) {
         let number = at as u32;
         let room = Room {
-            start: sizes::room_start(size, number),
+            start: room_start(size, number),
             size,
         };
         let piece = (length - BindingHeader::LENGTH) as u32;
@@ -83,6 +82,13 @@ pub fn moved(at: usize, size: u32, channel: Channel, header: BindingHeader, leng
     } else {
         Judged::Refusal(BAD_SETUP)
     }
+}
+
+// The only place where a room's number meets its size. The room behind the last starts at the rooms' total.
+pub fn room_start(size: u32, number: u32) -> usize
+    ensures { λ r. ⌜ r ≡ roomStart size number ⌝ }
+{
+    number as usize * size as usize
 }
 
 fn can_move(at: usize, size: u32, channel: Channel, length: usize) -> bool

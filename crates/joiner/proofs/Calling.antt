@@ -7,13 +7,7 @@ use lib.ListN.{length, getD}
 use Rattle.wire.specs.Bytes.{written}
 use Rattle.binding.specs.Header.{heardIn}
 use Rattle.binding.specs.declared.Heard.{Heard}
-use Rattle.channel.specs.Setup.{setupOf, foundOf}
-use Rattle.channel.specs.Take.{judgedOf, senderBy, judgedBy, takenBy, takenOf, putBy, roomsBy, roomsAfter}
-use Rattle.channel.specs.Outcomes.{answerIn, refusalIn}
-use Rattle.channel.specs.declared.records.Answer.{Answer}
-use Rattle.channel.specs.declared.records.Answer.the-variants.{Accepted, Refused}
-use Rattle.channel.specs.declared.records.Found.{Found}
-use Rattle.channel.specs.declared.records.NewJoiner.{NewJoiner}
+use Rattle.channel.specs.Outcomes.{refusalIn}
 use Rattle.channel.specs.declared.Step.{Step}
 use Rattle.channel.specs.declared.Judged.{Judged}
 use Rattle.channel.specs.declared.Judged.the-variants.{Refusal, Move}
@@ -21,7 +15,13 @@ use Rattle.channel.specs.declared.Place.{Place}
 use Rattle.channel.specs.declared.Place.the-variants.{Datagram, Rooms}
 use Rattle.channel.specs.declared.Outcome.{Outcome}
 use Rattle.channel.specs.declared.Outcome.the-variants as outcome
-use Rattle.channel.specs.declared.Taken.{Taken}
+use Rattle.joiner.specs.Setup.{setupOf, foundOf, answerIn}
+use Rattle.joiner.specs.Take.{judgedOf, senderBy, judgedBy, takenBy, takenOf, putBy, roomsBy, roomsAfter}
+use Rattle.joiner.specs.declared.setups.Answer.{Answer}
+use Rattle.joiner.specs.declared.setups.Answer.the-variants.{Accepted, Refused}
+use Rattle.joiner.specs.declared.looking.Found.{Found}
+use Rattle.joiner.specs.declared.setups.NewJoiner.{NewJoiner}
+use Rattle.joiner.specs.declared.Taken.{Taken}
 use Rattle.joiner.specs.JoinerWords.{recordAt, joinerIn, recordWords, wordsOf}
 use Rattle.joiner.specs.Calls.{acceptedWords, setupNumber, setupWords, outcomeWords, placeIn, wordsBy, takeNumber, takeWords, takeRooms, takeAnswer}
 use Rattle.joiner.proofs.Moving.{step-number, judged-in, steps, words-moved}

@@ -12,14 +12,14 @@ use lib.ListN.{length, getD, take, replicate, List·getD-append}
 use lib.Seq.{take-suc, take-at, getD-append-add}
 use Rattle.wire.proofs.Cond.{and-left, and-right, and-true}
 use Rattle.binding.specs.Header.{senders, counters}
-use Rattle.channel.specs.Setup.{channelLimit, newChannel, senderOf, channelAt, channelsOf, sendersOf, placeOf, distinct, every}
-use Rattle.channel.specs.Setup.{goodSizes, goodChannel, good, foundOf}
-use Rattle.channel.specs.declared.records.Channel.{Channel}
-use Rattle.channel.specs.declared.records.Joiner.{Joiner}
-use Rattle.channel.specs.declared.records.Found.{Found}
-use Rattle.channel.specs.declared.records.Found.the-variants.{Bad, Nobody, Somebody}
-use Rattle.channel.proofs.Places.{not-true-false, every-at}
-use Rattle.channel.proofs.Lookups.{channels-length, channels-at}
+use Rattle.channel.specs.Record.{channelLimit, newChannel, goodChannel}
+use Rattle.channel.specs.declared.Channel.{Channel}
+use Rattle.joiner.specs.Setup.{senderOf, channelAt, channelsOf, sendersOf, placeOf, distinct, every, goodSizes, good, foundOf}
+use Rattle.joiner.specs.declared.Joiner.{Joiner}
+use Rattle.joiner.specs.declared.looking.Found.{Found}
+use Rattle.joiner.specs.declared.looking.Found.the-variants.{Bad, Nobody, Somebody}
+use Rattle.joiner.proofs.Places.{not-true-false, every-at}
+use Rattle.joiner.proofs.Lookups.{channels-length, channels-at}
 use Rattle.joiner.specs.JoinerWords.{recordAt, joinerWords, senderLimit, recordIn, isRecord, areRecords, recordsIn}
 use Rattle.joiner.specs.JoinerWords.{isJoiner, joinerIn, recordWords, recordsWords, wordsOf}
 use Rattle.joiner.specs.Records.{storedIn}

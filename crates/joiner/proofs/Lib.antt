@@ -1,3 +1,10 @@
+pub mod Places
+pub mod Lookups
+pub mod Judging
+pub mod Standing
+pub mod Accepted
+pub mod Addressing
+pub mod Views
 mod Taking
 mod Making
 pub mod Stored

@@ -15,13 +15,14 @@ use lib.Dec.{leb, ltb}
 use lib.ListN.{length, getD}
 use Rattle.wire.proofs.Cond.{and-left, and-right, and-true}
 use Rattle.binding.specs.Header.{senders, counters}
-use Rattle.channel.specs.Setup.{channelLimit, placeOf, distinct, senderOf, sendersOf, channelsOf, channelAt, every, goodChannel, goodSizes, good, foundOf}
-use Rattle.channel.specs.declared.records.Channel.{Channel}
-use Rattle.channel.specs.declared.records.Joiner.{Joiner}
-use Rattle.channel.specs.declared.records.Found.{Found}
-use Rattle.channel.specs.declared.records.Found.the-variants.{Bad, Nobody, Somebody}
-use Rattle.channel.proofs.Places.{not-true-false, is-distinct}
-use Rattle.channel.proofs.Lookups.{few-channels, senders-length, senders-at, found-here, found-nowhere, twice, never-twice}
+use Rattle.channel.specs.Record.{channelLimit, goodChannel}
+use Rattle.channel.specs.declared.Channel.{Channel}
+use Rattle.joiner.specs.Setup.{placeOf, distinct, senderOf, sendersOf, channelsOf, channelAt, every, goodSizes, good, foundOf}
+use Rattle.joiner.specs.declared.Joiner.{Joiner}
+use Rattle.joiner.specs.declared.looking.Found.{Found}
+use Rattle.joiner.specs.declared.looking.Found.the-variants.{Bad, Nobody, Somebody}
+use Rattle.joiner.proofs.Places.{not-true-false, is-distinct}
+use Rattle.joiner.proofs.Lookups.{few-channels, senders-length, senders-at, found-here, found-nowhere, twice, never-twice}
 use Rattle.joiner.specs.JoinerWords.{recordAt, joinerWords, seenLimit, recordIn, joinerIn}
 use Rattle.joiner.specs.Records.{Sized, storedIn, sendersIn, goodRecord, goodRecords, areGood, foundAt}
 use Rattle.joiner.proofs.Stored.{stored-length, stored-at, kept-says, says-kept, all-at, all-by, stored-joiner, is-joiner, well-joiner, good-well}

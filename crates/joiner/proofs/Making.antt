@@ -9,11 +9,12 @@ use native.Mathlib.Numerals.{add-one}
 use borrow.Author.Tests.{le-leb, lt-leb}
 use lib.ListN.{length, getD, set, take, replicate, length-map}
 use lib.Seq.{length-take-le, take-suc, take-length, set-at}
-use Rattle.channel.specs.declared.records.Channel.{Channel}
-use Rattle.channel.specs.declared.records.Joiner.{Joiner}
-use Rattle.channel.specs.declared.records.NewJoiner.{NewJoiner}
-use Rattle.channel.specs.declared.records.Answer.the-variants.{Accepted, Refused}
-use Rattle.channel.specs.Setup.{channelLimit, badSetup, newChannel, good, freshOf, refusedSetup, setupOf}
+use Rattle.channel.specs.declared.Channel.{Channel}
+use Rattle.channel.specs.Record.{channelLimit, badSetup, newChannel}
+use Rattle.joiner.specs.declared.Joiner.{Joiner}
+use Rattle.joiner.specs.declared.setups.NewJoiner.{NewJoiner}
+use Rattle.joiner.specs.declared.setups.Answer.the-variants.{Accepted, Refused}
+use Rattle.joiner.specs.Setup.{good, freshOf, refusedSetup, setupOf}
 use Rattle.joiner.specs.JoinerWords.{joinerIn, wordsOf}
 use Rattle.joiner.proofs.FoundBack.{good-back}
 

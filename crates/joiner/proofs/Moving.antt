@@ -14,20 +14,21 @@ use Rattle.wire.proofs.Cond.{and-left}
 use Rattle.binding.specs.Header.{heardIn, partIn, counterIn, pieceIn}
 use Rattle.binding.specs.declared.MessagePart.{MessagePart}
 use Rattle.binding.specs.declared.Heard.{Heard}
-use Rattle.channel.specs.Setup.{channelLimit, newChannel, freshOf, channelAt, foundOf}
-use Rattle.channel.specs.declared.records.Channel.{Channel}
-use Rattle.channel.specs.declared.records.Joiner.{Joiner}
-use Rattle.channel.specs.declared.records.Found.{Found}
-use Rattle.channel.specs.declared.records.Found.the-variants.{Bad}
+use Rattle.channel.specs.Record.{channelLimit, newChannel}
+use Rattle.channel.specs.declared.Channel.{Channel}
 use Rattle.channel.specs.Channel.{roomOf, notedOf}
 use Rattle.channel.specs.Outcomes.{refusalIn}
-use Rattle.channel.specs.Take.{judgedOf, senderBy, judgedBy, takenBy, changed}
 use Rattle.channel.specs.declared.Room.{Room}
 use Rattle.channel.specs.declared.Step.{Step}
 use Rattle.channel.specs.declared.Judged.{Judged}
 use Rattle.channel.specs.declared.Judged.the-variants.{Move}
-use Rattle.channel.proofs.Judging.{Moved, judged-by, judged-moved, good-sizes}
 use Rattle.channel.proofs.Cases.{Stepped, again, whole, begins, stray, long, goes-on, ends, step-cases}
+use Rattle.joiner.specs.Setup.{freshOf, channelAt, foundOf}
+use Rattle.joiner.specs.declared.Joiner.{Joiner}
+use Rattle.joiner.specs.declared.looking.Found.{Found}
+use Rattle.joiner.specs.declared.looking.Found.the-variants.{Bad}
+use Rattle.joiner.specs.Take.{judgedOf, senderBy, judgedBy, takenBy, changed}
+use Rattle.joiner.proofs.Judging.{Moved, judged-by, judged-moved, good-sizes}
 use Rattle.joiner.specs.JoinerWords.{recordAt, areRecords, channelsIn, isJoiner, joinerIn, recordWords}
 use Rattle.joiner.proofs.Stored.{stored-length, none-good, stored-joiner}
 use Rattle.joiner.specs.Calls.{unlessRefused, withRecord, placeIn, wordsBy}

@@ -13,9 +13,9 @@ use lib.Seq.{length-take-le, set-at, set-append-left, getD-append-add}
 use Rattle.wire.specs.Bytes.{over, written}
 use Rattle.wire.proofs.Runs.{written-in}
 use Rattle.wire.proofs.Numbers.{read-before, read-behind}
-use Rattle.channel.specs.Setup.{channelLimit, newChannel}
-use Rattle.channel.specs.Take.{changed}
-use Rattle.channel.specs.declared.records.Channel.{Channel}
+use Rattle.channel.specs.Record.{channelLimit, newChannel}
+use Rattle.channel.specs.declared.Channel.{Channel}
+use Rattle.joiner.specs.Take.{changed}
 use Rattle.wire.proofs.Cond.{and-left, and-right, and-true}
 use Rattle.joiner.specs.JoinerWords.{recordAt, joinerWords, senderLimit, recordIn, isRecord, areRecords, recordsIn}
 use Rattle.joiner.specs.JoinerWords.{channelsIn, isJoiner, joinerIn, recordWords}

@@ -11,10 +11,11 @@ use lib.ListN.{length, getD, replicate, length-append, length-replicate}
 use lib.Seq.{getD-append-add}
 use Rattle.wire.proofs.Cond.{and-left, and-right, and-true}
 use Rattle.binding.specs.Header.{senders, counters}
-use Rattle.channel.specs.Setup.{channelLimit, newChannel, freshOf, channelAt, channelsOf, distinct, every, goodChannel, goodSizes, good}
-use Rattle.channel.specs.declared.records.Channel.{Channel}
-use Rattle.channel.proofs.Places.{every-at, every-by}
-use Rattle.channel.proofs.Lookups.{channels-length, channels-at}
+use Rattle.channel.specs.Record.{channelLimit, newChannel, goodChannel}
+use Rattle.channel.specs.declared.Channel.{Channel}
+use Rattle.joiner.specs.Setup.{freshOf, channelAt, channelsOf, distinct, every, goodSizes, good}
+use Rattle.joiner.proofs.Places.{every-at, every-by}
+use Rattle.joiner.proofs.Lookups.{channels-length, channels-at}
 use Rattle.joiner.specs.JoinerWords.{recordAt, senderLimit, seenLimit, recordIn, isRecord, allBelow, areRecords, recordsIn, isJoiner, joinerIn}
 use Rattle.joiner.specs.Records.{Sized, storedIn, sendersIn, goodRecord, goodRecords, areGood}
 

@@ -12,9 +12,9 @@ use lib.ListN.{length, getD, set, take, drop, replicate, length-append}
 use lib.Seq.{take-suc, take-all, drop-length, length-take-le}
 use Rattle.wire.specs.Bytes.{over, written}
 use Rattle.wire.proofs.Runs.{set-over, written-in, written-out, over-none, over-over, length-over}
-use Rattle.channel.specs.Setup.{channelLimit, newChannel}
-use Rattle.channel.specs.declared.records.Channel.{Channel}
-use Rattle.channel.specs.declared.records.Joiner.{Joiner}
+use Rattle.channel.specs.Record.{channelLimit, newChannel}
+use Rattle.channel.specs.declared.Channel.{Channel}
+use Rattle.joiner.specs.declared.Joiner.{Joiner}
 use Rattle.joiner.specs.JoinerWords.{recordAt, joinerWords, seenLimit, recordWords, recordsWords, wordsOf}
 
 -- one record, word by word

@@ -19,8 +19,6 @@ use Rattle.wire.specs.Bytes.{written, part}
 use Rattle.wire.proofs.Runs.{over-none, over-all, no-run}
 use Rattle.binding.specs.Header.{headerLength, heardIn}
 use Rattle.binding.specs.declared.Heard.{Heard}
-use Rattle.channel.specs.declared.records.Joiner.{Joiner}
-use Rattle.channel.specs.declared.records.Found.{Found}
 use Rattle.channel.specs.declared.Step.{Step}
 use Rattle.channel.specs.declared.Judged.{Judged}
 use Rattle.channel.specs.declared.Judged.the-variants.{Refusal, Move}
@@ -30,11 +28,14 @@ use Rattle.channel.specs.declared.Put.{Put}
 use Rattle.channel.specs.declared.Put.the-variants.{Nowhere, At}
 use Rattle.channel.specs.declared.Outcome.{Outcome}
 use Rattle.channel.specs.declared.Outcome.the-variants.{Refused, Repeated, Delivered, Held, Stray, TooLong}
-use Rattle.channel.specs.Setup.{channelLimit, foundOf}
-use Rattle.channel.specs.Take.{senderBy, judgedBy, judgedOf, changed, takenBy, takenOf, putBy, roomsBy, roomsAfter, messageOf}
+use Rattle.channel.specs.Record.{channelLimit}
+use Rattle.joiner.specs.declared.Joiner.{Joiner}
+use Rattle.joiner.specs.declared.looking.Found.{Found}
+use Rattle.joiner.specs.Setup.{foundOf}
+use Rattle.joiner.specs.Take.{senderBy, judgedBy, judgedOf, changed, takenBy, takenOf, putBy, roomsBy, roomsAfter, messageOf}
 use Rattle.joiner.specs.JoinerWords.{joinerIn, wordsOf}
 use Rattle.joiner.proofs.FoundBack.{looked}
-use Rattle.channel.proofs.Judging.{Moved, judged-by, judged-moved, good-sizes}
+use Rattle.joiner.proofs.Judging.{Moved, judged-by, judged-moved, good-sizes}
 
 module _ {o : Outcome} {pl : Place} (d rooms : List ℕ) where
   pub in-datagram : {x : List ℕ} (m s l : ℕ) → o ≡ Delivered m pl → pl ≡ Datagram s l → x ≡ part d s l → x ≡ messageOf o d rooms

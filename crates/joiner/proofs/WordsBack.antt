@@ -7,12 +7,14 @@ use mathlib.Core.Bool.{true}
 use mathlib.Core.List.{List}
 use native.Mathlib.Omega.{arith}
 use lib.ListN.{length}
-use Rattle.channel.specs.Setup.{channelAt, goodChannel}
-use Rattle.channel.specs.declared.records.Joiner.{Joiner}
-use Rattle.channel.specs.Take.{judgedOf, takenBy, takenOf}
+use Rattle.channel.specs.Record.{goodChannel}
 use Rattle.channel.specs.declared.Judged.{Judged}
 use Rattle.channel.specs.declared.Judged.the-variants.{Refusal, Move}
-use Rattle.channel.proofs.Judging.{Moved, good-says, channel-says}
+use Rattle.channel.proofs.Cases.{channel-says}
+use Rattle.joiner.specs.Setup.{channelAt}
+use Rattle.joiner.specs.declared.Joiner.{Joiner}
+use Rattle.joiner.specs.Take.{judgedOf, takenBy, takenOf}
+use Rattle.joiner.proofs.Judging.{Moved, good-says}
 use Rattle.joiner.specs.JoinerWords.{joinerWords, senderLimit, joinerIn}
 use Rattle.joiner.specs.Calls.{placeIn, wordsBy, takeWords}
 use Rattle.joiner.proofs.ReadBack.{record-back}

@@ -3,17 +3,17 @@ use Prim.Native.Nat.{ℕ}
 use mathlib.Core.List.{List, [], _∷_}
 use Rattle.wire.specs.Bytes.{written}
 use Rattle.binding.specs.Header.{senderIn}
-use Rattle.channel.specs.Setup.{setupOf, sendersOf, placeOf, channelAt}
-use Rattle.channel.specs.Take.{takenOf, roomsAfter}
-use Rattle.channel.specs.Outcomes.{answerIn, refusalIn}
-use Rattle.channel.specs.declared.records.Answer.{Answer}
-use Rattle.channel.specs.declared.records.Answer.the-variants.{Accepted, Refused}
-use Rattle.channel.specs.declared.records.Joiner.{Joiner}
+use Rattle.channel.specs.Outcomes.{refusalIn}
 use Rattle.channel.specs.declared.Place.{Place}
 use Rattle.channel.specs.declared.Place.the-variants.{Datagram, Rooms}
 use Rattle.channel.specs.declared.Outcome.{Outcome}
 use Rattle.channel.specs.declared.Outcome.the-variants as outcome
-use Rattle.channel.specs.declared.Taken.{Taken}
+use Rattle.joiner.specs.Setup.{setupOf, sendersOf, placeOf, channelAt, answerIn}
+use Rattle.joiner.specs.Take.{takenOf, roomsAfter}
+use Rattle.joiner.specs.declared.setups.Answer.{Answer}
+use Rattle.joiner.specs.declared.setups.Answer.the-variants.{Accepted, Refused}
+use Rattle.joiner.specs.declared.Joiner.{Joiner}
+use Rattle.joiner.specs.declared.Taken.{Taken}
 use Rattle.joiner.specs.JoinerWords.{recordAt, joinerIn, recordWords, wordsOf}
 
 -- a joiner that was accepted, as words; where it was refused, the words that were there

@@ -6,10 +6,11 @@ use mathlib.Core.List.{List}
 use lib.Dec.{leb, ltb}
 use lib.ListN.{length, getD}
 use Rattle.binding.specs.Header.{senders, counters}
-use Rattle.channel.specs.Setup.{channelLimit, sendersOf, distinct}
-use Rattle.channel.specs.declared.records.Joiner.{Joiner}
-use Rattle.channel.specs.declared.records.Found.{Found}
-use Rattle.channel.specs.declared.records.Found.the-variants.{Nobody, Somebody}
+use Rattle.channel.specs.Record.{channelLimit}
+use Rattle.joiner.specs.Setup.{sendersOf, distinct}
+use Rattle.joiner.specs.declared.Joiner.{Joiner}
+use Rattle.joiner.specs.declared.looking.Found.{Found}
+use Rattle.joiner.specs.declared.looking.Found.the-variants.{Nobody, Somebody}
 use Rattle.joiner.specs.JoinerWords.{recordAt, joinerWords, seenLimit, allBelow, recordIn, channelsIn}
 
 -- the words of a joiner, of no more channels than there can be

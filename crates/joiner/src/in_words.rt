@@ -1,10 +1,10 @@
 // A joiner into its words.
+use crate::Joiner;
 use crate::looking::FIRST_RECORD;
 use crate::looking::JOINER_WORDS;
 use crate::looking::RECORD_WORDS;
 use channel::CHANNELS;
 use channel::Channel;
-use channel::Joiner;
 ghost use mathlib.Core.Path.{_≡_};
 ghost use mathlib.Core.Bool.{cond};
 ghost use Rattle.wire.specs.Bytes.{written};

@@ -8,22 +8,38 @@ mod setups;
 pub mod words;
 
 pub use looking::JOINER_WORDS;
+pub use looking::SMALLEST_ROOM;
+pub use setups::Answer;
+pub use setups::NewJoiner;
 pub use setups::setup;
 ghost use mathlib.Core.Path.{_≡_};
-ghost use Rattle.channel.specs.Take.{senderBy, refusalBy, judgedBy, takenOf, roomsAfter, putBy, messageOf};
+ghost use Rattle.joiner.specs.Take.{senderBy, refusalBy, judgedBy, takenOf, roomsAfter, putBy, messageOf};
+use crate::looking::Found;
 use binding::BindingHeader;
 use binding::Heard;
 use channel::BAD_SETUP;
-use channel::Found;
-use channel::Joiner;
+use channel::CHANNELS;
+use channel::Channel;
 use channel::Judged;
 use channel::Outcome;
 use channel::Place;
 use channel::Put;
-use channel::Taken;
 
 // 01, Numbers given back. 20 is the set-up's; 21 and 22 are the binding header's.
 pub const NOT_SET_UP: u32 = 23;
+
+// The first `count` records are the channels, in set-up order; the others are never looked at. Each channel's room is
+// `room` bytes long.
+pub struct Joiner {
+    pub channels: [Channel; CHANNELS],
+    pub count: usize,
+    pub room: u32,
+}
+
+pub struct Taken {
+    pub outcome: Outcome,
+    pub joiner: Joiner,
+}
 
 // Takes one datagram: 20 to 23 for what is refused, else what it is to its channel, whose record alone changes.
 pub fn take(joiner: Joiner, rooms: &mut [u8], datagram: &[u8]) -> Taken

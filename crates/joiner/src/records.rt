@@ -3,15 +3,16 @@ ghost use mathlib.Core.Path.{_≡_};
 ghost use mathlib.Core.Bool.{true};
 ghost use Prim.Native.Nat.{_<_};
 ghost use lib.ListN.{getD};
-ghost use Rattle.channel.specs.Setup.{channelLimit, placeOf, distinct};
+ghost use Rattle.channel.specs.Record.{channelLimit};
+ghost use Rattle.joiner.specs.Setup.{placeOf, distinct};
 ghost use Rattle.joiner.specs.JoinerWords.{recordIn};
 ghost use Rattle.joiner.specs.Records.{Sized, goodRecord, goodRecords, sendersIn, areGood, foundAt};
 use crate::looking::FIRST_RECORD;
+use crate::looking::Found;
 use crate::looking::RECORD_WORDS;
 use binding::COUNTERS;
 use binding::SENDERS;
 use channel::Channel;
-use channel::Found;
 
 // Seen is 0 or 1.
 const SEEN_LIMIT: u32 = 2;

@@ -2,15 +2,25 @@
 ghost use mathlib.Core.Path.{_≡_};
 ghost use Prim.Native.Nat.{_≤_};
 ghost use lib.ListN.{length};
-ghost use Rattle.channel.specs.Setup.{channelLimit, newChannel, good, freshOf, refusedSetup, setupOf};
+ghost use Rattle.channel.specs.Record.{channelLimit, newChannel};
+ghost use Rattle.joiner.specs.Setup.{good, freshOf, refusedSetup, setupOf};
+use crate::Joiner;
 use crate::in_words;
 use crate::looking;
-use channel::Answer;
 use channel::BAD_SETUP;
 use channel::CHANNELS;
 use channel::Channel;
-use channel::Joiner;
-use channel::NewJoiner;
+
+pub enum Answer {
+    Accepted,
+    Refused(u32),
+}
+
+// An enum cannot hold an array, so the joiner stands beside the answer. Where the set-up was refused it has no channels.
+pub struct NewJoiner {
+    pub answer: Answer,
+    pub joiner: Joiner,
+}
 
 // A fresh joiner for these sender IDs, over a buffer of `buffer` bytes with `room` bytes for each channel; or 20.
 pub fn setup(ids: &[u16], room: u32, buffer: usize) -> NewJoiner

@@ -13,7 +13,7 @@ use Rattle.binding.specs.Header.{partIn, counterIn, pieceIn}
 use Rattle.channel.specs.declared.Room.{Room}
 use Rattle.channel.specs.declared.Step.{Step}
 use Rattle.channel.specs.Channel.{missedOf, repeated, keeping, notedOf, begunOf, followedOf, placedOf, steppedOf}
-use Rattle.channel.specs.View.{View, leading, heldBy, givenBy, viewAfter, viewGiven}
+use Rattle.joiner.specs.View.{View, leading, heldBy, givenBy, viewAfter, viewGiven}
 use Rattle.promises.specs.Traffic.{Datagram}
 use Rattle.promises.proofs.Machine.{Channel, Event, kept, moved, deliveries}
 use Rattle.promises.proofs.Apart.{given, viewDelivers}

@@ -13,18 +13,18 @@ use lib.ListN.{length, getD}
 use Rattle.wire.proofs.Cond.{both}
 use Rattle.wire.specs.Bytes.{Octets}
 use Rattle.binding.specs.Header.{theVersion, smallestDatagram, largestDatagram, versionIn, senderIn}
-use Rattle.channel.specs.declared.records.Joiner.{Joiner}
 use Rattle.channel.specs.declared.Room.{Room}
 use Rattle.channel.specs.declared.Outcome.{Outcome}
 use Rattle.channel.specs.declared.Outcome.the-variants.{Refused, Repeated, Delivered, Held, Stray, TooLong}
 use Rattle.channel.specs.Channel.{roomOf}
-use Rattle.channel.specs.Setup.{sendersOf}
-use Rattle.channel.specs.Take.{takenOf, roomsAfter, messageOf, Addressed, Foreign}
-use Rattle.channel.specs.View.{View, viewOf, viewStep, viewAfter, viewGiven, deliveredOf}
-use Rattle.channel.proofs.Standing.{Standing, standing-good, take-standing, take-room, take-senders}
-use Rattle.channel.proofs.Lookups.{senders-length}
-use Rattle.channel.proofs.Addressing.{whose}
-use Rattle.channel.proofs.Views.{own-outcome, own-view, own-given, other-view, foreign-joiner, foreign-rooms}
+use Rattle.joiner.specs.declared.Joiner.{Joiner}
+use Rattle.joiner.specs.Setup.{sendersOf}
+use Rattle.joiner.specs.Take.{takenOf, roomsAfter, messageOf, Addressed, Foreign}
+use Rattle.joiner.specs.View.{View, viewOf, viewStep, viewAfter, viewGiven, deliveredOf}
+use Rattle.joiner.proofs.Standing.{Standing, standing-good, take-standing, take-room, take-senders}
+use Rattle.joiner.proofs.Lookups.{senders-length}
+use Rattle.joiner.proofs.Addressing.{whose}
+use Rattle.joiner.proofs.Views.{own-outcome, own-view, own-given, other-view, foreign-joiner, foreign-rooms}
 use Rattle.promises.specs.Traffic.{Datagram, isOf, ofChannel, handedBack, deliveredOn, outcomesOn, leftOn, AreBytes, none, more}
 
 -- the test is the fact

@@ -24,7 +24,7 @@ use Rattle.binding.proofs.Cutting.{Cuttable, cuttable, covered, count-some, one
 use Rattle.promises.specs.Senders.{Piece, Message, Sender, markOf, sentFrom, after, arriving, arrives, lossesWithin}
 use Rattle.promises.specs.Senders.{together, allArrived, goodPieces, goodMessage}
 use Rattle.promises.specs.Traffic.{Datagram, isOf, ofChannel, AreBytes, none, more}
-use Rattle.channel.proofs.Setups.{accepted}
+use Rattle.joiner.proofs.Accepted.{accepted}
 use Rattle.promises.proofs.Apart.{addressed-is}
 use Rattle.promises.proofs.Demand3.{on-channel}
 use Rattle.promises.specs.CutAndJoined.{datagramsFrom, cutUp, CutAndJoined}

@@ -26,9 +26,9 @@ use Rattle.binding.specs.declared.cutter.Made.the-variants as made
 use Rattle.binding.specs.Cutting.{outAfter, cutRefusal, madeOf, datagramOf}
 use Rattle.channel.specs.declared.Outcome.{Outcome}
 use Rattle.channel.specs.declared.Outcome.the-variants as outcome
-use Rattle.channel.specs.Take.{takenOf}
 use Rattle.channel.specs.Outcomes.{refusalIn}
-use Rattle.channel.proofs.Standing.{refusal-keeps-joiner, refusal-keeps-rooms}
+use Rattle.joiner.specs.Take.{takenOf}
+use Rattle.joiner.proofs.Standing.{refusal-keeps-joiner, refusal-keeps-rooms}
 use Rattle.payload.specs.declared.Answer.{Answer}
 use Rattle.payload.specs.declared.Answer.the-variants as answer
 use Rattle.walk.specs.Walk.{Codec, left, typeWalk}

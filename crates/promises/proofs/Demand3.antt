@@ -5,12 +5,13 @@ use mathlib.Core.Path.{_≡_, refl, sym, ap, ap₂, _∙_}
 use mathlib.Core.Logic.{inr}
 use mathlib.Core.List.{List, []}
 use lib.ListN.{length, getD}
-use Rattle.channel.specs.declared.records.Joiner.{Joiner}
-use Rattle.channel.specs.declared.records.Answer.the-variants.{Accepted}
 use Rattle.channel.specs.Channel.{roomOf}
-use Rattle.channel.specs.Setup.{newChannel, sendersOf, freshOf, setupOf}
-use Rattle.channel.specs.View.{View, viewOf}
-use Rattle.channel.proofs.Setups.{accepted, accepted-joiner, accepted-standing, fresh-senders, fresh-view}
+use Rattle.channel.specs.Record.{newChannel}
+use Rattle.joiner.specs.declared.Joiner.{Joiner}
+use Rattle.joiner.specs.declared.setups.Answer.the-variants.{Accepted}
+use Rattle.joiner.specs.Setup.{sendersOf, freshOf, setupOf}
+use Rattle.joiner.specs.View.{View, viewOf}
+use Rattle.joiner.proofs.Accepted.{accepted, accepted-joiner, accepted-standing, fresh-senders, fresh-view}
 use Rattle.promises.specs.Senders.{Sender, Genuine, sentBy, arrives, completeOf}
 use Rattle.promises.specs.Traffic.{Datagram, ofChannel, fresh, deliveredOn, AreBytes}
 use Rattle.promises.specs.Demand3.{Demand3, MixMakesNoDifference}

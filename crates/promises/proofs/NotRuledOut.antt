@@ -4,10 +4,10 @@ use Prim.Native.Nat.{ℕ}
 use mathlib.Core.Path.{_≡_, refl, ap, ap₂, _∙_}
 use mathlib.Core.Bool.{Bool, cond}
 use mathlib.Core.List.{List, [], _∷_, _++_}
-use Rattle.channel.specs.declared.records.Joiner.{Joiner}
-use Rattle.channel.specs.Take.{messageOf}
 use Rattle.channel.specs.declared.Outcome.{Outcome}
 use Rattle.channel.specs.declared.Outcome.the-variants.{Refused, Repeated, Delivered, Held, Stray, TooLong}
+use Rattle.joiner.specs.declared.Joiner.{Joiner}
+use Rattle.joiner.specs.Take.{messageOf}
 use Rattle.promises.specs.Traffic.{Datagram, isOf, handedBack, fresh, ourJoining, deliveredBy}
 use Rattle.promises.specs.Demand3.{Demand3For}
 use Rattle.promises.specs.NotRuledOut.{saying, oneMore, elseStray, NotRuledOut}

@@ -7,8 +7,8 @@ use lib.ListN.{length}
 use Rattle.binding.specs.Cutting.{pieceCount, partOfPiece}
 use Rattle.binding.proofs.Cutting.{piece-length}
 use Rattle.channel.specs.Channel.{missedOf, keeping, notedOf, begunOf, followedOf, placedOf, steppedOf}
-use Rattle.channel.specs.Setup.{goodSizes, good, freshOf, setupOf}
-use Rattle.channel.specs.Take.{sentTo, heardBy, judgedOf, takenBy, takenOf, putBy, roomsBy, roomsAfter, messageOf}
+use Rattle.joiner.specs.Setup.{goodSizes, good, freshOf, setupOf}
+use Rattle.joiner.specs.Take.{sentTo, heardBy, judgedOf, takenBy, takenOf, putBy, roomsBy, roomsAfter, messageOf}
 use Rattle.table.specs.All.{allBelow, above}
 use Rattle.table.specs.Layout.{sectionAt, after, ended, afterValues, afterMembers, afterTypes, sectionsOf, liesIn, within}
 use Rattle.table.specs.Entries.{typeAt, memberAt, valueAt, idAt, operationAt}

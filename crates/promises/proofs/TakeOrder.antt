@@ -9,16 +9,17 @@ use borrow.Author.Tests.{leb-true, ltb-true, ltb-false, le-leb}
 use lib.Dec.{eqb, leb, ltb}
 use lib.ListN.{length, getD}
 use Rattle.binding.specs.Header.{senderIn, versionIn}
-use Rattle.channel.specs.declared.records.Joiner.{Joiner}
-use Rattle.channel.specs.Setup.{channelLimit, sendersOf, channelAt, good, freshOf, setupOf, Acceptable}
-use Rattle.channel.specs.Take.{sentTo, heardBy, judgedOf, takenBy, takenOf}
-use Rattle.channel.proofs.Places.{at-place, place-first, distinct-says, is-distinct}
-use Rattle.channel.proofs.Lookups.{senders-length, senders-at}
-use Rattle.channel.proofs.Judging.{channel-says, Good, good-says}
-use Rattle.channel.proofs.Judging as judging
-use Rattle.channel.proofs.Cases.{sound-good}
-use Rattle.channel.proofs.Standing.{good-is}
-use Rattle.channel.proofs.Setups.{fresh-good, good-fresh}
+use Rattle.channel.specs.Record.{channelLimit}
+use Rattle.channel.proofs.Cases.{channel-says, sound-good}
+use Rattle.channel.proofs.Cases as cases
+use Rattle.joiner.specs.declared.Joiner.{Joiner}
+use Rattle.joiner.specs.Setup.{sendersOf, channelAt, good, freshOf, setupOf, Acceptable}
+use Rattle.joiner.specs.Take.{sentTo, heardBy, judgedOf, takenBy, takenOf}
+use Rattle.joiner.proofs.Places.{at-place, place-first, distinct-says, is-distinct}
+use Rattle.joiner.proofs.Lookups.{senders-length, senders-at}
+use Rattle.joiner.proofs.Judging.{Good, good-says}
+use Rattle.joiner.proofs.Standing.{good-is}
+use Rattle.joiner.proofs.Accepted.{fresh-good, good-fresh}
 use Rattle.promises.specs.Checks.{_when_, Answers, none}
 use Rattle.promises.specs.Order.{Sound, takeChecks, itsChannel, moved, keptWith, fresh, notSetUp}
 use Rattle.promises.proofs.Checks.{Decides, not-decides, unless, unless-then}
@@ -50,7 +51,7 @@ module _ (j : Joiner) (buffer : ℕ) (w : length (j .channels) ≡ channelLimit)
   sound g =
       let l : length (sendersOf j) ≡ j .count = senders-length j (g .sizes .few) w in
       let at : (k : ℕ) → k < j .count → getD (sendersOf j) k 0 ≡ channelAt j k .sender = senders-at j (g .sizes .few) w in
-      let each : (k : ℕ) → k < j .count → judging.Sound (j .room) (channelAt j k) = λ k h. channel-says (j .room) (channelAt j k) (g .each k h) in
+      let each : (k : ℕ) → k < j .count → cases.Sound (j .room) (channelAt j k) = λ k h. channel-says (j .room) (channelAt j k) (g .each k h) in
       record {
         some = g .sizes .some;
         few = g .sizes .few;

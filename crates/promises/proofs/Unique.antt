@@ -57,7 +57,6 @@ channel : ChannelUnique
 channel =
     record {
       room-start = λ k a z z′ e e′ p q. p ∙ sym q;
-      has-good-sizes = λ k a z z′ e e′ p q. p ∙ sym q;
       moved = λ k a z z′ e e′ p q. p ∙ sym q;
     }
 

@@ -15,15 +15,16 @@ use Rattle.binding.specs.Header.{counters, heardIn}
 use Rattle.binding.specs.declared.MessagePart.the-variants.{End, Whole}
 use Rattle.binding.specs.declared.Heard.{Heard}
 use Rattle.binding.specs.declared.Heard.the-variants as heard
-use Rattle.channel.specs.Setup.{badSetup, goodSizes, good, freshOf, setupOf}
-use Rattle.channel.specs.declared.records.Joiner.{Joiner}
+use Rattle.channel.specs.Record.{badSetup}
 use Rattle.channel.specs.Channel.{missedOf, keeping, notedOf, begunOf, followedOf, placedOf, steppedOf}
-use Rattle.channel.specs.Take.{sentTo, heardBy, judgedOf, takenBy, takenOf, putBy, roomsBy, roomsAfter, messageOf}
 use Rattle.channel.specs.declared.Judged.{Judged}
 use Rattle.channel.specs.declared.Judged.the-variants.{Refusal, Move}
 use Rattle.channel.specs.declared.Place.{Place}
 use Rattle.channel.specs.declared.Outcome.{Outcome}
 use Rattle.channel.specs.declared.Outcome.the-variants.{Refused, Repeated, Delivered, Held, Stray, TooLong}
+use Rattle.joiner.specs.Setup.{goodSizes, good, freshOf, setupOf}
+use Rattle.joiner.specs.declared.Joiner.{Joiner}
+use Rattle.joiner.specs.Take.{sentTo, heardBy, judgedOf, takenBy, takenOf, putBy, roomsBy, roomsAfter, messageOf}
 use Rattle.promises.specs.Cases.{sender, datagrams, ids, room}
 use Rattle.promises.specs.Senders.{Piece, Message, Sender, Genuine, sentBy, after, arriving, arrives, mostLost, lossesWithin, goodMessages, completeOf}
 use Rattle.promises.specs.Traffic.{Datagram, isOf, ofChannel, handedBack, Joining, deliveredBy, ourJoining, AreBytes, none, more}

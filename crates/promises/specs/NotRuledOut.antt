@@ -4,7 +4,7 @@ use Rattle.channel.specs.declared.Outcome.{Outcome}
 use Rattle.channel.specs.declared.Outcome.the-variants.{Refused, Repeated, Delivered, Held, Stray, TooLong}
 use Rattle.promises.specs.Traffic.{Joining, fresh, ourJoining}
 use Rattle.promises.specs.Demand3.{Demand3For}
-use Rattle.channel.specs.declared.records.Joiner.{Joiner}
+use Rattle.joiner.specs.declared.Joiner.{Joiner}
 
 abbrev pub saying : (Outcome → Outcome) → Joining
 saying f =

@@ -17,15 +17,15 @@ use Rattle.binding.specs.declared.cutter.Counted.the-variants as counted
 use Rattle.binding.specs.declared.cutter.Made.the-variants as made
 use Rattle.binding.specs.Header.{senders, counters, partIn, counterIn, pieceIn, headerIn, heardIn, senderIn as datagramSender, versionIn as datagramVersion}
 use Rattle.binding.specs.Cutting.{pieceCount, datagramOf, countedOf, madeOf}
-use Rattle.channel.specs.declared.records.Joiner.{Joiner}
 use Rattle.channel.specs.declared.Step.{Step}
-use Rattle.channel.specs.declared.Taken.{Taken}
 use Rattle.channel.specs.declared.Outcome.the-variants as outcome
-use Rattle.channel.specs.declared.records.Answer.the-variants as answer
-use Rattle.channel.specs.declared.records.NewJoiner.{NewJoiner}
 use Rattle.channel.specs.Channel.{roomOf, steppedOf}
-use Rattle.channel.specs.Setup.{placeOf, sendersOf, channelAt, freshOf, setupOf, Acceptable}
-use Rattle.channel.specs.Take.{changed, takenOf}
+use Rattle.joiner.specs.declared.Joiner.{Joiner}
+use Rattle.joiner.specs.declared.Taken.{Taken}
+use Rattle.joiner.specs.declared.setups.Answer.the-variants as answer
+use Rattle.joiner.specs.declared.setups.NewJoiner.{NewJoiner}
+use Rattle.joiner.specs.Setup.{placeOf, sendersOf, channelAt, freshOf, setupOf, Acceptable}
+use Rattle.joiner.specs.Take.{changed, takenOf}
 use Rattle.promises.specs.Checks.{Check, _when_, Answers, Outside}
 
 -- 7 to 9: "domain 0 and ID reserved / payload length not Table 4's / a field has a reserved value"

@@ -6,12 +6,12 @@ use lib.Dec.{leb, ltb, eqb}
 use lib.ListN.{length, getD}
 use Rattle.wire.specs.Bytes.{Octets}
 use Rattle.binding.specs.Header.{theVersion, smallestDatagram, largestDatagram, versionIn, senderIn}
-use Rattle.channel.specs.declared.records.Joiner.{Joiner}
-use Rattle.channel.specs.Setup.{setupOf}
 use Rattle.channel.specs.declared.Outcome.{Outcome}
 use Rattle.channel.specs.declared.Outcome.the-variants.{Refused, Repeated, Delivered, Held, Stray, TooLong}
-use Rattle.channel.specs.Take.{takenOf, roomsAfter, messageOf}
-use Rattle.channel.specs.View.{View, viewOf}
+use Rattle.joiner.specs.declared.Joiner.{Joiner}
+use Rattle.joiner.specs.Setup.{setupOf}
+use Rattle.joiner.specs.Take.{takenOf, roomsAfter, messageOf}
+use Rattle.joiner.specs.View.{View, viewOf}
 
 -- a datagram is a string of bytes
 abbrev pub Datagram : Type 0

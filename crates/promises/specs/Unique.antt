@@ -45,7 +45,6 @@ use Rattle.binding.proofs.BindingHeader.read.Reads.{Post as binding-BindingHead
 use Rattle.binding.proofs.pieces.Reads.{Post as binding-pieces}
 use Rattle.binding.proofs.cut.Reads.{Post as binding-cut}
 use Rattle.channel.proofs.room_start.Reads.{Post as channel-room-start}
-use Rattle.channel.proofs.has_good_sizes.Reads.{Post as channel-has-good-sizes}
 use Rattle.channel.proofs.moved.Reads.{Post as channel-moved}
 use Rattle.joiner.proofs.setup.Reads.{Post as joiner-setup}
 use Rattle.joiner.proofs.take.Reads.{Post as joiner-take}
@@ -157,7 +156,6 @@ pub record BindingUnique : Type 0 where
 
 pub record ChannelUnique : Type 0 where
   pub room-start : Answer channel-room-start
-  pub has-good-sizes : Answer channel-has-good-sizes
   pub moved : Answer channel-moved
 
 pub record JoinerUnique : Type 0 where

@@ -12,9 +12,8 @@ use Rattle.binding.specs.declared.Heard.{Heard}
 use Rattle.binding.specs.declared.Heard.the-variants as heard
 use Rattle.binding.specs.declared.MessagePart.{MessagePart}
 use Rattle.binding.specs.declared.MessagePart.the-variants.{Begin, Middle, End, Whole}
-use Rattle.channel.specs.Setup.{badSetup, channelAt, sendersOf, placeOf, good}
-use Rattle.channel.specs.declared.records.Channel.{Channel}
-use Rattle.channel.specs.declared.records.Joiner.{Joiner}
+use Rattle.channel.specs.Record.{badSetup}
+use Rattle.channel.specs.declared.Channel.{Channel}
 use Rattle.channel.specs.declared.Room.{Room}
 use Rattle.channel.specs.declared.Step.{Step}
 use Rattle.channel.specs.declared.Put.the-variants.{Nowhere, At}
@@ -24,7 +23,9 @@ use Rattle.channel.specs.declared.Place.{Place}
 use Rattle.channel.specs.declared.Judged.{Judged}
 use Rattle.channel.specs.declared.Judged.the-variants.{Refusal, Move}
 use Rattle.channel.specs.Channel.{roomOf, repeated, missedOf, notedOf, holding, tooLong, placedOf, steppedOf}
-use Rattle.channel.specs.Take.{notSetUp, takenBy, roomsBy}
+use Rattle.joiner.specs.Setup.{channelAt, sendersOf, placeOf, good}
+use Rattle.joiner.specs.declared.Joiner.{Joiner}
+use Rattle.joiner.specs.Take.{notSetUp, takenBy, roomsBy}
 use Rattle.promises.specs.Traffic.{Datagram, Took, Joining, deliveredBy, fresh, ourJoining}
 use Rattle.promises.specs.Demand3.{Demand3For}
 

@@ -14,12 +14,13 @@ use lib.ListN.{length, set, take, replicate}
 use lib.Seq.{length-take-le, take-suc-set}
 use Rattle.wire.specs.Bytes.{number}
 use Rattle.wire.proofs.Cond.{yes-lt, no-lt, yes-if, no-if, and-left, and-right}
-use Rattle.channel.specs.Setup.{channelLimit, badSetup, newChannel, good, freshOf, refusedSetup, setupOf, smallestRoom, largestRoom, roomStart}
-use Rattle.channel.specs.declared.records.Channel.{Channel}
-use Rattle.channel.specs.declared.records.Joiner.{Joiner}
-use Rattle.channel.specs.declared.records.NewJoiner.{NewJoiner}
-use Rattle.channel.specs.declared.records.Answer.{Answer}
-use Rattle.channel.specs.declared.records.Answer.the-variants as answer
+use Rattle.channel.specs.Record.{channelLimit, badSetup, newChannel, largestRoom, roomStart}
+use Rattle.channel.specs.declared.Channel.{Channel}
+use Rattle.joiner.specs.Setup.{good, freshOf, refusedSetup, setupOf, smallestRoom}
+use Rattle.joiner.specs.declared.Joiner.{Joiner}
+use Rattle.joiner.specs.declared.setups.NewJoiner.{NewJoiner}
+use Rattle.joiner.specs.declared.setups.Answer.{Answer}
+use Rattle.joiner.specs.declared.setups.Answer.the-variants as answer
 use Rattle.recording.specs.Opening.{sizesLength, roomsLimit, countIn, roomIn, idPlace, idsIn, goodStart, closed, openedBy, setupIn, readyIn, openedIn}
 use Rattle.recording.specs.declared.start.Opening.{Opening}
 use Rattle.recording.specs.declared.start.Opening.the-variants.{Unfinished, Refused, Open}

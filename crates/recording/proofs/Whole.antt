@@ -12,8 +12,8 @@ use lib.Seq.{take-append-add, take-append-seam, length-take-le, drop-append-le, 
 use Rattle.wire.specs.Bytes.{over, written, part}
 use Rattle.wire.proofs.Cond.{yes-if, no-if, yes-le}
 use Rattle.wire.proofs.Runs.{written-in, length-over, part-in}
-use Rattle.channel.specs.declared.records.Joiner.{Joiner}
-use Rattle.channel.specs.Take.{takenOf, roomsAfter}
+use Rattle.joiner.specs.declared.Joiner.{Joiner}
+use Rattle.joiner.specs.Take.{takenOf, roomsAfter}
 use Rattle.recording.specs.Places.{behind}
 use Rattle.recording.specs.Line.{lineLimit, lineOf}
 use Rattle.recording.proofs.LineLaws.{line-limit}

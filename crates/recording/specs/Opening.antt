@@ -6,11 +6,12 @@ use mathlib.Core.List.{List, [], _∷_, _++_}
 use lib.Dec.{leb, ltb}
 use lib.ListN.{length}
 use Rattle.wire.specs.Bytes.{number}
-use Rattle.channel.specs.Setup.{channelLimit, badSetup, freshOf, setupOf, smallestRoom, largestRoom, roomStart}
-use Rattle.channel.specs.declared.records.Joiner.{Joiner}
-use Rattle.channel.specs.declared.records.Answer.{Answer}
-use Rattle.channel.specs.declared.records.Answer.the-variants as answer
-use Rattle.channel.specs.declared.records.NewJoiner.{NewJoiner}
+use Rattle.channel.specs.Record.{channelLimit, badSetup, largestRoom, roomStart}
+use Rattle.joiner.specs.Setup.{freshOf, setupOf, smallestRoom}
+use Rattle.joiner.specs.declared.Joiner.{Joiner}
+use Rattle.joiner.specs.declared.setups.Answer.{Answer}
+use Rattle.joiner.specs.declared.setups.Answer.the-variants as answer
+use Rattle.joiner.specs.declared.setups.NewJoiner.{NewJoiner}
 use Rattle.recording.specs.declared.start.Opening.{Opening}
 use Rattle.recording.specs.declared.start.Opening.the-variants.{Unfinished, Refused, Open}
 use Rattle.recording.specs.declared.start.Opened.{Opened}

@@ -5,8 +5,8 @@ use mathlib.Core.List.{List}
 use lib.Dec.{leb}
 use lib.ListN.{length}
 use Rattle.wire.specs.Bytes.{written, part}
-use Rattle.channel.specs.Take.{takenOf, roomsAfter}
-use Rattle.channel.specs.declared.Taken.{Taken}
+use Rattle.joiner.specs.Take.{takenOf, roomsAfter}
+use Rattle.joiner.specs.declared.Taken.{Taken}
 use Rattle.recording.specs.Places.{behind}
 use Rattle.recording.specs.Line.{lineLimit, lineOf}
 use Rattle.recording.specs.Datagrams.{nextIn}

@@ -5,8 +5,8 @@ use mathlib.Core.Path.{_≡_}
 use mathlib.Core.List.{List, [], _∷_, _++_}
 use lib.ListN.{length, take, drop}
 use Rattle.wire.specs.Bytes.{part}
-use Rattle.channel.specs.declared.records.Joiner.{Joiner}
-use Rattle.channel.specs.Take.{takenOf, roomsAfter}
+use Rattle.joiner.specs.declared.Joiner.{Joiner}
+use Rattle.joiner.specs.Take.{takenOf, roomsAfter}
 use Rattle.recording.specs.Line.{lineOf}
 use Rattle.recording.specs.Datagrams.{nextIn}
 use Rattle.recording.specs.Play.{State, stateOf, following, played}

@@ -16,7 +16,7 @@ pub use start::open;
 ghost use mathlib.Core.Path.{_≡_};
 ghost use Rattle.recording.specs.Datagrams.{nextIn};
 ghost use Rattle.recording.specs.Play.{stateOf, played, steppedOf};
-use channel::Joiner;
+use joiner::Joiner;
 
 // What stands at a place of the recording: a datagram that is all there, part of one, or nothing.
 pub enum Found {

@@ -3,12 +3,13 @@ ghost use mathlib.Core.Path.{_≡_};
 ghost use mathlib.Core.List.{[]};
 ghost use Prim.Native.Nat.{_≤_};
 ghost use lib.ListN.{length, take};
-ghost use Rattle.channel.specs.Setup.{channelLimit, freshOf};
+ghost use Rattle.channel.specs.Record.{channelLimit};
+ghost use Rattle.joiner.specs.Setup.{freshOf};
 ghost use Rattle.recording.specs.Opening.{openedIn, goodStart, idsIn, readyIn, closed};
-use channel::Answer;
 use channel::BAD_SETUP;
 use channel::Channel;
-use channel::Joiner;
+use joiner::Answer;
+use joiner::Joiner;
 
 // The bytes of count and R.
 const SIZES: usize = 6;
@@ -77,7 +78,7 @@ fn is_good_start(count: usize, room: u32) -> bool
     ensures { λ r. ⌜ r ≡ goodStart count room ⌝ }
 {
     if (1 <= count) & (count <= channel::CHANNELS) {
-        if (channel::SMALLEST_ROOM <= room) & (room <= channel::LARGEST_ROOM) {
+        if (joiner::SMALLEST_ROOM <= room) & (room <= channel::LARGEST_ROOM) {
             return channel::room_start(room, count as u32) <= ROOMS;
         }
         return false;

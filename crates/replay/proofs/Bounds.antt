@@ -12,7 +12,7 @@ use lib.Dec.{leb}
 use lib.ListN.{length, getD, take, drop, length-take, List·getD-eq-default}
 use lib.Seq.{length-take-le, getD-take}
 use Rattle.wire.specs.Bytes.{part, Octets}
-use Rattle.channel.specs.Setup.{badSetup}
+use Rattle.channel.specs.Record.{badSetup}
 use Rattle.recording.specs.Datagrams.{nextIn}
 use Rattle.recording.specs.Opening.{openedIn}
 use Rattle.recording.specs.declared.Found.{Found}

@@ -2,7 +2,7 @@
 use Prim.{Unit}
 use Prim.Native.Nat.{ℕ, _≤_}
 use mathlib.Core.Path.{_≡_}
-use Rattle.channel.specs.Setup.{badSetup}
+use Rattle.channel.specs.Record.{badSetup}
 use Rattle.recording.specs.declared.lines.Ending.{Ending}
 use Rattle.recording.specs.declared.lines.Ending.the-variants.{Whole, CutShort, RefusedSetup}
 use Rattle.recording.specs.declared.start.Opened.{Opened}

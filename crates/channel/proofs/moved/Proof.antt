@@ -1,7 +1,7 @@
 -- `channel::moved` meets its contract: the step of a record that can move, else a refusal.
 -- Assumes nothing.
 use borrow.Author.Needs.{needs}
-use Rattle.channel.proofs.Judging.{number-fits, long-enough, length-fits, steppable, is-moved, not-moved}
+use Rattle.channel.proofs.Movable.{number-fits, long-enough, length-fits, steppable, is-moved, not-moved}
 use Rattle.channel.proofs.moved.Statement.{statement}
 use Rattle.channel.proofs.moved.Tie as tie
 

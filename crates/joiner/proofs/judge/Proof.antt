@@ -1,7 +1,7 @@
 -- `joiner::judge` meets its contract: the numbers in their order, then the step of the channel that was found.
 -- Assumes nothing.
 use borrow.Author.Needs.{needs}
-use Rattle.channel.proofs.Judging.{judged-bad, judged-nobody, judged-refused, judged-somebody}
+use Rattle.joiner.proofs.Judging.{judged-bad, judged-nobody, judged-refused, judged-somebody}
 use Rattle.joiner.proofs.judge.Statement.{statement}
 use Rattle.joiner.proofs.judge.Tie as tie
 

@@ -3,7 +3,7 @@
 use mathlib.Core.Path.{_≡_}
 use borrow.Author.Needs.{needs}
 use lib.ListN.{length, length-map}
-use Rattle.channel.specs.Setup.{channelLimit}
+use Rattle.channel.specs.Record.{channelLimit}
 use Rattle.joiner.proofs.Taking.{moved-known, moved-fits, refused, moved}
 use Rattle.joiner.proofs.take.Statement.{statement}
 use Rattle.joiner.proofs.take.Tie as tie

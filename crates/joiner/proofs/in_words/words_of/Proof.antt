@@ -5,7 +5,7 @@ use mathlib.Core.Path.{_≡_, refl}
 use borrow.Author.Needs.{needs}
 use lib.ListN.{length, take, length-map}
 use Rattle.wire.specs.Bytes.{over}
-use Rattle.channel.specs.Setup.{channelLimit}
+use Rattle.channel.specs.Record.{channelLimit}
 use Rattle.joiner.specs.JoinerWords.{recordsWords}
 use Rattle.joiner.proofs.Storing.{sized, write-none, write-more, write-all, words-none}
 use Rattle.joiner.proofs.in_words.words_of.Statement.{statement}

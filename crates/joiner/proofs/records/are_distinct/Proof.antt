@@ -5,7 +5,7 @@ use mathlib.Core.Path.{_≡_}
 use borrow.Author.Count.{below-none, below-more}
 use borrow.Author.Needs.{needs}
 use lib.ListN.{getD}
-use Rattle.channel.specs.Setup.{placeOf}
+use Rattle.joiner.specs.Setup.{placeOf}
 use Rattle.joiner.specs.JoinerWords.{recordAt}
 use Rattle.joiner.specs.Records.{Sized, sendersIn}
 use Rattle.joiner.proofs.Looks.{stands-twice, stands-once, none-earlier}

@@ -5,7 +5,7 @@ use Prim.Native.Nat.{_-_, _≤_}
 use mathlib.Core.Path.{_≡_}
 use borrow.Author.Needs.{needs}
 use lib.ListN.{length}
-use Rattle.channel.specs.Setup.{channelLimit}
+use Rattle.channel.specs.Record.{channelLimit}
 use Rattle.joiner.proofs.Making.{madeOf, made-none, made-more, made-all}
 use Rattle.joiner.proofs.setups.fresh.Statement.{statement}
 use Rattle.joiner.proofs.setups.fresh.Tie as tie

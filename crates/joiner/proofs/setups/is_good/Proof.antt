@@ -3,7 +3,7 @@
 use mathlib.Core.Path.{_≡_}
 use borrow.Author.Needs.{needs}
 use lib.ListN.{length, length-map}
-use Rattle.channel.specs.Setup.{channelLimit}
+use Rattle.channel.specs.Record.{channelLimit}
 use Rattle.joiner.proofs.Making.{judged-good}
 use Rattle.joiner.proofs.setups.is_good.Statement.{statement}
 use Rattle.joiner.proofs.setups.is_good.Tie as tie

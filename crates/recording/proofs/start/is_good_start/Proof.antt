@@ -1,7 +1,7 @@
 -- `recording::is_good_start` meets its contract: what each test says.
 -- Assumes nothing.
 use borrow.Author.Needs.{needs}
-use Rattle.channel.proofs.Lookups.{count-fits}
+use Rattle.joiner.proofs.Lookups.{count-fits}
 use Rattle.recording.proofs.Starting.{start-judged, wrong-room, wrong-count}
 use Rattle.recording.proofs.start.is_good_start.Statement.{statement}
 use Rattle.recording.proofs.start.is_good_start.Tie as tie

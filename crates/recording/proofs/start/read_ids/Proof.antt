@@ -4,7 +4,7 @@ use Prim.Native.Nat.{_-_, _≤_}
 use mathlib.Core.Path.{_≡_, refl}
 use borrow.Author.Needs.{needs}
 use lib.ListN.{length, take}
-use Rattle.channel.specs.Setup.{channelLimit}
+use Rattle.channel.specs.Record.{channelLimit}
 use Rattle.recording.specs.Opening.{idsIn}
 use Rattle.recording.proofs.Starting.{ids-more, ids-read}
 use Rattle.recording.proofs.start.read_ids.Statement.{statement}

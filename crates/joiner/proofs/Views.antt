@@ -16,20 +16,22 @@ use Rattle.wire.proofs.Runs.{written-in, part-in, drop-over, length-written}
 use Rattle.binding.specs.Header.{headerLength, partIn, counterIn, pieceIn}
 use Rattle.binding.specs.declared.MessagePart.{MessagePart}
 use Rattle.binding.proofs.Headers.{piece-length}
-use Rattle.channel.specs.declared.records.Channel.{Channel}
-use Rattle.channel.specs.declared.records.Joiner.{Joiner}
+use Rattle.channel.specs.declared.Channel.{Channel}
 use Rattle.channel.specs.declared.Room.{Room}
 use Rattle.channel.specs.declared.Step.{Step}
 use Rattle.channel.specs.declared.Judged.{Judged}
 use Rattle.channel.specs.declared.Judged.the-variants.{Refusal, Move}
 use Rattle.channel.specs.Channel.{roomOf, missedOf, keeping, notedOf}
-use Rattle.channel.specs.Setup.{sendersOf, channelAt, roomStart}
-use Rattle.channel.specs.Take.{judgedOf, changed, takenBy, takenOf, putBy, roomsBy, roomsAfter, messageOf, Addressed, Foreign}
-use Rattle.channel.specs.View.{View, bytesAt, viewOf, leading, heldBy, givenBy, viewStep, viewAfter, viewGiven, deliveredOf}
-use Rattle.channel.proofs.Judging.{channel-says, Moved, judged-moved, room-within}
-use Rattle.channel.proofs.Cases.{Stepped, again, whole, begins, stray, long, goes-on, ends}
-use Rattle.channel.proofs.Standing.{Standing, standing-good, changed-here, changed-there, moved-cases}
-use Rattle.channel.proofs.Addressing.{addressed-moves, foreign-refused}
+use Rattle.channel.specs.Record.{roomStart}
+use Rattle.channel.proofs.Cases.{channel-says, Stepped, again, whole, begins, stray, long, goes-on, ends}
+use Rattle.channel.proofs.Movable.{room-within}
+use Rattle.joiner.specs.declared.Joiner.{Joiner}
+use Rattle.joiner.specs.Setup.{sendersOf, channelAt}
+use Rattle.joiner.specs.Take.{judgedOf, changed, takenBy, takenOf, putBy, roomsBy, roomsAfter, messageOf, Addressed, Foreign}
+use Rattle.joiner.specs.View.{View, bytesAt, viewOf, leading, heldBy, givenBy, viewStep, viewAfter, viewGiven, deliveredOf}
+use Rattle.joiner.proofs.Judging.{Moved, judged-moved}
+use Rattle.joiner.proofs.Standing.{Standing, standing-good, changed-here, changed-there, moved-cases}
+use Rattle.joiner.proofs.Addressing.{addressed-moves, foreign-refused}
 
 -- a run written at p, seen from n bytes at a
 module _ (s : List ℕ) (p : ℕ) (q : List ℕ) (h : p + length q ≤ length s) where

@@ -1,51 +1,34 @@
 -- What the judgement of one datagram shows: the numbers in their order, and what a good joiner and a header that was read
 -- grant to the channel's step.
 -- Assumes nothing.
-use Prim.Native.Nat.{ℕ, _+_, _-_, _*_, _^_, _≤_, _<_}
+use Prim.Native.Nat.{ℕ, _-_, _≤_, _<_}
 use mathlib.Core.Path.{_≡_, refl, sym, ap, _∙_}
 use mathlib.Core.Bool.{Bool, true, false, _&&_, cond}
 use mathlib.Core.List.{List}
-use native.Mathlib.Nat.{mul-le-mul-right}
 use native.Mathlib.Omega.{arith}
-use borrow.Author.Tests.{leb-true, ltb-true, lt-ltb, le-ltb, le-leb}
-use mir.Syntax.{w32}
-use mir.Val.{Fits}
-use lib.Dec.{leb, ltb}
+use borrow.Author.Tests.{ltb-true, lt-ltb, le-ltb, le-leb}
+use lib.Dec.{ltb}
 use lib.ListN.{length}
 use Rattle.wire.proofs.Cond.{and-left, and-right}
-use Rattle.binding.specs.Header.{headerLength, largestPiece, largestDatagram, senders, counters, heardIn, headerIn, partIn, senderIn, counterIn, pieceIn}
+use Rattle.binding.specs.Header.{headerLength, largestDatagram, counters, heardIn, headerIn, partIn, senderIn, counterIn, pieceIn}
 use Rattle.binding.specs.declared.BindingHeader.{BindingHeader}
 use Rattle.binding.specs.declared.Heard.{Heard}
 use Rattle.binding.specs.declared.Heard.the-variants as heard
 use Rattle.binding.proofs.Headers.{Headed, heard-headed, piece-length}
-use Rattle.channel.specs.declared.records.Channel.{Channel}
-use Rattle.channel.specs.declared.records.Joiner.{Joiner}
+use Rattle.channel.specs.declared.Channel.{Channel}
+use Rattle.channel.proofs.Cases.{Sound, channel-says}
 use Rattle.channel.specs.declared.Step.{Step}
-use Rattle.channel.specs.declared.records.Found.{Found}
-use Rattle.channel.specs.declared.records.Found.the-variants.{Bad, Nobody, Somebody}
 use Rattle.channel.specs.declared.Judged.{Judged}
 use Rattle.channel.specs.declared.Judged.the-variants.{Refusal, Move}
-use Rattle.channel.specs.Channel.{Steppable, roomOf, steppedOf}
-use Rattle.channel.specs.Setup.{channelLimit, largestRoom, badSetup, newChannel, placeOf, distinct, every, channelsOf}
-use Rattle.channel.specs.Setup.{sendersOf, channelAt, goodSizes, goodChannel, good, foundOf, roomStart}
-use Rattle.channel.specs.Take.{notSetUp, sentTo, heardBy, judgedOf, senderBy, refusalBy, canMove, movedOf, judgedBy}
-use Rattle.channel.proofs.Places.{every-at}
-use Rattle.channel.proofs.Lookups.{Sizes, sizes-say, channels-length, channels-at, Borne, found-bad, found-nobody, found-somebody}
-
--- what a good record is
-pub record Sound (R : ℕ) (ch : Channel) : Type 0 where
-  pub sender : ch .sender < senders
-  pub held : ch .held ≤ R
-  pub last : ch .last < counters
-
-pub channel-says : (R : ℕ) (ch : Channel) → goodChannel R ch ≡ true → Sound R ch
-channel-says R ch e =
-    let q : (leb (ch .held) R && ltb (ch .last) counters) ≡ true = and-right (ltb (ch .sender) senders) (leb (ch .held) R && ltb (ch .last) counters) e in
-    record {
-      sender = ltb-true (ch .sender) senders (and-left (ltb (ch .sender) senders) (leb (ch .held) R && ltb (ch .last) counters) e);
-      held = leb-true (ch .held) R (and-left (leb (ch .held) R) (ltb (ch .last) counters) q);
-      last = ltb-true (ch .last) counters (and-right (leb (ch .held) R) (ltb (ch .last) counters) q);
-    }
+use Rattle.channel.specs.Channel.{roomOf, steppedOf, canMove, movedOf}
+use Rattle.channel.specs.Record.{channelLimit, largestRoom, badSetup, newChannel, goodChannel, roomStart}
+use Rattle.joiner.specs.declared.Joiner.{Joiner}
+use Rattle.joiner.specs.declared.looking.Found.{Found}
+use Rattle.joiner.specs.declared.looking.Found.the-variants.{Bad, Nobody, Somebody}
+use Rattle.joiner.specs.Setup.{placeOf, distinct, every, channelsOf, sendersOf, channelAt, goodSizes, good, foundOf}
+use Rattle.joiner.specs.Take.{notSetUp, sentTo, heardBy, judgedOf, senderBy, refusalBy, judgedBy}
+use Rattle.joiner.proofs.Places.{every-at}
+use Rattle.joiner.proofs.Lookups.{Sizes, sizes-say, channels-length, channels-at, Borne, found-bad, found-nobody, found-somebody}
 
 -- what a good joiner is
 pub record Good (j : Joiner) (b : ℕ) : Type 0 where
@@ -74,79 +57,6 @@ pub good-sizes : (j : Joiner) (b : ℕ) → good j b ≡ true → Sizes (j .coun
 unfolding good
 good-sizes j b e =
     sizes-say (j .count) (j .room) b (and-left (goodSizes (j .count) (j .room) b) (every (goodChannel (j .room)) (channelsOf j) && distinct (sendersOf j)) e)
-
--- each room lies within the rooms
-pub room-within : (R n k : ℕ) → k < n → roomStart R k + R ≤ roomStart R n
-room-within R n k h =
-    let m : (k + 1) * R ≤ n * R = mul-le-mul-right R (omega arith) in
-    omega arith
-
--- `moved`
-pub record CanMove (k R : ℕ) (ch : Channel) (n : ℕ) : Type 0 where
-  pub few : k < channelLimit
-  pub narrow : R ≤ largestRoom
-  pub held : ch .held ≤ R
-  pub last : ch .last < counters
-  pub long : headerLength ≤ n
-  pub short : n ≤ largestDatagram
-
-can-say : (k R : ℕ) (ch : Channel) (n : ℕ) → canMove k R ch n ≡ true → CanMove k R ch n
-can-say k R ch n e =
-    record {
-      few = ltb-true k channelLimit (and-left (ltb k channelLimit) (leb R largestRoom) place);
-      narrow = leb-true R largestRoom (and-right (ltb k channelLimit) (leb R largestRoom) place);
-      held = leb-true (ch .held) R (and-left (leb (ch .held) R) (ltb (ch .last) counters) kept);
-      last = ltb-true (ch .last) counters (and-right (leb (ch .held) R) (ltb (ch .last) counters) kept);
-      long = leb-true headerLength n (and-left (leb headerLength n) (leb n largestDatagram) length-is);
-      short = leb-true n largestDatagram (and-right (leb headerLength n) (leb n largestDatagram) length-is);
-    }
-  where
-    place : (ltb k channelLimit && leb R largestRoom) ≡ true
-    place = and-left (ltb k channelLimit && leb R largestRoom)
-        ((leb (ch .held) R && ltb (ch .last) counters) && (leb headerLength n && leb n largestDatagram)) e
-
-    rest : ((leb (ch .held) R && ltb (ch .last) counters) && (leb headerLength n && leb n largestDatagram)) ≡ true
-    rest = and-right (ltb k channelLimit && leb R largestRoom)
-        ((leb (ch .held) R && ltb (ch .last) counters) && (leb headerLength n && leb n largestDatagram)) e
-
-    kept : (leb (ch .held) R && ltb (ch .last) counters) ≡ true
-    kept = and-left (leb (ch .held) R && ltb (ch .last) counters) (leb headerLength n && leb n largestDatagram) rest
-
-    length-is : (leb headerLength n && leb n largestDatagram) ≡ true
-    length-is = and-right (leb (ch .held) R && ltb (ch .last) counters) (leb headerLength n && leb n largestDatagram) rest
-
-module _ {t : Bool} (k R : ℕ) (ch : Channel) (n : ℕ) (e : t ≡ canMove k R ch n) where
-  pub not-moved : (h : BindingHeader) → t ≡ false → Refusal badSetup ≡ movedOf k R ch h n
-  unfolding movedOf
-  not-moved h f = rw (sym e ∙ f)
-
-  module _ (g : t ≡ true) where
-    says : CanMove k R ch n
-    says = can-say k R ch n (sym e ∙ g)
-
-    pub number-fits : Fits w32 k
-    number-fits = record { fits = omega (arith, says .few) }
-
-    pub long-enough : headerLength ≤ n
-    long-enough = says .long
-
-    pub length-fits : Fits w32 (n - headerLength)
-    length-fits = record { fits = omega (arith, says .short) }
-
-    pub steppable : {s : ℕ} → s ≡ roomStart R k → Steppable (record { start = s; size = R }) ch (n - headerLength)
-    steppable es =
-        record {
-          size = says .narrow;
-          ends = omega (arith, room-within R channelLimit k (says .few), says .narrow);
-          last = says .last;
-          held = says .held;
-          piece = omega (arith, says .short);
-        }
-
-    pub is-moved : {s : ℕ} {x : Step} (h : BindingHeader) → s ≡ roomStart R k → x
-        ≡ steppedOf (record { start = s; size = R }) ch (h .part) (h .counter) (n - headerLength) → Move k x ≡ movedOf k R ch h n
-    unfolding movedOf
-    is-moved h es ex = rw (sym e ∙ g, ex, es)
 
 -- `judge`
 module _ {f : Found} (R n : ℕ) (x : Heard) where

@@ -11,16 +11,16 @@ use lib.Dec.{leb}
 use lib.ListN.{length, getD, replicate, length-map, length-append, length-replicate, List·getD-append, List·getD-map}
 use lib.Seq.{take-at}
 use Rattle.binding.specs.Header.{senders}
-use Rattle.channel.specs.declared.records.NewJoiner.{NewJoiner}
-use Rattle.channel.specs.declared.records.Answer.the-variants.{Accepted}
-use Rattle.channel.specs.Setup.{channelLimit, newChannel, distinct, senderOf, sendersOf, channelAt, goodSizes, goodChannel}
-use Rattle.channel.specs.Setup.{good, freshOf, refusedSetup, setupOf, Acceptable}
-use Rattle.channel.specs.View.{viewOf}
-use Rattle.channel.proofs.Places.{distinct-says, is-distinct}
-use Rattle.channel.proofs.Lookups.{Sizes}
-use Rattle.channel.proofs.Judging.{channel-says, Good, good-says}
-use Rattle.channel.proofs.Cases.{sound-good}
-use Rattle.channel.proofs.Standing.{Standing, good-is}
+use Rattle.channel.specs.Record.{channelLimit, newChannel, goodChannel}
+use Rattle.channel.proofs.Cases.{channel-says, sound-good}
+use Rattle.joiner.specs.declared.setups.NewJoiner.{NewJoiner}
+use Rattle.joiner.specs.declared.setups.Answer.the-variants.{Accepted}
+use Rattle.joiner.specs.Setup.{distinct, senderOf, sendersOf, channelAt, goodSizes, good, freshOf, refusedSetup, setupOf, Acceptable}
+use Rattle.joiner.specs.View.{viewOf}
+use Rattle.joiner.proofs.Places.{distinct-says, is-distinct}
+use Rattle.joiner.proofs.Lookups.{Sizes}
+use Rattle.joiner.proofs.Judging.{Good, good-says}
+use Rattle.joiner.proofs.Standing.{Standing, good-is}
 
 senders-back : (ids : List ℕ) → map senderOf (map newChannel ids) ≡ ids
 senders-back [] = refl

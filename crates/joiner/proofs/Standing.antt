@@ -15,22 +15,22 @@ use Rattle.wire.specs.Bytes.{Octets}
 use Rattle.wire.proofs.Runs.{length-written}
 use Rattle.binding.specs.Header.{partIn, counterIn, pieceIn}
 use Rattle.binding.proofs.Headers.{counter-below}
-use Rattle.channel.specs.declared.records.Channel.{Channel}
-use Rattle.channel.specs.declared.records.Joiner.{Joiner}
+use Rattle.channel.specs.declared.Channel.{Channel}
 use Rattle.channel.specs.declared.Step.{Step}
 use Rattle.channel.specs.declared.Put.{Put}
 use Rattle.channel.specs.declared.Put.the-variants.{Nowhere, At}
 use Rattle.channel.specs.declared.Outcome.the-variants.{Refused}
 use Rattle.channel.specs.declared.Judged.{Judged}
 use Rattle.channel.specs.declared.Judged.the-variants.{Refusal, Move}
 use Rattle.channel.specs.Channel.{roomOf}
-use Rattle.channel.specs.Setup.{channelLimit, newChannel, distinct, every, senderOf, channelsOf, sendersOf, channelAt}
-use Rattle.channel.specs.Setup.{goodSizes, goodChannel, good, smallestRoom, largestRoom, roomStart}
-use Rattle.channel.specs.Take.{judgedOf, changed, takenBy, takenOf, putBy, roomsBy, roomsAfter}
-use Rattle.channel.proofs.Places.{every-by}
-use Rattle.channel.proofs.Lookups.{Sizes, channels-length, channels-at}
-use Rattle.channel.proofs.Judging.{channel-says, Good, good-says, Moved, judged-moved}
-use Rattle.channel.proofs.Cases.{Stepped, step-cases, step-sender, step-taken, step-sound, sound-good}
+use Rattle.channel.specs.Record.{channelLimit, newChannel, goodChannel, largestRoom, roomStart}
+use Rattle.channel.proofs.Cases.{channel-says, Stepped, step-cases, step-sender, step-taken, step-sound, sound-good}
+use Rattle.joiner.specs.declared.Joiner.{Joiner}
+use Rattle.joiner.specs.Setup.{distinct, every, senderOf, channelsOf, sendersOf, channelAt, goodSizes, good, smallestRoom}
+use Rattle.joiner.specs.Take.{judgedOf, changed, takenBy, takenOf, putBy, roomsBy, roomsAfter}
+use Rattle.joiner.proofs.Places.{every-by}
+use Rattle.joiner.proofs.Lookups.{Sizes, channels-length, channels-at}
+use Rattle.joiner.proofs.Judging.{Good, good-says, Moved, judged-moved}
 
 pub sizes-are : (n R b : ℕ) → Sizes n R b → goodSizes n R b ≡ true
 unfolding goodSizes

@@ -1,30 +1,31 @@
 -- One datagram taken: 01, numbers 20 to 23 in their order, and Joining.
 use Prim.Native.Nat.{ℕ, _-_, _≤_, _<_}
 use mathlib.Core.Path.{_≡_}
-use mathlib.Core.Bool.{Bool, true, false, _&&_, cond}
+use mathlib.Core.Bool.{cond}
 use mathlib.Core.List.{List, []}
-use lib.Dec.{leb, ltb}
+use lib.Dec.{ltb}
 use lib.ListN.{length, getD, set}
 use Rattle.wire.specs.Bytes.{written, part}
-use Rattle.binding.specs.Header.{headerLength, counters, theVersion, smallestDatagram, largestDatagram, versionIn, senderIn, heardIn, pieceIn}
+use Rattle.binding.specs.Header.{theVersion, smallestDatagram, largestDatagram, versionIn, senderIn, heardIn, pieceIn}
 use Rattle.binding.specs.declared.BindingHeader.{BindingHeader}
 use Rattle.binding.specs.declared.Heard.{Heard}
 use Rattle.binding.specs.declared.Heard.the-variants as heard
-use Rattle.channel.specs.Channel.{roomOf, steppedOf}
-use Rattle.channel.specs.Setup.{badSetup, channelLimit, largestRoom, channelAt, sendersOf, placeOf, good}
-use Rattle.channel.specs.declared.records.Channel.{Channel}
-use Rattle.channel.specs.declared.records.Joiner.{Joiner}
-use Rattle.channel.specs.declared.records.Found.{Found}
-use Rattle.channel.specs.declared.records.Found.the-variants.{Bad, Nobody, Somebody}
+use Rattle.channel.specs.Channel.{roomOf, steppedOf, movedOf}
+use Rattle.channel.specs.Record.{badSetup}
+use Rattle.channel.specs.declared.Channel.{Channel}
 use Rattle.channel.specs.declared.Put.{Put}
 use Rattle.channel.specs.declared.Put.the-variants.{Nowhere, At}
 use Rattle.channel.specs.declared.Place.{Place}
 use Rattle.channel.specs.declared.Place.the-variants.{Datagram, Rooms}
 use Rattle.channel.specs.declared.Outcome.{Outcome}
 use Rattle.channel.specs.declared.Outcome.the-variants.{Refused, Repeated, Delivered, Held, Stray, TooLong}
 use Rattle.channel.specs.declared.Judged.{Judged}
 use Rattle.channel.specs.declared.Judged.the-variants.{Refusal, Move}
-use Rattle.channel.specs.declared.Taken.{Taken}
+use Rattle.joiner.specs.Setup.{channelAt, sendersOf, placeOf, good}
+use Rattle.joiner.specs.declared.Joiner.{Joiner}
+use Rattle.joiner.specs.declared.looking.Found.{Found}
+use Rattle.joiner.specs.declared.looking.Found.the-variants.{Bad, Nobody, Somebody}
+use Rattle.joiner.specs.declared.Taken.{Taken}
 
 abbrev pub notSetUp : ℕ
 notSetUp = 23
@@ -53,13 +54,6 @@ senderBy (heard.Piece h) = h .sender
 abbrev pub refusalBy : Heard → ℕ
 refusalBy (heard.Refused n) = n
 refusalBy (heard.Piece h) = notSetUp
-
--- what holds of every record that is found in a good joiner, and of every datagram whose header is read
-abbrev pub canMove : ℕ → ℕ → Channel → ℕ → Bool
-canMove k R ch n = (ltb k channelLimit && leb R largestRoom) && ((leb (ch .held) R && ltb (ch .last) counters) && (leb headerLength n && leb n largestDatagram))
-
-unfoldable pub movedOf : ℕ → ℕ → Channel → BindingHeader → ℕ → Judged
-movedOf k R ch h n = cond (canMove k R ch n) (Move k (steppedOf (roomOf R k) ch (h .part) (h .counter) (n - headerLength))) (Refusal badSetup)
 
 -- what a datagram of n bytes comes to, with rooms of R bytes
 unfoldable pub judgedBy : Found → ℕ → Heard → ℕ → Judged

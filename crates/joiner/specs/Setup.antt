@@ -1,39 +1,23 @@
 -- A set-up and the joiner it makes: 01, number 20, for a set-up and for one handed in with a datagram.
-use Prim.Native.Nat.{ℕ, suc, _-_, _*_, _≤_, _<_}
+use Prim.Native.Nat.{ℕ, suc, _-_, _≤_, _<_}
 use mathlib.Core.Path.{_≡_}
-use mathlib.Core.Bool.{Bool, true, false, _&&_, cond}
+use mathlib.Core.Bool.{Bool, true, _&&_, cond}
 use mathlib.Core.List.{List, [], _∷_, _++_, map}
 use lib.Dec.{leb, ltb, eqb}
 use lib.ListN.{length, getD, take, replicate}
-use Rattle.binding.specs.Header.{senders, counters}
-use Rattle.channel.specs.declared.records.Channel.{Channel}
-use Rattle.channel.specs.declared.records.Joiner.{Joiner}
-use Rattle.channel.specs.declared.records.Found.{Found}
-use Rattle.channel.specs.declared.records.Found.the-variants.{Bad, Nobody, Somebody}
-use Rattle.channel.specs.declared.records.Answer.the-variants.{Accepted, Refused}
-use Rattle.channel.specs.declared.records.NewJoiner.{NewJoiner}
-
-abbrev pub channelLimit : ℕ
-channelLimit = 32
-
-abbrev pub badSetup : ℕ
-badSetup = 20
+use Rattle.binding.specs.Header.{senders}
+use Rattle.channel.specs.Record.{channelLimit, badSetup, largestRoom, roomStart, newChannel, goodChannel}
+use Rattle.channel.specs.declared.Channel.{Channel}
+use Rattle.joiner.specs.declared.Joiner.{Joiner}
+use Rattle.joiner.specs.declared.looking.Found.{Found}
+use Rattle.joiner.specs.declared.looking.Found.the-variants.{Bad, Nobody, Somebody}
+use Rattle.joiner.specs.declared.setups.Answer.{Answer}
+use Rattle.joiner.specs.declared.setups.Answer.the-variants.{Accepted, Refused}
+use Rattle.joiner.specs.declared.setups.NewJoiner.{NewJoiner}
 
 -- 01, number 20: R is 24 to 65,560
 abbrev pub smallestRoom : ℕ
 smallestRoom = 24
-
-abbrev pub largestRoom : ℕ
-largestRoom = 65560
-
--- where room k starts: each channel has its own R bytes, in set-up order. Where the room behind the last would start is
--- the rooms' total
-abbrev pub roomStart : ℕ → ℕ → ℕ
-roomStart R k = k * R
-
--- fresh: nothing seen, nothing held
-abbrev pub newChannel : ℕ → Channel
-newChannel s = record { sender = s; seen = false; last = 0; held = 0 }
 
 -- every element passes
 abbrev pub every : (Channel → Bool) → List Channel → Bool
@@ -69,10 +53,6 @@ unfoldable pub goodSizes : ℕ → ℕ → ℕ → Bool
 goodSizes n R buffer =
     (leb 1 n && leb n channelLimit) && ((leb smallestRoom R && leb R largestRoom) && eqb buffer (roomStart R n))
 
--- a sender ID in Table 9's range, a held length that is not above R, and a last counter below M
-abbrev pub goodChannel : ℕ → Channel → Bool
-goodChannel R ch = ltb (ch .sender) senders && (leb (ch .held) R && ltb (ch .last) counters)
-
 -- number 20 is given exactly where this does not hold
 unfoldable pub good : Joiner → ℕ → Bool
 good j buffer =
@@ -96,6 +76,11 @@ setupOf ids R buffer =
     cond (leb (length ids) channelLimit && good (freshOf ids R) buffer)
     (record { answer = Accepted; joiner = freshOf ids R })
     refusedSetup
+
+-- a set-up's number: 20, or 0 where it is accepted
+abbrev pub answerIn : Answer → ℕ
+answerIn Accepted = 0
+answerIn (Refused n) = n
 
 -- what is asked of a set-up, in 01's words
 pub record Acceptable (ids : List ℕ) (R buffer : ℕ) : Type 0 where

@@ -1,31 +1,23 @@
 -- What a look at a joiner shows: its records against the lists of `specs/`, its sizes, and what was found.
 -- Assumes nothing.
-use Prim.Native.Nat.{ℕ, _-_, _*_, _^_, _≤_, _<_}
+use Prim.Native.Nat.{ℕ, _-_, _≤_, _<_}
 use mathlib.Core.Path.{_≡_, refl, sym, ap, _∙_}
 use mathlib.Core.Bool.{Bool, true, false, _&&_, cond}
 use native.Mathlib.Omega.{arith}
-use native.Mathlib.Nat.{mul-le-mul}
 use borrow.Author.Tests.{leb-true, ltb-true, ltb-false, eqb-true}
-use mir.Syntax.{w32, w64}
+use mir.Syntax.{w32}
 use mir.Val.{Fits}
 use lib.Dec.{leb, ltb, eqb}
 use lib.ListN.{length, getD, length-map, List·getD-map}
 use lib.Seq.{length-take-le, getD-take}
 use Rattle.wire.proofs.Cond.{and-left, and-right}
-use Rattle.channel.specs.declared.records.Channel.{Channel}
-use Rattle.channel.specs.declared.records.Joiner.{Joiner}
-use Rattle.channel.specs.declared.records.Found.{Found}
-use Rattle.channel.specs.declared.records.Found.the-variants.{Bad, Nobody, Somebody}
-use Rattle.channel.specs.Setup.{channelLimit, largestRoom, smallestRoom, roomStart, placeOf, distinct, senderOf, channelsOf}
-use Rattle.channel.specs.Setup.{sendersOf, channelAt, goodSizes, good, newChannel, foundOf}
-use Rattle.channel.proofs.Places.{not-true-false, place-found, place-none, place-first, at-place, distinct-says, is-distinct}
-
--- a product of two 32-bit numbers is a usize
-pub product-fits : (k R : ℕ) → k < 2 ^ 32 → R < 2 ^ 32 → Fits w64 (k * R)
-product-fits k R h l =
-    let a : k ≤ 2 ^ 32 - 1 = omega arith in
-    let b : R ≤ 2 ^ 32 - 1 = omega arith in
-    record { fits = omega (arith, mul-le-mul a b) }
+use Rattle.channel.specs.declared.Channel.{Channel}
+use Rattle.channel.specs.Record.{channelLimit, largestRoom, roomStart, newChannel}
+use Rattle.joiner.specs.declared.Joiner.{Joiner}
+use Rattle.joiner.specs.declared.looking.Found.{Found}
+use Rattle.joiner.specs.declared.looking.Found.the-variants.{Bad, Nobody, Somebody}
+use Rattle.joiner.specs.Setup.{smallestRoom, placeOf, distinct, senderOf, channelsOf, sendersOf, channelAt, goodSizes, good, foundOf}
+use Rattle.joiner.proofs.Places.{not-true-false, place-found, place-none, place-first, at-place, distinct-says, is-distinct}
 
 module _ (j : Joiner) where
   module _ (h : j .count ≤ channelLimit) (w : length (j .channels) ≡ channelLimit) where

@@ -8,16 +8,17 @@ use lib.ListN.{length, take, drop}
 use Rattle.binding.specs.Header.{partIn, counterIn, pieceIn}
 use Rattle.binding.specs.declared.MessagePart.{MessagePart}
 use Rattle.binding.specs.declared.MessagePart.the-variants.{Begin, Middle, End, Whole}
-use Rattle.channel.specs.declared.records.Channel.{Channel}
-use Rattle.channel.specs.declared.records.Joiner.{Joiner}
+use Rattle.channel.specs.declared.Channel.{Channel}
 use Rattle.channel.specs.declared.Room.{Room}
 use Rattle.channel.specs.declared.Step.{Step}
 use Rattle.channel.specs.declared.Place.the-variants.{Datagram, Rooms}
 use Rattle.channel.specs.declared.Outcome.{Outcome}
 use Rattle.channel.specs.declared.Outcome.the-variants.{Refused, Repeated, Delivered, Held, Stray, TooLong}
 use Rattle.channel.specs.Channel.{missedOf, steppedOf}
-use Rattle.channel.specs.Setup.{channelAt, roomStart}
-use Rattle.channel.specs.Take.{takenOf, roomsAfter, messageOf}
+use Rattle.channel.specs.Record.{roomStart}
+use Rattle.joiner.specs.declared.Joiner.{Joiner}
+use Rattle.joiner.specs.Setup.{channelAt}
+use Rattle.joiner.specs.Take.{takenOf, roomsAfter, messageOf}
 
 pub record View : Type 0 where
   pub channel : Channel

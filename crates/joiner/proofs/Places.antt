@@ -3,15 +3,15 @@
 -- Assumes nothing.
 use Prim.Native.Nat.{ℕ, zero, suc, _≤_, _<_}
 use mathlib.Core.Path.{_≡_, refl, sym}
-use mathlib.Core.Bool.{Bool, true, false, _&&_, cond}
+use mathlib.Core.Bool.{Bool, true, false, cond}
 use mathlib.Core.List.{List, [], _∷_}
 use native.Mathlib.Omega.{arith}
 use borrow.Author.Tests.{eq-eqb, eqb-true, eqb-false}
 use lib.Dec.{eqb}
 use lib.ListN.{length, getD}
 use Rattle.wire.proofs.Cond.{and-true, and-left, and-right}
-use Rattle.channel.specs.declared.records.Channel.{Channel}
-use Rattle.channel.specs.Setup.{placeOf, distinct, every}
+use Rattle.channel.specs.declared.Channel.{Channel}
+use Rattle.joiner.specs.Setup.{placeOf, distinct, every}
 
 pub not-true-false : (t : Bool) → (t ≡ true → ⊥) → t ≡ false
 not-true-false true n = absurd (n refl)

@@ -15,16 +15,17 @@ use Rattle.binding.specs.Header.{heardIn, pieceIn, wrongLength, wrongField}
 use Rattle.binding.specs.declared.Heard.{Heard}
 use Rattle.binding.specs.declared.Heard.the-variants as heard
 use Rattle.binding.proofs.Headers.{Headed, headed-heard, heard-headed}
-use Rattle.channel.specs.declared.records.Joiner.{Joiner}
 use Rattle.channel.specs.declared.Judged.the-variants.{Refusal, Move}
 use Rattle.channel.specs.declared.Outcome.the-variants.{Refused}
 use Rattle.channel.specs.Channel.{roomOf, steppedOf}
-use Rattle.channel.specs.Setup.{badSetup, placeOf, distinct, sendersOf, channelAt}
-use Rattle.channel.specs.Take.{notSetUp, sentTo, heardBy, judgedOf, takenOf, Addressed, Foreign}
-use Rattle.channel.proofs.Places.{at-place, place-first, distinct-says}
-use Rattle.channel.proofs.Lookups.{senders-length}
-use Rattle.channel.proofs.Judging.{Good}
-use Rattle.channel.proofs.Standing.{Standing, standing-good, refused-here}
+use Rattle.channel.specs.Record.{badSetup}
+use Rattle.joiner.specs.declared.Joiner.{Joiner}
+use Rattle.joiner.specs.Setup.{placeOf, distinct, sendersOf, channelAt}
+use Rattle.joiner.specs.Take.{notSetUp, sentTo, heardBy, judgedOf, takenOf, Addressed, Foreign}
+use Rattle.joiner.proofs.Places.{at-place, place-first, distinct-says}
+use Rattle.joiner.proofs.Lookups.{senders-length}
+use Rattle.joiner.proofs.Judging.{Good}
+use Rattle.joiner.proofs.Standing.{Standing, standing-good, refused-here}
 
 -- every datagram is one or the other
 pub whose : (ids d : List ℕ) → Foreign ids d ⊎ ((k : ℕ) × Addressed ids k d)
