@@ -2,6 +2,7 @@
 -- Assumes nothing.
 use Prim.Native.Nat.{ℕ}
 use mathlib.Core.Path.{_≡_, refl, _∙_}
+use mathlib.Core.Bool.{Bool, true, false, cond}
 use mathlib.Core.List.{List}
 use lib.ListN.{length}
 use denote.Ref.{now}
@@ -10,12 +11,25 @@ use Rattle.binding.specs.declared.cutter.Counted.{Counted}
 use Rattle.binding.specs.declared.cutter.Counted.the-variants as counted
 use Rattle.binding.specs.declared.cutter.Made.{Made}
 use Rattle.binding.specs.declared.cutter.Made.the-variants as made
+use Rattle.joiner.specs.declared.Joiner.{Joiner}
+use Rattle.joiner.specs.declared.setups.Answer.{Answer as SetUp}
+use Rattle.joiner.specs.declared.setups.Answer.the-variants as set-up
+use Rattle.channel.specs.declared.Outcome.{Outcome}
+use Rattle.channel.specs.declared.Outcome.the-variants.{Refused, Repeated, Delivered, Held, Stray, TooLong}
+use Rattle.channel.specs.Outcomes.{refusalIn as takeRefusal}
+use Rattle.joiner.specs.Setup.{setupOf, answerIn}
+use Rattle.joiner.specs.Take.{takenOf}
+use Rattle.joiner.specs.JoinerWords.{joinerIn}
+use Rattle.joiner.specs.Calls.{acceptedWords, setupNumber, setupWords, outcomeWords, unlessRefused, placeIn, withRecord}
+use Rattle.joiner.specs.Calls.{takeNumber, takeWords, takeRooms, takeAnswer}
 use Rattle.message.specs.Reading.{readOf, numberGiven as readNumber}
 use Rattle.message.specs.declared.Reading.{Reading}
 use Rattle.message.specs.declared.Reading.the-variants as reading
 use Rattle.message.specs.Writing.{writeOf, numberGiven as writeNumber}
 use Rattle.message.specs.declared.Writing.{Writing}
 use Rattle.message.specs.declared.Writing.the-variants as writing
+use Rattle.table.specs.Layout.{cutShort, within}
+use Rattle.table.specs.Search.{lookedUp}
 use Rattle.table.specs.declared.Checked.{Checked}
 use Rattle.table.specs.declared.Checked.the-variants as check
 use Rattle.types.specs.Table.{checked}
@@ -23,9 +37,15 @@ use Rattle.table.specs.Words.{sectionsIn}
 use Rattle.payload.specs.declared.Answer.{Answer}
 use Rattle.payload.specs.declared.Answer.the-variants as answer
 use Rattle.payload.specs.Calls.{unpacked, unpackedIn, packed, packedIn}
+use Rattle.platform.specs.declared.Answer.{Answer as Told}
+use Rattle.platform.specs.declared.Answer.the-variants as told
+use Rattle.platform.specs.declared.reactions.Standing.{Standing}
+use Rattle.platform.specs.Receiving.{numberGiven, receivedOf, sectionsOutcome}
+use Rattle.platform_words.specs.Words.{standingIn}
+use Rattle.platform_words.specs.HeardWords.{answerWords, notedWords}
 use Rattle.nyrkovash.specs.PieceCalls.{countLeft, madeLeft}
 use Rattle.nyrkovash.specs.MessageCalls.{readLeft, writeLeft}
-use Rattle.nyrkovash.specs.TableCalls.{checkRefusal, sectionsLeft}
+use Rattle.nyrkovash.specs.TableCalls.{checkRefusal, sectionsLeft, foundWords}
 use Rattle.nyrkovash.specs.PayloadCalls.{refusalIn, givenLeft}
 use Rattle.promises.specs.Checks.{Keeps}
 use Rattle.promises.specs.Demand1.{ChangesNothing}
@@ -58,6 +78,59 @@ given-keeps was (answer.Refused n) k = refl
 given-keeps was (answer.Stopped n) k = refl
 given-keeps was (answer.Gave n) k = absurd (k refl)
 
+found-keeps : (b : Bool) (was x : List ℕ) → Keeps (cond b 0 cutShort) was (cond b x was)
+found-keeps true was x k = absurd (k refl)
+found-keeps false was x k = refl
+
+-- joining
+accepted-keeps : (was : List ℕ) (x : SetUp) (j : Joiner) → Keeps (answerIn x) was (acceptedWords x j was)
+accepted-keeps was set-up.Accepted j k = absurd (k refl)
+accepted-keeps was (set-up.Refused n) j k = refl
+
+setup-keeps : (ids : List ℕ) (R b : ℕ) (ws : List ℕ) → Keeps (setupNumber ids R b) ws (setupWords ids R b ws)
+unfolding setupNumber setupWords
+setup-keeps ids R b ws = accepted-keeps ws (setupOf ids R b .answer) (setupOf ids R b .joiner)
+
+outcome-keeps : (was : List ℕ) (o : Outcome) → Keeps (takeRefusal o) was (outcomeWords o was)
+outcome-keeps was (Refused n) k = refl
+outcome-keeps was Repeated k = absurd (k refl)
+outcome-keeps was (Delivered m p) k = absurd (k refl)
+outcome-keeps was (Held m n) k = absurd (k refl)
+outcome-keeps was (Stray m) k = absurd (k refl)
+outcome-keeps was (TooLong m) k = absurd (k refl)
+
+record-keeps : (was new : List ℕ) (o : Outcome) → Keeps (takeRefusal o) was (unlessRefused o was new)
+record-keeps was new (Refused n) k = refl
+record-keeps was new Repeated k = absurd (k refl)
+record-keeps was new (Delivered m p) k = absurd (k refl)
+record-keeps was new (Held m n) k = absurd (k refl)
+record-keeps was new (Stray m) k = absurd (k refl)
+record-keeps was new (TooLong m) k = absurd (k refl)
+
+module _ (ws rooms d : List ℕ) where
+  state-keeps : Keeps (takeNumber ws rooms d) ws (takeWords ws rooms d)
+  unfolding takeNumber takeWords
+  state-keeps =
+      let t = takenOf (joinerIn ws) rooms d in
+      record-keeps ws (withRecord ws (placeIn (joinerIn ws) d) (t .joiner)) (t .outcome)
+
+  rooms-keeps : Keeps (takeNumber ws rooms d) rooms (takeRooms ws rooms d)
+  unfolding takeNumber takeRooms
+  rooms-keeps = demand-1 .changes-nothing .take-rooms (joinerIn ws) rooms d
+
+  answer-keeps : (was : List ℕ) → Keeps (takeNumber ws rooms d) was (takeAnswer ws rooms d was)
+  unfolding takeNumber takeAnswer
+  answer-keeps was = outcome-keeps was (takenOf (joinerIn ws) rooms d .outcome)
+
+-- one message at a platform
+heard-keeps : (was : List ℕ) (x : Told) → Keeps (numberGiven x) was (answerWords x was)
+heard-keeps was (told.Refused n) k = refl
+heard-keeps was (told.Noted h x n) k = absurd (k refl)
+
+noted-keeps : (was : List ℕ) (p : Standing) (x : Told) → Keeps (numberGiven x) was (notedWords x p was)
+noted-keeps was p (told.Refused n) k = refl
+noted-keeps was p (told.Noted h x n) k = absurd (k refl)
+
 -- what a contract says of the number and of what was lent
 by : {B : Type 0} {n m : ℕ} {was left z : B} → n ≡ m → left ≡ z → Keeps m was z → Keeps n was left
 by e f g k = f ∙ g (λ z. k (e ∙ z))
@@ -68,6 +141,10 @@ kept = demand-1 .changes-nothing
 pub exports-keep : ExportsKeep
 exports-keep =
     record {
+      setup = λ k a n e p. by (p .0) (p .1) (setup-keeps (now (a .1 .0)) (a .1 .1 .0) (a .1 .1 .1 .0) (now (a .0)));
+      take-state = λ k a n e p. by (p .0) (p .1 .0) (state-keeps (now (a .0)) (now (a .1 .0)) (now (a .1 .1 .0)));
+      take-rooms = λ k a n e p. by (p .0) (p .1 .1 .0) (rooms-keeps (now (a .0)) (now (a .1 .0)) (now (a .1 .1 .0)));
+      take-answer = λ k a n e p. by (p .0) (p .1 .1 .1) (answer-keeps (now (a .0)) (now (a .1 .0)) (now (a .1 .1 .0)) _);
       pieces = λ k a n e p. by (p .0) (p .1) (count-keeps _ (countedOf (a .0) (a .1 .0)));
       cut-out = λ k a n e p. by (p .0) (p .1 .0)
           (kept .cut-output (now (a .0)) (a .1 .0) (a .1 .1 .0) (a .1 .1 .1 .0) (a .1 .1 .1 .1 .0) (now (a .1 .1 .1 .1 .1 .0)));
@@ -79,6 +156,10 @@ exports-keep =
       write-written = λ k a n e p. by (p .0) (p .1 .1)
           (write-keeps _ (writeOf (a .1 .0) (a .1 .1 .0) (now (a .1 .1 .1 .1 .0)) (length (now (a .1 .1 .1 .1 .1 .0)))));
       check-table = λ k a n e p. by (p .0) (p .1) (check-keeps _ (checked (now (a .0))));
+      find = λ k a n e p.
+          let t = now (a .0) in
+          let s = sectionsIn (now (a .1 .0)) in
+          by (p .0) (p .1) (found-keeps (within t s) _ (foundWords t s (lookedUp t s (a .1 .1 .0))));
       unpack-words = λ k a n e p. by (p .0) (p .1 .0) (kept .unpack-words (now (a .0)) (a .1 .0) (now (a .1 .1 .0)) (now (a .1 .1 .1 .0)));
       unpack-given = λ k a n e p. by (p .0) (p .1 .1) (given-keeps _ (unpacked (now (a .0)) (a .1 .0) (now (a .1 .1 .0)) (length (now (a .1 .1 .1 .0)))));
       unpack-in-words = λ k a n e p. by (p .0) (p .1 .0)
@@ -91,4 +172,24 @@ exports-keep =
           (kept .pack-in-output (now (a .0)) (sectionsIn (now (a .1 .0))) (a .1 .1 .0) (now (a .1 .1 .1 .0)) (now (a .1 .1 .1 .1 .0)));
       pack-in-given = λ k a n e p. by (p .0) (p .1 .1)
           (given-keeps _ (packedIn (now (a .0)) (sectionsIn (now (a .1 .0))) (a .1 .1 .0) (now (a .1 .1 .1 .0)) (length (now (a .1 .1 .1 .1 .0)))));
+      receive-platform = λ k a n e p.
+          let t = receivedOf (a .0) (now (a .1 .1 .0)) (standingIn (now (a .1 .0))) (now (a .1 .1 .1 .0)) (length (now (a .1 .1 .1 .1 .0))) in
+          by (p .0) (p .1 .0) (noted-keeps _ (t .standing) (t .answer));
+      receive-out = λ k a n e p. by (p .0) (p .1 .1 .0)
+          (kept .receive (a .0) (now (a .1 .1 .0)) (standingIn (now (a .1 .0))) (now (a .1 .1 .1 .0)) (now (a .1 .1 .1 .1 .0)) .output);
+      receive-heard = λ k a n e p. by (p .0) (p .1 .1 .1)
+          (heard-keeps _
+          (receivedOf (a .0) (now (a .1 .1 .0)) (standingIn (now (a .1 .0))) (now (a .1 .1 .1 .0)) (length (now (a .1 .1 .1 .1 .0))) .answer));
+      receive-in-platform = λ k a n e p.
+          let s = sectionsIn (now (a .1 .1 .1 .0)) in
+          let t = sectionsOutcome (a .0) (now (a .1 .1 .0)) s (standingIn (now (a .1 .0))) (now (a .1 .1 .1 .1 .0)) (length (now (a .1 .1 .1 .1 .1 .0))) in
+          by (p .0) (p .1 .0) (noted-keeps _ (t .standing) (t .answer));
+      receive-in-out = λ k a n e p.
+          let s = sectionsIn (now (a .1 .1 .1 .0)) in
+          by (p .0) (p .1 .1 .0)
+          (kept .receive-checked (a .0) (now (a .1 .1 .0)) s (standingIn (now (a .1 .0))) (now (a .1 .1 .1 .1 .0)) (now (a .1 .1 .1 .1 .1 .0)) .output);
+      receive-in-heard = λ k a n e p.
+          let s = sectionsIn (now (a .1 .1 .1 .0)) in
+          let t = sectionsOutcome (a .0) (now (a .1 .1 .0)) s (standingIn (now (a .1 .0))) (now (a .1 .1 .1 .1 .0)) (length (now (a .1 .1 .1 .1 .1 .0))) in
+          by (p .0) (p .1 .1 .1) (heard-keeps _ (t .answer));
     }

@@ -4,21 +4,30 @@
 use Prim.Native.Nat.{ℕ}
 use denote.Ref.{now}
 use Rattle.promises.specs.Checks.{Keeps}
+use Rattle.nyrkovash.proofs.nyr_setup.Reads.{Post as nyr-setup}
+use Rattle.nyrkovash.proofs.nyr_take.Reads.{Post as nyr-take}
 use Rattle.nyrkovash.proofs.nyr_pieces.Reads.{Post as nyr-pieces}
 use Rattle.nyrkovash.proofs.nyr_cut.Reads.{Post as nyr-cut}
 use Rattle.nyrkovash.proofs.nyr_read.Reads.{Post as nyr-read}
 use Rattle.nyrkovash.proofs.nyr_write.Reads.{Post as nyr-write}
 use Rattle.nyrkovash.proofs.nyr_check_table.Reads.{Post as nyr-check-table}
+use Rattle.nyrkovash.proofs.nyr_find.Reads.{Post as nyr-find}
 use Rattle.nyrkovash.proofs.nyr_unpack.Reads.{Post as nyr-unpack}
 use Rattle.nyrkovash.proofs.nyr_unpack_in.Reads.{Post as nyr-unpack-in}
 use Rattle.nyrkovash.proofs.nyr_pack.Reads.{Post as nyr-pack}
 use Rattle.nyrkovash.proofs.nyr_pack_in.Reads.{Post as nyr-pack-in}
+use Rattle.nyrkovash.proofs.nyr_receive.Reads.{Post as nyr-receive}
+use Rattle.nyrkovash.proofs.nyr_receive_in.Reads.{Post as nyr-receive-in}
 
 -- whatever a call's promise allows: the number, and a lent buffer at entry and at exit
 abbrev pub Untouched : {K : Type 0} {A E : K → Type 0} {B : Type 0} → ((k : K) → A k → ℕ → E k → Type 0) → ((k : K) → A k → B) → ((k : K) → E k → B) → Type 0
 Untouched {K} {A} {E} post before after = (k : K) (a : A k) (n : ℕ) (e : E k) → post k a n e → Keeps n (before k a) (after k e)
 
 pub record ExportsKeep : Type 0 where
+  pub setup : Untouched nyr-setup (λ k a. now (a .0)) (λ k e. now (e .0))
+  pub take-state : Untouched nyr-take (λ k a. now (a .0)) (λ k e. now (e .0))
+  pub take-rooms : Untouched nyr-take (λ k a. now (a .1 .0)) (λ k e. now (e .1 .0))
+  pub take-answer : Untouched nyr-take (λ k a. now (a .1 .1 .1 .0)) (λ k e. now (e .1 .1 .1 .0))
   pub pieces : Untouched nyr-pieces (λ k a. now (a .1 .1 .0)) (λ k e. now (e .1 .1 .0))
   pub cut-out : Untouched nyr-cut (λ k a. now (a .1 .1 .1 .1 .1 .0)) (λ k e. now (e .1 .1 .1 .1 .1 .0))
   pub cut-written : Untouched nyr-cut (λ k a. now (a .1 .1 .1 .1 .1 .1 .0)) (λ k e. now (e .1 .1 .1 .1 .1 .1 .0))
@@ -26,6 +35,7 @@ pub record ExportsKeep : Type 0 where
   pub write-out : Untouched nyr-write (λ k a. now (a .1 .1 .1 .1 .1 .0)) (λ k e. now (e .1 .1 .1 .1 .1 .0))
   pub write-written : Untouched nyr-write (λ k a. now (a .1 .1 .1 .1 .1 .1 .0)) (λ k e. now (e .1 .1 .1 .1 .1 .1 .0))
   pub check-table : Untouched nyr-check-table (λ k a. now (a .1 .0)) (λ k e. now (e .1 .0))
+  pub find : Untouched nyr-find (λ k a. now (a .1 .1 .1 .0)) (λ k e. now (e .1 .1 .1 .0))
   pub unpack-words : Untouched nyr-unpack (λ k a. now (a .1 .1 .1 .0)) (λ k e. now (e .1 .1 .1 .0))
   pub unpack-given : Untouched nyr-unpack (λ k a. now (a .1 .1 .1 .1 .0)) (λ k e. now (e .1 .1 .1 .1 .0))
   pub unpack-in-words : Untouched nyr-unpack-in (λ k a. now (a .1 .1 .1 .1 .0)) (λ k e. now (e .1 .1 .1 .1 .0))
@@ -34,3 +44,9 @@ pub record ExportsKeep : Type 0 where
   pub pack-given : Untouched nyr-pack (λ k a. now (a .1 .1 .1 .1 .0)) (λ k e. now (e .1 .1 .1 .1 .0))
   pub pack-in-out : Untouched nyr-pack-in (λ k a. now (a .1 .1 .1 .1 .0)) (λ k e. now (e .1 .1 .1 .1 .0))
   pub pack-in-given : Untouched nyr-pack-in (λ k a. now (a .1 .1 .1 .1 .1 .0)) (λ k e. now (e .1 .1 .1 .1 .1 .0))
+  pub receive-platform : Untouched nyr-receive (λ k a. now (a .1 .0)) (λ k e. now (e .1 .0))
+  pub receive-out : Untouched nyr-receive (λ k a. now (a .1 .1 .1 .1 .0)) (λ k e. now (e .1 .1 .1 .1 .0))
+  pub receive-heard : Untouched nyr-receive (λ k a. now (a .1 .1 .1 .1 .1 .0)) (λ k e. now (e .1 .1 .1 .1 .1 .0))
+  pub receive-in-platform : Untouched nyr-receive-in (λ k a. now (a .1 .0)) (λ k e. now (e .1 .0))
+  pub receive-in-out : Untouched nyr-receive-in (λ k a. now (a .1 .1 .1 .1 .1 .0)) (λ k e. now (e .1 .1 .1 .1 .1 .0))
+  pub receive-in-heard : Untouched nyr-receive-in (λ k a. now (a .1 .1 .1 .1 .1 .1 .0)) (λ k e. now (e .1 .1 .1 .1 .1 .1 .0))
