@@ -14,7 +14,7 @@ use Rattle.binding.specs.Header.{senders}
 use Rattle.channel.specs.Record.{channelLimit, newChannel, goodChannel}
 use Rattle.channel.proofs.Cases.{channel-says, sound-good}
 use Rattle.joiner.specs.declared.setups.NewJoiner.{NewJoiner}
-use Rattle.joiner.specs.declared.setups.Answer.the-variants.{Accepted}
+use Rattle.joiner.specs.declared.setups.Verdict.the-variants.{Accepted}
 use Rattle.joiner.specs.Setup.{distinct, senderOf, sendersOf, channelAt, goodSizes, good, freshOf, refusedSetup, setupOf, Acceptable}
 use Rattle.joiner.specs.View.{viewOf}
 use Rattle.joiner.proofs.Places.{distinct-says, is-distinct}

@@ -17,9 +17,9 @@ use Rattle.channel.specs.declared.Outcome.{Outcome}
 use Rattle.channel.specs.declared.Outcome.the-variants as outcome
 use Rattle.joiner.specs.Setup.{setupOf, foundOf, answerIn}
 use Rattle.joiner.specs.Take.{judgedOf, senderBy, judgedBy, takenBy, takenOf, putBy, roomsBy, roomsAfter}
-use Rattle.joiner.specs.declared.setups.Answer.{Answer}
-use Rattle.joiner.specs.declared.setups.Answer.the-variants.{Accepted, Refused}
-use Rattle.joiner.specs.declared.looking.Found.{Found}
+use Rattle.joiner.specs.declared.setups.Verdict.{Verdict}
+use Rattle.joiner.specs.declared.setups.Verdict.the-variants.{Accepted, Refused}
+use Rattle.joiner.specs.declared.looking.Looked.{Looked}
 use Rattle.joiner.specs.declared.setups.NewJoiner.{NewJoiner}
 use Rattle.joiner.specs.declared.Taken.{Taken}
 use Rattle.joiner.specs.JoinerWords.{recordAt, joinerIn, recordWords, wordsOf}
@@ -42,10 +42,10 @@ module _ (ids : List ℕ) (R b : ℕ) {m : NewJoiner} (e : m ≡ setupOf ids R b
     made-words = ap (λ (x : NewJoiner). acceptedWords (x .answer) (x .joiner) ws) e
 
     pub refused-words : (n : ℕ) → m .answer ≡ Refused n → ws ≡ setupWords ids R b ws
-    refused-words n q = sym (ap (λ (x : Answer). acceptedWords x (m .joiner) ws) q) ∙ made-words
+    refused-words n q = sym (ap (λ (x : Verdict). acceptedWords x (m .joiner) ws) q) ∙ made-words
 
     pub accepted-words : {x : List ℕ} → m .answer ≡ Accepted → x ≡ wordsOf (m .joiner) → x ≡ setupWords ids R b ws
-    accepted-words q f = f ∙ sym (ap (λ (x : Answer). acceptedWords x (m .joiner) ws) q) ∙ made-words
+    accepted-words q f = f ∙ sym (ap (λ (x : Verdict). acceptedWords x (m .joiner) ws) q) ∙ made-words
 
 -- `put_outcome`
 module _ {o : Outcome} (out : List ℕ) where
@@ -73,7 +73,7 @@ module _ {o : Outcome} (out : List ℕ) where
 
 -- `take`
 module _
-    (ws rooms d : List ℕ) {f : Found} {r : Heard} {y R : ℕ} {x : Judged}
+    (ws rooms d : List ℕ) {f : Looked} {r : Heard} {y R : ℕ} {x : Judged}
     (eR : R ≡ getD ws 1 0) (er : r ≡ heardIn d) (ey : y ≡ senderBy r) (ef : f ≡ foundOf (joinerIn ws) (length rooms) y)
     (ex : x ≡ judgedBy f R r (length d)) where
   abbrev taken : Taken

@@ -16,8 +16,8 @@ use Rattle.channel.specs.Record.{channelLimit, newChannel, goodChannel}
 use Rattle.channel.specs.declared.Channel.{Channel}
 use Rattle.joiner.specs.Setup.{senderOf, channelAt, channelsOf, sendersOf, placeOf, distinct, every, goodSizes, good, foundOf}
 use Rattle.joiner.specs.declared.Joiner.{Joiner}
-use Rattle.joiner.specs.declared.looking.Found.{Found}
-use Rattle.joiner.specs.declared.looking.Found.the-variants.{Bad, Nobody, Somebody}
+use Rattle.joiner.specs.declared.looking.Looked.{Looked}
+use Rattle.joiner.specs.declared.looking.Looked.the-variants.{Bad, Nobody, Somebody}
 use Rattle.joiner.proofs.Places.{not-true-false, every-at}
 use Rattle.joiner.proofs.Lookups.{channels-length, channels-at}
 use Rattle.joiner.specs.JoinerWords.{recordAt, joinerWords, senderLimit, recordIn, isRecord, areRecords, recordsIn}
@@ -96,9 +96,9 @@ module _ (j : Joiner) (w : length (j .channels) ≡ channelLimit) (h : j .count 
   same-found b x =
       ap (λ (t : Bool). cond t (there stored (placeOf (sendersOf stored) x)) Bad) (same-good b)
       ∙ ap (λ (l : List Channel). cond (good j b) (there stored (placeOf (map senderOf l) x)) Bad) same-channels
-      ∙ ap (λ (f : Found). cond (good j b) f Bad) (go (placeOf (sendersOf j) x) (ltb (placeOf (sendersOf j) x) (j .count)) refl)
+      ∙ ap (λ (f : Looked). cond (good j b) f Bad) (go (placeOf (sendersOf j) x) (ltb (placeOf (sendersOf j) x) (j .count)) refl)
     where
-      there : Joiner → ℕ → Found
+      there : Joiner → ℕ → Looked
       there i k = cond (ltb k (j .count)) (Somebody k (channelAt i k)) Nobody
 
       go : (k : ℕ) (t : Bool) → ltb k (j .count) ≡ t → there stored k ≡ there j k
@@ -191,6 +191,6 @@ found-back j b x w = go (leb (j .count) channelLimit) refl
         ∙ none-found (joinerIn (replicate joinerWords 0)) b x (none-in b)
         ∙ sym (none-found j b x (too-many j b q))
 
-pub looked : {f : Found} {ws : List ℕ} (j : Joiner) (b x : ℕ) → length (j .channels) ≡ channelLimit → ws ≡ wordsOf j →
+pub looked : {f : Looked} {ws : List ℕ} (j : Joiner) (b x : ℕ) → length (j .channels) ≡ channelLimit → ws ≡ wordsOf j →
     f ≡ foundOf (joinerIn ws) b x → f ≡ foundOf j b x
 looked j b x w ew ef = ef ∙ ap (λ (v : List ℕ). foundOf (joinerIn v) b x) ew ∙ found-back j b x w

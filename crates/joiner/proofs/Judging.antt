@@ -23,8 +23,8 @@ use Rattle.channel.specs.declared.Judged.the-variants.{Refusal, Move}
 use Rattle.channel.specs.Channel.{roomOf, steppedOf, canMove, movedOf}
 use Rattle.channel.specs.Record.{channelLimit, largestRoom, badSetup, newChannel, goodChannel, roomStart}
 use Rattle.joiner.specs.declared.Joiner.{Joiner}
-use Rattle.joiner.specs.declared.looking.Found.{Found}
-use Rattle.joiner.specs.declared.looking.Found.the-variants.{Bad, Nobody, Somebody}
+use Rattle.joiner.specs.declared.looking.Looked.{Looked}
+use Rattle.joiner.specs.declared.looking.Looked.the-variants.{Bad, Nobody, Somebody}
 use Rattle.joiner.specs.Setup.{placeOf, distinct, every, channelsOf, sendersOf, channelAt, goodSizes, good, foundOf}
 use Rattle.joiner.specs.Take.{notSetUp, sentTo, heardBy, judgedOf, senderBy, refusalBy, judgedBy}
 use Rattle.joiner.proofs.Places.{every-at}
@@ -59,7 +59,7 @@ good-sizes j b e =
     sizes-say (j .count) (j .room) b (and-left (goodSizes (j .count) (j .room) b) (every (goodChannel (j .room)) (channelsOf j) && distinct (sendersOf j)) e)
 
 -- `judge`
-module _ {f : Found} (R n : ℕ) (x : Heard) where
+module _ {f : Looked} (R n : ℕ) (x : Heard) where
   pub judged-bad : f ≡ Bad → Refusal badSetup ≡ judgedBy f R x n
   unfolding judgedBy
   judged-bad e = rw e
@@ -91,7 +91,7 @@ module _ (j : Joiner) (b : ℕ) (d : List ℕ) {r : Heard} (er : r ≡ heardIn d
   unfolding heardBy
   not-heard e g m = sym (by-header (sym e ∙ g) ∙ ap (heardBy j d) m)
 
-  module _ (h : BindingHeader) {f : Found} (m : r ≡ heard.Piece h) (e : f ≡ foundOf j b (h .sender)) where
+  module _ (h : BindingHeader) {f : Looked} (m : r ≡ heard.Piece h) (e : f ≡ foundOf j b (h .sender)) where
     by-sender : good j b ≡ true → judgedOf j b d ≡ sentTo j d h
     unfolding heardBy
     by-sender g = by-header g ∙ ap (heardBy j d) m
@@ -127,7 +127,7 @@ module _ (j : Joiner) (b : ℕ) (d : List ℕ) {r : Heard} (er : r ≡ heardIn d
           le-leb (length d) largestDatagram (v .short),
         )
 
-pub judged-by : {f : Found} {r : Heard} {s : ℕ} {x : Judged} (j : Joiner) (b : ℕ) (d : List ℕ) → length (j .channels) ≡ channelLimit → r
+pub judged-by : {f : Looked} {r : Heard} {s : ℕ} {x : Judged} (j : Joiner) (b : ℕ) (d : List ℕ) → length (j .channels) ≡ channelLimit → r
     ≡ heardIn d → s ≡ senderBy r → f ≡ foundOf j b s → x ≡ judgedBy f (j .room) r (length d) → x ≡ judgedOf j b d
 unfolding judgedBy movedOf heardBy
 judged-by {f} {r} {s} j b d w er es ef ex = ex ∙ go f refl r refl
@@ -138,7 +138,7 @@ judged-by {f} {r} {s} j b d w er es ef ex = ex ∙ go f refl r refl
     refused : (n : ℕ) → r ≡ heard.Refused n → good j b ≡ true → Refusal n ≡ judgedOf j b d
     refused n p g = not-heard j b d er {t = good j b} refl g p
 
-    go : (g : Found) → f ≡ g → (y : Heard) → r ≡ y → judgedBy g (j .room) y (length d) ≡ judgedOf j b d
+    go : (g : Looked) → f ≡ g → (y : Heard) → r ≡ y → judgedBy g (j .room) y (length d) ≡ judgedOf j b d
     go Bad q y p = not-well j b d er (sym (found-bad j b s ef q))
     go Nobody q (heard.Refused n) p = refused n p (found-nobody j b s ef q .0)
     go Nobody q (heard.Piece h) p = to-nobody j b d er h p (sought h p) q

@@ -19,8 +19,8 @@ use Rattle.channel.specs.Record.{channelLimit, goodChannel}
 use Rattle.channel.specs.declared.Channel.{Channel}
 use Rattle.joiner.specs.Setup.{placeOf, distinct, senderOf, sendersOf, channelsOf, channelAt, every, goodSizes, good, foundOf}
 use Rattle.joiner.specs.declared.Joiner.{Joiner}
-use Rattle.joiner.specs.declared.looking.Found.{Found}
-use Rattle.joiner.specs.declared.looking.Found.the-variants.{Bad, Nobody, Somebody}
+use Rattle.joiner.specs.declared.looking.Looked.{Looked}
+use Rattle.joiner.specs.declared.looking.Looked.the-variants.{Bad, Nobody, Somebody}
 use Rattle.joiner.proofs.Places.{not-true-false, is-distinct}
 use Rattle.joiner.proofs.Lookups.{few-channels, senders-length, senders-at, found-here, found-nowhere, twice, never-twice}
 use Rattle.joiner.specs.JoinerWords.{recordAt, joinerWords, seenLimit, recordIn, joinerIn}
@@ -250,7 +250,7 @@ module _ (ws : List ℕ) (b x : ℕ) where
       pub bad-records : {u : Bool} → u ≡ areGood ws → u ≡ false → Bad ≡ foundOf (joinerIn ws) b x
       bad-records g h = bad (well ∙ sym g ∙ h)
 
-      pub found-in : {u : Bool} {p : ℕ} {r : Found} → u ≡ areGood ws → u ≡ true → p ≡ placeOf (sendersIn ws) x → r ≡ foundAt ws p → r
+      pub found-in : {u : Bool} {p : ℕ} {r : Looked} → u ≡ areGood ws → u ≡ true → p ≡ placeOf (sendersIn ws) x → r ≡ foundAt ws p → r
           ≡ foundOf (joinerIn ws) b x
       unfolding foundOf foundAt
       found-in {u} {p} {r} g h ep er =

@@ -14,8 +14,8 @@ use Rattle.wire.proofs.Cond.{and-left, and-right}
 use Rattle.channel.specs.declared.Channel.{Channel}
 use Rattle.channel.specs.Record.{channelLimit, largestRoom, roomStart, newChannel}
 use Rattle.joiner.specs.declared.Joiner.{Joiner}
-use Rattle.joiner.specs.declared.looking.Found.{Found}
-use Rattle.joiner.specs.declared.looking.Found.the-variants.{Bad, Nobody, Somebody}
+use Rattle.joiner.specs.declared.looking.Looked.{Looked}
+use Rattle.joiner.specs.declared.looking.Looked.the-variants.{Bad, Nobody, Somebody}
 use Rattle.joiner.specs.Setup.{smallestRoom, placeOf, distinct, senderOf, channelsOf, sendersOf, channelAt, goodSizes, good, foundOf}
 use Rattle.joiner.proofs.Places.{not-true-false, place-found, place-none, place-first, at-place, distinct-says, is-distinct}
 
@@ -116,7 +116,7 @@ pub record Borne (j : Joiner) (b x k : ℕ) (ch : Channel) : Type 0 where
   pub known : k < j .count
   pub channel : ch ≡ channelAt j k
 
-module _ (j : Joiner) (b x : ℕ) {r : Found} (e : r ≡ foundOf j b x) where
+module _ (j : Joiner) (b x : ℕ) {r : Looked} (e : r ≡ foundOf j b x) where
   is-bad : (t : Bool) → good j b ≡ t → r ≡ Bad → t ≡ false
   unfolding foundOf
   is-bad true g m = go (ltb (placeOf (sendersOf j) x) (j .count)) (sym m ∙ e ∙ rw g)

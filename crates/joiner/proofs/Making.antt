@@ -13,7 +13,7 @@ use Rattle.channel.specs.declared.Channel.{Channel}
 use Rattle.channel.specs.Record.{channelLimit, badSetup, newChannel}
 use Rattle.joiner.specs.declared.Joiner.{Joiner}
 use Rattle.joiner.specs.declared.setups.NewJoiner.{NewJoiner}
-use Rattle.joiner.specs.declared.setups.Answer.the-variants.{Accepted, Refused}
+use Rattle.joiner.specs.declared.setups.Verdict.the-variants.{Accepted, Refused}
 use Rattle.joiner.specs.Setup.{good, freshOf, refusedSetup, setupOf}
 use Rattle.joiner.specs.JoinerWords.{joinerIn, wordsOf}
 use Rattle.joiner.proofs.FoundBack.{good-back}

@@ -25,8 +25,8 @@ use Rattle.channel.specs.declared.Judged.the-variants.{Move}
 use Rattle.channel.proofs.Cases.{Stepped, again, whole, begins, stray, long, goes-on, ends, step-cases}
 use Rattle.joiner.specs.Setup.{freshOf, channelAt, foundOf}
 use Rattle.joiner.specs.declared.Joiner.{Joiner}
-use Rattle.joiner.specs.declared.looking.Found.{Found}
-use Rattle.joiner.specs.declared.looking.Found.the-variants.{Bad}
+use Rattle.joiner.specs.declared.looking.Looked.{Looked}
+use Rattle.joiner.specs.declared.looking.Looked.the-variants.{Bad}
 use Rattle.joiner.specs.Take.{judgedOf, senderBy, judgedBy, takenBy, changed}
 use Rattle.joiner.proofs.Judging.{Moved, judged-by, judged-moved, good-sizes}
 use Rattle.joiner.specs.JoinerWords.{recordAt, areRecords, channelsIn, isJoiner, joinerIn, recordWords}
@@ -95,7 +95,7 @@ channels-length ws = go (isJoiner ws) refl
     go false e = refl
 
 -- a room's size is the second word's, wherever it is asked for
-same-room : {f : Found} (ws : List ℕ) (b y : ℕ) (r : Heard) (n : ℕ) → f ≡ foundOf (joinerIn ws) b y → judgedBy f (getD ws 1 0) r n
+same-room : {f : Looked} (ws : List ℕ) (b y : ℕ) (r : Heard) (n : ℕ) → f ≡ foundOf (joinerIn ws) b y → judgedBy f (getD ws 1 0) r n
     ≡ judgedBy f (joinerIn ws .room) r n
 unfolding foundOf judgedBy
 same-room {f} ws b y r n e = go (isJoiner ws) refl
@@ -104,7 +104,7 @@ same-room {f} ws b y r n e = go (isJoiner ws) refl
     go true q = rw (stored-joiner ws q)
     go false q = let bad : f ≡ Bad = e ∙ rw (none-good ws b q) in rw bad
 
-pub judged-in : {f : Found} {r : Heard} {y R : ℕ} {x : Judged} (ws : List ℕ) (b : ℕ) (d : List ℕ) → R ≡ getD ws 1 0 → r ≡ heardIn d → y
+pub judged-in : {f : Looked} {r : Heard} {y R : ℕ} {x : Judged} (ws : List ℕ) (b : ℕ) (d : List ℕ) → R ≡ getD ws 1 0 → r ≡ heardIn d → y
     ≡ senderBy r → f ≡ foundOf (joinerIn ws) b y → x ≡ judgedBy f R r (length d) → x ≡ judgedOf (joinerIn ws) b d
 judged-in {f} {r} {y} {R} {x} ws b d eR er ey ef ex =
     judged-by (joinerIn ws) b d (channels-length ws) er ey ef (ex ∙ ap (λ (q : ℕ). judgedBy f q r (length d)) eR ∙ same-room ws b y r (length d) ef)

@@ -51,7 +51,7 @@ module _ (ws : List ℕ) (few : getD ws 0 0 ≤ channelLimit) where
   stored-at k h = record-at ws (getD ws 0 0) k (replicate (channelLimit - getD ws 0 0) (newChannel 0)) h
 
 -- what a good record says
-pub record Kept (ws : List ℕ) (k : ℕ) : Type 0 where
+pub record InRange (ws : List ℕ) (k : ℕ) : Type 0 where
   pub sender : getD ws (recordAt k) 0 < senders
   pub seen : getD ws (recordAt k + 1) 0 < seenLimit
   pub last : getD ws (recordAt k + 2) 0 < counters
@@ -70,7 +70,7 @@ module _ (ws : List ℕ) (k : ℕ) where
   abbrev fourth : Bool
   fourth = leb (getD ws (recordAt k + 3) 0) (getD ws 1 0)
 
-  pub kept-says : goodRecord ws k ≡ true → Kept ws k
+  pub kept-says : goodRecord ws k ≡ true → InRange ws k
   kept-says e =
       let p : (first && second) ≡ true = and-left (first && second) (third && fourth) e in
       let q : (third && fourth) ≡ true = and-right (first && second) (third && fourth) e in
@@ -81,7 +81,7 @@ module _ (ws : List ℕ) (k : ℕ) where
         held = leb-true (getD ws (recordAt k + 3) 0) (getD ws 1 0) (and-right third fourth q);
       }
 
-  pub says-kept : Kept ws k → goodRecord ws k ≡ true
+  pub says-kept : InRange ws k → goodRecord ws k ≡ true
   says-kept h =
       rw (
         lt-ltb (getD ws (recordAt k) 0) senders (h .sender),
@@ -90,12 +90,12 @@ module _ (ws : List ℕ) (k : ℕ) where
         le-leb (getD ws (recordAt k + 3) 0) (getD ws 1 0) (h .held),
       )
 
-  pub kept-record : Kept ws k → isRecord ws k ≡ true
+  pub kept-record : InRange ws k → isRecord ws k ≡ true
   kept-record h =
       let s : getD ws (recordAt k) 0 < senderLimit = omega (arith, h .sender) in
       rw (lt-ltb (getD ws (recordAt k) 0) senderLimit s, lt-ltb (getD ws (recordAt k + 1) 0) seenLimit (h .seen))
 
-  pub kept-channel : Kept ws k → goodChannel (getD ws 1 0) (recordIn ws k) ≡ true
+  pub kept-channel : InRange ws k → goodChannel (getD ws 1 0) (recordIn ws k) ≡ true
   kept-channel h =
       rw (
         lt-ltb (getD ws (recordAt k) 0) senders (h .sender),

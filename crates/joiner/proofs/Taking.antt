@@ -30,7 +30,7 @@ use Rattle.channel.specs.declared.Outcome.{Outcome}
 use Rattle.channel.specs.declared.Outcome.the-variants.{Refused, Repeated, Delivered, Held, Stray, TooLong}
 use Rattle.channel.specs.Record.{channelLimit}
 use Rattle.joiner.specs.declared.Joiner.{Joiner}
-use Rattle.joiner.specs.declared.looking.Found.{Found}
+use Rattle.joiner.specs.declared.looking.Looked.{Looked}
 use Rattle.joiner.specs.Setup.{foundOf}
 use Rattle.joiner.specs.Take.{senderBy, judgedBy, judgedOf, changed, takenBy, takenOf, putBy, roomsBy, roomsAfter, messageOf}
 use Rattle.joiner.specs.JoinerWords.{joinerIn, wordsOf}
@@ -78,7 +78,7 @@ not-delivered (TooLong m) d rooms t = refl
 
 -- `take`
 module _
-    {f : Found} {r : Heard} {ws : List ℕ} {y : ℕ} {x : Judged} (j : Joiner) (rooms d : List ℕ) (w : length (j .channels) ≡ channelLimit)
+    {f : Looked} {r : Heard} {ws : List ℕ} {y : ℕ} {x : Judged} (j : Joiner) (rooms d : List ℕ) (w : length (j .channels) ≡ channelLimit)
     (er : r ≡ heardIn d) (ey : y ≡ senderBy r) (ew : ws ≡ wordsOf j) (ef : f ≡ foundOf (joinerIn ws) (length rooms) y)
     (ex : x ≡ judgedBy f (j .room) r (length d)) where
   judged : x ≡ judgedOf j (length rooms) d

@@ -10,14 +10,14 @@ use Rattle.channel.specs.declared.Outcome.{Outcome}
 use Rattle.channel.specs.declared.Outcome.the-variants as outcome
 use Rattle.joiner.specs.Setup.{setupOf, sendersOf, placeOf, channelAt, answerIn}
 use Rattle.joiner.specs.Take.{takenOf, roomsAfter}
-use Rattle.joiner.specs.declared.setups.Answer.{Answer}
-use Rattle.joiner.specs.declared.setups.Answer.the-variants.{Accepted, Refused}
+use Rattle.joiner.specs.declared.setups.Verdict.{Verdict}
+use Rattle.joiner.specs.declared.setups.Verdict.the-variants.{Accepted, Refused}
 use Rattle.joiner.specs.declared.Joiner.{Joiner}
 use Rattle.joiner.specs.declared.Taken.{Taken}
 use Rattle.joiner.specs.JoinerWords.{recordAt, joinerIn, recordWords, wordsOf}
 
 -- a joiner that was accepted, as words; where it was refused, the words that were there
-abbrev pub acceptedWords : Answer → Joiner → List ℕ → List ℕ
+abbrev pub acceptedWords : Verdict → Joiner → List ℕ → List ℕ
 acceptedWords Accepted j old = wordsOf j
 acceptedWords (Refused n) j old = old
 

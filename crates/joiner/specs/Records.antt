@@ -9,8 +9,8 @@ use Rattle.binding.specs.Header.{senders, counters}
 use Rattle.channel.specs.Record.{channelLimit}
 use Rattle.joiner.specs.Setup.{sendersOf, distinct}
 use Rattle.joiner.specs.declared.Joiner.{Joiner}
-use Rattle.joiner.specs.declared.looking.Found.{Found}
-use Rattle.joiner.specs.declared.looking.Found.the-variants.{Nobody, Somebody}
+use Rattle.joiner.specs.declared.looking.Looked.{Looked}
+use Rattle.joiner.specs.declared.looking.Looked.the-variants.{Nobody, Somebody}
 use Rattle.joiner.specs.JoinerWords.{recordAt, joinerWords, seenLimit, allBelow, recordIn, channelsIn}
 
 -- the words of a joiner, of no more channels than there can be
@@ -38,5 +38,5 @@ unfoldable pub areGood : List ℕ → Bool
 areGood ws = goodRecords ws (getD ws 0 0) && distinct (sendersIn ws)
 
 -- the record at a place, where there is one
-unfoldable pub foundAt : List ℕ → ℕ → Found
+unfoldable pub foundAt : List ℕ → ℕ → Looked
 foundAt ws k = cond (ltb k (getD ws 0 0)) (Somebody k (recordIn ws k)) Nobody

@@ -9,10 +9,10 @@ use Rattle.binding.specs.Header.{senders}
 use Rattle.channel.specs.Record.{channelLimit, badSetup, largestRoom, roomStart, newChannel, goodChannel}
 use Rattle.channel.specs.declared.Channel.{Channel}
 use Rattle.joiner.specs.declared.Joiner.{Joiner}
-use Rattle.joiner.specs.declared.looking.Found.{Found}
-use Rattle.joiner.specs.declared.looking.Found.the-variants.{Bad, Nobody, Somebody}
-use Rattle.joiner.specs.declared.setups.Answer.{Answer}
-use Rattle.joiner.specs.declared.setups.Answer.the-variants.{Accepted, Refused}
+use Rattle.joiner.specs.declared.looking.Looked.{Looked}
+use Rattle.joiner.specs.declared.looking.Looked.the-variants.{Bad, Nobody, Somebody}
+use Rattle.joiner.specs.declared.setups.Verdict.{Verdict}
+use Rattle.joiner.specs.declared.setups.Verdict.the-variants.{Accepted, Refused}
 use Rattle.joiner.specs.declared.setups.NewJoiner.{NewJoiner}
 
 -- 01, number 20: R is 24 to 65,560
@@ -59,7 +59,7 @@ good j buffer =
     goodSizes (j .count) (j .room) buffer && (every (goodChannel (j .room)) (channelsOf j) && distinct (sendersOf j))
 
 -- the look for a sender ID: at the joiner first, then at whose it is
-unfoldable pub foundOf : Joiner → ℕ → ℕ → Found
+unfoldable pub foundOf : Joiner → ℕ → ℕ → Looked
 foundOf j buffer x =
     let k = placeOf (sendersOf j) x in
     cond (good j buffer) (cond (ltb k (j .count)) (Somebody k (channelAt j k)) Nobody) Bad
@@ -78,7 +78,7 @@ setupOf ids R buffer =
     refusedSetup
 
 -- a set-up's number: 20, or 0 where it is accepted
-abbrev pub answerIn : Answer → ℕ
+abbrev pub answerIn : Verdict → ℕ
 answerIn Accepted = 0
 answerIn (Refused n) = n
 

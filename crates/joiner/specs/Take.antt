@@ -23,8 +23,8 @@ use Rattle.channel.specs.declared.Judged.{Judged}
 use Rattle.channel.specs.declared.Judged.the-variants.{Refusal, Move}
 use Rattle.joiner.specs.Setup.{channelAt, sendersOf, placeOf, good}
 use Rattle.joiner.specs.declared.Joiner.{Joiner}
-use Rattle.joiner.specs.declared.looking.Found.{Found}
-use Rattle.joiner.specs.declared.looking.Found.the-variants.{Bad, Nobody, Somebody}
+use Rattle.joiner.specs.declared.looking.Looked.{Looked}
+use Rattle.joiner.specs.declared.looking.Looked.the-variants.{Bad, Nobody, Somebody}
 use Rattle.joiner.specs.declared.Taken.{Taken}
 
 abbrev pub notSetUp : ℕ
@@ -56,7 +56,7 @@ refusalBy (heard.Refused n) = n
 refusalBy (heard.Piece h) = notSetUp
 
 -- what a datagram of n bytes comes to, with rooms of R bytes
-unfoldable pub judgedBy : Found → ℕ → Heard → ℕ → Judged
+unfoldable pub judgedBy : Looked → ℕ → Heard → ℕ → Judged
 judgedBy Bad R x n = Refusal badSetup
 judgedBy Nobody R x n = Refusal (refusalBy x)
 judgedBy (Somebody k ch) R (heard.Refused m) n = Refusal m

@@ -9,12 +9,12 @@ pub mod words;
 
 pub use looking::JOINER_WORDS;
 pub use looking::SMALLEST_ROOM;
-pub use setups::Answer;
 pub use setups::NewJoiner;
+pub use setups::Verdict;
 pub use setups::setup;
 ghost use mathlib.Core.Path.{_≡_};
 ghost use Rattle.joiner.specs.Take.{senderBy, refusalBy, judgedBy, takenOf, roomsAfter, putBy, messageOf};
-use crate::looking::Found;
+use crate::looking::Looked;
 use binding::BindingHeader;
 use binding::Heard;
 use channel::BAD_SETUP;
@@ -95,13 +95,13 @@ pub(crate) fn sender_of(heard: Heard) -> u16
 
 // What a datagram of `length` bytes comes to, before anything is written: the numbers in their order, then its channel's
 // step. `found` is what the look for its sender ID found in a joiner with rooms of `size` bytes.
-pub(crate) fn judge(found: Found, size: u32, heard: Heard, length: usize) -> Judged
+pub(crate) fn judge(found: Looked, size: u32, heard: Heard, length: usize) -> Judged
     ensures { λ r. ⌜ r ≡ judgedBy found size heard length ⌝ }
 {
     match found {
-        Found::Bad => Judged::Refusal(BAD_SETUP),
-        Found::Nobody => Judged::Refusal(refusal(heard)),
-        Found::Somebody { at, channel } => match heard {
+        Looked::Bad => Judged::Refusal(BAD_SETUP),
+        Looked::Nobody => Judged::Refusal(refusal(heard)),
+        Looked::Somebody { at, channel } => match heard {
             Heard::Refused(number) => Judged::Refusal(number),
             Heard::Piece(header) => channel::moved(at, size, channel, header, length),
         },

@@ -20,14 +20,14 @@ pub const FIRST_RECORD: usize = 2;
 pub const JOINER_WORDS: usize = FIRST_RECORD + RECORD_WORDS * CHANNELS;
 
 // What the look at a joiner for a sender ID finds: it is not good, nobody bears the ID, or this channel.
-pub enum Found {
+pub enum Looked {
     Bad,
     Nobody,
     Somebody { at: usize, channel: Channel },
 }
 
 // Whether the joiner in the words is good for rooms of so many bytes, and which channel bears the sender ID.
-pub(crate) fn look(state: &[u32; JOINER_WORDS], rooms: usize, sender: u16) -> Found
+pub(crate) fn look(state: &[u32; JOINER_WORDS], rooms: usize, sender: u16) -> Looked
     ensures { λ r. ⌜ r ≡ foundOf (joinerIn (now (state .entry))) rooms sender ⌝ }
 {
     let words: &[u32] = state;
@@ -36,9 +36,9 @@ pub(crate) fn look(state: &[u32; JOINER_WORDS], rooms: usize, sender: u16) -> Fo
         if records::are_good(words) {
             return records::found(words, records::find(words, sender as u32));
         }
-        return Found::Bad;
+        return Looked::Bad;
     }
-    Found::Bad
+    Looked::Bad
 }
 
 // The same verdict for a set-up, whose IDs need not rise.

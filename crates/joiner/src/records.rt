@@ -8,7 +8,7 @@ ghost use Rattle.joiner.specs.Setup.{placeOf, distinct};
 ghost use Rattle.joiner.specs.JoinerWords.{recordIn};
 ghost use Rattle.joiner.specs.Records.{Sized, goodRecord, goodRecords, sendersIn, areGood, foundAt};
 use crate::looking::FIRST_RECORD;
-use crate::looking::Found;
+use crate::looking::Looked;
 use crate::looking::RECORD_WORDS;
 use binding::COUNTERS;
 use binding::SENDERS;
@@ -124,16 +124,16 @@ pub(crate) fn find(state: &[u32], id: u32) -> usize
 }
 
 // The record at that place, where there is one.
-pub(crate) fn found(state: &[u32], at: usize) -> Found
+pub(crate) fn found(state: &[u32], at: usize) -> Looked
     requires { ⌜ Sized (now state) ⌝ }
     requires { ⌜ areGood (now state) ≡ true ⌝ }
     ensures { λ r. ⌜ r ≡ foundAt (now (state .entry)) at ⌝ }
 {
     if at < state[0] as usize {
         let channel = record_in(state, at);
-        return Found::Somebody { at, channel };
+        return Looked::Somebody { at, channel };
     }
-    Found::Nobody
+    Looked::Nobody
 }
 
 fn record_in(state: &[u32], at: usize) -> Channel

@@ -11,14 +11,14 @@ use channel::BAD_SETUP;
 use channel::CHANNELS;
 use channel::Channel;
 
-pub enum Answer {
+pub enum Verdict {
     Accepted,
     Refused(u32),
 }
 
 // An enum cannot hold an array, so the joiner stands beside the answer. Where the set-up was refused it has no channels.
 pub struct NewJoiner {
-    pub answer: Answer,
+    pub answer: Verdict,
     pub joiner: Joiner,
 }
 
@@ -30,7 +30,7 @@ pub fn setup(ids: &[u16], room: u32, buffer: usize) -> NewJoiner
         let joiner = fresh(ids, room);
         if is_good(joiner, buffer) {
             return NewJoiner {
-                answer: Answer::Accepted,
+                answer: Verdict::Accepted,
                 joiner,
             };
         }
@@ -50,7 +50,7 @@ fn refused_setup() -> NewJoiner
     ensures { λ r. ⌜ r ≡ refusedSetup ⌝ }
 {
     NewJoiner {
-        answer: Answer::Refused(BAD_SETUP),
+        answer: Verdict::Refused(BAD_SETUP),
         joiner: Joiner {
             channels: [new_channel(0); CHANNELS],
             count: 0,

@@ -6,7 +6,7 @@ use crate::in_words;
 use crate::looking;
 use crate::looking::JOINER_WORDS;
 use crate::setups;
-use crate::setups::Answer;
+use crate::setups::Verdict;
 use binding::BindingHeader;
 use channel::Judged;
 use channel::Outcome;
@@ -40,8 +40,8 @@ pub fn setup(state: &mut [u32; JOINER_WORDS], ids: &[u16], room: u32, rooms: usi
     let answer = made.answer;
     let joiner = made.joiner;
     match answer {
-        Answer::Refused(number) => number,
-        Answer::Accepted => {
+        Verdict::Refused(number) => number,
+        Verdict::Accepted => {
             *state = in_words::words_of(joiner);
             0
         }

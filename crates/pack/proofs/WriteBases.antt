@@ -18,13 +18,13 @@ use Rattle.table.specs.Entries.{memberAt}
 use Rattle.table.specs.Leaf.{allowed}
 use Rattle.walk.specs.declared.Place.{Place}
 use Rattle.walk.specs.Tree.{child, baseAt}
-use Rattle.walk.specs.Walk.{on, through, walk}
+use Rattle.walk.specs.Walk.{on, through, walk, Goes}
 use Rattle.walk.specs.Codes.{codeCount, codesOf}
 use Rattle.walk.proofs.Bases.{base-on}
 use Rattle.walk.proofs.Codes.{codes-fit, codes-as-long, code-member, code-is}
 use Rattle.pack.specs.Stored.{isThere, behind, stored, takenCount, ends, laid, WritesEach}
 use Rattle.pack.proofs.Behind.{ends-near, ends-from, laid-length, count-codes, count-words, count-taken, written-over, fewer-written}
-use Rattle.pack.specs.Writing.{writer, Writing, Writes, memberWritten, Goes}
+use Rattle.pack.specs.Writing.{writer, Writing, Writes, memberWritten}
 
 -- a base among a record's members, and as an array's element
 module _ (ws t : List ℕ) (s : Sections) (i c code : ℕ) (is : code ≡ baseAt t s i c) (p : Place) (x : List ℕ) (there : isThere ws code (p .from) ≡ true) where

@@ -12,7 +12,7 @@ use Rattle.table.specs.Entries.{memberAt}
 use Rattle.leaf.specs.Forms.{formOf}
 use Rattle.walk.specs.declared.Place.{Place}
 use Rattle.walk.specs.Tree.{child}
-use Rattle.walk.specs.Walk.{Step, on, through, Codec, walk}
+use Rattle.walk.specs.Walk.{Step, on, Codec, walk}
 use Rattle.pack.specs.Stored.{isThere, behind, stored}
 
 -- a leaf is the next word, and its bytes are written
@@ -36,7 +36,3 @@ Writes ws code f = (k : ℕ) (q : Place) (y : List ℕ) → isThere ws code (q .
 -- the step over a record's k-th member
 abbrev pub memberWritten : List ℕ → List ℕ → Sections → ℕ → Entry → ℕ → Place → List ℕ → Step
 memberWritten ws t s i e k q y = walk (writer ws) (child t s i (memberAt t s (e .first + k))) q y
-
--- from the k-th step on a walk comes to the m-th
-abbrev pub Goes : (ℕ → Place → List ℕ → Step) → ℕ → Place → List ℕ → ℕ → Place → List ℕ → Type 0
-Goes f k p x m q y = (p₀ : Place) (x₀ : List ℕ) → through k f p₀ x₀ ≡ on p x → through m f p₀ x₀ ≡ on q y

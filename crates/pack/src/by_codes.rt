@@ -7,18 +7,18 @@ ghost use Rattle.pack.specs.Stored.{takenCount, ends, laid};
 use crate::bases;
 
 // How many leaves, and how many bytes they have.
-pub struct Part {
+pub struct Passed {
     pub count: usize,
     pub bytes: usize,
 }
 
 // Judges words from the from-th on as leaves of these codes, up to one that is not there or is refused.
-pub(crate) fn judge_codes(words: &[u64], codes: &[u8], from: usize) -> Part
+pub(crate) fn judge_codes(words: &[u64], codes: &[u8], from: usize) -> Passed
     ensures { λ r. ⌜ r .count ≡ takenCount (now (words .entry)) (now (codes .entry)) from ⌝ }
     ensures { λ r. ⌜ r .bytes ≡ ends (take (takenCount (now (words .entry)) (now (codes .entry)) from) (now (codes .entry))) 0 ⌝ }
 {
     if words.len() <= from {
-        return Part { count: 0, bytes: 0 };
+        return Passed { count: 0, bytes: 0 };
     }
     let n = bases::least(codes.len(), words.len() - from);
     let mut bytes: usize = 0;
@@ -29,10 +29,10 @@ pub(crate) fn judge_codes(words: &[u64], codes: &[u8], from: usize) -> Part
             bytes = bytes + leaf::width(code);
             k += 1;
         } else {
-            return Part { count: k, bytes };
+            return Passed { count: k, bytes };
         }
     }
-    Part { count: k, bytes }
+    Passed { count: k, bytes }
 }
 
 // Stores the bytes of leaves of these codes for the words from p.from on, each where there is room for it, as long as there are

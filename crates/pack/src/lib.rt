@@ -6,7 +6,6 @@ mod limits;
 pub mod runs;
 mod walking;
 
-pub use by_codes::Part;
 use table::Sections;
 use walk::Walked;
 ghost use mathlib.Core.Path.{_≡_};

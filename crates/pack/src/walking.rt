@@ -11,8 +11,8 @@ ghost use Prim.Native.Nat.{ℕ, _≤_};
 ghost use lib.ListN.{length, getD};
 ghost use Rattle.walk.specs.declared.Place.{Place};
 ghost use Rattle.walk.specs.declared.Met.the-variants.{Members, Elements};
-ghost use Rattle.walk.specs.Walk.{Step, on, through, start, answer, left, begun, times, leafWalk, metWalk, typeWalk};
-ghost use Rattle.pack.specs.Writing.{writer, Writing, Writes, memberWritten, Goes};
+ghost use Rattle.walk.specs.Walk.{Step, on, through, start, answer, left, begun, times, leafWalk, metWalk, typeWalk, Goes};
+ghost use Rattle.pack.specs.Writing.{writer, Writing, Writes, memberWritten};
 use crate::by_codes;
 use crate::limits;
 use crate::runs;
@@ -23,7 +23,7 @@ use walk::COUNT_WORDS;
 const CODES: usize = 64;
 
 // How far a run of leaves was written: up to which member or element, and where it ends.
-struct Run {
+struct Reached {
     upto: u64,
     at: Place,
 }
@@ -212,7 +212,7 @@ fn write_bases(
     words: &[u64],
     out: &mut [u8],
     p: Place,
-) -> Run
+) -> Reached
     requires { ⌜ Writing (now words) p × (from ≤ e .count) ⌝ }
     ensures { λ r. ⌜ (from ≤ r .upto) × (r .upto ≤ e .count) × Writing (now (words .entry)) (r .at) ⌝ }
     ensures { λ _. ⌜ length (now (out .exit)) ≡ length (now (out .entry)) ⌝ }
@@ -223,7 +223,7 @@ fn write_bases(
     let part = by_codes::judge_codes(words, &codes[..n], p.from);
     let count = part.count;
     by_codes::store_codes(words, out, &codes[..count], p);
-    Run {
+    Reached {
         upto: from + count as u64,
         at: Place {
             from: p.from + count,
@@ -234,7 +234,7 @@ fn write_bases(
 
 // Writes the elements of an array of one base code, where all their words are there and taken, and else none: then it is for the
 // walk to say which is refused.
-fn write_run(words: &[u64], out: &mut [u8], code: u16, count: u64, p: Place) -> Run
+fn write_run(words: &[u64], out: &mut [u8], code: u16, count: u64, p: Place) -> Reached
     requires { ⌜ Writing (now words) p ⌝ }
     ensures { λ r. ⌜ (r .upto ≤ count) × Writing (now (words .entry)) (r .at) ⌝ }
     ensures { λ _. ⌜ length (now (out .exit)) ≡ length (now (out .entry)) ⌝ }
@@ -243,13 +243,13 @@ fn write_run(words: &[u64], out: &mut [u8], code: u16, count: u64, p: Place) -> 
 {
     let left = words.len() - p.from;
     if (left as u64) < count {
-        return Run { upto: 0, at: p };
+        return Reached { upto: 0, at: p };
     }
     let whole = count as usize;
     if limits::judged(words, p.from, code, whole) {
         runs::store_run(words, out, code, whole, p);
         let width = leaf::width(code);
-        Run {
+        Reached {
             upto: count,
             at: Place {
                 from: p.from + whole,
@@ -257,6 +257,6 @@ fn write_run(words: &[u64], out: &mut [u8], code: u16, count: u64, p: Place) -> 
             },
         }
     } else {
-        Run { upto: 0, at: p }
+        Reached { upto: 0, at: p }
     }
 }

@@ -8,7 +8,7 @@ use lib.ListN.{length, getD}
 use Rattle.channel.specs.Channel.{roomOf}
 use Rattle.channel.specs.Record.{newChannel}
 use Rattle.joiner.specs.declared.Joiner.{Joiner}
-use Rattle.joiner.specs.declared.setups.Answer.the-variants.{Accepted}
+use Rattle.joiner.specs.declared.setups.Verdict.the-variants.{Accepted}
 use Rattle.joiner.specs.Setup.{sendersOf, freshOf, setupOf}
 use Rattle.joiner.specs.View.{View, viewOf}
 use Rattle.joiner.proofs.Accepted.{accepted, accepted-joiner, accepted-standing, fresh-senders, fresh-view}

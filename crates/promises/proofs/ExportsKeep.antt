@@ -12,8 +12,8 @@ use Rattle.binding.specs.declared.cutter.Counted.the-variants as counted
 use Rattle.binding.specs.declared.cutter.Made.{Made}
 use Rattle.binding.specs.declared.cutter.Made.the-variants as made
 use Rattle.joiner.specs.declared.Joiner.{Joiner}
-use Rattle.joiner.specs.declared.setups.Answer.{Answer as SetUp}
-use Rattle.joiner.specs.declared.setups.Answer.the-variants as set-up
+use Rattle.joiner.specs.declared.setups.Verdict.{Verdict}
+use Rattle.joiner.specs.declared.setups.Verdict.the-variants as set-up
 use Rattle.channel.specs.declared.Outcome.{Outcome}
 use Rattle.channel.specs.declared.Outcome.the-variants.{Refused, Repeated, Delivered, Held, Stray, TooLong}
 use Rattle.channel.specs.Outcomes.{refusalIn as takeRefusal}
@@ -83,7 +83,7 @@ found-keeps true was x k = absurd (k refl)
 found-keeps false was x k = refl
 
 -- joining
-accepted-keeps : (was : List ℕ) (x : SetUp) (j : Joiner) → Keeps (answerIn x) was (acceptedWords x j was)
+accepted-keeps : (was : List ℕ) (x : Verdict) (j : Joiner) → Keeps (answerIn x) was (acceptedWords x j was)
 accepted-keeps was set-up.Accepted j k = absurd (k refl)
 accepted-keeps was (set-up.Refused n) j k = refl
 

@@ -8,7 +8,7 @@ use lib.ListN.{length, getD}
 use Rattle.wire.specs.Bytes.{Octets}
 use Rattle.binding.specs.Header.{counters}
 use Rattle.binding.specs.Cutting.{canCut, pieceCount, datagramOf}
-use Rattle.joiner.specs.declared.setups.Answer.the-variants.{Accepted}
+use Rattle.joiner.specs.declared.setups.Verdict.the-variants.{Accepted}
 use Rattle.joiner.specs.Setup.{setupOf}
 use Rattle.promises.specs.Traffic.{Datagram, deliveredOn}
 use Rattle.promises.specs.Traffic.{fresh}

@@ -4,7 +4,7 @@ use Prim.Native.Nat.{ℕ, _<_}
 use mathlib.Core.Path.{_≡_}
 use mathlib.Core.List.{List}
 use lib.ListN.{length, getD}
-use Rattle.joiner.specs.declared.setups.Answer.the-variants.{Accepted}
+use Rattle.joiner.specs.declared.setups.Verdict.the-variants.{Accepted}
 use Rattle.joiner.specs.Setup.{setupOf}
 use Rattle.promises.specs.Senders.{Sender, Genuine, arrives, completeOf}
 use Rattle.promises.specs.Traffic.{Datagram, ofChannel, Joining, deliveredBy, fresh, ourJoining, deliveredOn, outcomesOn, leftOn, AreBytes}

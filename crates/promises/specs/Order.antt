@@ -22,7 +22,7 @@ use Rattle.channel.specs.declared.Outcome.the-variants as outcome
 use Rattle.channel.specs.Channel.{roomOf, steppedOf}
 use Rattle.joiner.specs.declared.Joiner.{Joiner}
 use Rattle.joiner.specs.declared.Taken.{Taken}
-use Rattle.joiner.specs.declared.setups.Answer.the-variants as answer
+use Rattle.joiner.specs.declared.setups.Verdict.the-variants as answer
 use Rattle.joiner.specs.declared.setups.NewJoiner.{NewJoiner}
 use Rattle.joiner.specs.Setup.{placeOf, sendersOf, channelAt, freshOf, setupOf, Acceptable}
 use Rattle.joiner.specs.Take.{changed, takenOf}

@@ -16,8 +16,8 @@ use Rattle.wire.proofs.Numbers.{number-lt, number-front}
 use Rattle.wire.proofs.Cond.{yes-le, no-le}
 use Rattle.wire.proofs.Runs.{held, failed}
 use Rattle.recording.specs.Datagrams.{nextIn}
-use Rattle.recording.specs.declared.Found.{Found}
-use Rattle.recording.specs.declared.Found.the-variants.{Datagram, Unfinished, Nothing}
+use Rattle.recording.specs.declared.Coming.{Coming}
+use Rattle.recording.specs.declared.Coming.the-variants.{Datagram, Unfinished, Nothing}
 
 module _ (s : List ℕ) (p : ℕ) where
   pub nothing-next : length s ≤ p → Nothing ≡ nextIn s p
@@ -78,7 +78,7 @@ found-more s more at p n e =
     sym (ap (λ (m : ℕ). Datagram m n) a ∙ datagram-next (s ++ more) at n q (omega arith))
 
 -- where it ends
-module _ {f : Found} (s : List ℕ) (at p n : ℕ) (e : f ≡ nextIn s at) (g : f ≡ Datagram p n) where
+module _ {f : Coming} (s : List ℕ) (at p n : ℕ) (e : f ≡ nextIn s at) (g : f ≡ Datagram p n) where
   pub found-end : p + n ≤ length s
   found-end = found-within s at p n (sym e ∙ g) .ends
 
@@ -86,7 +86,7 @@ module _ {f : Found} (s : List ℕ) (at p n : ℕ) (e : f ≡ nextIn s at) (g : 
   found-fits h = record { fits = omega (arith, found-end) }
 
 -- what is left of a datagram that is not all there is shorter than the longest one with its length
-module _ {f : Found} (s : List ℕ) (at : ℕ) (e : f ≡ nextIn s at) (g : f ≡ Unfinished) where
+module _ {f : Coming} (s : List ℕ) (at : ℕ) (e : f ≡ nextIn s at) (g : f ≡ Unfinished) where
   left-says : (at < length s) × (length s < at + 2 + number 1 s at)
   left-says = go (leb (length s) at) refl (leb (at + 2 + number 1 s at) (length s)) refl
     where

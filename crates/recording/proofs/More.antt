@@ -16,8 +16,8 @@ use Rattle.wire.proofs.Numbers.{number-drop}
 use Rattle.wire.proofs.Runs.{part-in}
 use Rattle.recording.specs.Datagrams.{nextIn}
 use Rattle.recording.specs.Play.{State, steppedOf, hasRoom, goingOn, playedFor, played}
-use Rattle.recording.specs.declared.Found.{Found}
-use Rattle.recording.specs.declared.Found.the-variants.{Datagram, Unfinished, Nothing}
+use Rattle.recording.specs.declared.Coming.{Coming}
+use Rattle.recording.specs.declared.Coming.the-variants.{Datagram, Unfinished, Nothing}
 use Rattle.recording.proofs.Finding.{nothing-next, datagram-next, unfinished-next, found-within, found-more}
 use Rattle.recording.proofs.Playing.{played-step}
 
@@ -28,7 +28,7 @@ module _ (s more : List ℕ) where
   pub next-more : (p : ℕ) → (nextIn s p ≡ Unfinished → ⊥) → (nextIn s p ≡ Nothing → ⊥) → nextIn (s ++ more) p ≡ nextIn s p
   next-more p z y = go (nextIn s p) refl
     where
-      go : (f : Found) → nextIn s p ≡ f → nextIn (s ++ more) p ≡ nextIn s p
+      go : (f : Coming) → nextIn s p ≡ f → nextIn (s ++ more) p ≡ nextIn s p
       go (Datagram q n) e = found-more s more p q n e ∙ sym e
       go Unfinished e = absurd (z e)
       go Nothing e = absurd (y e)
@@ -47,7 +47,7 @@ module _ (s more : List ℕ) where
   played-on zero st = refl
   played-on (suc k) st = go (nextIn s (st .run .at)) refl (λ (t : State). played-on k t)
     where
-      go : (f : Found) → nextIn s (st .run .at) ≡ f → ((t : State) → played (s ++ more) (playedFor k s t) ≡ played (s ++ more) t) →
+      go : (f : Coming) → nextIn s (st .run .at) ≡ f → ((t : State) → played (s ++ more) (playedFor k s t) ≡ played (s ++ more) t) →
           played (s ++ more) (goingOn s st (λ (t : State). playedFor k s t) f) ≡ played (s ++ more) st
       go Unfinished e r = refl
       go Nothing e r = refl
@@ -69,7 +69,7 @@ module _ (s more : List ℕ) where
   played-more st = played-on (length s - st .run .at) st
 
 -- what stands k bytes further on
-unfoldable pub ahead : ℕ → Found → Found
+unfoldable pub ahead : ℕ → Coming → Coming
 ahead k (Datagram p n) = Datagram (k + p) n
 ahead k Unfinished = Unfinished
 ahead k Nothing = Nothing

@@ -17,8 +17,8 @@ use Rattle.recording.specs.Datagrams.{nextIn}
 use Rattle.recording.specs.Play.{State, stateOf, following, steppedOf, hasRoom, goingOn, playedFor, played}
 use Rattle.recording.proofs.Finding.{Within, nothing-next, found-within}
 use Rattle.recording.specs.declared.Run.{Run}
-use Rattle.recording.specs.declared.Found.{Found}
-use Rattle.recording.specs.declared.Found.the-variants.{Datagram, Unfinished, Nothing}
+use Rattle.recording.specs.declared.Coming.{Coming}
+use Rattle.recording.specs.declared.Coming.the-variants.{Datagram, Unfinished, Nothing}
 
 pub one-step : {t : Taken} {n m : ℕ} {rooms' output' : List ℕ} (r : Run) (rooms output d : List ℕ) (e : ℕ) →
     t ≡ takenOf (r .joiner) rooms d →
@@ -41,7 +41,7 @@ goes-equal : (input : List ℕ) (st : State) (a b : State → State) →
 unfolding goingOn
 goes-equal input st a b h = go (nextIn input (st .run .at)) refl
   where
-    go : (f : Found) → nextIn input (st .run .at) ≡ f → goingOn input st a f ≡ goingOn input st b f
+    go : (f : Coming) → nextIn input (st .run .at) ≡ f → goingOn input st a f ≡ goingOn input st b f
     go (Datagram p n) e = ap (λ (x : State). cond (hasRoom st) x st) (h p n e)
     go Unfinished e = refl
     go Nothing e = refl
@@ -78,7 +78,7 @@ played-step input st p n e h =
     turn k = ap (goingOn input st (λ (t : State). playedFor k input t)) e ∙ yes-if _ _ h
 
 -- and the end
-stopped : (input : List ℕ) (st : State) (f : Found) → nextIn input (st .run .at) ≡ f → ((on : State → State) → goingOn input st on f ≡ st)
+stopped : (input : List ℕ) (st : State) (f : Coming) → nextIn input (st .run .at) ≡ f → ((on : State → State) → goingOn input st on f ≡ st)
     → played input st ≡ st
 unfolding played playedFor
 stopped input st f e h = go (length input - st .run .at)
@@ -88,7 +88,7 @@ stopped input st f e h = go (length input - st .run .at)
     go (suc k) = ap (goingOn input st (λ (t : State). playedFor k input t)) e ∙ h (λ (t : State). playedFor k input t)
 
 -- the loop of `play`
-module _ {x : State} {f : Found} (input rooms output : List ℕ) (r : Run) (e : f ≡ nextIn input (r .at)) where
+module _ {x : State} {f : Coming} (input rooms output : List ℕ) (r : Run) (e : f ≡ nextIn input (r .at)) where
   pub play-on : {t : Bool} {d rooms' output' : List ℕ} {r' : Run} (p n : ℕ) →
       x ≡ played input (stateOf r rooms output) →
       f ≡ Datagram p n →
@@ -115,7 +115,7 @@ module _ {x : State} {f : Found} (input rooms output : List ℕ) (r : Run) (e : 
   unfolding goingOn
   play-over i g = sym (i ∙ stopped input (stateOf r rooms output) Nothing (sym e ∙ g) (λ on. refl))
 
-pub play-less : {f : Found} {r' : Run} {rooms' output' : List ℕ} (st : State) (input d : List ℕ) (at p n : ℕ) →
+pub play-less : {f : Coming} {r' : Run} {rooms' output' : List ℕ} (st : State) (input d : List ℕ) (at p n : ℕ) →
     f ≡ nextIn input at → f ≡ Datagram p n → stateOf r' rooms' output' ≡ steppedOf st d (p + n) → length input - r' .at < length input - at
 play-less {f} {r'} st input d at p n e g b =
     let w : Within input at p n = found-within input at p n (sym e ∙ g) in

@@ -19,8 +19,8 @@ use Rattle.channel.specs.declared.Channel.{Channel}
 use Rattle.joiner.specs.Setup.{good, freshOf, refusedSetup, setupOf, smallestRoom}
 use Rattle.joiner.specs.declared.Joiner.{Joiner}
 use Rattle.joiner.specs.declared.setups.NewJoiner.{NewJoiner}
-use Rattle.joiner.specs.declared.setups.Answer.{Answer}
-use Rattle.joiner.specs.declared.setups.Answer.the-variants as answer
+use Rattle.joiner.specs.declared.setups.Verdict.{Verdict}
+use Rattle.joiner.specs.declared.setups.Verdict.the-variants as answer
 use Rattle.recording.specs.Opening.{sizesLength, roomsLimit, countIn, roomIn, idPlace, idsIn, goodStart, closed, openedBy, setupIn, readyIn, openedIn}
 use Rattle.recording.specs.declared.start.Opening.{Opening}
 use Rattle.recording.specs.declared.start.Opening.the-variants.{Unfinished, Refused, Open}
@@ -65,7 +65,7 @@ module _ {new : NewJoiner} (s ids : List ℕ) (n R : ℕ) {b : ℕ} (g : b ≡ r
   same-setup : new ≡ setupIn s n R
   same-setup = e ∙ ap₂ (λ (u : List ℕ) (c : ℕ). setupOf u R c) f g
 
-  by-answer : (a : Answer) → new .answer ≡ a → openedBy (idPlace n) (roomStart R n) new a ≡ readyIn s n R
+  by-answer : (a : Verdict) → new .answer ≡ a → openedBy (idPlace n) (roomStart R n) new a ≡ readyIn s n R
   by-answer a h =
       ap (openedBy (idPlace n) (roomStart R n) new) (sym h)
       ∙ ap (λ (m : NewJoiner). openedBy (idPlace n) (roomStart R n) m (m .answer)) same-setup
@@ -150,7 +150,7 @@ module _ (P : Opening → Type 0) (s : List ℕ) (short : length s < idPlace cha
       R : ℕ
       R = roomIn s
 
-      answered : (a : Answer) → setupIn s n R .answer ≡ a → roomStart R n ≤ roomsLimit → P (openedBy (idPlace n) (roomStart R n) (setupIn s n R) a .opening)
+      answered : (a : Verdict) → setupIn s n R .answer ≡ a → roomStart R n ≤ roomsLimit → P (openedBy (idPlace n) (roomStart R n) (setupIn s n R) a .opening)
       answered answer.Accepted e h = ready (idPlace n) (roomStart R n) h
       answered (answer.Refused k) e h = subst⁻¹ (λ (m : ℕ). P (Refused m)) (setup-refuses (idsIn s n) R (roomStart R n) k e) bad
 

@@ -20,8 +20,8 @@ use Rattle.recording.proofs.LineLaws.{line-limit}
 use Rattle.recording.specs.Datagrams.{nextIn}
 use Rattle.recording.specs.Play.{State, following, steppedOf, hasRoom, goingOn, playedFor, played}
 use Rattle.recording.specs.Whole.{behindIt, linesFor, linesFrom, told, emptied, atFront, Deed, plays, writes, reads, come, ran, Over}
-use Rattle.recording.specs.declared.Found.{Found}
-use Rattle.recording.specs.declared.Found.the-variants.{Datagram, Unfinished, Nothing}
+use Rattle.recording.specs.declared.Coming.{Coming}
+use Rattle.recording.specs.declared.Coming.the-variants.{Datagram, Unfinished, Nothing}
 use Rattle.recording.proofs.Finding.{Within, nothing-next, found-within, found-more}
 use Rattle.recording.proofs.More.{ahead, part-more, next-moved}
 
@@ -76,7 +76,7 @@ lines-enough (suc k) (suc i) s j rooms number p a b =
     on c q n = lineOf number (takenOf j rooms (part s q n) .outcome)
         ++ linesFor c s (takenOf j rooms (part s q n) .joiner) (roomsAfter j rooms (part s q n)) (following number) (q + n)
 
-    go : (f : Found) → nextIn s p ≡ f
+    go : (f : Coming) → nextIn s p ≡ f
         → ((x : Joiner) (y : List ℕ) (m q : ℕ) → length s - q ≤ k → length s - q ≤ i → linesFor k s x y m q ≡ linesFor i s x y m q)
         → behindIt (on k) f ≡ behindIt (on i) f
     go (Datagram q n) e r =
@@ -116,7 +116,7 @@ no-lines : (s : List ℕ) (st : State) → ((q n : ℕ) → nextIn s (st .run .a
 unfolding linesFrom linesFor behindIt
 no-lines s st z = go (length s - st .run .at)
   where
-    none : (on : ℕ → ℕ → List ℕ) (f : Found) → nextIn s (st .run .at) ≡ f → behindIt on f ≡ []
+    none : (on : ℕ → ℕ → List ℕ) (f : Coming) → nextIn s (st .run .at) ≡ f → behindIt on f ≡ []
     none on (Datagram q n) e = absurd (z q n e)
     none on Unfinished e = refl
     none on Nothing e = refl
@@ -142,7 +142,7 @@ lines-moved (suc k) s a j rooms number p h =
     on u q n = lineOf number (takenOf j rooms (part u q n) .outcome)
         ++ linesFor k u (takenOf j rooms (part u q n) .joiner) (roomsAfter j rooms (part u q n)) (following number) (q + n)
 
-    go : (f : Found) → nextIn (drop a s) p ≡ f
+    go : (f : Coming) → nextIn (drop a s) p ≡ f
         → ((x : Joiner) (y : List ℕ) (m q : ℕ) → linesFor k s x y m (a + q) ≡ linesFor k (drop a s) x y m q) → behindIt (on s) (ahead a f)
         ≡ behindIt (on (drop a s)) f
     go (Datagram q n) e r =
@@ -184,7 +184,7 @@ module _ (s more : List ℕ) where
       Kept : State → Type 0
       Kept t = Sound s t × (told t ++ linesFrom (s ++ more) t ≡ told st ++ linesFrom (s ++ more) st)
 
-      go : (f : Found) → nextIn s (st .run .at) ≡ f
+      go : (f : Coming) → nextIn s (st .run .at) ≡ f
           → ((t : State) → Sound s t → Sound s (playedFor k s t)
           × (told (playedFor k s t) ++ linesFrom (s ++ more) (playedFor k s t) ≡ told t ++ linesFrom (s ++ more) t)) →
           Kept (goingOn s st (λ (t : State). playedFor k s t) f)

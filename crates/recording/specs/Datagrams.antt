@@ -5,12 +5,12 @@ use mathlib.Core.List.{List}
 use lib.Dec.{leb}
 use lib.ListN.{length}
 use Rattle.wire.specs.Bytes.{number, over, part}
-use Rattle.recording.specs.declared.Found.{Found}
-use Rattle.recording.specs.declared.Found.the-variants.{Datagram, Unfinished, Nothing}
+use Rattle.recording.specs.declared.Coming.{Coming}
+use Rattle.recording.specs.declared.Coming.the-variants.{Datagram, Unfinished, Nothing}
 
 -- what stands at p: nothing, a datagram that is all there, or a part of a length or of a datagram. Of a length that is cut
 -- the missing byte reads as 0, and the datagram would start behind the end all the same
-unfoldable pub nextIn : List ℕ → ℕ → Found
+unfoldable pub nextIn : List ℕ → ℕ → Coming
 nextIn s p =
     cond (leb (length s) p)
     Nothing

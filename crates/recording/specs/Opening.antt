@@ -9,8 +9,8 @@ use Rattle.wire.specs.Bytes.{number}
 use Rattle.channel.specs.Record.{channelLimit, badSetup, largestRoom, roomStart}
 use Rattle.joiner.specs.Setup.{freshOf, setupOf, smallestRoom}
 use Rattle.joiner.specs.declared.Joiner.{Joiner}
-use Rattle.joiner.specs.declared.setups.Answer.{Answer}
-use Rattle.joiner.specs.declared.setups.Answer.the-variants as answer
+use Rattle.joiner.specs.declared.setups.Verdict.{Verdict}
+use Rattle.joiner.specs.declared.setups.Verdict.the-variants as answer
 use Rattle.joiner.specs.declared.setups.NewJoiner.{NewJoiner}
 use Rattle.recording.specs.declared.start.Opening.{Opening}
 use Rattle.recording.specs.declared.start.Opening.the-variants.{Unfinished, Refused, Open}
@@ -48,7 +48,7 @@ abbrev pub closed : Opening → Opened
 closed o = record { opening = o; joiner = freshOf [] 0 }
 
 -- what the set-up answered: the datagrams start at p, and b bytes are the rooms' total
-unfoldable pub openedBy : ℕ → ℕ → NewJoiner → Answer → Opened
+unfoldable pub openedBy : ℕ → ℕ → NewJoiner → Verdict → Opened
 openedBy p b new answer.Accepted = record { opening = Open p b; joiner = new .joiner }
 openedBy p b new (answer.Refused k) = closed (Refused k)
 

@@ -11,8 +11,8 @@ use Rattle.recording.specs.Places.{behind}
 use Rattle.recording.specs.Line.{lineLimit, lineOf}
 use Rattle.recording.specs.Datagrams.{nextIn}
 use Rattle.recording.specs.declared.Run.{Run}
-use Rattle.recording.specs.declared.Found.{Found}
-use Rattle.recording.specs.declared.Found.the-variants.{Datagram, Unfinished, Nothing}
+use Rattle.recording.specs.declared.Coming.{Coming}
+use Rattle.recording.specs.declared.Coming.the-variants.{Datagram, Unfinished, Nothing}
 
 -- a run with what is lent to it
 pub record State : Type 0 where
@@ -43,7 +43,7 @@ abbrev pub hasRoom : State → Bool
 hasRoom st = leb (st .run .made + lineLimit) (length (st .output))
 
 -- the run goes on, in the way `on` says, where a whole datagram is next and there is room for its line
-unfoldable pub goingOn : List ℕ → State → (State → State) → Found → State
+unfoldable pub goingOn : List ℕ → State → (State → State) → Coming → State
 goingOn input st on (Datagram p n) = cond (hasRoom st) (on (steppedOf st (part input p n) (p + n))) st
 goingOn input st on Unfinished = st
 goingOn input st on Nothing = st

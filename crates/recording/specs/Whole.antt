@@ -10,11 +10,11 @@ use Rattle.joiner.specs.Take.{takenOf, roomsAfter}
 use Rattle.recording.specs.Line.{lineOf}
 use Rattle.recording.specs.Datagrams.{nextIn}
 use Rattle.recording.specs.Play.{State, stateOf, following, played}
-use Rattle.recording.specs.declared.Found.{Found}
-use Rattle.recording.specs.declared.Found.the-variants.{Datagram, Unfinished, Nothing}
+use Rattle.recording.specs.declared.Coming.{Coming}
+use Rattle.recording.specs.declared.Coming.the-variants.{Datagram, Unfinished, Nothing}
 
 -- what follows a datagram that is all there; else nothing does
-unfoldable pub behindIt : (ℕ → ℕ → List ℕ) → Found → List ℕ
+unfoldable pub behindIt : (ℕ → ℕ → List ℕ) → Coming → List ℕ
 behindIt on (Datagram p n) = on p n
 behindIt on Unfinished = []
 behindIt on Nothing = []

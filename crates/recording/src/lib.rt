@@ -19,7 +19,7 @@ ghost use Rattle.recording.specs.Play.{stateOf, played, steppedOf};
 use joiner::Joiner;
 
 // What stands at a place of the recording: a datagram that is all there, part of one, or nothing.
-pub enum Found {
+pub enum Coming {
     Datagram { start: usize, length: usize },
     Unfinished,
     Nothing,
@@ -35,21 +35,21 @@ pub struct Run {
 }
 
 // The next datagram in what has come so far.
-pub fn next(input: &[u8], at: usize) -> Found
+pub fn next(input: &[u8], at: usize) -> Coming
     ensures { λ r. ⌜ r ≡ nextIn (now (input .entry)) at ⌝ }
 {
     if input.len() <= at {
-        return Found::Nothing;
+        return Coming::Nothing;
     }
     if wire::has_room(input.len(), at, 2) {
         let start = at + 2;
         let length = wire::u16_at(input, at) as usize;
         if wire::has_room(input.len(), start, length) {
-            return Found::Datagram { start, length };
+            return Coming::Datagram { start, length };
         }
-        return Found::Unfinished;
+        return Coming::Unfinished;
     }
-    Found::Unfinished
+    Coming::Unfinished
 }
 
 // Takes the whole datagrams that stand in the input, one after the other, and puts their lines into the output, until it
@@ -61,7 +61,7 @@ pub fn play(run: Run, rooms: &mut [u8], input: &[u8], output: &mut [u8]) -> Run
     let mut run = run;
     loop {
         match next(input, run.at) {
-            Found::Datagram { start, length } => {
+            Coming::Datagram { start, length } => {
                 if wire::has_room(output.len(), run.made, LINE_LIMIT) {
                     run = play_one(
                         run,
@@ -74,8 +74,8 @@ pub fn play(run: Run, rooms: &mut [u8], input: &[u8], output: &mut [u8]) -> Run
                     return run;
                 }
             }
-            Found::Unfinished => return run,
-            Found::Nothing => return run,
+            Coming::Unfinished => return run,
+            Coming::Nothing => return run,
         }
     }
 }

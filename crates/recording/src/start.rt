@@ -8,8 +8,8 @@ ghost use Rattle.joiner.specs.Setup.{freshOf};
 ghost use Rattle.recording.specs.Opening.{openedIn, goodStart, idsIn, readyIn, closed};
 use channel::BAD_SETUP;
 use channel::Channel;
-use joiner::Answer;
 use joiner::Joiner;
+use joiner::Verdict;
 
 // The bytes of count and R.
 const SIZES: usize = 6;
@@ -95,7 +95,7 @@ fn set_up(input: &[u8], count: usize, room: u32) -> Opened
     let new = joiner::setup(&ids[..count], room, rooms);
     let answer = new.answer;
     match answer {
-        Answer::Accepted => {
+        Verdict::Accepted => {
             let joiner = new.joiner;
             Opened {
                 opening: Opening::Open {
@@ -105,7 +105,7 @@ fn set_up(input: &[u8], count: usize, room: u32) -> Opened
                 joiner,
             }
         }
-        Answer::Refused(number) => closed(Opening::Refused(number)),
+        Verdict::Refused(number) => closed(Opening::Refused(number)),
     }
 }
 

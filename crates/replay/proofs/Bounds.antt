@@ -15,8 +15,8 @@ use Rattle.wire.specs.Bytes.{part, Octets}
 use Rattle.channel.specs.Record.{badSetup}
 use Rattle.recording.specs.Datagrams.{nextIn}
 use Rattle.recording.specs.Opening.{openedIn}
-use Rattle.recording.specs.declared.Found.{Found}
-use Rattle.recording.specs.declared.Found.the-variants.{Unfinished}
+use Rattle.recording.specs.declared.Coming.{Coming}
+use Rattle.recording.specs.declared.Coming.the-variants.{Unfinished}
 use Rattle.recording.specs.declared.start.Opening.the-variants as opening
 use Rattle.recording.specs.declared.start.Opened.{Opened}
 use Rattle.recording.proofs.Finding.{left-starts, left-short}
@@ -73,10 +73,10 @@ module _ (s : List ℕ) (n : ℕ) (l : length s ≡ inputLength) (h : n ≤ inpu
   refusal-is-20 e k g = refused-by-20 (take n s) e k g
 
   -- what is left of a datagram leaves room for the rest
-  pub left-within : {f : Found} (at : ℕ) → f ≡ nextIn (take n s) at → f ≡ Unfinished → at ≤ n
+  pub left-within : {f : Coming} (at : ℕ) → f ≡ nextIn (take n s) at → f ≡ Unfinished → at ≤ n
   left-within at e g = omega (arith, filled-part, left-starts (take n s) at e g)
 
-  pub kept-room : {f : Found} {k : ℕ} (at : ℕ) → ((i : ℕ) → Fits w8 (getD s i 0)) → f ≡ nextIn (take n s) at → f ≡ Unfinished → k
+  pub kept-room : {f : Coming} {k : ℕ} (at : ℕ) → ((i : ℕ) → Fits w8 (getD s i 0)) → f ≡ nextIn (take n s) at → f ≡ Unfinished → k
       ≡ length (part s at (n - at)) → k < inputLength
   kept-room {f} {k} at o e g q =
       omega (arith, filled-part, left-short (take n s) at e g (octets-take n s (λ i. omega (arith, o i))), length-part s at (n - at))

@@ -6,8 +6,8 @@ ghost use lib.ListN.{length};
 ghost use Rattle.replay.specs.Bounds.{inputLength, roomsLength, RoomsFit};
 ghost use Rattle.replay.specs.Endings.{Says20, Refuses20, RefusalIs20, NextWithin};
 use files::Came;
+use recording::Coming;
 use recording::Ending;
-use recording::Found;
 use recording::Opened;
 use recording::Opening;
 use recording::Run;
@@ -177,15 +177,15 @@ fn read_on(fd: i32, input: &mut [u8], filled: usize, at: usize) -> Next
     ensures { λ r. ⌜ NextWithin r ⌝ }
 {
     match recording::next(&input[..filled], at) {
-        Found::Datagram {
+        Coming::Datagram {
             start: _,
             length: _,
         } => Next::Write,
-        Found::Unfinished => {
+        Coming::Unfinished => {
             let kept = recording::keep(input, at, filled - at);
             read_behind(fd, input, kept)
         }
-        Found::Nothing => read_behind(fd, input, 0),
+        Coming::Nothing => read_behind(fd, input, 0),
     }
 }
 

@@ -21,7 +21,7 @@ use Rattle.types.specs.declared.Largest.the-variants.{Bytes, Unknown}
 use Rattle.table.specs.All.{allBelow}
 use Rattle.table.specs.Leaf.{width}
 use Rattle.table.specs.Entries.{typeAt, memberAt, isType}
-use Rattle.types.specs.Kept.{Smaller}
+use Rattle.types.specs.Lawful.{Smaller}
 use Rattle.types.specs.Sizes.{mostBytes, sumOf, sumFrom, sizeOf, sizes, largest, sizeFits, bytesUpTo, largestBelow, largestOf}
 use Rattle.wire.proofs.Cond.{and-right}
 use Rattle.table.proofs.AllBelow.{next-below, stop-below}

@@ -22,7 +22,7 @@ use Rattle.types.proofs.Distinctness.{same-below}
 use Rattle.types.specs.Rules.{memberOk, membersOk, pointedOk, typeOk}
 use Rattle.table.specs.Fields.{fieldsOk}
 use Rattle.types.specs.Inside.{Lying}
-use Rattle.types.specs.Kept.{Kept, Smaller}
+use Rattle.types.specs.Lawful.{Lawful, Smaller}
 use Rattle.types.specs.Operations.{operationOk}
 use Rattle.types.specs.Table.{entriesOk}
 use Rattle.types.specs.Passes.{inOrder, quickOk, enumOk, looseOk, enumDistinct}
@@ -150,7 +150,7 @@ module _ (t : List ℕ) (s : Sections) (i : ℕ) where
       go false p = refl
 
 -- types that keep their rules, as the sizes want them
-pub kept-record : (t : List ℕ) (s : Sections) (n i m : ℕ) (e : Entry) → Kept t s n → i < n → e ≡ typeAt t s i → m ≡ i → e .kind ≡ 2
+pub kept-record : (t : List ℕ) (s : Sections) (n i m : ℕ) (e : Entry) → Lawful t s n → i < n → e ≡ typeAt t s i → m ≡ i → e .kind ≡ 2
     → Smaller t s m (e .first) (e .count)
 unfolding typeOk membersOk memberOk
 kept-record t s n i m e k l is g h =
@@ -164,7 +164,7 @@ kept-record t s n i m e k l is g h =
       smaller = λ j c. omega (arith, ltb-true (memberAt t s (e .first + j)) i (at-below (memberOk t s i e) (e .count) j b c));
     }
 
-pub entries-kept : (t : List ℕ) (s : Sections) (a : Bool) → Lying t s → a ≡ entriesOk t s → a ≡ true → Kept t s (s .types .count)
+pub entries-kept : (t : List ℕ) (s : Sections) (a : Bool) → Lying t s → a ≡ entriesOk t s → a ≡ true → Lawful t s (s .types .count)
 unfolding entriesOk
 entries-kept t s a l p h =
     record {

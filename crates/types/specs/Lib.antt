@@ -1,7 +1,7 @@
 pub mod Inside
 pub mod Rules
 pub mod Passes
-pub mod Kept
+pub mod Lawful
 pub mod Operations
 pub mod Sizes
 pub mod Table

@@ -14,7 +14,7 @@ ghost use Rattle.table.specs.Entries.{typeAt, memberAt};
 ghost use Rattle.types.specs.Inside.{Lying};
 ghost use Rattle.types.specs.Sizes.{sizeOf, sumFrom, sizes, sizeFits, bytesUpTo, largestBelow, largestOf};
 ghost use Rattle.types.specs.Table.{sizesOk};
-ghost use Rattle.types.specs.Kept.{Kept, Smaller};
+ghost use Rattle.types.specs.Lawful.{Lawful, Smaller};
 
 // The largest size of one type.
 pub fn largest(table: &[u8], s: Sections, i: u16) -> Largest
@@ -29,7 +29,7 @@ pub fn largest(table: &[u8], s: Sections, i: u16) -> Largest
 
 // No type of the table can be too large, where every type keeps its rule.
 pub(crate) fn all_fit(table: &[u8], s: Sections) -> bool
-    requires { ⌜ Kept (now table) s (s .types .count) ⌝ }
+    requires { ⌜ Lawful (now table) s (s .types .count) ⌝ }
     ensures { λ r. ⌜ r ≡ sizesOk (now (table .entry)) s ⌝ }
 {
     let n = s.types.count as usize;
@@ -66,7 +66,7 @@ fn bytes_up_to(size: u64) -> Largest
 // known to keep their rules, nothing is tested to read them.
 fn fill(table: &[u8], s: Sections, room: &mut [u32], n: usize, kept: bool) -> bool
     requires { ⌜ (n ≤ length (now room)) × (n ≤ mostTypes) ⌝ }
-    requires { ⌜ (kept ≡ true → Kept (now table) s n) ⌝ }
+    requires { ⌜ (kept ≡ true → Lawful (now table) s n) ⌝ }
     ensures { λ r. ⌜ r ≡ allBelow (sizeFits (now (table .entry)) s) n ⌝ }
     ensures { λ r. ⌜ (r ≡ true → take n (now (room .exit)) ≡ sizes (now (table .entry)) s n) ⌝ }
 {

@@ -18,7 +18,7 @@ use Rattle.table.proofs.AllBelow.{at-below}
 use Rattle.leaf.specs.Forms.{wordAt}
 use Rattle.walk.specs.declared.Place.{Place}
 use Rattle.walk.specs.Tree.{child, baseAt}
-use Rattle.walk.specs.Walk.{Step, on, through, walk}
+use Rattle.walk.specs.Walk.{Step, on, through, walk, Goes}
 use Rattle.walk.proofs.Walks.{some-bytes}
 use Rattle.walk.proofs.Bases.{base-on}
 use Rattle.unpack.specs.Leaves.{isThere, behind, stored, ends, allThere, laid, thereCount, wholeCount}
@@ -28,7 +28,7 @@ use Rattle.unpack.proofs.InTurn.{codes-on, fewer-read}
 use Rattle.unpack.proofs.Counts.{there-few, there-all, there-ends, ends-far, laid-whole, length-laid}
 use Rattle.unpack.proofs.OneCode.{same-many}
 use Rattle.unpack.proofs.WholeRuns.{run-room, run-good, run-walked}
-use Rattle.unpack.specs.Reading.{reader, Reading, Goes}
+use Rattle.unpack.specs.Reading.{reader, Reading}
 
 -- a base that is met, among a record's members or as an array's element
 module _ (b t : List ℕ) (s : Sections) (i c code : ℕ) (is : code ≡ baseAt t s i c) (p : Place) (x : List ℕ) (there : isThere b code (p .from) ≡ true) where

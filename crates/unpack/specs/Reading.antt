@@ -1,6 +1,5 @@
 -- 01, "Payload and words": reading a payload.
 use Prim.Native.Nat.{ℕ, _+_, _≤_}
-use mathlib.Core.Path.{_≡_}
 use mathlib.Core.List.{List, [], _∷_}
 use lib.Dec.{leb}
 use lib.ListN.{length}
@@ -11,7 +10,7 @@ use Rattle.table.specs.Entries.{memberAt}
 use Rattle.leaf.specs.Forms.{wordAt}
 use Rattle.walk.specs.declared.Place.{Place}
 use Rattle.walk.specs.Tree.{child}
-use Rattle.walk.specs.Walk.{Step, on, through, Codec, walk}
+use Rattle.walk.specs.Walk.{Step, Codec, walk}
 
 -- a leaf of a payload is its word, one for each leaf
 unfoldable pub reader : List ℕ → Codec
@@ -30,7 +29,3 @@ Reading b p = (p .to ≤ p .from) × (p .from ≤ length b)
 -- the step over a record's k-th member
 abbrev pub memberRead : List ℕ → List ℕ → Sections → ℕ → Entry → ℕ → Place → List ℕ → Step
 memberRead b t s i e k q y = walk (reader b) (child t s i (memberAt t s (e .first + k))) q y
-
--- from the k-th step on a walk comes to the m-th
-abbrev pub Goes : (ℕ → Place → List ℕ → Step) → ℕ → Place → List ℕ → ℕ → Place → List ℕ → Type 0
-Goes f k p x m q y = (p₀ : Place) (x₀ : List ℕ) → through k f p₀ x₀ ≡ on p x → through m f p₀ x₀ ≡ on q y

@@ -9,18 +9,18 @@ use crate::bases;
 use crate::runs;
 
 // How many leaves, and where they end.
-pub struct Part {
+pub struct Passed {
     pub count: usize,
     pub from: usize,
 }
 
 // Judges leaves of these codes from a byte on, up to one that is not there or not allowed.
-pub(crate) fn judge_codes(payload: &[u8], codes: &[u8], first: usize) -> Part
+pub(crate) fn judge_codes(payload: &[u8], codes: &[u8], first: usize) -> Passed
     ensures { λ r. ⌜ r .count ≡ thereCount (now (payload .entry)) (now (codes .entry)) first ⌝ }
     ensures { λ r. ⌜ r .from ≡ ends (take (thereCount (now (payload .entry)) (now (codes .entry)) first) (now (codes .entry))) first ⌝ }
 {
     if payload.len() < first {
-        Part {
+        Passed {
             count: 0,
             from: first,
         }
@@ -29,7 +29,7 @@ pub(crate) fn judge_codes(payload: &[u8], codes: &[u8], first: usize) -> Part
     }
 }
 
-fn judge_within(payload: &[u8], codes: &[u8], first: usize) -> Part
+fn judge_within(payload: &[u8], codes: &[u8], first: usize) -> Passed
     requires { ⌜ first ≤ length (now payload) ⌝ }
     ensures { λ r. ⌜ r .count ≡ thereCount (now (payload .entry)) (now (codes .entry)) first ⌝ }
     ensures { λ r. ⌜ r .from ≡ ends (take (thereCount (now (payload .entry)) (now (codes .entry)) first) (now (codes .entry))) first ⌝ }
@@ -42,10 +42,10 @@ fn judge_within(payload: &[u8], codes: &[u8], first: usize) -> Part
             from = from + leaf::width(code);
             k += 1;
         } else {
-            return Part { count: k, from };
+            return Passed { count: k, from };
         }
     }
-    Part { count: k, from }
+    Passed { count: k, from }
 }
 
 // Stores the words of leaves of these codes, each where there is room for it, up to one whose bytes are not all there.

@@ -5,7 +5,6 @@ mod by_codes;
 pub mod runs;
 mod walking;
 
-pub use by_codes::Part;
 use table::Sections;
 use walk::Walked;
 ghost use mathlib.Core.Path.{_≡_};

@@ -12,9 +12,9 @@ ghost use Rattle.walk.specs.declared.Met.the-variants.{Members, Elements};
 ghost use Rattle.wire.specs.Bytes.{written};
 ghost use mathlib.Core.List.{List, [], _∷_};
 ghost use Rattle.walk.specs.declared.Place.{Place};
-ghost use Rattle.walk.specs.Walk.{Step, on, through, start, answer, left, begun, times, leafWalk, metWalk, typeWalk};
+ghost use Rattle.walk.specs.Walk.{Step, on, through, start, answer, left, begun, times, leafWalk, metWalk, typeWalk, Goes};
 ghost use Rattle.unpack.specs.Steps.{Reads, ReadsCodes};
-ghost use Rattle.unpack.specs.Reading.{reader, Reading, memberRead, Goes};
+ghost use Rattle.unpack.specs.Reading.{reader, Reading, memberRead};
 use crate::by_codes;
 use crate::runs;
 use walk::COUNT_BYTES;
@@ -24,7 +24,7 @@ use walk::COUNT_WORDS;
 const MOST_CODES: usize = 64;
 
 // How far a run of leaves was read: up to which member or element, and where it ends.
-struct Run {
+struct Reached {
     upto: u32,
     at: Place,
 }
@@ -221,7 +221,7 @@ fn read_bases(
     payload: &[u8],
     words: &mut [u64],
     p: Place,
-) -> Run
+) -> Reached
     requires { ⌜ Reading (now payload) p × (from ≤ e .count) ⌝ }
     ensures { λ r. ⌜ (from ≤ r .upto) × (r .upto ≤ e .count) × Reading (now (payload .entry)) (r .at) ⌝ }
     ensures { λ _. ⌜ length (now (words .exit)) ≡ length (now (words .entry)) ⌝ }
@@ -233,7 +233,7 @@ fn read_bases(
 }
 
 // Reads leaves of these base codes, up to one that is refused: they are the codes of members from the k-th on.
-fn read_codes(payload: &[u8], words: &mut [u64], codes: &[u8], from: u32, p: Place) -> Run
+fn read_codes(payload: &[u8], words: &mut [u64], codes: &[u8], from: u32, p: Place) -> Reached
     requires { ⌜ Reading (now payload) p × (from + length (now codes) ≤ 65535) ⌝ }
     ensures { λ r. ⌜ (from ≤ r .upto) × (r .upto ≤ from + length (now (codes .entry))) × Reading (now (payload .entry)) (r .at) ⌝ }
     ensures { λ _. ⌜ length (now (words .exit)) ≡ length (now (words .entry)) ⌝ }
@@ -242,7 +242,7 @@ fn read_codes(payload: &[u8], words: &mut [u64], codes: &[u8], from: u32, p: Pla
 {
     let part = by_codes::judge_codes(payload, codes, p.from);
     by_codes::store_codes(payload, words, &codes[..part.count], p);
-    Run {
+    Reached {
         upto: from + part.count as u32,
         at: Place {
             from: part.from,
@@ -252,7 +252,7 @@ fn read_codes(payload: &[u8], words: &mut [u64], codes: &[u8], from: u32, p: Pla
 }
 
 // Reads elements of one base code: all of them, or none where one is not there or not allowed.
-fn read_run(payload: &[u8], words: &mut [u64], code: u16, count: u32, p: Place) -> Run
+fn read_run(payload: &[u8], words: &mut [u64], code: u16, count: u32, p: Place) -> Reached
     requires { ⌜ Reading (now payload) p ⌝ }
     ensures { λ r. ⌜ (r .upto ≤ count) × Reading (now (payload .entry)) (r .at) ⌝ }
     ensures { λ _. ⌜ length (now (words .exit)) ≡ length (now (words .entry)) ⌝ }
@@ -262,7 +262,7 @@ fn read_run(payload: &[u8], words: &mut [u64], code: u16, count: u32, p: Place) 
     if runs::judge_run(payload, p.from, code, count) {
         runs::store_run(payload, words, code, count, p);
         let many = count as usize;
-        Run {
+        Reached {
             upto: count,
             at: Place {
                 from: p.from + many * leaf::width(code),
@@ -270,6 +270,6 @@ fn read_run(payload: &[u8], words: &mut [u64], code: u16, count: u32, p: Place) 
             },
         }
     } else {
-        Run { upto: 0, at: p }
+        Reached { upto: 0, at: p }
     }
 }

@@ -1,6 +1,7 @@
 -- 01, "Payload and words": a walk over a type's tree, leaf by leaf from left to right. Reading and writing are one walk, given
 -- what a leaf is: an array's count is a leaf too, 32 bits on the wire. Places are absolute.
 use Prim.Native.Nat.{ℕ, zero, suc}
+use mathlib.Core.Path.{_≡_}
 use mathlib.Core.Bool.{Bool, _&&_, cond}
 use mathlib.Core.List.{List}
 use lib.Dec.{leb, eqb}
@@ -59,6 +60,10 @@ next (stop n p x) f = stop n p x
 unfoldable pub through : ℕ → (ℕ → Place → List ℕ → Step) → Place → List ℕ → Step
 through zero f p x = on p x
 through (suc n) f p x = next (through n f p x) (f n)
+
+-- from the k-th step on a walk comes to the m-th
+abbrev pub Goes : (ℕ → Place → List ℕ → Step) → ℕ → Place → List ℕ → ℕ → Place → List ℕ → Type 0
+Goes f k p x m q y = (p₀ : Place) (x₀ : List ℕ) → through k f p₀ x₀ ≡ on p x → through m f p₀ x₀ ≡ on q y
 
 -- what a leaf of a base code is to a walk: its word, whether the input goes as far, the place behind it, and what is written for it
 pub record Codec : Type 0 where

@@ -10,7 +10,7 @@ use Rattle.types.specs.Inside.{Lying}
 use Rattle.types.specs.Rules.{typeOk}
 
 -- the types below n do, in sections that lie within the bytes
-pub record Kept (t : List ℕ) (s : Sections) (n : ℕ) : Type 0 where
+pub record Lawful (t : List ℕ) (s : Sections) (n : ℕ) : Type 0 where
   pub lie : Lying t s
   pub few : n ≤ s .types .count
   pub keep : allBelow (typeOk t s) n ≡ true
