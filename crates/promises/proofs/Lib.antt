@@ -30,3 +30,4 @@ pub mod UniqueCalls
 pub mod ExportsKeep
 mod LinkedRuns
 pub mod Linked
+pub mod InNumbers

@@ -7,11 +7,11 @@ use mathlib.Core.List.{List, [], _∷_, _++_, map}
 use native.Mathlib.Omega.{arith}
 use lib.ListN.{length, getD, replicate, length-map}
 use lib.Seq.{take-at}
+use denote.Ref.{RefT}
 use Rattle.channel.specs.Record.{channelLimit, newChannel}
 use Rattle.channel.specs.declared.Channel.{Channel}
 use Rattle.channel.specs.declared.Outcome.{Outcome}
 use Rattle.joiner.specs.declared.Joiner.{Joiner}
-use Rattle.joiner.specs.declared.setups.Verdict.the-variants.{Accepted}
 use Rattle.joiner.specs.declared.setups.NewJoiner.{NewJoiner}
 use Rattle.joiner.specs.Setup.{channelAt, freshOf, setupOf, answerIn, Acceptable}
 use Rattle.joiner.specs.Take.{takenOf, roomsAfter}
@@ -21,13 +21,14 @@ use Rattle.joiner.proofs.Accepted.{accepts, accepted, fresh-width, fresh-channe
 use Rattle.joiner.proofs.Storing.{words-some, words-length}
 use Rattle.joiner.proofs.FoundBack.{words-back}
 use Rattle.joiner.proofs.WordsBack.{taken-back}
-use Rattle.promises.specs.Senders.{Sender}
 use Rattle.promises.specs.Traffic.{Datagram, isOf, handedBack, deliveredBy, fresh, deliveredOn, outcomesOn, leftOn, AreBytes, none, more}
-use Rattle.promises.specs.Demand3.{Granted}
-use Rattle.promises.specs.Linked.{SetUp, Given, SetupLent, TakeLent, TakeLeft, Takes, Call, Run, over, next, SetUpAndRun, Delivers, MixMakesNoDifference}
+use Rattle.promises.specs.InNumbers.{SetUp}
+use Rattle.promises.specs.Linked.{SetupLent, SetsUp, TakeLent, TakeLeft, Takes, Call, Run, over, next, SetUpAndRun}
+use Rattle.promises.specs.Linked.{SomeRun, Delivers, MixMakesNoDifference}
 use Rattle.promises.specs.Linked.{messageIn, deliveredIn, outcomeFrom, outcomesIn, stateIn, roomsIn, lyingIn, linked, AsAJoiner}
 use Rattle.promises.proofs.Demand3.{underway, demand-3, mix-makes-no-difference}
 use Rattle.promises.proofs.Apart.{Underway, next as then}
+use Rattle.promises.proofs.InNumbers.{acceptable, set-ups, granted}
 use Rattle.promises.proofs.LinkedRuns.{outcome-is, message-is, words-stay, lyingBy, lying-is}
 
 -- a set-up
@@ -47,7 +48,9 @@ module _ (ids : List ℕ) (R b : ℕ) (a : Acceptable ids R b) where
       (take-at (map newChannel ids) (replicate (channelLimit - length ids) (newChannel 0)) (length ids) (length-map ids newChannel))
     where
       small : (i : ℕ) → i < length ids → channelAt j i .sender < senderLimit
-      small i h = let e : channelAt j i .sender ≡ getD ids i 0 = ap (λ (c : Channel). c .sender) (fresh-channel ids R (a .few) i h) in omega (arith, a .range i h)
+      small i h =
+          let e : channelAt j i .sender ≡ getD ids i 0 = ap (λ (c : Channel). c .sender) (fresh-channel ids R (a .few) i h) in
+          omega (arith, a .range i h)
 
   set-number : setupNumber ids R b ≡ 0
   unfolding setupNumber
@@ -85,7 +88,8 @@ as-a-joiner was out ids R rooms sender traffic g k h =
     ∙ demand-3 ids R rooms sender traffic g k h
 
 -- one call that the contract allows
-module _ {ws rooms out : List ℕ} {d : Datagram} {n : ℕ} {l : TakeLeft} (p : Takes (record { state = ws; rooms = rooms; datagram = d; answer = out }) n l) where
+module _ {ws rooms out : List ℕ} {d : Datagram} {n : ℕ} {l : TakeLeft}
+    (p : Takes (record { state = ws; rooms = rooms; datagram = d; answer = out }) n l) where
   number-left : n ≡ takeNumber ws rooms d
   number-left = p .1 .1 .1 .0 .0 ∙ ap (λ (y : TakeLent). takeNumber (y .state) (y .rooms) (y .datagram)) (p .1 .1 .1 .1 .0)
 
@@ -144,25 +148,10 @@ module _ (ids : List ℕ) (R k : ℕ) (known : k < length ids) where
         left = i .left ∙ ap₂ (λ (x : Joiner) (y : List ℕ). lyingBy (leftOn k x y ds)) j e;
       }
 
--- 01's list is what a set-up is accepted by
-acceptable : (ids : List ℕ) (R : ℕ) (rooms : List ℕ) → SetUp ids R rooms → Acceptable ids R (length rooms)
-acceptable ids R rooms s =
-    record { some = s .some; few = s .few; wide = s .wide; narrow = s .narrow; whole = s .whole; range = s .range; once = s .once }
-
-granted : {ids : List ℕ} {R : ℕ} {rooms : List ℕ} {sender : ℕ → Sender} {traffic : List Datagram} → Given ids R rooms sender traffic
-    → Granted ids R rooms sender traffic
-granted {ids} {R} {rooms} g =
-    record {
-      set-up = ap (λ (x : NewJoiner). x .answer) (accepts ids R (length rooms) (acceptable ids R rooms (g .set-up)));
-      genuine = g .genuine;
-      mixed = g .mixed;
-      bytes = g .bytes;
-    }
-
 -- from a set-up
-module _ (ids : List ℕ) (R : ℕ) (rooms : List ℕ) (ds : List Datagram) (s : SetUp ids R rooms) (x : SetUpAndRun ids R rooms ds) where
+module _ (ids : List ℕ) (R : ℕ) (rooms : List ℕ) (ds : List Datagram) (s : SetUp ids R (length rooms)) (x : SetUpAndRun ids R rooms ds) where
   ok : Acceptable ids R (length rooms)
-  ok = acceptable ids R rooms s
+  ok = acceptable ids R (length rooms) s
 
   answered : x .number ≡ 0
   answered =
@@ -180,7 +169,7 @@ module _ (ids : List ℕ) (R : ℕ) (rooms : List ℕ) (ds : List Datagram) (s :
   ran : (k : ℕ) (h : k < length ids) → AreBytes ds → InRun ids R k h (x .state) rooms ds (x .calls)
   ran k h o =
       let u : Underway ids R (joinerIn (x .state)) rooms =
-      rw start (underway ids R rooms (ap (λ (y : NewJoiner). y .answer) (accepts ids R (length rooms) ok))) in
+      rw start (underway ids R rooms (set-ups ids R (length rooms) s)) in
       in-run ids R k h (x .run) (ap length words ∙ set-length ids R (length rooms) ok (x .was)) o u
 
 pub delivers : Delivers
@@ -188,21 +177,20 @@ delivers ids R rooms sender traffic g x = (
   answered ids R rooms traffic (g .set-up) x,
   λ k h. ran ids R rooms traffic (g .set-up) x k h (g .bytes) .delivered
       ∙ ap (λ (i : Joiner). deliveredOn ids k i rooms traffic) (start ids R rooms traffic (g .set-up) x)
-      ∙ demand-3 ids R rooms sender traffic (granted g) k h,
+      ∙ demand-3 ids R rooms sender traffic (granted ids R rooms sender traffic g) k h,
 )
 
 pub the-mix-makes-no-difference : MixMakesNoDifference
 the-mix-makes-no-difference ids R rooms rooms′ k one other a x y =
-    let s : SetUp ids R rooms = a .set-up in
-    let s′ : SetUp ids R rooms′ =
+    let s : SetUp ids R (length rooms) = a .set-up in
+    let s′ : SetUp ids R (length rooms′) =
     record { some = s .some; few = s .few; range = s .range; once = s .once; wide = s .wide; narrow = s .narrow; whole = a .as-long ∙ s .whole } in
     let p = ran ids R rooms one s x k (a .known) (a .bytes) in
     let q = ran ids R rooms′ other s′ y k (a .known) (a .bytes′) in
     let i : joinerIn (x .state) ≡ fresh ids R rooms = start ids R rooms one s x in
     let i′ : joinerIn (y .state) ≡ fresh ids R rooms′ = start ids R rooms′ other s′ y in
-    let ok : setupOf ids R (length rooms) .answer ≡ Accepted = ap (λ (z : NewJoiner). z .answer) (accepts ids R (length rooms) (acceptable ids R rooms s)) in
     let m = mix-makes-no-difference ids R rooms rooms′ k one other
-    (record { set-up = ok; as-long = a .as-long; known = a .known; same = a .same; bytes = a .bytes; bytes′ = a .bytes′ }) in
+    (record { set-up = set-ups ids R (length rooms) s; as-long = a .as-long; known = a .known; same = a .same; bytes = a .bytes; bytes′ = a .bytes′ }) in
     record {
       delivered = p .delivered ∙ ap (λ (z : Joiner). deliveredOn ids k z rooms one) i ∙ m .delivered
           ∙ sym (q .delivered ∙ ap (λ (z : Joiner). deliveredOn ids k z rooms′ other) i′);
@@ -210,4 +198,51 @@ the-mix-makes-no-difference ids R rooms rooms′ k one other a x y =
           ∙ sym (q .outcomes ∙ ap (λ (z : Joiner). outcomesOn ids k z rooms′ other) i′);
       left = p .left ∙ ap (λ (z : Joiner). lyingBy (leftOn k z rooms one)) i ∙ ap lyingBy (m .left)
           ∙ sym (q .left ∙ ap (λ (z : Joiner). lyingBy (leftOn k z rooms′ other)) i′);
+    }
+
+-- a call of each, and a run
+abbrev lent : List ℕ → RefT (List ℕ)
+lent xs = record { ptr = (0, 0); name = 0; now = xs }
+
+takes : (ws rooms : List ℕ) (d : Datagram) (out : List ℕ) → Takes (record { state = ws; rooms = rooms; datagram = d; answer = out }) (takeNumber ws rooms d)
+    (record { state = takeWords ws rooms d; rooms = takeRooms ws rooms d; answer = takeAnswer ws rooms d out })
+takes ws rooms d out = (
+  ([], ([], ([], ([], tt)))),
+  (
+    (lent ws, (lent rooms, (lent d, (lent out, tt)))),
+    (
+      (lent (takeWords ws rooms d), (lent (takeRooms ws rooms d), (lent d, (lent (takeAnswer ws rooms d out), tt)))),
+      ((refl, (refl, (refl, refl))), (refl, refl)),
+    ),
+  ),
+)
+
+setting : (ids : List ℕ) (R b : ℕ) (was : List ℕ)
+    → SetsUp (record { state = was; ids = ids; room = R; rooms = b }) (setupNumber ids R b) (setupWords ids R b was)
+setting ids R b was = (
+  ([], ([], tt)),
+  ((lent was, (lent ids, (R, (b, tt)))), ((lent (setupWords ids R b was), (lent ids, (R, (b, tt)))), ((refl, refl), (refl, refl)))),
+)
+
+abbrev callsFrom : List ℕ → List ℕ → List Datagram → List Call
+callsFrom ws rooms [] = []
+callsFrom ws rooms (d ∷ ds) =
+    let left : TakeLeft = record { state = takeWords ws rooms d; rooms = takeRooms ws rooms d; answer = takeAnswer ws rooms d (replicate 5 0) } in
+    record { datagram = d; number = takeNumber ws rooms d; left = left } ∷ callsFrom (takeWords ws rooms d) (takeRooms ws rooms d) ds
+
+runs : (ws rooms : List ℕ) (ds : List Datagram) → Run ws rooms ds (callsFrom ws rooms ds)
+runs ws rooms [] = over
+runs ws rooms (d ∷ ds) = next (takes ws rooms d (replicate 5 0)) (runs (takeWords ws rooms d) (takeRooms ws rooms d) ds)
+
+pub some-run : SomeRun
+some-run ids R rooms traffic =
+    let was : List ℕ = replicate joinerWords 0 in
+    let state : List ℕ = setupWords ids R (length rooms) was in
+    record {
+      was = was;
+      number = setupNumber ids R (length rooms);
+      state = state;
+      sets-up = setting ids R (length rooms) was;
+      calls = callsFrom state rooms traffic;
+      run = runs state rooms traffic;
     }

@@ -21,4 +21,5 @@ pub mod Starred
 pub mod Unique
 pub mod UniqueCalls
 pub mod ExportsKeep
+pub mod InNumbers
 pub mod Linked

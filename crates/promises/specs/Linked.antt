@@ -1,6 +1,6 @@
 -- Demand 3 for the calls that a program in C links: a run of `nyr_take` from `nyr_setup`, over their very contracts, whatever
 -- these allow. The theorems are in proofs/Linked.antt.
-use Prim.Native.Nat.{ℕ, _+_, _*_, _≤_, _<_}
+use Prim.Native.Nat.{ℕ, _+_, _*_, _<_}
 use mathlib.Core.Path.{_≡_}
 use mathlib.Core.Bool.{cond, _&&_}
 use mathlib.Core.List.{List, [], _∷_, _++_}
@@ -16,30 +16,10 @@ use Rattle.joiner.specs.Calls.{setupWords, takeNumber, takeWords, takeRooms, ta
 use Rattle.joiner.specs.View.{bytesAt}
 use Rattle.nyrkovash.proofs.nyr_setup.Reads.{Post as nyr-setup}
 use Rattle.nyrkovash.proofs.nyr_take.Reads.{Post as nyr-take}
-use Rattle.promises.specs.Senders.{Sender, Genuine, arrives, completeOf}
+use Rattle.promises.specs.Senders.{Sender, completeOf}
 use Rattle.promises.specs.Traffic.{Datagram, isOf, ofChannel, Joining, AreBytes}
 use Rattle.promises.specs.Demand3.{Demand3For}
-
--- 01, number 20: what is asked of a set-up
-pub record SetUp (ids : List ℕ) (R : ℕ) (rooms : List ℕ) : Type 0 where
-  -- "1 to 32 sender IDs"
-  pub some : 1 ≤ length ids
-  pub few : length ids ≤ 32
-  -- each below 4,096, none twice
-  pub range : (k : ℕ) → k < length ids → getD ids k 0 < 4096
-  pub once : (a b : ℕ) → a < b → b < length ids → ¬ (getD ids a 0 ≡ getD ids b 0)
-  -- "R 24 to 65,560"
-  pub wide : 24 ≤ R
-  pub narrow : R ≤ 65560
-  -- rooms of R bytes for each; the rooms hold any bytes
-  pub whole : length rooms ≡ length ids * R
-
--- what the user grants, as in Demand3
-pub record Given (ids : List ℕ) (R : ℕ) (rooms : List ℕ) (sender : ℕ → Sender) (traffic : List Datagram) : Type 0 where
-  pub set-up : SetUp ids R rooms
-  pub genuine : (k : ℕ) → k < length ids → Genuine R (sender k)
-  pub mixed : (k : ℕ) → k < length ids → ofChannel ids k traffic ≡ arrives (getD ids k 0) (sender k)
-  pub bytes : AreBytes traffic
+use Rattle.promises.specs.InNumbers.{SetUp, Given}
 
 -- whatever a call's contract allows: what was lent to it, the number that it answers, and what it leaves
 abbrev pub Allows : {K : Type 0} {A E : K → Type 0} {B C : Type 0} → ((k : K) → A k → ℕ → E k → Type 0) → ((k : K) → A k → B) → ((k : K) → E k → C)
@@ -96,6 +76,10 @@ pub record SetUpAndRun (ids : List ℕ) (R : ℕ) (rooms : List ℕ) (traffic : 
   pub sets-up : SetsUp (record { state = was; ids = ids; room = R; rooms = length rooms }) number state
   pub calls : List Call
   pub run : Run state rooms traffic calls
+
+-- and there is one, whatever is lent
+abbrev pub SomeRun : Type 0
+SomeRun = (ids : List ℕ) (R : ℕ) (rooms : List ℕ) (traffic : List Datagram) → SetUpAndRun ids R rooms traffic
 
 -- the answer's five words: outcome, missed, bytes, slice, start. A message lies in the datagram (slice 1) or in the rooms (2)
 abbrev pub messageIn : ℕ → List ℕ → Datagram → List ℕ → List (List ℕ)
@@ -169,7 +153,7 @@ lyingIn R k ws rooms =
 
 -- two traffics with the same datagrams of channel k in the same order, genuine or not, and any bytes in the rooms at the start
 pub record Alike (ids : List ℕ) (R : ℕ) (rooms rooms′ : List ℕ) (k : ℕ) (one other : List Datagram) : Type 0 where
-  pub set-up : SetUp ids R rooms
+  pub set-up : SetUp ids R (length rooms)
   pub as-long : length rooms′ ≡ length rooms
   pub known : k < length ids
   pub same : ofChannel ids k one ≡ ofChannel ids k other
