@@ -31,3 +31,4 @@ pub mod ExportsKeep
 mod LinkedRuns
 pub mod Linked
 pub mod InNumbers
+pub mod WrongCalls

@@ -23,3 +23,4 @@ pub mod UniqueCalls
 pub mod ExportsKeep
 pub mod InNumbers
 pub mod Linked
+pub mod WrongCalls
