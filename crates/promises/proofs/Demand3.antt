@@ -26,7 +26,7 @@ module _ (ids : List ℕ) (R : ℕ) (rooms : List ℕ) (ok : setupOf ids R (leng
   joiner : fresh ids R rooms ≡ freshOf ids R
   joiner = accepted-joiner ids R (length rooms) ok
 
-  underway : Underway ids R (fresh ids R rooms) rooms
+  pub underway : Underway ids R (fresh ids R rooms) rooms
   unfolding freshOf
   underway =
       record {

@@ -28,3 +28,7 @@ pub mod Starred
 pub mod Unique
 pub mod UniqueCalls
 pub mod ExportsKeep
+mod LinkedRuns
+pub mod Linked
+pub mod InNumbers
+pub mod WrongCalls

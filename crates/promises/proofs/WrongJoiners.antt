@@ -34,11 +34,11 @@ use Rattle.promises.specs.WrongJoiners.{againAnswered, stepping, testing
 use Rattle.promises.specs.WrongJoiners.{strayForgotten, sharedRoom, NoWrongJoiner}
 
 -- bytes, by a test
-abbrev octets : List ℕ → Bool
+abbrev pub octets : List ℕ → Bool
 octets [] = true
 octets (x ∷ xs) = ltb x 256 && octets xs
 
-abbrev allOctets : List Datagram → Bool
+abbrev pub allOctets : List Datagram → Bool
 allOctets [] = true
 allOctets (d ∷ ds) = octets d && allOctets ds
 
@@ -52,12 +52,12 @@ all-are [] e = none
 all-are (d ∷ ds) e = let b = both (octets d) (allOctets ds) e in more (octets-are d (b .0)) (all-are ds (b .1))
 
 -- one channel, a room of 24 bytes: what the user grants of its sender, as tests
-record Small (s : Sender) : Type 0 where
-  counter : ltb (s .first) counters ≡ true
-  messages : goodMessages 24 (s .messages) ≡ true
-  losses : lossesWithin false 0 (sentBy (s .messages)) ≡ true
-  bytes : allOctets (arrives sender s) ≡ true
-  own : ofChannel ids 0 (arrives sender s) ≡ arrives sender s
+pub record Small (s : Sender) : Type 0 where
+  pub counter : ltb (s .first) counters ≡ true
+  pub messages : goodMessages 24 (s .messages) ≡ true
+  pub losses : lossesWithin false 0 (sentBy (s .messages)) ≡ true
+  pub bytes : allOctets (arrives sender s) ≡ true
+  pub own : ofChannel ids 0 (arrives sender s) ≡ arrives sender s
 
 granted : (s : Sender) → Small s → Granted ids 24 (room 24) (λ k. s) (arrives sender s)
 unfolding goodSizes good freshOf setupOf
@@ -74,19 +74,19 @@ granted s w =
     mixed (suc k) h = absurd (omega (arith, h))
 
 -- what a joiner delivers of its traffic
-abbrev deliveredOf : Joining → Sender → List (List ℕ)
+abbrev pub deliveredOf : Joining → Sender → List (List ℕ)
 deliveredOf J s = deliveredBy J ids 0 (J .start ids 24 (room 24)) (room 24) (arrives sender s)
 
 -- how many bytes
-abbrev total : List (List ℕ) → ℕ
+abbrev pub total : List (List ℕ) → ℕ
 total [] = 0
 total (m ∷ ms) = length m + total ms
 
-kept : (J : Joining) (s : Sender) → Small s → Demand3For J → deliveredOf J s ≡ completeOf (s .messages)
+pub kept : (J : Joining) (s : Sender) → Small s → Demand3For J → deliveredOf J s ≡ completeOf (s .messages)
 kept J s w d = d ids 24 (room 24) (λ k. s) (arrives sender s) (granted s w) 0 (omega arith)
 
 -- pieces: one byte that arrives once, that is lost, that arrives twice
-abbrev one : ℕ → Piece
+abbrev pub one : ℕ → Piece
 one x = record { bytes = x ∷ []; copies = 1 }
 
 abbrev lost : ℕ → Piece
@@ -95,14 +95,14 @@ lost x = record { bytes = x ∷ []; copies = 0 }
 abbrev twice : ℕ → Piece
 twice x = record { bytes = x ∷ []; copies = 2 }
 
-abbrev from : ℕ → List Message → Sender
+abbrev pub from : ℕ → List Message → Sender
 from c ms = record { first = c; messages = ms }
 
 -- a message in two pieces, where the counter wraps
-abbrev wraps : Sender
+abbrev pub wraps : Sender
 wraps = from (counters - 1) ((one 0xAA ∷ one 0xBB ∷ []) ∷ [])
 
-small-wraps : Small wraps
+pub small-wraps : Small wraps
 small-wraps = record { counter = refl; messages = refl; losses = refl; bytes = refl; own = refl }
 
 our-step : (j : Joiner) (d : List ℕ) (x : Heard) → heardWith steppedOf j d x ≡ heardBy j d x
@@ -157,10 +157,10 @@ unfolding missedOf keeping notedOf begunOf followedOf placedOf steppedOf goodSiz
 greater-than d = let e : _≡_ {A = ℕ} 0 1 = ap length (kept (stepping (testing notAbove)) wraps small-wraps d) in absurd (omega (arith, e))
 
 -- two whole messages
-abbrev two : Sender
+abbrev pub two : Sender
 two = from 7 ((one 0xAA ∷ []) ∷ (one 0xBB ∷ []) ∷ [])
 
-small-two : Small two
+pub small-two : Small two
 small-two = record { counter = refl; messages = refl; losses = refl; bytes = refl; own = refl }
 
 pub once : (J : Joining) → DeliversOnce J → Demand3For J → ⊥
@@ -320,7 +320,7 @@ granted-mix = record { set-up = refl; genuine = genuine; mixed = mixed; bytes = 
     mixed (suc (suc k)) h = absurd (omega (arith, h))
 
 -- the first byte of the first message
-abbrev firstByte : List (List ℕ) → ℕ
+abbrev pub firstByte : List (List ℕ) → ℕ
 firstByte ms = getD (getD ms 0 []) 0 0
 
 pub shared-room : Demand3For (stepping sharedRoom) → ⊥

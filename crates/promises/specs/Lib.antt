@@ -21,3 +21,6 @@ pub mod Starred
 pub mod Unique
 pub mod UniqueCalls
 pub mod ExportsKeep
+pub mod InNumbers
+pub mod Linked
+pub mod WrongCalls

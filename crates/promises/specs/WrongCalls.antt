@@ -1,0 +1,75 @@
+-- Wrong turns of the linked calls alone: what they answer and leave in words is wrong in one place, and demand 3 is not met. The
+-- theorem is in proofs/WrongCalls.antt.
+use Prim.Native.Nat.{ℕ, _-_}
+use mathlib.Core.Path.{_≡_}
+use mathlib.Core.List.{List, [], _∷_}
+use lib.ListN.{length, getD}
+use Rattle.joiner.specs.Calls.{setupWords, takeNumber, takeWords, takeRooms, takeAnswer}
+use Rattle.promises.specs.Traffic.{Datagram, Joining}
+use Rattle.promises.specs.Demand3.{Demand3For}
+use Rattle.promises.specs.Linked.{outcomeFrom, linked}
+
+-- a set-up and a take in words, ours or any other
+pub record Calls : Type 0 where
+  pub setup : List ℕ → ℕ → ℕ → List ℕ → List ℕ
+  pub number : List ℕ → List ℕ → Datagram → ℕ
+  pub state : List ℕ → List ℕ → Datagram → List ℕ
+  pub rooms : List ℕ → List ℕ → Datagram → List ℕ
+  pub answer : List ℕ → List ℕ → Datagram → List ℕ → List ℕ
+
+abbrev pub linkedBy : Calls → List ℕ → List ℕ → Joining
+linkedBy C was out =
+    record {
+      State = List ℕ;
+      start = λ ids R rooms. C .setup ids R (length rooms) was;
+      take = λ ws rooms d.
+          record { outcome = outcomeFrom (C .number ws rooms d) (C .answer ws rooms d out); state = C .state ws rooms d; rooms = C .rooms ws rooms d };
+    }
+
+abbrev pub Meets : Calls → Type 0
+Meets C = (was out : List ℕ) → Demand3For (linkedBy C was out)
+
+abbrev pub ours : Calls
+ours = record { setup = setupWords; number = takeNumber; state = takeWords; rooms = takeRooms; answer = takeAnswer }
+
+-- with another answer: its words are outcome, missed, bytes, slice, start
+abbrev pub answering : (List ℕ → List ℕ) → Calls
+answering f =
+    record { setup = setupWords; number = takeNumber; state = takeWords; rooms = takeRooms; answer = λ ws rooms d out. f (takeAnswer ws rooms d out) }
+
+-- datagram and rooms the other way round
+abbrev pub otherSlice : List ℕ → List ℕ
+otherSlice w = getD w 0 0 ∷ getD w 1 0 ∷ getD w 2 0 ∷ (3 - getD w 3 0) ∷ getD w 4 0 ∷ []
+
+-- start and bytes the other way round
+abbrev pub startForBytes : List ℕ → List ℕ
+startForBytes w = getD w 0 0 ∷ getD w 1 0 ∷ getD w 4 0 ∷ getD w 3 0 ∷ getD w 2 0 ∷ []
+
+-- every message from the first byte of its slice on: a whole one with its binding header
+abbrev pub fromTheStart : List ℕ → List ℕ
+fromTheStart w = getD w 0 0 ∷ getD w 1 0 ∷ getD w 2 0 ∷ getD w 3 0 ∷ 0 ∷ []
+
+-- held for delivered
+abbrev pub neverTwo : List ℕ → List ℕ
+neverTwo w = 3 ∷ getD w 1 0 ∷ getD w 2 0 ∷ getD w 3 0 ∷ getD w 4 0 ∷ []
+
+-- the record is not written back; the piece is not put into its room; nothing is set up
+abbrev pub stateLeft : Calls
+stateLeft = record { setup = setupWords; number = takeNumber; state = λ ws rooms d. ws; rooms = takeRooms; answer = takeAnswer }
+
+abbrev pub roomsLeft : Calls
+roomsLeft = record { setup = setupWords; number = takeNumber; state = takeWords; rooms = λ ws rooms d. rooms; answer = takeAnswer }
+
+abbrev pub notSetUp : Calls
+notSetUp = record { setup = λ ids R b was. was; number = takeNumber; state = takeWords; rooms = takeRooms; answer = takeAnswer }
+
+pub record NoWrongCall : Type 1 where
+  pub with-ours : (was out : List ℕ) → linkedBy ours was out ≡ linked was out
+  pub ours-meet : Meets ours
+  pub other-slice : Meets (answering otherSlice) → ⊥
+  pub start-for-bytes : Meets (answering startForBytes) → ⊥
+  pub from-the-start : Meets (answering fromTheStart) → ⊥
+  pub never-two : Meets (answering neverTwo) → ⊥
+  pub state-left : Meets stateLeft → ⊥
+  pub rooms-left : Meets roomsLeft → ⊥
+  pub not-set-up : Meets notSetUp → ⊥
