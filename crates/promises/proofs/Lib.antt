@@ -28,3 +28,5 @@ pub mod Starred
 pub mod Unique
 pub mod UniqueCalls
 pub mod ExportsKeep
+mod Numbered
+pub mod LinkedPayloads
