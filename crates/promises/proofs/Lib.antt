@@ -30,3 +30,4 @@ pub mod UniqueCalls
 pub mod ExportsKeep
 mod Numbered
 pub mod LinkedPayloads
+pub mod LinkedMessages

@@ -1,17 +1,14 @@
 -- What is linked packs and unpacks as demand 2 asks.
 -- Assumes nothing.
-use Prim.Native.Nat.{ℕ, zero, suc, _+_, _*_, _≤_, _<_}
-use mathlib.Core.Path.{_≡_, refl, sym, ap, ap₂, subst, _∙_}
-use mathlib.Core.List.{List, [], append-nil}
+use Prim.Native.Nat.{ℕ, zero, suc}
+use mathlib.Core.Path.{_≡_, refl, sym, ap, ap₂, _∙_}
+use mathlib.Core.List.{List, []}
 use native.Mathlib.Omega.{arith}
 use lib.ListN.{length, take}
 use denote.Ref.{now}
-use Rattle.wire.specs.Bytes.{Octets, over}
-use Rattle.table.specs.declared.Section.{Section}
 use Rattle.table.specs.declared.Sections.{Sections}
 use Rattle.table.specs.declared.Checked.{Checked}
 use Rattle.table.specs.declared.Checked.the-variants as check
-use Rattle.table.specs.Layout.{typeWidth, memberWidth, valueWidth, operationWidth, sectionEnd}
 use Rattle.table.specs.Words.{sectionsIn, wordsOf}
 use Rattle.table.proofs.Chain.{Chain}
 use Rattle.table.proofs.Storing.{Narrow, read-back}
@@ -23,15 +20,14 @@ use Rattle.payload.specs.Calls.{unpackedIn, wordsIn, packedIn, bytesIn, unpacke
 use Rattle.unpack.specs.Reading.{reader}
 use Rattle.pack.specs.Writing.{writer}
 use Rattle.values.proofs.Checked.{same-answer, same-left}
-use Rattle.values.specs.Values.{Value, Spoken, BooleansAsOne}
 use Rattle.nyrkovash.specs.TableCalls.{checkRefusal, sectionsLeft}
 use Rattle.nyrkovash.specs.PayloadCalls.{refusalIn, givenLeft}
 use Rattle.promises.specs.Checks.{Keeps}
 use Rattle.promises.specs.PayloadOrder.{numberOf}
 use Rattle.promises.specs.Payloads.{Known, PackGivesBy, UnpackGivesBy, PacksExactlyBy, UnpacksExactlyBy, RoundTripsBy, PackGives, UnpackGives}
-use Rattle.promises.specs.Payloads.{PacksExactly, UnpacksExactly, RoundTrips, PayloadsBy}
+use Rattle.promises.specs.Payloads.{PacksExactly, UnpacksExactly, RoundTrips}
 use Rattle.promises.specs.WrongCodecs.{KeepsBy}
-use Rattle.promises.specs.LinkedPayloads.{givenBack, toldOf, linkedCoding, PacksAs, UnpacksAs, LinkedPayloads}
+use Rattle.promises.specs.LinkedPayloads.{givenBack, toldOf, linkedCoding, LinkedPayloads}
 use Rattle.promises.proofs.Payloads.{payloads}
 use Rattle.promises.proofs.Demand1.{demand-1}
 use Rattle.promises.proofs.Numbered.{Numbered, TableNumbered, table-numbered, bytes-numbered}

@@ -2,12 +2,10 @@
 -- Assumes nothing.
 use Prim.{Unit}
 use Prim.Native.Nat.{ℕ, zero, suc, _≤_}
-use mathlib.Core.Path.{_≡_, refl, sym, ap, subst}
 use mathlib.Core.Bool.{Bool, true, false, cond, _&&_}
 use mathlib.Core.List.{List, [], _∷_}
 use native.Mathlib.Omega.{arith}
 use lib.Dec.{leb, ltb, eqb}
-use lib.ListN.{length}
 use Rattle.wire.specs.Bytes.{written}
 use Rattle.table.specs.declared.Sections.{Sections}
 use Rattle.table.specs.declared.Checked.{Checked}
@@ -23,7 +21,7 @@ use Rattle.payload.specs.declared.Answer.{Answer}
 use Rattle.payload.specs.declared.Answer.the-variants.{Refused, Stopped, Gave}
 use Rattle.payload.specs.Calls.{answered, answeredType, answeredIn, answeredIf}
 use Rattle.promises.specs.Checks.{Check, Answers, none, this, next}
-use Rattle.promises.specs.TableOrder.{sectionsIn, tableChecks}
+use Rattle.promises.specs.TableOrder.{tableChecks}
 use Rattle.promises.proofs.TableOrder.{table-in-order}
 
 -- a table's refusal
