@@ -31,3 +31,4 @@ pub mod ExportsKeep
 mod Numbered
 pub mod LinkedPayloads
 pub mod LinkedMessages
+pub mod LinkedReplies

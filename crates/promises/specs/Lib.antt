@@ -23,3 +23,4 @@ pub mod UniqueCalls
 pub mod ExportsKeep
 pub mod LinkedPayloads
 pub mod LinkedMessages
+pub mod LinkedReplies
