@@ -1,14 +1,18 @@
 -- What is linked packs and unpacks as demand 2 asks.
 -- Assumes nothing.
-use Prim.Native.Nat.{ℕ, zero, suc}
-use mathlib.Core.Path.{_≡_, refl, sym, ap, ap₂, _∙_}
+use Prim.Native.Nat.{ℕ, zero, suc, _<_}
+use mathlib.Core.Path.{_≡_, refl, sym, ap, ap₂, subst, _∙_}
+use mathlib.Core.Bool.{Bool, true, false, cond}
 use mathlib.Core.List.{List, []}
 use native.Mathlib.Omega.{arith}
+use borrow.Author.Tests.{ltb-true}
 use lib.ListN.{length, take}
 use denote.Ref.{now}
 use Rattle.table.specs.declared.Sections.{Sections}
 use Rattle.table.specs.declared.Checked.{Checked}
 use Rattle.table.specs.declared.Checked.the-variants as check
+use Rattle.table.specs.Layout.{within}
+use Rattle.table.specs.Entries.{isType}
 use Rattle.table.specs.Words.{sectionsIn, wordsOf}
 use Rattle.table.proofs.Chain.{Chain}
 use Rattle.table.proofs.Storing.{Narrow, read-back}
@@ -16,7 +20,8 @@ use Rattle.types.specs.Table.{checked}
 use Rattle.types.proofs.Accepted.{accepted}
 use Rattle.payload.specs.declared.Answer.{Answer}
 use Rattle.payload.specs.declared.Answer.the-variants.{Refused, Stopped, Gave}
-use Rattle.payload.specs.Calls.{unpackedIn, wordsIn, packedIn, bytesIn, unpacked, wordsAfter, packed, bytesAfter}
+use Rattle.walk.specs.Walk.{Codec}
+use Rattle.payload.specs.Calls.{answeredType, answeredIn, answeredIf, unpackedIn, wordsIn, packedIn, bytesIn, unpacked, wordsAfter, packed, bytesAfter}
 use Rattle.unpack.specs.Reading.{reader}
 use Rattle.pack.specs.Writing.{writer}
 use Rattle.values.proofs.Checked.{same-answer, same-left}
@@ -27,7 +32,7 @@ use Rattle.promises.specs.PayloadOrder.{numberOf}
 use Rattle.promises.specs.Payloads.{Known, PackGivesBy, UnpackGivesBy, PacksExactlyBy, UnpacksExactlyBy, RoundTripsBy, PackGives, UnpackGives}
 use Rattle.promises.specs.Payloads.{PacksExactly, UnpacksExactly, RoundTrips}
 use Rattle.promises.specs.WrongCodecs.{KeepsBy}
-use Rattle.promises.specs.LinkedPayloads.{givenBack, toldOf, linkedCoding, LinkedPayloads}
+use Rattle.promises.specs.LinkedPayloads.{givenBack, toldOf, linkedCoding, PackedBack, UnpackedBack, LinkedPayloads}
 use Rattle.promises.proofs.Payloads.{payloads}
 use Rattle.promises.proofs.Demand1.{demand-1}
 use Rattle.promises.proofs.Numbered.{Numbered, TableNumbered, table-numbered, bytes-numbered}
@@ -161,12 +166,53 @@ zero-is-given : (n given k : ℕ) → givenBack n given ≡ Gave k → (n ≡ 0)
 zero-is-given zero given k e = (refl, cc)
 zero-is-given (suc n) given k e = let z : _≡_ {A = ℕ} 0 1 = cc in absurd (omega arith)
 
+-- what is given is of a type of a table that the check accepts
+gave-known : (c : Codec) (n : ℕ) (t : List ℕ) (i room k : ℕ) → answeredIf (checked t) c n t i room ≡ Gave k → (s : Sections) × Known t s i
+unfolding answeredIf answeredIn
+gave-known c n t i room k e = go (checked t) refl e
+  where
+    known : (s : Sections) (a b : Bool) → isType s i ≡ b → cond a (cond b (answeredType c n t s i room) (Refused 44)) (Refused 30) ≡ Gave k
+        → i < s .types .count
+    known s true true f h = ltb-true i (s .types .count) f
+    known s true false f h = let z : _≡_ {A = ℕ} 0 1 = cc in absurd (omega arith)
+    known s false b f h = let z : _≡_ {A = ℕ} 0 1 = cc in absurd (omega arith)
+
+    go : (x : Checked) → checked t ≡ x → answeredIf x c n t i room ≡ Gave k → (s : Sections) × Known t s i
+    go (check.Refused r) f h = let z : _≡_ {A = ℕ} 0 1 = cc in absurd (omega arith)
+    go (check.Table s) f h = (s, record { accepted = f; known = known s (within t s) (isType s i) refl h })
+
+-- a call that gave 0 back, and the one behind it
+packed-back : PackedBack
+packed-back t i ws out n given left p z words n′ given′ left′ u room =
+    let told : toldOf (packed t i ws (length out)) ≡ Gave given = sym (p .0) ∙ ap (λ (x : ℕ). givenBack x given) z in
+    let a : packed t i ws (length out) ≡ Gave given = told-gave (packed t i ws (length out)) given (pack-numbered t i ws (length out)) told in
+    let k = gave-known (writer ws) (length ws) t i (length out) given a in
+    let g : UnpackGivesBy linkedCoding t i (take given (bytesAfter t i ws out)) words ws =
+    round-trips t (k .0) i (k .1) .pack-then-unpack ws out words given told room in
+    let g′ : UnpackGivesBy linkedCoding t i (take given left) words ws =
+    subst (λ (b : List ℕ). UnpackGivesBy linkedCoding t i (take given b) words ws) (sym (p .1)) g in
+    let y = zero-is-given n′ given′ (length ws) (u .0 ∙ g′ .0) in
+    (y .0, y .1, u .1 ∙ g′ .1)
+
+unpacked-back : UnpackedBack
+unpacked-back t i b words n given left o u z out n′ given′ left′ p room =
+    let told : toldOf (unpacked t i b (length words)) ≡ Gave given = sym (u .0) ∙ ap (λ (x : ℕ). givenBack x given) z in
+    let a : unpacked t i b (length words) ≡ Gave given = told-gave (unpacked t i b (length words)) given (unpack-numbered t i b (length words)) told in
+    let k = gave-known (reader b) (length b) t i (length words) given a in
+    let r = round-trips t (k .0) i (k .1) .unpack-then-pack b words out given o told room in
+    let g : PackGivesBy linkedCoding t i (take given left) out (r .0) =
+    subst (λ (x : List ℕ). PackGivesBy linkedCoding t i (take given x) out (r .0)) (sym (u .1)) (r .3) in
+    let y = zero-is-given n′ given′ (length (r .0)) (p .0 ∙ g .0) in
+    (k .0, r .0, k .1, r .1, y .0, y .1 ∙ r .2, p .1 ∙ g .1)
+
 pub linked-payloads : LinkedPayloads
 linked-payloads =
     record {
       zero-is-given = zero-is-given;
       meets = λ t s i h. (packs-exactly t s i h, unpacks-exactly t s i h, round-trips t s i h);
       keeps = keeps;
+      packed-back = packed-back;
+      unpacked-back = unpacked-back;
       pack = λ k a n e p.
           let t = now (a .0) in
           let ws = now (a .1 .1 .0) in

@@ -1,11 +1,12 @@
 -- Demand 2 for payloads, of the calls as programs in C have them (include/nyrkovash.h), over their very contracts: what is linked
 -- is a codec that meets the demand of specs/Payloads, so that every wrong codec refuted there is refuted for it. The theorem is in
 -- proofs/LinkedPayloads.antt.
-use Prim.Native.Nat.{ℕ, zero, suc}
+use Prim.Native.Nat.{ℕ, zero, suc, _≤_}
 use mathlib.Core.Path.{_≡_}
 use mathlib.Core.List.{List}
-use lib.ListN.{length}
+use lib.ListN.{length, take}
 use denote.Ref.{now}
+use Rattle.wire.specs.Bytes.{Octets, over}
 use Rattle.table.specs.declared.Sections.{Sections}
 use Rattle.table.specs.declared.Checked.the-variants.{Table}
 use Rattle.table.specs.Words.{wordsOf}
@@ -13,13 +14,14 @@ use Rattle.types.specs.Table.{checked}
 use Rattle.payload.specs.declared.Answer.{Answer}
 use Rattle.payload.specs.declared.Answer.the-variants.{Refused, Gave}
 use Rattle.payload.specs.Calls.{unpacked, wordsAfter, packed, bytesAfter}
+use Rattle.values.specs.Values.{BooleansAsOne}
 use Rattle.nyrkovash.specs.PayloadCalls.{refusalIn, givenLeft}
 use Rattle.nyrkovash.proofs.nyr_check_table.Reads.{Post as nyr-check-table}
 use Rattle.nyrkovash.proofs.nyr_unpack.Reads.{Post as nyr-unpack}
 use Rattle.nyrkovash.proofs.nyr_unpack_in.Reads.{Post as nyr-unpack-in}
 use Rattle.nyrkovash.proofs.nyr_pack.Reads.{Post as nyr-pack}
 use Rattle.nyrkovash.proofs.nyr_pack_in.Reads.{Post as nyr-pack-in}
-use Rattle.promises.specs.Payloads.{Coding, PayloadsBy}
+use Rattle.promises.specs.Payloads.{Known, Coding, PayloadsBy}
 use Rattle.promises.specs.WrongCodecs.{KeepsBy}
 
 -- number and count that a call gives back, as one answer: 0 and how many words or bytes were given, or a refusal
@@ -49,6 +51,21 @@ abbrev pub UnpacksAs : List ℕ → ℕ → List ℕ → List ℕ → ℕ → �
 UnpacksAs t i b words n given left =
     (givenBack n given ≡ linkedCoding .unpacks t i b (length words)) × (left ≡ linkedCoding .words-left t i b words)
 
+-- "What we pack unpacks to the same values": of any two such calls, on table bytes or on sections, where the first gives 0 back and
+-- the second is handed the bytes that it gave
+abbrev pub PackedBack : Type 0
+PackedBack =
+    (t : List ℕ) (i : ℕ) (ws out : List ℕ) (n given : ℕ) (left : List ℕ) → PacksAs t i ws out n given left → n ≡ 0
+    → (words : List ℕ) (n′ given′ : ℕ) (left′ : List ℕ) → UnpacksAs t i (take given left) words n′ given′ left′ → length ws ≤ length words
+    → (n′ ≡ 0) × (given′ ≡ length ws) × (left′ ≡ over words 0 ws)
+
+-- "What unpacks packs again to the same bytes, except that a true boolean always goes out as 1": likewise
+abbrev pub UnpackedBack : Type 0
+UnpackedBack =
+    (t : List ℕ) (i : ℕ) (b words : List ℕ) (n given : ℕ) (left : List ℕ) → Octets b → UnpacksAs t i b words n given left → n ≡ 0
+    → (out : List ℕ) (n′ given′ : ℕ) (left′ : List ℕ) → PacksAs t i (take given left) out n′ given′ left′ → length b ≤ length out
+    → (s : Sections) × (cs : List ℕ) × Known t s i × BooleansAsOne t s i b cs × (n′ ≡ 0) × (given′ ≡ length b) × (left′ ≡ over out 0 cs)
+
 -- whatever a call's promise allows, of what it is handed, the number and what it leaves, is so
 abbrev pub Whenever : {K : Type 0} {A E : K → Type 0}
     → ((k : K) → A k → ℕ → E k → Type 0) → ((k : K) → A k → ℕ → E k → Type 0) → Type 0
@@ -60,6 +77,8 @@ pub record LinkedPayloads : Type 0 where
   -- packing and unpacking exactly the values, and both round trips; and a refusal leaves the output
   pub meets : PayloadsBy linkedCoding
   pub keeps : KeepsBy linkedCoding
+  pub packed-back : PackedBack
+  pub unpacked-back : UnpackedBack
   -- handed table bytes, the calls are that codec, on every table
   pub pack : Whenever nyr-pack (λ k a n e.
       PacksAs (now (a .0)) (a .1 .0) (now (a .1 .1 .0)) (now (a .1 .1 .1 .0)) n (now (e .1 .1 .1 .1 .0)) (now (e .1 .1 .1 .0)))
