@@ -32,3 +32,7 @@ mod LinkedRuns
 pub mod Linked
 pub mod InNumbers
 pub mod WrongCalls
+mod Numbered
+pub mod LinkedPayloads
+pub mod LinkedMessages
+pub mod LinkedReplies

@@ -24,3 +24,6 @@ pub mod ExportsKeep
 pub mod InNumbers
 pub mod Linked
 pub mod WrongCalls
+pub mod LinkedPayloads
+pub mod LinkedMessages
+pub mod LinkedReplies

@@ -1,0 +1,270 @@
+-- What is linked notes and replies as the platform does.
+-- Assumes nothing.
+use Prim.Native.Nat.{ℕ, _-_, _≤_, _<_}
+use mathlib.Core.Path.{_≡_, refl, sym, ap, ap₂, _∙_}
+use mathlib.Core.Bool.{Bool, true, false, cond}
+use mathlib.Core.List.{List, [], _∷_}
+use native.Mathlib.Nat.{mod-lt}
+use native.Mathlib.Omega.{arith}
+use borrow.Author.Tests.{eqb-true, eqb-false, ltb-true}
+use lib.Dec.{eqb, ltb}
+use lib.Pow.{pow-pos}
+use lib.ListN.{length, getD}
+use denote.Ref.{now}
+use Rattle.wire.proofs.Cond.{no-lt}
+use Rattle.table.specs.declared.Sections.{Sections}
+use Rattle.table.specs.declared.Found.{Found}
+use Rattle.table.specs.declared.Found.the-variants as found
+use Rattle.table.specs.declared.Checked.the-variants.{Table}
+use Rattle.table.specs.Operations.{operationOf}
+use Rattle.types.specs.Table.{checked}
+use Rattle.table.specs.Search.{lookedUp}
+use Rattle.table.specs.Words.{sectionsIn, wordsOf}
+use Rattle.message.specs.declared.Header.{Header}
+use Rattle.message.specs.declared.Status.the-variants.{Down, Up}
+use Rattle.message.specs.declared.Message.{Message}
+use Rattle.message.specs.declared.Message.the-variants as message
+use Rattle.message.specs.declared.Reading.{Reading}
+use Rattle.message.specs.declared.Reading.the-variants as reading
+use Rattle.message.specs.Refusal.{noRoom, readRefusal}
+use Rattle.message.specs.Reading.{readOut}
+use Rattle.message.proofs.Accepted.{readable}
+use Rattle.states.specs.States.{isUp}
+use Rattle.platform.specs.declared.reactions.Standing.{Standing}
+use Rattle.platform.specs.declared.Outcome.{Outcome}
+use Rattle.platform.specs.declared.Answer.{Answer}
+use Rattle.platform.specs.declared.Answer.the-variants.{Noted}
+use Rattle.platform.specs.declared.reactions.Reaction.{Reaction}
+use Rattle.platform.specs.Replies.{allData, owedLength}
+use Rattle.platform.specs.Reaction.{operationFor, isData, foundData, noData, cameUp, onStatus, onPullAll, onPullOne, onPull, onOperation, reactionTo}
+use Rattle.platform.specs.Receiving.{freshStanding, refused, taken, answered, receivedOf, leftOf, sectionsOutcome, sectionsOutput, numberGiven}
+use Rattle.platform_words.specs.Words.{standingIn, standingWords}
+use Rattle.platform_words.specs.HeardWords.{heardWords, answerWords, notedWords, heardAfter, platformAfter}
+use Rattle.platform_words.specs.StateCalls.{upNumber}
+use Rattle.promises.specs.Platforms.{stateAfter, Receives, Notes}
+use Rattle.promises.specs.LinkedReplies.{UpIs, heardFor, Comes, owedBytes, Says, Answered, LinkedReplies}
+use Rattle.promises.proofs.Headers.{was-read}
+use Rattle.promises.proofs.Lookups.{accepted-find}
+use Rattle.promises.proofs.Reacting.{X}
+use Rattle.promises.proofs.Replying.{the, received-is, its-length, notes, too-short}
+use Rattle.promises.proofs.Platforms.{states-are}
+use Rattle.promises.proofs.Unique.{unique}
+use Rattle.promises.proofs.LinkedPayloads.{sections-back}
+
+-- what was heard of a message of each kind
+module _ (own : ℕ) (t : List ℕ) (s : Sections) (p : Standing) (m : List ℕ) (h : Header) (n : ℕ) where
+  abbrev HeardSo : Message → Type 0
+  HeardSo kind = heardWords h n (X own t s p h 20 (length m - 20) kind .heard) ≡ heardFor t s m h n kind
+
+  on-up : HeardSo (message.PlatformStatus Up)
+  unfolding reactionTo onStatus cameUp
+  on-up = go (isUp own (p .states) (h .platform)) refl
+    where
+      go : (b : Bool) → isUp own (p .states) (h .platform) ≡ b → HeardSo (message.PlatformStatus Up)
+      go true e = rw e
+      go false e = rw e
+
+  on-down : HeardSo (message.PlatformStatus Down)
+  unfolding reactionTo onStatus
+  on-down = go (isUp own (p .states) (h .platform)) refl
+    where
+      go : (b : Bool) → isUp own (p .states) (h .platform) ≡ b → HeardSo (message.PlatformStatus Down)
+      go true e = rw e
+      go false e = rw e
+
+  module _ (scan : (id : ℕ) → lookedUp t s id ≡ operationOf t s id) where
+    on-pull : (id : ℕ) → HeardSo (message.VersionedDataPull id)
+    unfolding reactionTo operationFor onPull onPullAll onPullOne foundData
+    on-pull id = go (eqb id allData) refl (noData t s) refl (operationOf t s id) refl (scan id)
+      where
+        one : (b : Bool) (i : ℕ) → eqb id allData ≡ false → operationOf t s id ≡ found.At i → lookedUp t s id ≡ operationOf t s id
+            → isData t s i ≡ b → HeardSo (message.VersionedDataPull id)
+        one true i e f g d = rw (e, g, f, d)
+        one false i e f g d = rw (e, g, f, d)
+
+        go : (a : Bool) → eqb id allData ≡ a → (b : Bool) → noData t s ≡ b → (x : Found) → operationOf t s id ≡ x → lookedUp t s id
+            ≡ operationOf t s id → HeardSo (message.VersionedDataPull id)
+        go true e true d x f g =
+            rw (e, d) (ap (λ (k : ℕ). 6 ∷ k ∷ h .platform ∷ h .sequence ∷ 0 ∷ 0 ∷ 0 ∷ n ∷ []) (sym (eqb-true id allData e)))
+        go true e false d x f g = rw (e, d)
+        go false e b d (found.At i) f g = one (isData t s i) i e f g refl
+        go false e b d found.Nothing f g = rw (e, g, f)
+
+    on-operation : HeardSo message.Operation
+    unfolding reactionTo operationFor onOperation
+    on-operation = go (operationOf t s (h .id)) refl (scan (h .id))
+      where
+        go : (x : Found) → operationOf t s (h .id) ≡ x → lookedUp t s (h .id) ≡ operationOf t s (h .id) → HeardSo message.Operation
+        go (found.At i) f g = rw (g, f)
+        go found.Nothing f g = rw (g, f)
+
+    heard-so : (kind : Message) → HeardSo kind
+    unfolding reactionTo
+    heard-so (message.PlatformStatus Up) = on-up
+    heard-so (message.PlatformStatus Down) = on-down
+    heard-so message.PlatformStatusRequest = refl
+    heard-so (message.UnknownOperation id) = refl
+    heard-so (message.VersionedDataPull id) = on-pull id
+    heard-so message.Operation = on-operation
+
+-- where the payload of a message that was read lies
+abbrev startRead : Reading → ℕ
+startRead (reading.Read h m start len) = start
+startRead (reading.Refused n) = 0
+
+abbrev lengthRead : Reading → ℕ
+lengthRead (reading.Read h m start len) = len
+lengthRead (reading.Refused n) = 0
+
+-- asking who is UP
+up-number : (own : ℕ) (q : Standing) (up : ℕ → Bool) → ((k : ℕ) → k < 256 → isUp own (q .states) k ≡ up k) → (k : ℕ)
+    → upNumber own (standingWords q) k ≡ cond (ltb k 256) (cond (up k) 1 0) 0
+up-number own q up h k = go (ltb k 256) refl
+  where
+    go : (b : Bool) → ltb k 256 ≡ b → cond b (cond {A = ℕ} (isUp own (q .states) k) 1 0) 0 ≡ cond b (cond {A = ℕ} (up k) 1 0) 0
+    go true l = ap (λ (x : Bool). cond {A = ℕ} x 1 0) (h k (ltb-true k 256 l))
+    go false l = refl
+
+up-is : (own : ℕ) (after : List ℕ) (q : Standing) (up : ℕ → Bool) → after ≡ standingWords q → ((k : ℕ) → k < 256 → isUp own (q .states) k ≡ up k)
+    → UpIs own after up
+up-is own after q up w h k a n e p eo ew =
+    p ∙ ap₂ (λ (o : ℕ) (ws : List ℕ). upNumber o ws (a .1 .1 .0)) eo (ew ∙ w) ∙ up-number own q up h (a .1 .1 .0)
+
+-- a fresh platform
+fresh-up : (own : ℕ) → own < 256 → (k : ℕ) → k < 256 → isUp own (freshStanding own .states) k ≡ eqb k own
+fresh-up own ho k hk = go (eqb k own) refl
+  where
+    go : (b : Bool) → eqb k own ≡ b → isUp own (freshStanding own .states) k ≡ b
+    go true e = ap (isUp own (freshStanding own .states)) (eqb-true k own e) ∙ states-are .own-is-up own (freshStanding own .states)
+    go false e = states-are .others-start-down own k ho hk (eqb-false k own e)
+
+-- a message that comes to a platform in words
+module _ (own : ℕ) (ws t : List ℕ) (s : Sections) (m out : List ℕ) (h : Header) (kind : Message) (c : Comes own t s m h kind) where
+  abbrev p : Standing
+  p = standingIn ws
+
+  receives : Receives own t s p m h kind
+  receives =
+      record {
+        platform = c .platform;
+        next = mod-lt (getD ws 4 0) (pow-pos 32);
+        bytes = c .bytes;
+        table = c .table;
+        start = c .start;
+        len = c .len;
+        read = c .read;
+      }
+
+  seen : (readRefusal own m ≡ 0) × (readOut m ≡ reading.Read h kind (c .start) (c .len))
+  seen = was-read (readRefusal own m) (readOut m) h kind (c .start) (c .len) (c .read)
+
+  start-is : c .start ≡ 20
+  start-is = sym (ap startRead (seen .1))
+
+  length-is : c .len ≡ length m - 20
+  length-is = sym (ap lengthRead (seen .1)) ∙ readable own m (seen .0) .size
+
+  abbrev reaction : Reaction
+  reaction = X own t s p h (c .start) (c .len) kind
+
+  abbrev N : ℕ
+  N = owedBytes own ws t s h kind
+
+  heard-words : heardWords h N (reaction .heard) ≡ heardFor t s m h N kind
+  heard-words =
+      ap₂ (λ (a b : ℕ). heardWords h N (X own t s p h a b kind .heard)) start-is length-is
+      ∙ heard-so own t s p m h N (λ id. accepted-find t s id (c .table)) kind
+
+  module _ (fits : N ≤ length out) where
+    its-notes : Notes own t s p m out h kind N
+    its-notes = notes own t s p m out h kind receives fits
+
+    answer-is : receivedOf own t p m (length out) .answer ≡ Noted h (reaction .heard) N
+    unfolding answered receives
+    answer-is =
+        let l : owedLength (reaction .owed) ≡ N = its-length own t s p m out h kind receives in
+        let room : owedLength (reaction .owed) ≤ length out = omega arith in
+        ap (λ (x : Outcome). x .answer)
+        (received-is own t s p m out h kind receives (length out)
+        ∙ no-lt {A = Outcome} (refused p noRoom) (taken h reaction (owedLength (reaction .owed))) (length out) (owedLength (reaction .owed)) room)
+        ∙ ap (Noted h (reaction .heard)) l
+
+  -- what a call's contract says of the number and of what was lent
+  module _ (o : Outcome) (l : List ℕ) (same : o ≡ receivedOf own t p m (length out)) (alike : l ≡ leftOf own t p m out)
+      (n : ℕ) (after left heard was : List ℕ) (en : n ≡ numberGiven (o .answer)) (ea : after ≡ platformAfter o ws) (el : left ≡ l)
+      (eh : heard ≡ heardAfter o was) where
+    says : N ≤ length out → Says own ws t s m out h kind n after left heard
+    says fits =
+        let a : o .answer ≡ Noted h (reaction .heard) N = ap (λ (x : Outcome). x .answer) same ∙ answer-is fits in
+        let q : Standing = receivedOf own t p m (length out) .standing in
+        let w : after ≡ standingWords q =
+        ea ∙ ap (λ (x : Answer). notedWords x (o .standing) ws) a ∙ ap (λ (x : Outcome). standingWords (x .standing)) same in
+        let x : Notes own t s p m out h kind N = its-notes fits in
+        record {
+          number = en ∙ ap numberGiven a;
+          replies = rw (el ∙ alike) (x .written);
+          rest = rw (el ∙ alike) (x .rest);
+          heard-is = eh ∙ ap (λ (y : Answer). answerWords y was) a ∙ heard-words;
+          states = up-is own after q (stateAfter own p h kind) w (x .states);
+          next = ap (λ (y : List ℕ). getD y 4 0) w ∙ x .next;
+        }
+
+    pub answered-so : Answered own ws t s m out h kind n after left heard
+    answered-so =
+        record {
+          fit = says;
+          do-not-fit = λ short. en ∙ ap (λ (x : Outcome). numberGiven (x .answer)) same ∙ ap numberGiven (too-short own t s p m out h kind receives short);
+        }
+
+-- on the sections of a table that the check accepts, in their words
+module _ (own : ℕ) (ws t : List ℕ) (s : Sections) (ss m : List ℕ) (e : checked t ≡ Table s) (f : ss ≡ wordsOf s) where
+  outcome-same : (room : ℕ) → sectionsOutcome own t (sectionsIn ss) (standingIn ws) m room ≡ receivedOf own t (standingIn ws) m room
+  outcome-same room =
+      ap (λ (x : Sections). sectionsOutcome own t x (standingIn ws) m room) (sections-back t s ss e f)
+      ∙ unique .on-accepted .receive-checked own t s (standingIn ws) m room e
+
+  output-same : (out : List ℕ) → sectionsOutput own t (sectionsIn ss) (standingIn ws) m out ≡ leftOf own t (standingIn ws) m out
+  output-same out =
+      ap (λ (x : Sections). sectionsOutput own t x (standingIn ws) m out) (sections-back t s ss e f)
+      ∙ unique .on-accepted .receive-checked-out own t s (standingIn ws) m out e
+
+pub linked-replies : LinkedReplies
+linked-replies =
+    record {
+      start = λ k a n e p ho. (
+        p .0,
+        up-is (a .0) (now (e .1 .0)) (freshStanding (a .0)) (λ who. eqb who (a .0)) (p .1) (fresh-up (a .0) ho),
+        ap (λ (y : List ℕ). getD y 4 0) (p .1),
+      );
+      receive = λ s h kind k a n e p c.
+          let own = a .0 in
+          let ws = now (a .1 .0) in
+          let t = now (a .1 .1 .0) in
+          let m = now (a .1 .1 .1 .0) in
+          let out = now (a .1 .1 .1 .1 .0) in
+          answered-so own ws t s m out h kind c (receivedOf own t (standingIn ws) m (length out)) (leftOf own t (standingIn ws) m out) refl refl
+          n _ _ _ (now (a .1 .1 .1 .1 .1 .0)) (p .0) (p .1 .0) (p .1 .1 .0) (p .1 .1 .1);
+      receive-in = λ s h kind k a n e p c f.
+          let own = a .0 in
+          let ws = now (a .1 .0) in
+          let t = now (a .1 .1 .0) in
+          let ss = now (a .1 .1 .1 .0) in
+          let m = now (a .1 .1 .1 .1 .0) in
+          let out = now (a .1 .1 .1 .1 .1 .0) in
+          answered-so own ws t s m out h kind c
+          (sectionsOutcome own t (sectionsIn ss) (standingIn ws) m (length out)) (sectionsOutput own t (sectionsIn ss) (standingIn ws) m out)
+          (outcome-same own ws t s ss m (c .table) f (length out)) (output-same own ws t s ss m (c .table) f out)
+          n _ _ _ (now (a .1 .1 .1 .1 .1 .1 .0)) (p .0) (p .1 .0) (p .1 .1 .0) (p .1 .1 .1);
+      alike = λ s k a n e p c f.
+          let own = a .0 in
+          let ws = now (a .1 .0) in
+          let t = now (a .1 .1 .0) in
+          let m = now (a .1 .1 .1 .1 .0) in
+          let out = now (a .1 .1 .1 .1 .1 .0) in
+          let q = outcome-same own ws t s (now (a .1 .1 .1 .0)) m c f (length out) in (
+            p .0 ∙ ap (λ (x : Outcome). numberGiven (x .answer)) q,
+            p .1 .0 ∙ ap (λ (x : Outcome). platformAfter x ws) q,
+            p .1 .1 .0 ∙ output-same own ws t s (now (a .1 .1 .1 .0)) m c f out,
+            p .1 .1 .1 ∙ ap (λ (x : Outcome). heardAfter x (now (a .1 .1 .1 .1 .1 .1 .0))) q,
+          );
+    }

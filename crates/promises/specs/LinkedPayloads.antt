@@ -1,0 +1,96 @@
+-- Demand 2 for payloads, of the calls as programs in C have them (include/nyrkovash.h), over their very contracts: what is linked
+-- is a codec that meets the demand of specs/Payloads, so that every wrong codec refuted there is refuted for it. The theorem is in
+-- proofs/LinkedPayloads.antt.
+use Prim.Native.Nat.{ℕ, zero, suc, _≤_}
+use mathlib.Core.Path.{_≡_}
+use mathlib.Core.List.{List}
+use lib.ListN.{length, take}
+use denote.Ref.{now}
+use Rattle.wire.specs.Bytes.{Octets, over}
+use Rattle.table.specs.declared.Sections.{Sections}
+use Rattle.table.specs.declared.Checked.the-variants.{Table}
+use Rattle.table.specs.Words.{wordsOf}
+use Rattle.types.specs.Table.{checked}
+use Rattle.payload.specs.declared.Answer.{Answer}
+use Rattle.payload.specs.declared.Answer.the-variants.{Refused, Gave}
+use Rattle.payload.specs.Calls.{unpacked, wordsAfter, packed, bytesAfter}
+use Rattle.values.specs.Values.{BooleansAsOne}
+use Rattle.nyrkovash.specs.PayloadCalls.{refusalIn, givenLeft}
+use Rattle.nyrkovash.proofs.nyr_check_table.Reads.{Post as nyr-check-table}
+use Rattle.nyrkovash.proofs.nyr_unpack.Reads.{Post as nyr-unpack}
+use Rattle.nyrkovash.proofs.nyr_unpack_in.Reads.{Post as nyr-unpack-in}
+use Rattle.nyrkovash.proofs.nyr_pack.Reads.{Post as nyr-pack}
+use Rattle.nyrkovash.proofs.nyr_pack_in.Reads.{Post as nyr-pack-in}
+use Rattle.promises.specs.Payloads.{Known, Coding, PayloadsBy}
+use Rattle.promises.specs.WrongCodecs.{KeepsBy}
+
+-- number and count that a call gives back, as one answer: 0 and how many words or bytes were given, or a refusal
+abbrev pub givenBack : ℕ → ℕ → Answer
+givenBack zero given = Gave given
+givenBack (suc n) given = Refused (suc n)
+
+abbrev pub toldOf : Answer → Answer
+toldOf a = givenBack (refusalIn a) (givenLeft 0 a)
+
+-- the codec that a program in C sees
+abbrev pub linkedCoding : Coding
+linkedCoding =
+    record {
+      packs = λ t i ws room. toldOf (packed t i ws room);
+      bytes-left = bytesAfter;
+      unpacks = λ t i b room. toldOf (unpacked t i b room);
+      words-left = wordsAfter;
+    }
+
+-- a call that gives back this number and this count and leaves this output packs, or unpacks, as the codec does
+abbrev pub PacksAs : List ℕ → ℕ → List ℕ → List ℕ → ℕ → ℕ → List ℕ → Type 0
+PacksAs t i ws out n given left =
+    (givenBack n given ≡ linkedCoding .packs t i ws (length out)) × (left ≡ linkedCoding .bytes-left t i ws out)
+
+abbrev pub UnpacksAs : List ℕ → ℕ → List ℕ → List ℕ → ℕ → ℕ → List ℕ → Type 0
+UnpacksAs t i b words n given left =
+    (givenBack n given ≡ linkedCoding .unpacks t i b (length words)) × (left ≡ linkedCoding .words-left t i b words)
+
+-- "What we pack unpacks to the same values": of any two such calls, on table bytes or on sections, where the first gives 0 back and
+-- the second is handed the bytes that it gave
+abbrev pub PackedBack : Type 0
+PackedBack =
+    (t : List ℕ) (i : ℕ) (ws out : List ℕ) (n given : ℕ) (left : List ℕ) → PacksAs t i ws out n given left → n ≡ 0
+    → (words : List ℕ) (n′ given′ : ℕ) (left′ : List ℕ) → UnpacksAs t i (take given left) words n′ given′ left′ → length ws ≤ length words
+    → (n′ ≡ 0) × (given′ ≡ length ws) × (left′ ≡ over words 0 ws)
+
+-- "What unpacks packs again to the same bytes, except that a true boolean always goes out as 1": likewise
+abbrev pub UnpackedBack : Type 0
+UnpackedBack =
+    (t : List ℕ) (i : ℕ) (b words : List ℕ) (n given : ℕ) (left : List ℕ) → Octets b → UnpacksAs t i b words n given left → n ≡ 0
+    → (out : List ℕ) (n′ given′ : ℕ) (left′ : List ℕ) → PacksAs t i (take given left) out n′ given′ left′ → length b ≤ length out
+    → (s : Sections) × (cs : List ℕ) × Known t s i × BooleansAsOne t s i b cs × (n′ ≡ 0) × (given′ ≡ length b) × (left′ ≡ over out 0 cs)
+
+-- whatever a call's promise allows, of what it is handed, the number and what it leaves, is so
+abbrev pub Whenever : {K : Type 0} {A E : K → Type 0}
+    → ((k : K) → A k → ℕ → E k → Type 0) → ((k : K) → A k → ℕ → E k → Type 0) → Type 0
+Whenever {K} {A} {E} post so = (k : K) (a : A k) (n : ℕ) (e : E k) → post k a n e → so k a n e
+
+pub record LinkedPayloads : Type 0 where
+  -- all is given just where the number is 0, and as much as the count says
+  pub zero-is-given : (n given k : ℕ) → givenBack n given ≡ Gave k → (n ≡ 0) × (given ≡ k)
+  -- packing and unpacking exactly the values, and both round trips; and a refusal leaves the output
+  pub meets : PayloadsBy linkedCoding
+  pub keeps : KeepsBy linkedCoding
+  pub packed-back : PackedBack
+  pub unpacked-back : UnpackedBack
+  -- handed table bytes, the calls are that codec, on every table
+  pub pack : Whenever nyr-pack (λ k a n e.
+      PacksAs (now (a .0)) (a .1 .0) (now (a .1 .1 .0)) (now (a .1 .1 .1 .0)) n (now (e .1 .1 .1 .1 .0)) (now (e .1 .1 .1 .0)))
+  pub unpack : Whenever nyr-unpack (λ k a n e.
+      UnpacksAs (now (a .0)) (a .1 .0) (now (a .1 .1 .0)) (now (a .1 .1 .1 .0)) n (now (e .1 .1 .1 .1 .0)) (now (e .1 .1 .1 .0)))
+  -- a table that may be used is one for which the check answers 0, and no other; the sections are left in their words
+  pub check : (s : Sections) → Whenever nyr-check-table (λ k a n e. checked (now (a .0)) ≡ Table s → (n ≡ 0) × (now (e .1 .0) ≡ wordsOf s))
+  pub checks-only : Whenever nyr-check-table (λ k a n e. n ≡ 0 → (s : Sections) × (checked (now (a .0)) ≡ Table s))
+  -- with those words the calls on sections are the same codec
+  pub pack-in : (s : Sections) → Whenever nyr-pack-in (λ k a n e.
+      checked (now (a .0)) ≡ Table s → now (a .1 .0) ≡ wordsOf s →
+      PacksAs (now (a .0)) (a .1 .1 .0) (now (a .1 .1 .1 .0)) (now (a .1 .1 .1 .1 .0)) n (now (e .1 .1 .1 .1 .1 .0)) (now (e .1 .1 .1 .1 .0)))
+  pub unpack-in : (s : Sections) → Whenever nyr-unpack-in (λ k a n e.
+      checked (now (a .0)) ≡ Table s → now (a .1 .0) ≡ wordsOf s →
+      UnpacksAs (now (a .0)) (a .1 .1 .0) (now (a .1 .1 .1 .0)) (now (a .1 .1 .1 .1 .0)) n (now (e .1 .1 .1 .1 .1 .0)) (now (e .1 .1 .1 .1 .0)))
