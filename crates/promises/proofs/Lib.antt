@@ -28,3 +28,4 @@ pub mod Starred
 pub mod Unique
 pub mod UniqueCalls
 pub mod ExportsKeep
+pub mod Numbers

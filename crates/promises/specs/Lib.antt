@@ -21,3 +21,4 @@ pub mod Starred
 pub mod Unique
 pub mod UniqueCalls
 pub mod ExportsKeep
+pub mod Numbers

@@ -38,9 +38,11 @@ starred =
     ∷ packs upToThree (0 ∷ []) (0 ∷ 0 ∷ 0 ∷ 0 ∷ [])
     ∷ unpack-refused upToThree (0 ∷ 0 ∷ 0 ∷ 4 ∷ 1 ∷ 2 ∷ 3 ∷ 4 ∷ []) 43
     ∷ pack-refused upToThree (4 ∷ 1 ∷ 2 ∷ 3 ∷ 4 ∷ []) 43
-    -- 65,503 bytes make one whole piece; 65,504 make two at s = 65,503, the second of 1 byte
-    ∷ cuts 65503 65503 (record { mark = Whole; bytes = 65503 } ∷ [])
-    ∷ cuts 65504 65503 (record { mark = Begin; bytes = 65503 } ∷ record { mark = End; bytes = 1 } ∷ [])
+    -- 65,503 bytes make one whole piece; 65,504 make two at s = 65,503, the second of 1 byte; counters from
+    -- 7, and from M-1, 65,535, on
+    ∷ cuts 65503 65503 7 (record { mark = Whole; counter = 7; bytes = 65503 } ∷ [])
+    ∷ cuts 65504 65503 65535
+    (record { mark = Begin; counter = 65535; bytes = 65503 } ∷ record { mark = End; counter = 0; bytes = 1 } ∷ [])
     -- R = 24: beginning of 24 then end of 1 is too long; 23 then 1 is delivered
     ∷ joins 24
     (record { mark = Begin; counter = 5; piece = replicate 24 0xAA } ∷ record { mark = End; counter = 6; piece = 0xBB ∷ [] } ∷ [])
