@@ -29,3 +29,4 @@ pub mod Unique
 pub mod UniqueCalls
 pub mod ExportsKeep
 pub mod Numbers
+mod Reporting

@@ -65,7 +65,7 @@ module _ (width least most : ℕ) (t : List ℕ) (p : ℕ) (go-on : Section → 
       (by Refused good (ltb (length t) (sectionEnd width (counted t p))) 30 (lt-decides (length t) (sectionEnd width (counted t p))) a)))
 
 -- some entry fails where not all pass
-some-below : (f : ℕ → Bool) (n : ℕ) → allBelow f n ≡ false → (i : ℕ) × (i < n) × (f i ≡ false)
+pub some-below : (f : ℕ → Bool) (n : ℕ) → allBelow f n ≡ false → (i : ℕ) × (i < n) × (f i ≡ false)
 unfolding allBelow
 some-below f zero e = let z : _≡_ {A = ℕ} 0 1 = cc in absurd (omega arith)
 some-below f (suc n) e = go (λ q. some-below f n q) (allBelow f n) refl (f n) refl e

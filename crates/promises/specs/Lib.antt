@@ -22,3 +22,4 @@ pub mod Unique
 pub mod UniqueCalls
 pub mod ExportsKeep
 pub mod Numbers
+pub mod Reports
