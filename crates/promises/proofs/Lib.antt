@@ -30,3 +30,5 @@ pub mod UniqueCalls
 pub mod ExportsKeep
 pub mod Numbers
 mod Reporting
+pub mod WrongReports
+pub mod Rules32

@@ -32,7 +32,7 @@ use Rattle.platform.specs.Replies.{allData}
 use Rattle.platform.specs.Reaction.{operationFor, isData, notData, noData, cameUp, onStatus, onPullAll, onPullOne, onPull, onOperation, reactionTo}
 use Rattle.platform.specs.Receiving.{payloadHeard}
 use Rattle.promises.specs.Reports.{HasID, IsVersioned, Pulled, Operated, Reports, all, none-of-all, one, not-versioned, in-table, not-in-table}
-use Rattle.promises.proofs.TableOrder.{some-below}
+use Rattle.promises.proofs.Rules32.{some-below}
 use Rattle.promises.proofs.Reacting.{X}
 
 not-true : (b : Bool) → not b ≡ true → b ≡ false

@@ -25,6 +25,7 @@ use Rattle.table.proofs.AllBelow.{at-below}
 use Rattle.promises.specs.Checks.{Check, _when_, Answers, Outside, none, below, above}
 use Rattle.promises.specs.TableOrder.{sectionsIn, sectionChecks, BreaksARule, IsTooLarge, an-operation, tableChecks, TableInOrder}
 use Rattle.promises.proofs.Checks.{Decides, lt-decides, eq-decides, not-decides, or-decides, decides-same, by, unless, then}
+use Rattle.promises.proofs.Rules32.{some-below}
 
 -- a count outside its limit
 outside-decides : (lo hi x : ℕ) → Decides (ltb x lo || ltb hi x) (Outside lo hi x)
@@ -63,21 +64,6 @@ module _ (width least most : ℕ) (t : List ℕ) (p : ℕ) (go-on : Section → 
       (by Refused good (ltb (length t) (p + 2)) 30 (lt-decides (length t) (p + 2))
       (by Refused good (ltb (counted t p .count) least || ltb most (counted t p .count)) 31 (outside-decides least most (counted t p .count))
       (by Refused good (ltb (length t) (sectionEnd width (counted t p))) 30 (lt-decides (length t) (sectionEnd width (counted t p))) a)))
-
--- some entry fails where not all pass
-pub some-below : (f : ℕ → Bool) (n : ℕ) → allBelow f n ≡ false → (i : ℕ) × (i < n) × (f i ≡ false)
-unfolding allBelow
-some-below f zero e = let z : _≡_ {A = ℕ} 0 1 = cc in absurd (omega arith)
-some-below f (suc n) e = go (λ q. some-below f n q) (allBelow f n) refl (f n) refl e
-  where
-    widen : (i : ℕ) × (i < n) × (f i ≡ false) → (i : ℕ) × (i < suc n) × (f i ≡ false)
-    widen r = (r .0, (let l : r .0 < n = r .1 in omega arith), r .2)
-
-    go : (allBelow f n ≡ false → (i : ℕ) × (i < n) × (f i ≡ false)) → (a : Bool) → allBelow f n ≡ a → (b : Bool) → f n ≡ b → (a && b)
-        ≡ false → (i : ℕ) × (i < suc n) × (f i ≡ false)
-    go before false ea b eb q = widen (before ea)
-    go before true ea false eb q = (n, omega arith, eb)
-    go before true ea true eb q = let z : _≡_ {A = ℕ} 0 1 = cc in absurd (omega arith)
 
 all-fail : (f : ℕ → Bool) (n i : ℕ) → i < n → f i ≡ false → allBelow f n ≡ true → ⊥
 all-fail f n i l e a = let z : _≡_ {A = ℕ} 0 1 = cc (at-below f n i a l) in omega arith

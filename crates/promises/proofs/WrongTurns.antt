@@ -4,7 +4,15 @@ use Rattle.promises.specs.WrongTurns.{WrongTurns}
 use Rattle.promises.proofs.WrongJoiners.{no-wrong-joiner}
 use Rattle.promises.proofs.WrongCodecs.{no-wrong-codec}
 use Rattle.promises.proofs.WrongPlatforms.{no-wrong-platform}
+use Rattle.promises.proofs.WrongReports.{no-wrong-report}
 use Rattle.promises.proofs.NotRuledOut.{not-ruled-out}
 
 pub wrong-turns : WrongTurns
-wrong-turns = record { joiners = no-wrong-joiner; codecs = no-wrong-codec; platforms = no-wrong-platform; left-to-others = not-ruled-out }
+wrong-turns =
+    record {
+      joiners = no-wrong-joiner;
+      codecs = no-wrong-codec;
+      platforms = no-wrong-platform;
+      reports = no-wrong-report;
+      left-to-others = not-ruled-out;
+    }

@@ -23,3 +23,5 @@ pub mod UniqueCalls
 pub mod ExportsKeep
 pub mod Numbers
 pub mod Reports
+pub mod WrongReports
+pub mod Rules32
