@@ -32,3 +32,4 @@ pub mod Numbers
 mod Reporting
 pub mod WrongReports
 pub mod Rules32
+pub mod WrongChecks

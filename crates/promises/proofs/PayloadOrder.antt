@@ -41,7 +41,7 @@ unfolding liesIn
 lies-decides width most t x =
     and-decides (leb (x .count) most) (leb (sectionEnd width x) (length t)) (le-decides (x .count) most) (le-decides (sectionEnd width x) (length t))
 
-lie-decides : (t : List ℕ) (s : Sections) → Decides (within t s) (LieIn t s)
+pub lie-decides : (t : List ℕ) (s : Sections) → Decides (within t s) (LieIn t s)
 unfolding within
 lie-decides t s =
     let a : Bool = liesIn 8 256 (length t) (s .types) in

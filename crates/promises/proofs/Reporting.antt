@@ -157,7 +157,8 @@ module _ (t : List ℕ) (s : Sections) where
           whole i =
               part-in m 20 (length m - 20) (omega (arith, long)) ∙ take-all (length m - 20) (drop 20 m) (omega (arith, length-drop 20 m))
 
-          go : (x : Found) → operationOf t s (h .id) ≡ x → lookedUp t s (h .id) ≡ operationOf t s (h .id) → Operated t s (h .id) m (its message.Operation .heard)
+          go : (x : Found) → operationOf t s (h .id) ≡ x → lookedUp t s (h .id) ≡ operationOf t s (h .id)
+              → Operated t s (h .id) m (its message.Operation .heard)
           go (found.At i) f g =
               let e : its message.Operation .heard ≡ heard.Operation i 20 (length m - 20) = rw (g, f) (ap₂ (heard.Operation i) at rest) in
               in-table i (has (h .id) i f) e (ap (payloadHeard m) e ∙ whole i)

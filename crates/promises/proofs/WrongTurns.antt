@@ -5,6 +5,7 @@ use Rattle.promises.proofs.WrongJoiners.{no-wrong-joiner}
 use Rattle.promises.proofs.WrongCodecs.{no-wrong-codec}
 use Rattle.promises.proofs.WrongPlatforms.{no-wrong-platform}
 use Rattle.promises.proofs.WrongReports.{no-wrong-report}
+use Rattle.promises.proofs.WrongChecks.{no-wrong-check}
 use Rattle.promises.proofs.NotRuledOut.{not-ruled-out}
 
 pub wrong-turns : WrongTurns
@@ -14,5 +15,6 @@ wrong-turns =
       codecs = no-wrong-codec;
       platforms = no-wrong-platform;
       reports = no-wrong-report;
+      checks = no-wrong-check;
       left-to-others = not-ruled-out;
     }

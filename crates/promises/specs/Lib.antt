@@ -25,3 +25,4 @@ pub mod Numbers
 pub mod Reports
 pub mod WrongReports
 pub mod Rules32
+pub mod WrongChecks

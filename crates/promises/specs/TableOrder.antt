@@ -2,18 +2,17 @@
 -- entry, then 33 (docs/DECISIONS.md, 21). The theorem is in proofs/TableOrder.antt.
 use Prim.Native.Nat.{ℕ, _+_, _<_}
 use mathlib.Core.Path.{_≡_}
-use mathlib.Core.Bool.{false}
 use mathlib.Core.List.{List, [], _∷_, _++_}
 use lib.ListN.{length}
 use Rattle.table.specs.declared.Section.{Section}
 use Rattle.table.specs.declared.Sections.{Sections}
+use Rattle.table.specs.declared.Checked.{Checked}
 use Rattle.table.specs.declared.Checked.the-variants.{Refused, Table}
 use Rattle.table.specs.Layout.{sectionEnd, counted}
-use Rattle.types.specs.Rules.{typeOk}
-use Rattle.types.specs.Operations.{operationOk}
 use Rattle.types.specs.Sizes.{largest}
 use Rattle.types.specs.Table.{checked}
 use Rattle.promises.specs.Checks.{Check, _when_, Answers, Outside}
+use Rattle.promises.specs.Rules32.{TypeKeeps, OperationKeeps}
 
 -- the four sections, each behind the one before it: 8 bytes a type, 2 a member, 8 a value, 8 an operation
 abbrev pub sectionsIn : List ℕ → Sections
@@ -32,10 +31,10 @@ sectionChecks width least most t p =
     ∷ 30 when (length t < sectionEnd width (counted t p))
     ∷ []
 
--- an entry breaks a rule (types/specs/Rules and Operations); a type can exceed 65,536 bytes (types/specs/Sizes)
+-- an entry breaks a rule (specs/Rules32); a type can exceed 65,536 bytes (types/specs/Sizes)
 pub data BreaksARule (t : List ℕ) (s : Sections) : Type 0 where
-  a-type : (i : ℕ) → i < s .types .count → typeOk t s i ≡ false → BreaksARule t s
-  an-operation : (i : ℕ) → i < s .operations .count → operationOk t s i ≡ false → BreaksARule t s
+  a-type : (i : ℕ) → i < s .types .count → ¬ (TypeKeeps t s i) → BreaksARule t s
+  an-operation : (i : ℕ) → i < s .operations .count → ¬ (OperationKeeps t s i) → BreaksARule t s
 
 pub data IsTooLarge (t : List ℕ) (s : Sections) : Type 0 where
   a-type : (i : ℕ) → i < s .types .count → 65536 < largest t s i → IsTooLarge t s
@@ -52,5 +51,9 @@ tableChecks t =
     ∷ 33 when IsTooLarge t (sectionsIn t)
     ∷ []))))
 
+-- a check, ours or any other
+abbrev pub TableInOrderBy : (List ℕ → Checked) → Type 1
+TableInOrderBy C = (t : List ℕ) → Answers Refused (Table (sectionsIn t)) (tableChecks t) (C t)
+
 abbrev pub TableInOrder : Type 1
-TableInOrder = (t : List ℕ) → Answers Refused (Table (sectionsIn t)) (tableChecks t) (checked t)
+TableInOrder = TableInOrderBy checked
