@@ -4,7 +4,6 @@ use Prim.Native.Nat.{ℕ, zero, suc, _+_, _*_, _^_, _<_}
 use mathlib.Core.Path.{_≡_, refl, sym, ap, subst, _∙_}
 use mathlib.Core.Bool.{Bool, true, false, cond}
 use mathlib.Core.List.{List, [], _∷_, _++_}
-use native.Mathlib.Omega.{arith}
 use lib.Dec.{ltb}
 use lib.ListN.{length}
 use Rattle.wire.specs.Bytes.{Octets, over}
@@ -48,14 +47,14 @@ use Rattle.platform.proofs.Unchanged.{Unchanged, refusal-changes-nothing, secti
 use Rattle.promises.specs.Checks.{Check, _when_, Answers, Keeps, none, this, next}
 use Rattle.promises.specs.Order.{InOrder, readChecks}
 use Rattle.promises.specs.TableOrder.{sectionsIn}
-use Rattle.promises.specs.PayloadOrder.{numberOf}
+use Rattle.promises.specs.PayloadOrder.{numberOf, LieIn}
 use Rattle.promises.specs.Platforms.{owedFor, replyLength, Receives}
 use Rattle.promises.specs.Demand1.{Kept, ChangesNothing, kindIn, receiveChecks, ReceiveInOrder, owedIn, ReceiveCheckedInOrder, Demand1}
 use Rattle.promises.proofs.Checks.{by, then, lt-decides}
 use Rattle.promises.proofs.Order.{read-in-order, write-in-order, header-in-order, pieces-in-order, cut-in-order}
 use Rattle.promises.proofs.TakeOrder.{setup-in-order, take-in-order}
 use Rattle.promises.proofs.TableOrder.{table-in-order}
-use Rattle.promises.proofs.PayloadOrder.{payload-in-order}
+use Rattle.promises.proofs.PayloadOrder.{lie-decides, payload-in-order}
 use Rattle.promises.proofs.Replying.{the, its-length}
 
 -- one answer
@@ -222,16 +221,16 @@ module _ (own : ℕ) (t : List ℕ) (s : Sections) (p : Standing) (m : List ℕ)
       (by (λ n. n) 0 (ltb room (owedIn own t s p m)) 10 (lt-decides room (owedIn own t s p m)) none))
 
   sections-in-order : Answers (λ (n : ℕ). n) 0
-      (30 when (within t s ≡ false) ∷ (readChecks own m ++ (10 when (room < owedIn own t s p m) ∷ [])))
+      (30 when (¬ (LieIn t s)) ∷ (readChecks own m ++ (10 when (room < owedIn own t s p m) ∷ [])))
       (receiveNumber (sectionsOutcome own t s p m room .answer))
   unfolding sectionsOutcome
   sections-in-order = go (within t s) refl
     where
       go : (b : Bool) → within t s ≡ b
-          → Answers (λ (n : ℕ). n) 0 (30 when (within t s ≡ false) ∷ (readChecks own m ++ (10 when (room < owedIn own t s p m) ∷ [])))
+          → Answers (λ (n : ℕ). n) 0 (30 when (¬ (LieIn t s)) ∷ (readChecks own m ++ (10 when (room < owedIn own t s p m) ∷ [])))
           (receiveNumber (cond b (outcomeIn own t s p m room) (refused p 30) .answer))
-      go true e = next (λ (z : within t s ≡ false). let q : _≡_ {A = ℕ} 0 1 = cc in omega arith) found-in-order
-      go false e = this e
+      go true e = next (λ (z : ¬ (LieIn t s)). z (lie-decides t s .yes-is e)) found-in-order
+      go false e = this (lie-decides t s .no-is e)
 
 receive-checked-in-order : ReceiveCheckedInOrder
 receive-checked-in-order own t s p m room = sections-in-order own t s p m room

@@ -36,3 +36,8 @@ mod Numbered
 pub mod LinkedPayloads
 pub mod LinkedMessages
 pub mod LinkedReplies
+pub mod Numbers
+mod Reporting
+pub mod WrongReports
+pub mod Rules32
+pub mod WrongChecks

@@ -8,10 +8,11 @@ use native.Mathlib.Omega.{arith}
 use lib.Dec.{eqb, leb, ltb}
 use lib.ListN.{length}
 use Rattle.wire.specs.Bytes.{written}
+use Rattle.table.specs.declared.Section.{Section}
 use Rattle.table.specs.declared.Sections.{Sections}
 use Rattle.table.specs.declared.Checked.{Checked}
 use Rattle.table.specs.declared.Checked.the-variants as check
-use Rattle.table.specs.Layout.{within}
+use Rattle.table.specs.Layout.{sectionEnd, liesIn, within}
 use Rattle.table.specs.Entries.{isType}
 use Rattle.table.specs.Leaf.{allowed}
 use Rattle.types.specs.Table.{checked}
@@ -26,13 +27,35 @@ use Rattle.payload.specs.Calls.{answered, answeredType, answeredIn, answeredIf}
 use Rattle.promises.specs.Checks.{Check, _when_, Answers, none, this, next}
 use Rattle.promises.specs.TableOrder.{sectionsIn, tableChecks}
 use Rattle.walk.specs.declared.Place.{Place}
-use Rattle.promises.specs.PayloadOrder.{numberOf, Stretch, itemMet, behind, inTurn, met, walkChecks, PayloadInOrder}
-use Rattle.promises.proofs.Checks.{Decides, lt-decides, by, unless, then}
+use Rattle.promises.specs.PayloadOrder.{numberOf, Stretch, itemMet, behind, inTurn, met, walkChecks, LiesIn, LieIn, PayloadInOrder}
+use Rattle.promises.proofs.Checks.{Decides, lt-decides, le-decides, and-decides, decides-same, by, unless, then}
 use Rattle.promises.proofs.Order.{below-decides}
 use Rattle.promises.proofs.TableOrder.{table-in-order}
 
 abbrev Numbers : List Check → ℕ → Type 1
 Numbers cs n = Answers (λ (k : ℕ). k) 0 cs n
+
+-- sections that lie in the bytes
+lies-decides : (width most : ℕ) (t : List ℕ) (x : Section) → Decides (liesIn width most (length t) x) (LiesIn width most t x)
+unfolding liesIn
+lies-decides width most t x =
+    and-decides (leb (x .count) most) (leb (sectionEnd width x) (length t)) (le-decides (x .count) most) (le-decides (sectionEnd width x) (length t))
+
+pub lie-decides : (t : List ℕ) (s : Sections) → Decides (within t s) (LieIn t s)
+unfolding within
+lie-decides t s =
+    let a : Bool = liesIn 8 256 (length t) (s .types) in
+    let b : Bool = liesIn 2 1024 (length t) (s .members) in
+    let c : Bool = liesIn 8 1024 (length t) (s .values) in
+    let d : Bool = liesIn 8 1024 (length t) (s .operations) in
+    decides-same
+    (and-decides (a && b && c) d
+    (and-decides (a && b) c
+    (and-decides a b (lies-decides 8 256 t (s .types)) (lies-decides 2 1024 t (s .members)))
+    (lies-decides 8 1024 t (s .values)))
+    (lies-decides 8 1024 t (s .operations)))
+    (λ p. record { types = p .0 .0 .0; members = p .0 .0 .1; values = p .0 .1; operations = p .1 })
+    (λ q. (((q .types, q .members), q .values), q .operations))
 
 -- a test that is false just where the check applies
 false-decides : (b : Bool) → Decides (not b) (b ≡ false)
@@ -138,15 +161,15 @@ module _ (c : Codec) (n : ℕ) (t : List ℕ) (s : Sections) (i room : ℕ) wher
       go false e = this (below-decides i (s .types .count) .yes-is (ap not e))
 
   -- on sections
-  sections-in-order : Numbers (30 when (within t s ≡ false) ∷ walkChecks c n t s i room) (numberOf (answeredIn c n t s i room))
+  sections-in-order : Numbers (30 when (¬ (LieIn t s)) ∷ walkChecks c n t s i room) (numberOf (answeredIn c n t s i room))
   unfolding answeredIn
   sections-in-order = go (within t s) refl
     where
       go : (b : Bool) → within t s ≡ b
-          → Numbers (30 when (within t s ≡ false) ∷ walkChecks c n t s i room)
+          → Numbers (30 when (¬ (LieIn t s)) ∷ walkChecks c n t s i room)
           (numberOf (cond b (cond (isType s i) (answeredType c n t s i room) (Refused 44)) (Refused 30)))
-      go true e = next (λ (f : within t s ≡ false). let z : _≡_ {A = ℕ} 0 1 = cc in omega arith) known-in-order
-      go false e = this e
+      go true e = next (λ (f : ¬ (LieIn t s)). f (lie-decides t s .yes-is e)) known-in-order
+      go false e = this (lie-decides t s .no-is e)
 
 -- on bytes
 bytes-in-order : (c : Codec) (n : ℕ) (t : List ℕ) (i room : ℕ)

@@ -18,7 +18,7 @@ use Rattle.message.specs.declared.Header.{Header}
 use Rattle.message.specs.declared.Message.{Message}
 use Rattle.message.specs.declared.Reading.{Reading}
 use Rattle.message.specs.declared.Reading.the-variants as reading
-use Rattle.message.specs.Header.{headerLength, domainIn, idIn, payloadIn, headerIn}
+use Rattle.message.specs.Header.{headerLength, domainIn, idIn, payloadSizeIn, payloadIn, headerIn}
 use Rattle.message.specs.Platform.{messageOf}
 use Rattle.message.specs.Refusal.{platforms, noRoom, readRefusal}
 use Rattle.message.specs.Reading.{readOut, readOf}
@@ -38,7 +38,10 @@ use Rattle.promises.specs.Platforms.{owedFor, replyLength, AreReplies, R
 use Rattle.promises.proofs.Headers.{was-read, headerRead}
 use Rattle.platform.specs.declared.reactions.Reply.{Reply}
 use Rattle.platform.specs.declared.reactions.Reaction.{Reaction}
+use Rattle.types.proofs.Accepted.{accepted, ids-rise}
+use Rattle.promises.specs.Reports.{Reports}
 use Rattle.promises.proofs.Lookups.{accepted-find}
+use Rattle.promises.proofs.Reporting.{reports}
 use Rattle.promises.proofs.Reacting.{said, fieldOf, X, Reacts, reacts, field-le}
 
 -- replies one behind another, as they are read
@@ -95,6 +98,22 @@ module _ (own : ℕ) (t : List ℕ) (s : Sections) (p : Standing) (m out : List 
 
   from-another : h .platform ≡ own → ⊥
   from-another e = seen .other (ap (λ (x : Header). x .platform) its-header ∙ e)
+
+  startRead : Reading → ℕ
+  startRead (reading.Read x k a b) = a
+  startRead (reading.Refused n) = 0
+
+  lenRead : Reading → ℕ
+  lenRead (reading.Read x k a b) = b
+  lenRead (reading.Refused n) = 0
+
+  reported : Reports t s h m kind (the .heard)
+  unfolding startRead lenRead
+  reported =
+      let at : 20 ≡ c .start = ap startRead (heard-as .1) in
+      let size : payloadSizeIn m ≡ c .len = ap lenRead (heard-as .1) in
+      reports t s (ids-rise t s (accepted t s (c .table))) own p h (c .start) (c .len) m (seen .long) (sym at) (sym size ∙ seen .size)
+      (λ id. accepted-find t s id (c .table)) kind
 
   how : Reacts own t s p h (c .start) (c .len) kind
   how =
@@ -153,6 +172,7 @@ module _ (own : ℕ) (t : List ℕ) (s : Sections) (p : Standing) (m out : List 
         record {
           heard = the .heard;
           answer = ap (λ (x : Outcome). x .answer) taken-is ∙ ap (Noted h (the .heard)) its-length;
+          reports = reported;
           written =
               subst (λ (k : ℕ). AreReplies (h .platform) own (take k (leftOf own t p m out)) (owedFor own t s p h kind)) its-length
               (subst (λ (b : List ℕ). AreReplies (h .platform) own b (owedFor own t s p h kind)) (sym front-is)

@@ -1,11 +1,16 @@
--- The starred cases, computed; the lengths of pieces by their law.
+-- The starred cases, computed; cutting by its laws.
 -- Assumes nothing.
-use Prim.Native.Nat.{ℕ, zero, suc, _-_, _*_, min}
-use mathlib.Core.Path.{_≡_, refl, ap, ap₂, _∙_}
+use Prim.Native.Nat.{ℕ, _+_, _-_, _*_, _≤_, _<_, min}
+use mathlib.Core.Path.{_≡_, refl, sym, ap, subst, _∙_}
 use mathlib.Core.List.{List, [], _∷_}
-use lib.ListN.{length}
-use Rattle.binding.specs.Cutting.{pieceCount, partOfPiece}
-use Rattle.binding.proofs.Cutting.{piece-length}
+use native.Mathlib.Omega.{arith}
+use lib.ListN.{length, take}
+use Rattle.binding.specs.declared.MessagePart.the-variants.{Begin, End, Whole}
+use Rattle.binding.specs.declared.Heard.the-variants.{Piece}
+use Rattle.binding.specs.declared.cutter.Made.the-variants.{Datagram}
+use Rattle.binding.specs.Header.{heardIn, pieceIn}
+use Rattle.binding.specs.Cutting.{pieceCount, pieceAt, partOfPiece, counterOf, headerOfPiece, datagramOf, madeOf, cutInto}
+use Rattle.binding.proofs.Cutting.{Cuttable, piece-length, datagram-heard, datagram-piece, makes-made, made-front}
 use Rattle.channel.specs.Channel.{missedOf, keeping, notedOf, begunOf, followedOf, placedOf, steppedOf}
 use Rattle.joiner.specs.Setup.{goodSizes, good, freshOf, setupOf}
 use Rattle.joiner.specs.Take.{sentTo, heardBy, judgedOf, takenBy, takenOf, putBy, roomsBy, roomsAfter, messageOf}
@@ -25,23 +30,55 @@ use Rattle.walk.specs.Walk.{answer, left, next, through, item, counted, walk, t
 use Rattle.unpack.specs.Reading.{reader}
 use Rattle.pack.specs.Writing.{writer}
 use Rattle.payload.specs.Calls.{answered, answeredType, answeredIn, leftBy, leftIn, answeredIf, leftIf}
-use Rattle.promises.specs.Cases.{Cut, piecesOf}
+use Rattle.promises.specs.Cases.{Cut, CutAs, CutsInto}
 use Rattle.promises.specs.Starred.{Starred}
 
--- the pieces go by the message's length alone
-abbrev byLength : ℕ → ℕ → ℕ → ℕ → List Cut
-byLength m s i zero = []
-byLength m s i (suc n) = record { mark = partOfPiece (pieceCount m s) i; bytes = min s (m - i * s) } ∷ byLength m s (suc i) n
+-- one piece, by the message's length alone
+module _ (msg : List ℕ) (m s sender first i n : ℕ) (e : length msg ≡ m) (w : Cuttable m s) (hs : sender < 4096) (hf : first < 65536)
+    (l : i < pieceCount m s) (b : min s (m - i * s) ≡ n) where
+  abbrev it : Cut
+  it = record { mark = partOfPiece (pieceCount m s) i; counter = counterOf first i; bytes = n }
 
-by-length : (msg : List ℕ) (m s i n : ℕ) → length msg ≡ m → piecesOf msg s i n ≡ byLength m s i n
-by-length msg m s i zero e = refl
-by-length msg m s i (suc n) e =
-    ap₂ _∷_
-    (ap₂ (λ (k l : ℕ). record { mark = partOfPiece (pieceCount k s) i; bytes = l }) e (piece-length msg s i ∙ ap (λ (k : ℕ). min s (k - i * s)) e))
-    (by-length msg m s (suc i) n e)
+  size : length (pieceAt msg s i) ≡ n
+  size = piece-length msg s i ∙ ap (λ (k : ℕ). min s (k - i * s)) e ∙ b
 
-cut-up : (msg : List ℕ) (m s : ℕ) → length msg ≡ m → piecesOf msg s 0 (pieceCount (length msg) s) ≡ byLength m s 0 (pieceCount m s)
-cut-up msg m s e = by-length msg m s 0 (pieceCount (length msg) s) e ∙ ap (λ (k : ℕ). byLength m s 0 (pieceCount k s)) e
+  long : length (datagramOf msg s sender first i) ≡ 4 + n
+  long = omega (arith, size)
+
+  cuttable-is : Cuttable (length msg) s
+  cuttable-is = subst (λ (k : ℕ). Cuttable k s) (sym e) w
+
+  there-is : i < pieceCount (length msg) s
+  there-is = subst (λ (k : ℕ). i < pieceCount k s) (sym e) l
+
+  cut-as : (out : List ℕ) → 4 + n ≤ length out → CutAs msg s sender first i it out
+  cut-as out r =
+      let q : madeOf msg s sender first i (length out) ≡ Datagram (4 + n) = makes-made msg s sender first i (length out) (4 + n)
+      (record { cut = cuttable-is; sends = hs; counts = hf; piece = there-is; fits = omega (arith, long, r); size = sym long }) in
+      let front : take (4 + n) (cutInto msg s sender first i out) ≡ datagramOf msg s sender first i = made-front msg s sender first i out q in
+      record {
+        made = q;
+        header = ap heardIn front ∙ datagram-heard msg s sender first i cuttable-is hs there-is ∙ ap (λ (k : ℕ). Piece (headerOfPiece k s sender first i)) e;
+        piece = ap pieceIn front ∙ datagram-piece msg s sender first i;
+      }
+
+-- the two messages
+one-piece : CutsInto 65503 65503 7 (record { mark = Whole; counter = 7; bytes = 65503 } ∷ [])
+one-piece =
+    let w : Cuttable 65503 65503 = record { some = omega arith; most = omega arith; size = omega arith; piece = omega arith } in
+    record { counted = refl; cut = λ msg e sender hs. (cut-as msg 65503 65503 sender 7 0 65503 e w hs (omega arith) (omega arith) refl, tt) }
+
+two-pieces : CutsInto 65504 65503 65535
+    (record { mark = Begin; counter = 65535; bytes = 65503 } ∷ record { mark = End; counter = 0; bytes = 1 } ∷ [])
+two-pieces =
+    let w : Cuttable 65504 65503 = record { some = omega arith; most = omega arith; size = omega arith; piece = omega arith } in
+    record {
+      counted = refl;
+      cut = λ msg e sender hs. (
+        cut-as msg 65504 65503 sender 65535 0 65503 e w hs (omega arith) (omega arith) refl,
+        (cut-as msg 65504 65503 sender 65535 1 1 e w hs (omega arith) (omega arith) refl, tt),
+      );
+    }
 
 infixr 5 _and_
 abbrev _and_ : {A B : Type 0} → A → B → A × B
@@ -75,8 +112,8 @@ starred =
     and refl
     and refl
     and refl
-    and (λ msg e. cut-up msg 65503 65503 e)
-    and (λ msg e. cut-up msg 65504 65503 e)
+    and one-piece
+    and two-pieces
     and refl
     and refl
     and refl

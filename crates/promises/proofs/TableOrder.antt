@@ -1,6 +1,6 @@
 -- The order of checks for a type table.
 -- Assumes nothing.
-use Prim.Native.Nat.{ℕ, zero, suc, _+_, _<_}
+use Prim.Native.Nat.{ℕ, _+_, _<_}
 use mathlib.Core.Path.{_≡_, refl, sym, subst}
 use mathlib.Core.Bool.{Bool, true, false, not, cond, _&&_, _||_}
 use mathlib.Core.Logic.{_⊎_, inl, inr}
@@ -25,6 +25,7 @@ use Rattle.table.proofs.AllBelow.{at-below}
 use Rattle.promises.specs.Checks.{Check, _when_, Answers, Outside, none, below, above}
 use Rattle.promises.specs.TableOrder.{sectionsIn, sectionChecks, BreaksARule, IsTooLarge, an-operation, tableChecks, TableInOrder}
 use Rattle.promises.proofs.Checks.{Decides, lt-decides, eq-decides, not-decides, or-decides, decides-same, by, unless, then}
+use Rattle.promises.proofs.Rules32.{some-below, type-decides, operation-decides}
 
 -- a count outside its limit
 outside-decides : (lo hi x : ℕ) → Decides (ltb x lo || ltb hi x) (Outside lo hi x)
@@ -64,38 +65,20 @@ module _ (width least most : ℕ) (t : List ℕ) (p : ℕ) (go-on : Section → 
       (by Refused good (ltb (counted t p .count) least || ltb most (counted t p .count)) 31 (outside-decides least most (counted t p .count))
       (by Refused good (ltb (length t) (sectionEnd width (counted t p))) 30 (lt-decides (length t) (sectionEnd width (counted t p))) a)))
 
--- some entry fails where not all pass
-some-below : (f : ℕ → Bool) (n : ℕ) → allBelow f n ≡ false → (i : ℕ) × (i < n) × (f i ≡ false)
-unfolding allBelow
-some-below f zero e = let z : _≡_ {A = ℕ} 0 1 = cc in absurd (omega arith)
-some-below f (suc n) e = go (λ q. some-below f n q) (allBelow f n) refl (f n) refl e
-  where
-    widen : (i : ℕ) × (i < n) × (f i ≡ false) → (i : ℕ) × (i < suc n) × (f i ≡ false)
-    widen r = (r .0, (let l : r .0 < n = r .1 in omega arith), r .2)
-
-    go : (allBelow f n ≡ false → (i : ℕ) × (i < n) × (f i ≡ false)) → (a : Bool) → allBelow f n ≡ a → (b : Bool) → f n ≡ b → (a && b)
-        ≡ false → (i : ℕ) × (i < suc n) × (f i ≡ false)
-    go before false ea b eb q = widen (before ea)
-    go before true ea false eb q = (n, omega arith, eb)
-    go before true ea true eb q = let z : _≡_ {A = ℕ} 0 1 = cc in absurd (omega arith)
-
-all-fail : (f : ℕ → Bool) (n i : ℕ) → i < n → f i ≡ false → allBelow f n ≡ true → ⊥
-all-fail f n i l e a = let z : _≡_ {A = ℕ} 0 1 = cc (at-below f n i a l) in omega arith
-
 module _ (t : List ℕ) (s : Sections) where
   entries-decide : Decides (not (entriesOk t s)) (BreaksARule t s)
   unfolding entriesOk
   entries-decide = go (allBelow (typeOk t s) (s .types .count)) refl (allBelow (operationOk t s) (s .operations .count)) refl
     where
       typed : (i : ℕ) × (i < s .types .count) × (typeOk t s i ≡ false) → BreaksARule t s
-      typed r = BreaksARule.a-type (r .0) (r .1) (r .2)
+      typed r = BreaksARule.a-type (r .0) (r .1) (type-decides t s (r .0) .no-is (r .2))
 
       operated : (i : ℕ) × (i < s .operations .count) × (operationOk t s i ≡ false) → BreaksARule t s
-      operated r = an-operation (r .0) (r .1) (r .2)
+      operated r = an-operation (r .0) (r .1) (operation-decides t s (r .0) .no-is (r .2))
 
       kept : allBelow (typeOk t s) (s .types .count) ≡ true → allBelow (operationOk t s) (s .operations .count) ≡ true → ¬ (BreaksARule t s)
-      kept a b (BreaksARule.a-type i l e) = all-fail (typeOk t s) (s .types .count) i l e a
-      kept a b (an-operation i l e) = all-fail (operationOk t s) (s .operations .count) i l e b
+      kept a b (BreaksARule.a-type i l n) = n (type-decides t s i .yes-is (at-below (typeOk t s) (s .types .count) i a l))
+      kept a b (an-operation i l n) = n (operation-decides t s i .yes-is (at-below (operationOk t s) (s .operations .count) i b l))
 
       go : (a : Bool) → allBelow (typeOk t s) (s .types .count) ≡ a → (b : Bool) → allBelow (operationOk t s) (s .operations .count) ≡ b
           → Decides (not (a && b)) (BreaksARule t s)

@@ -21,8 +21,8 @@ use Rattle.joiner.proofs.Judging.{Good, good-says}
 use Rattle.joiner.proofs.Standing.{good-is}
 use Rattle.joiner.proofs.Accepted.{fresh-good, good-fresh}
 use Rattle.promises.specs.Checks.{_when_, Answers, none}
-use Rattle.promises.specs.Order.{Sound, takeChecks, itsChannel, moved, keptWith, fresh, notSetUp}
-use Rattle.promises.proofs.Checks.{Decides, not-decides, unless, unless-then}
+use Rattle.promises.specs.Order.{CanSetUp, Sound, takeChecks, itsChannel, moved, keptWith, fresh, notSetUp}
+use Rattle.promises.proofs.Checks.{Decides, not-decides, decides-same, unless, unless-then}
 use Rattle.promises.proofs.Order.{inside, version-decides}
 
 clash : {b : Bool} → b ≡ false → b ≡ true → ⊥
@@ -39,11 +39,23 @@ acceptable-decides ids R buffer = record { yes-is = λ e. go (leb (length ids) c
     both : Acceptable ids R buffer → (leb (length ids) channelLimit && good (freshOf ids R) buffer) ≡ true
     both a = rw (le-leb (length ids) channelLimit (a .few), fresh-good ids R (a .few) buffer a)
 
-pub setup-in-order : (ids : List ℕ) (R buffer : ℕ) → Answers notSetUp (fresh ids R) (20 when (¬ (Acceptable ids R buffer)) ∷ []) (setupOf ids R buffer)
+-- in 01's numbers
+can-decides : (ids : List ℕ) (R buffer : ℕ) → Decides (leb (length ids) channelLimit && good (freshOf ids R) buffer) (CanSetUp ids R buffer)
+can-decides ids R buffer = decides-same (acceptable-decides ids R buffer) there back
+  where
+    there : Acceptable ids R buffer → CanSetUp ids R buffer
+    there a =
+        record { some = a .some; few = a .few; wide = a .wide; narrow = a .narrow; whole = a .whole; range = a .range; once = a .once }
+
+    back : CanSetUp ids R buffer → Acceptable ids R buffer
+    back a =
+        record { some = a .some; few = a .few; wide = a .wide; narrow = a .narrow; whole = a .whole; range = a .range; once = a .once }
+
+pub setup-in-order : (ids : List ℕ) (R buffer : ℕ) → Answers notSetUp (fresh ids R) (20 when (¬ (CanSetUp ids R buffer)) ∷ []) (setupOf ids R buffer)
 unfolding setupOf
 setup-in-order ids R buffer =
     unless notSetUp (fresh ids R) (leb (length ids) channelLimit && good (freshOf ids R) buffer) 20
-    (not-decides (leb (length ids) channelLimit && good (freshOf ids R) buffer) (acceptable-decides ids R buffer)) none
+    (not-decides (leb (length ids) channelLimit && good (freshOf ids R) buffer) (can-decides ids R buffer)) none
 
 -- a joiner that is handed in
 module _ (j : Joiner) (buffer : ℕ) (w : length (j .channels) ≡ channelLimit) where

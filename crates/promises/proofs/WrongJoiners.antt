@@ -42,7 +42,7 @@ abbrev pub allOctets : List Datagram → Bool
 allOctets [] = true
 allOctets (d ∷ ds) = octets d && allOctets ds
 
-octets-are : (d : List ℕ) → octets d ≡ true → Octets d
+pub octets-are : (d : List ℕ) → octets d ≡ true → Octets d
 octets-are [] e i = omega arith
 octets-are (x ∷ xs) e zero = ltb-true x 256 (both (ltb x 256) (octets xs) e .0)
 octets-are (x ∷ xs) e (suc i) = octets-are xs (both (ltb x 256) (octets xs) e .1) i

@@ -1,12 +1,16 @@
 -- What a case of 01's "Values at the edges" says, over the definitions that the contracts of `unpack`, `pack`, `cut`, `setup`,
 -- `take` and `message` cite.
-use Prim.Native.Nat.{ℕ, zero, suc}
+use Prim.{Unit}
+use Prim.Native.Nat.{ℕ, suc, _+_, _*_, _≤_, _<_}
 use mathlib.Core.Path.{_≡_}
 use mathlib.Core.List.{List, [], _∷_, _++_}
-use lib.ListN.{length, replicate}
+use lib.ListN.{length, replicate, take, drop}
 use Rattle.binding.specs.declared.MessagePart.{MessagePart}
-use Rattle.binding.specs.Header.{headerOf, headerBytes}
-use Rattle.binding.specs.Cutting.{pieceCount, pieceAt, partOfPiece}
+use Rattle.binding.specs.declared.Heard.the-variants.{Piece}
+use Rattle.binding.specs.declared.cutter.Counted.the-variants.{Pieces}
+use Rattle.binding.specs.declared.cutter.Made.the-variants as made
+use Rattle.binding.specs.Header.{headerOf, headerBytes, heardIn, pieceIn}
+use Rattle.binding.specs.Cutting.{countedOf, madeOf, cutInto}
 use Rattle.channel.specs.declared.Outcome.{Outcome}
 use Rattle.payload.specs.declared.Answer.{Answer}
 use Rattle.payload.specs.declared.Answer.the-variants.{Stopped, Gave}
@@ -56,9 +60,10 @@ pub record Arrival : Type 0 where
   pub counter : ℕ
   pub piece : List ℕ
 
--- a piece that a message is cut into: its mark, its length
+-- a piece that a message is cut into: its mark, its counter, its length
 pub record Cut : Type 0 where
   pub mark : MessagePart
+  pub counter : ℕ
   pub bytes : ℕ
 
 pub data Case : Type 0 where
@@ -67,16 +72,29 @@ pub data Case : Type 0 where
   unpack-refused : ℕ → List ℕ → ℕ → Case
   packs : ℕ → List ℕ → List ℕ → Case
   pack-refused : ℕ → List ℕ → ℕ → Case
-  -- a message of m bytes at piece size s gives these pieces
-  cuts : ℕ → ℕ → List Cut → Case
+  -- a message of m bytes at piece size s gives these pieces, whose counters start at the third number
+  cuts : ℕ → ℕ → ℕ → List Cut → Case
   -- in a room of R bytes, from fresh, the datagrams have these outcomes, and these messages are delivered
   joins : ℕ → List Arrival → List Outcome → List (List ℕ) → Case
 
--- the pieces of a message from piece i on, by their definitions
-abbrev pub piecesOf : List ℕ → ℕ → ℕ → ℕ → List Cut
-piecesOf msg s i zero = []
-piecesOf msg s i (suc n) =
-    record { mark = partOfPiece (pieceCount (length msg) s) i; bytes = length (pieceAt msg s i) } ∷ piecesOf msg s (suc i) n
+-- piece i, cut into any output that is long enough: the call answers the datagram's length; its header reads back as this mark,
+-- sender and counter; and behind it stand the message's bytes from i times s on
+pub record CutAs (msg : List ℕ) (s sender first i : ℕ) (c : Cut) (out : List ℕ) : Type 0 where
+  pub made : madeOf msg s sender first i (length out) ≡ made.Datagram (4 + c .bytes)
+  pub header : heardIn (take (4 + c .bytes) (cutInto msg s sender first i out))
+      ≡ Piece (record { part = c .mark; sender = sender; counter = c .counter })
+  pub piece : pieceIn (take (4 + c .bytes) (cutInto msg s sender first i out)) ≡ take s (drop (i * s) msg)
+
+-- the pieces from piece i on
+abbrev pub AreCut : List ℕ → ℕ → ℕ → ℕ → ℕ → List Cut → Type 0
+AreCut msg s sender first i [] = Unit {0}
+AreCut msg s sender first i (c ∷ cs) =
+    ((out : List ℕ) → 4 + c .bytes ≤ length out → CutAs msg s sender first i c out) × AreCut msg s sender first (suc i) cs
+
+-- every message of m bytes of every sender: so many pieces are counted, and these are cut
+pub record CutsInto (m s first : ℕ) (ps : List Cut) : Type 0 where
+  pub counted : countedOf m s ≡ Pieces (length ps)
+  pub cut : (msg : List ℕ) → length msg ≡ m → (sender : ℕ) → sender < 4096 → AreCut msg s sender first 0 ps
 
 -- the datagrams of one sender, and one channel with its room
 abbrev pub sender : ℕ
@@ -130,5 +148,5 @@ Holds (unpacks i b ws) = unpacking i b (length ws) ≡ gives ws
 Holds (unpack-refused i b n) = unpacking i b 8 ≡ refusedWith n
 Holds (packs i ws b) = packing i ws (length b) ≡ gives b
 Holds (pack-refused i ws n) = packing i ws 8 ≡ refusedWith n
-Holds (cuts m s ps) = (msg : List ℕ) → length msg ≡ m → piecesOf msg s 0 (pieceCount (length msg) s) ≡ ps
+Holds (cuts m s first ps) = CutsInto m s first ps
 Holds (joins R xs outcomes delivered) = joining R xs ≡ record { outcomes = outcomes; delivered = delivered }

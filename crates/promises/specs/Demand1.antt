@@ -3,14 +3,12 @@
 -- language's: each function is total. The theorem is in proofs/Demand1.antt.
 use Prim.Native.Nat.{ℕ, _*_, _^_, _<_}
 use mathlib.Core.Path.{_≡_}
-use mathlib.Core.Bool.{false}
 use mathlib.Core.List.{List, [], _∷_, _++_}
 use lib.ListN.{length}
 use Rattle.wire.specs.Bytes.{Octets, number}
 use Rattle.table.specs.declared.Sections.{Sections}
-use Rattle.table.specs.Layout.{within}
 use Rattle.message.specs.declared.Message.{Message}
-use Rattle.message.specs.Header.{headerLength, domainIn, idIn, payloadSizeIn, payloadIn, headerIn}
+use Rattle.message.specs.Header.{domainIn, idIn, payloadSizeIn, payloadIn, headerIn}
 use Rattle.message.specs.Platform.{messageOf}
 use Rattle.message.specs.Refusal.{platforms}
 use Rattle.message.specs.Writing.{writeOf, outputAfter, numberGiven as writeNumber}
@@ -27,7 +25,7 @@ use Rattle.platform.specs.Receiving.{receivedOf, leftOf, sectionsOutcome, secti
 use Rattle.promises.specs.Checks.{Check, _when_, Answers, Keeps}
 use Rattle.promises.specs.Order.{readChecks, InOrder}
 use Rattle.promises.specs.TableOrder.{sectionsIn, tableChecks, TableInOrder}
-use Rattle.promises.specs.PayloadOrder.{numberOf, PayloadInOrder}
+use Rattle.promises.specs.PayloadOrder.{numberOf, LieIn, PayloadInOrder}
 use Rattle.promises.specs.Platforms.{owedFor, replyLength}
 
 -- "changes no channel, room, platform state, sequence number or output byte", call by call: first what a call for one message keeps
@@ -71,13 +69,13 @@ ReceiveInOrder =
 -- how many bytes of replies are owed, with the operation that is found for the message
 abbrev pub owedIn : ℕ → List ℕ → Sections → Standing → List ℕ → ℕ
 owedIn own t s p m =
-    owedLength (reactionTo own t s (operationFor t s (headerIn m) (kindIn m)) p (headerIn m) (kindIn m) headerLength (payloadSizeIn m) .owed)
+    owedLength (reactionTo own t s (operationFor t s (headerIn m) (kindIn m)) p (headerIn m) (kindIn m) 20 (payloadSizeIn m) .owed)
 
 -- the same on any sections: 30 where these do not lie in the bytes
 abbrev pub ReceiveCheckedInOrder : Type 1
 ReceiveCheckedInOrder =
     (own : ℕ) (t : List ℕ) (s : Sections) (p : Standing) (m : List ℕ) (room : ℕ)
-    → Answers (λ n. n) 0 (30 when (within t s ≡ false) ∷ (readChecks own m ++ (10 when (room < owedIn own t s p m) ∷ [])))
+    → Answers (λ n. n) 0 (30 when (¬ (LieIn t s)) ∷ (readChecks own m ++ (10 when (room < owedIn own t s p m) ∷ [])))
     (receiveNumber (sectionsOutcome own t s p m room .answer))
 
 pub record Demand1 : Type 1 where

@@ -27,3 +27,8 @@ pub mod WrongCalls
 pub mod LinkedPayloads
 pub mod LinkedMessages
 pub mod LinkedReplies
+pub mod Numbers
+pub mod Reports
+pub mod WrongReports
+pub mod Rules32
+pub mod WrongChecks

@@ -2,20 +2,21 @@
 -- cutting (50 to 52). The theorems are in proofs/Order.antt.
 use Prim.Native.Nat.{ℕ, _+_, _-_, _*_, _^_, _≤_, _<_}
 use mathlib.Core.Path.{_≡_}
+use mathlib.Core.Bool.{cond}
 use mathlib.Core.Logic.{_⊎_}
 use mathlib.Core.List.{List, [], _∷_, _++_}
-use lib.ListN.{length}
+use lib.Dec.{eqb}
+use lib.ListN.{length, getD}
 use Rattle.wire.specs.Bytes.{number}
 use Rattle.message.specs.declared.Reading.the-variants as reading
 use Rattle.message.specs.declared.Writing.the-variants as writing
-use Rattle.message.specs.Header.{headerLength, theMark, markIn, theVersion, versionIn, domainIn, senderIn, idIn, payloadSizeIn, payloadIn}
-use Rattle.message.specs.Platform.{payloadLength}
+use Rattle.message.specs.Header.{markIn, versionIn, domainIn, senderIn, idIn, payloadSizeIn, payloadIn}
 use Rattle.message.specs.Reading.{readOut, readOf}
 use Rattle.message.specs.Writing.{writeOf}
 use Rattle.binding.specs.declared.Heard.the-variants as heard
 use Rattle.binding.specs.declared.cutter.Counted.the-variants as counted
 use Rattle.binding.specs.declared.cutter.Made.the-variants as made
-use Rattle.binding.specs.Header.{senders, counters, partIn, counterIn, pieceIn, headerIn, heardIn, senderIn as datagramSender, versionIn as datagramVersion}
+use Rattle.binding.specs.Header.{partIn, counterIn, pieceIn, headerIn, heardIn, senderIn as datagramSender, versionIn as datagramVersion}
 use Rattle.binding.specs.Cutting.{pieceCount, datagramOf, countedOf, madeOf}
 use Rattle.channel.specs.declared.Step.{Step}
 use Rattle.channel.specs.declared.Outcome.the-variants as outcome
@@ -24,26 +25,30 @@ use Rattle.joiner.specs.declared.Joiner.{Joiner}
 use Rattle.joiner.specs.declared.Taken.{Taken}
 use Rattle.joiner.specs.declared.setups.Verdict.the-variants as answer
 use Rattle.joiner.specs.declared.setups.NewJoiner.{NewJoiner}
-use Rattle.joiner.specs.Setup.{placeOf, sendersOf, channelAt, freshOf, setupOf, Acceptable}
+use Rattle.joiner.specs.Setup.{placeOf, sendersOf, channelAt, freshOf, setupOf}
 use Rattle.joiner.specs.Take.{changed, takenOf}
 use Rattle.promises.specs.Checks.{Check, _when_, Answers, Outside}
+
+-- 000, Table 4: a PLATFORM_STATUS_REQUEST (2) has no payload, the other three 32 bits
+abbrev pub lengthInTable4 : ℕ → ℕ
+lengthInTable4 id = cond (eqb id 2) 0 4
 
 -- 7 to 9: "domain 0 and ID reserved / payload length not Table 4's / a field has a reserved value"
 abbrev pub contentsChecks : ℕ → ℕ → List ℕ → List Check
 contentsChecks domain id payload =
     7 when ((domain ≡ 0) × Outside 1 4 id)
-    ∷ 8 when ((domain ≡ 0) × ¬ (length payload ≡ payloadLength id))
+    ∷ 8 when ((domain ≡ 0) × ¬ (length payload ≡ lengthInTable4 id))
     ∷ 9 when ((domain ≡ 0) × ((id ≡ 1) × (1 < number 2 payload 0)))
     ∷ []
 
 -- a message read at the platform `own`; 6 also where the sender is none of the 256 (docs/DECISIONS.md, 4)
 unfoldable pub readChecks : ℕ → List ℕ → List Check
 readChecks own s =
-    1 when (length s < headerLength)
-    ∷ 2 when (¬ (markIn s ≡ theMark))
-    ∷ 3 when (¬ (versionIn s ≡ theVersion))
+    1 when (length s < 20)
+    ∷ 2 when (¬ (markIn s ≡ 0xEC0A))
+    ∷ 3 when (¬ (versionIn s ≡ 2))
     ∷ 4 when (1 < domainIn s)
-    ∷ 5 when (¬ (payloadSizeIn s ≡ length s - headerLength))
+    ∷ 5 when (¬ (payloadSizeIn s ≡ length s - 20))
     ∷ 6 when ((255 < senderIn s) ⊎ (senderIn s ≡ own))
     ∷ contentsChecks (domainIn s) (idIn s) (payloadIn s)
 
@@ -52,7 +57,7 @@ abbrev pub writeChecks : ℕ → ℕ → List ℕ → ℕ → List Check
 writeChecks domain id payload room =
     4 when (1 < domain)
     ∷ 5 when (2 ^ 32 ≤ length payload)
-    ∷ (contentsChecks domain id payload ++ (10 when (room < headerLength + length payload) ∷ []))
+    ∷ (contentsChecks domain id payload ++ (10 when (room < 20 + length payload) ∷ []))
 
 -- a datagram's header
 abbrev pub headerChecks : List ℕ → List Check
@@ -61,7 +66,7 @@ headerChecks d = 21 when Outside 5 65507 (length d) ∷ 22 when (¬ (datagramVer
 -- cutting
 abbrev pub cutChecks : List ℕ → ℕ → ℕ → ℕ → ℕ → ℕ → List Check
 cutChecks msg s sender first i room =
-    50 when ((Outside 1 65560 (length msg) ⊎ Outside 1 65503 s) ⊎ ((senders ≤ sender) ⊎ (counters ≤ first)))
+    50 when ((Outside 1 65560 (length msg) ⊎ Outside 1 65503 s) ⊎ ((4096 ≤ sender) ⊎ (65536 ≤ first)))
     ∷ 51 when (pieceCount (length msg) s ≤ i)
     ∷ 52 when (room < length (datagramOf msg s sender first i))
     ∷ []
@@ -73,9 +78,9 @@ pub record Sound (j : Joiner) (buffer : ℕ) : Type 0 where
   pub wide : 24 ≤ j .room
   pub narrow : j .room ≤ 65560
   pub whole : buffer ≡ j .count * j .room
-  pub range : (k : ℕ) → k < j .count → channelAt j k .sender < senders
+  pub range : (k : ℕ) → k < j .count → channelAt j k .sender < 4096
   pub held : (k : ℕ) → k < j .count → channelAt j k .held ≤ j .room
-  pub last : (k : ℕ) → k < j .count → channelAt j k .last < counters
+  pub last : (k : ℕ) → k < j .count → channelAt j k .last < 65536
   pub once : (a b : ℕ) → a < b → b < j .count → ¬ (channelAt j a .sender ≡ channelAt j b .sender)
 
 abbrev pub takeChecks : Joiner → ℕ → List ℕ → List Check
@@ -96,7 +101,16 @@ moved j d = record { outcome = itsStep j d .outcome; joiner = changed j (itsChan
 abbrev pub keptWith : Joiner → ℕ → Taken
 keptWith j n = record { outcome = outcome.Refused n; joiner = j }
 
--- a set-up: `Acceptable` (joiner/specs/Setup) says what 20 asks of it
+-- what 20 asks of a set-up: 1 to 32 channels, a room of 24 to 65,560 bytes, a buffer of channels times that, IDs that differ
+pub record CanSetUp (ids : List ℕ) (R buffer : ℕ) : Type 0 where
+  pub some : 1 ≤ length ids
+  pub few : length ids ≤ 32
+  pub wide : 24 ≤ R
+  pub narrow : R ≤ 65560
+  pub whole : buffer ≡ length ids * R
+  pub range : (k : ℕ) → k < length ids → getD ids k 0 < 4096
+  pub once : (a b : ℕ) → a < b → b < length ids → ¬ (getD ids a 0 ≡ getD ids b 0)
+
 abbrev pub fresh : List ℕ → ℕ → NewJoiner
 fresh ids R = record { answer = answer.Accepted; joiner = freshOf ids R }
 
@@ -107,10 +121,10 @@ notSetUp n = record { answer = answer.Refused n; joiner = freshOf [] 0 }
 pub record InOrder : Type 1 where
   pub read : (own : ℕ) (s : List ℕ) → Answers reading.Refused (readOut s) (readChecks own s) (readOf own s)
   pub write : (domain id : ℕ) (payload : List ℕ) (room : ℕ) →
-      Answers writing.Refused (writing.Written (headerLength + length payload)) (writeChecks domain id payload room) (writeOf domain id payload room)
+      Answers writing.Refused (writing.Written (20 + length payload)) (writeChecks domain id payload room) (writeOf domain id payload room)
   pub header : (d : List ℕ) → Answers heard.Refused (heard.Piece (headerIn d)) (headerChecks d) (heardIn d)
   pub setup : (ids : List ℕ) (R buffer : ℕ) →
-      Answers notSetUp (fresh ids R) (20 when (¬ (Acceptable ids R buffer)) ∷ []) (setupOf ids R buffer)
+      Answers notSetUp (fresh ids R) (20 when (¬ (CanSetUp ids R buffer)) ∷ []) (setupOf ids R buffer)
   pub take : (j : Joiner) (rooms d : List ℕ) → length (j .channels) ≡ 32 →
       Answers (keptWith j) (moved j d) (takeChecks j (length rooms) d) (takenOf j rooms d)
   pub pieces : (m s : ℕ) →

@@ -2,20 +2,20 @@
 -- it, 45 last. A call handed type-table bytes gives 30 to 33 for them before anything else." The theorem is in
 -- proofs/PayloadOrder.antt.
 use Prim.{Unit}
-use Prim.Native.Nat.{ℕ, zero, suc, _≤_, _<_}
+use Prim.Native.Nat.{ℕ, zero, suc, _+_, _*_, _≤_, _<_}
 use mathlib.Core.Path.{_≡_}
 use mathlib.Core.Bool.{Bool, false, _&&_}
 use mathlib.Core.List.{List, [], _∷_, _++_}
 use lib.Dec.{leb}
 use lib.ListN.{length}
+use Rattle.table.specs.declared.Section.{Section}
 use Rattle.table.specs.declared.Sections.{Sections}
-use Rattle.table.specs.Layout.{within}
 use Rattle.table.specs.Leaf.{allowed}
 use Rattle.payload.specs.declared.Answer.{Answer}
 use Rattle.payload.specs.declared.Answer.the-variants.{Refused, Stopped, Gave}
 use Rattle.walk.specs.declared.Place.{Place}
 use Rattle.walk.specs.Tree.{Tree, leaf, row, array, broken, tree}
-use Rattle.walk.specs.Walk.{Codec, countCode}
+use Rattle.walk.specs.Walk.{Codec}
 use Rattle.unpack.specs.Reading.{reader}
 use Rattle.pack.specs.Writing.{writer}
 use Rattle.walk.specs.Walk.{start}
@@ -28,6 +28,10 @@ abbrev pub numberOf : Answer → ℕ
 numberOf (Refused n) = n
 numberOf (Stopped n) = n
 numberOf (Gave n) = 0
+
+-- the base code of an array's count on the wire: 32 bits
+abbrev pub uint32 : ℕ
+uint32 = 9
 
 -- what is met in a part of a payload, from the left, and the place behind it
 pub record Stretch : Type 1 where
@@ -55,7 +59,7 @@ inTurn (suc n) f p = behind (inTurn n f p) (f n)
 unfoldable pub met : Codec → Tree → Place → Stretch
 met c (leaf code ok) p = itemMet c 42 code ok p
 met c (row n f) p = inTurn n (λ k q. met c (f k) q) p
-met c (array most a) p = behind (itemMet c 43 countCode (λ n. leb n most) p) (λ q. inTurn (c .word countCode p) (λ k r. met c a r) q)
+met c (array most a) p = behind (itemMet c 43 uint32 (λ n. leb n most) p) (λ q. inTurn (c .word uint32 p) (λ k r. met c a r) q)
 met c broken p = record { checks = 32 when Unit {0} ∷ []; end = p }
 
 -- of a call over n bytes or words of input and with that much room
@@ -70,6 +74,16 @@ walkChecks c n t s i room =
 abbrev pub GivesNumber : List Check → Answer → Type 1
 GivesNumber checks a = Answers (λ n. n) 0 checks (numberOf a)
 
+-- sections that could be a table's of these bytes: each with no more entries than its limit, which lie in the bytes
+abbrev pub LiesIn : ℕ → ℕ → List ℕ → Section → Type 0
+LiesIn width most t x = (x .count ≤ most) × (x .at + width * x .count ≤ length t)
+
+pub record LieIn (t : List ℕ) (s : Sections) : Type 0 where
+  pub types : LiesIn 8 256 t (s .types)
+  pub members : LiesIn 2 1024 t (s .members)
+  pub values : LiesIn 8 1024 t (s .values)
+  pub operations : LiesIn 8 1024 t (s .operations)
+
 -- the calls handed table bytes, and those on sections: 30 where these do not lie in the bytes
 pub record PayloadInOrder : Type 1 where
   pub unpack : (t : List ℕ) (i : ℕ) (b : List ℕ) (room : ℕ) →
@@ -77,6 +91,6 @@ pub record PayloadInOrder : Type 1 where
   pub pack : (t : List ℕ) (i : ℕ) (ws : List ℕ) (room : ℕ) →
       GivesNumber (tableChecks t ++ walkChecks (writer ws) (length ws) t (sectionsIn t) i room) (packed t i ws room)
   pub unpack-in : (t : List ℕ) (s : Sections) (i : ℕ) (b : List ℕ) (room : ℕ) →
-      GivesNumber (30 when (within t s ≡ false) ∷ walkChecks (reader b) (length b) t s i room) (unpackedIn t s i b room)
+      GivesNumber (30 when (¬ (LieIn t s)) ∷ walkChecks (reader b) (length b) t s i room) (unpackedIn t s i b room)
   pub pack-in : (t : List ℕ) (s : Sections) (i : ℕ) (ws : List ℕ) (room : ℕ) →
-      GivesNumber (30 when (within t s ≡ false) ∷ walkChecks (writer ws) (length ws) t s i room) (packedIn t s i ws room)
+      GivesNumber (30 when (¬ (LieIn t s)) ∷ walkChecks (writer ws) (length ws) t s i room) (packedIn t s i ws room)

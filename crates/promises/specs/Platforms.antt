@@ -19,18 +19,19 @@ use Rattle.message.specs.declared.Status.the-variants.{Down, Up}
 use Rattle.message.specs.declared.Message.{Message}
 use Rattle.message.specs.declared.Message.the-variants as message
 use Rattle.message.specs.declared.Reading.the-variants.{Read}
-use Rattle.message.specs.Header.{headerLength}
 use Rattle.message.specs.Refusal.{platforms, noRoom}
 use Rattle.message.specs.Reading.{readOf}
 use Rattle.states.specs.declared.States.{States}
 use Rattle.platform.specs.declared.reactions.Standing.{Standing}
 use Rattle.platform.specs.declared.reactions.Heard.{Heard}
 use Rattle.platform.specs.declared.Answer.the-variants.{Refused, Noted}
+use Rattle.platform.specs.declared.Outcome.{Outcome}
 use Rattle.states.specs.States.{isUp, howManyUp, countBelow, Words}
 use Rattle.platform.specs.Replies.{allData, drawn}
 use Rattle.platform.specs.Reaction.{noData, foundData}
 use Rattle.platform.specs.Receiving.{freshStanding, receivedOf, leftOf}
 use Rattle.platform.specs.Exchange.{Pair, Exchange, started, longestExchange}
+use Rattle.promises.specs.Reports.{Reports}
 
 -- "the states can be asked for one by one, or as how many of the 256 are UP, this one counted"
 pub record StatesAre : Type 0 where
@@ -89,7 +90,7 @@ replyLength = 24
 
 pub record HeardAs (reader own : ℕ) (b : List ℕ) (o : Owed) : Type 0 where
   pub header : Header
-  pub reads : readOf reader b ≡ Read header (o .means) headerLength 4
+  pub reads : readOf reader b ≡ Read header (o .means) 20 4
   pub sender : header .platform ≡ own
   pub number : header .sequence ≡ o .number
 
@@ -108,23 +109,40 @@ pub record Receives (own : ℕ) (t : List ℕ) (s : Sections) (p : Standing) (m 
   pub len : ℕ
   pub read : readOf own m ≡ Read h kind start len
 
--- what it comes to where the n bytes of replies fit: "One call reads a message, notes the state and writes the owed replies"
-pub record Notes (own : ℕ) (t : List ℕ) (s : Sections) (p : Standing) (m out : List ℕ) (h : Header) (kind : Message) (n : ℕ) : Type 0 where
+-- a platform, ours or any other: what its call answers and keeps, and what it leaves in the output
+pub record Receiving : Type 0 where
+  pub outcome : ℕ → List ℕ → Standing → List ℕ → ℕ → Outcome
+  pub left : ℕ → List ℕ → Standing → List ℕ → List ℕ → List ℕ
+
+abbrev pub ourReceiving : Receiving
+ourReceiving = record { outcome = receivedOf; left = leftOf }
+
+-- what it comes to where the n bytes of replies fit: "One call reads a message, notes the state and writes the owed replies". What was
+-- heard is what 01 says for a message of this kind (specs/Reports)
+pub record NotesBy (X : Receiving) (own : ℕ) (t : List ℕ) (s : Sections) (p : Standing) (m out : List ℕ) (h : Header) (kind : Message)
+    (n : ℕ) : Type 0 where
   pub heard : Heard
-  pub answer : receivedOf own t p m (length out) .answer ≡ Noted h heard n
-  pub written : AreReplies (h .platform) own (take n (leftOf own t p m out)) (owedFor own t s p h kind)
-  pub rest : drop n (leftOf own t p m out) ≡ drop n out
-  pub next : receivedOf own t p m (length out) .standing .next ≡ nextAfter own p h kind
-  pub states : (k : ℕ) → k < platforms → isUp own (receivedOf own t p m (length out) .standing .states) k ≡ stateAfter own p h kind k
+  pub answer : X .outcome own t p m (length out) .answer ≡ Noted h heard n
+  pub reports : Reports t s h m kind heard
+  pub written : AreReplies (h .platform) own (take n (X .left own t p m out)) (owedFor own t s p h kind)
+  pub rest : drop n (X .left own t p m out) ≡ drop n out
+  pub next : X .outcome own t p m (length out) .standing .next ≡ nextAfter own p h kind
+  pub states : (k : ℕ) → k < platforms → isUp own (X .outcome own t p m (length out) .standing .states) k ≡ stateAfter own p h kind k
+
+abbrev pub Notes : ℕ → List ℕ → Sections → Standing → List ℕ → List ℕ → Header → Message → ℕ → Type 0
+Notes own t s p m out h kind n = NotesBy ourReceiving own t s p m out h kind n
 
 -- and where they don't, "it is 10"
-pub record Replies : Type 0 where
+pub record RepliesBy (X : Receiving) : Type 0 where
   pub fit : (own : ℕ) (t : List ℕ) (s : Sections) (p : Standing) (m out : List ℕ) (h : Header) (kind : Message) →
       Receives own t s p m h kind → replyLength * length (owedFor own t s p h kind) ≤ length out →
-      Notes own t s p m out h kind (replyLength * length (owedFor own t s p h kind))
+      NotesBy X own t s p m out h kind (replyLength * length (owedFor own t s p h kind))
   pub do-not-fit : (own : ℕ) (t : List ℕ) (s : Sections) (p : Standing) (m out : List ℕ) (h : Header) (kind : Message) →
       Receives own t s p m h kind → length out < replyLength * length (owedFor own t s p h kind) →
-      receivedOf own t p m (length out) .answer ≡ Refused noRoom
+      X .outcome own t p m (length out) .answer ≡ Refused noRoom
+
+abbrev pub Replies : Type 0
+Replies = RepliesBy ourReceiving
 
 -- "two platforms would answer for ever": they do not. From any two states, whatever their tables and outputs, in whatever order
 -- messages arrive and whichever are lost, an exchange that one status starts ends after at most seven, with none under way

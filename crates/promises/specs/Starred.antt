@@ -1,11 +1,9 @@
 -- 01, "Values at the edges": the starred cases, each part of each line, as one table with one statement. What a case says
 -- is `Holds` (specs/Cases.antt); the theorem is in proofs/Starred.antt.
 use Prim.{Unit}
-use Prim.Native.Nat.{_-_}
 use mathlib.Core.List.{List, [], _∷_, _++_}
 use lib.ListN.{replicate}
 use Rattle.binding.specs.declared.MessagePart.the-variants.{Begin, End, Whole}
-use Rattle.binding.specs.Header.{counters}
 use Rattle.channel.specs.declared.Outcome.the-variants.{Delivered, Held, TooLong}
 use Rattle.channel.specs.declared.Place.the-variants.{Rooms}
 use Rattle.promises.specs.Cases.{uint16, int16, int8, uint8, boolean8, float32, upToThree, Case, unpacks, unpack-refused}
@@ -40,9 +38,11 @@ starred =
     ∷ packs upToThree (0 ∷ []) (0 ∷ 0 ∷ 0 ∷ 0 ∷ [])
     ∷ unpack-refused upToThree (0 ∷ 0 ∷ 0 ∷ 4 ∷ 1 ∷ 2 ∷ 3 ∷ 4 ∷ []) 43
     ∷ pack-refused upToThree (4 ∷ 1 ∷ 2 ∷ 3 ∷ 4 ∷ []) 43
-    -- 65,503 bytes make one whole piece; 65,504 make two at s = 65,503, the second of 1 byte
-    ∷ cuts 65503 65503 (record { mark = Whole; bytes = 65503 } ∷ [])
-    ∷ cuts 65504 65503 (record { mark = Begin; bytes = 65503 } ∷ record { mark = End; bytes = 1 } ∷ [])
+    -- 65,503 bytes make one whole piece; 65,504 make two at s = 65,503, the second of 1 byte; counters from
+    -- 7, and from M-1, 65,535, on
+    ∷ cuts 65503 65503 7 (record { mark = Whole; counter = 7; bytes = 65503 } ∷ [])
+    ∷ cuts 65504 65503 65535
+    (record { mark = Begin; counter = 65535; bytes = 65503 } ∷ record { mark = End; counter = 0; bytes = 1 } ∷ [])
     -- R = 24: beginning of 24 then end of 1 is too long; 23 then 1 is delivered
     ∷ joins 24
     (record { mark = Begin; counter = 5; piece = replicate 24 0xAA } ∷ record { mark = End; counter = 6; piece = 0xBB ∷ [] } ∷ [])
@@ -50,9 +50,9 @@ starred =
     ∷ joins 24
     (record { mark = Begin; counter = 5; piece = replicate 23 0xAA } ∷ record { mark = End; counter = 6; piece = 0xBB ∷ [] } ∷ [])
     (Held 0 23 ∷ Delivered 0 (Rooms 0 24) ∷ []) ((replicate 23 0xAA ++ (0xBB ∷ [])) ∷ [])
-    -- counter M-1 then 0: missed 0
+    -- counter M-1, 65,535, then 0: missed 0
     ∷ joins 24
-    (record { mark = Begin; counter = counters - 1; piece = 0xAA ∷ [] } ∷ record { mark = End; counter = 0; piece = 0xBB ∷ [] } ∷ [])
+    (record { mark = Begin; counter = 65535; piece = 0xAA ∷ [] } ∷ record { mark = End; counter = 0; piece = 0xBB ∷ [] } ∷ [])
     (Held 0 1 ∷ Delivered 0 (Rooms 0 2) ∷ []) ((0xAA ∷ 0xBB ∷ []) ∷ [])
     ∷ []
 

@@ -2,26 +2,25 @@
 -- entry, then 33 (docs/DECISIONS.md, 21). The theorem is in proofs/TableOrder.antt.
 use Prim.Native.Nat.{ℕ, _+_, _<_}
 use mathlib.Core.Path.{_≡_}
-use mathlib.Core.Bool.{false}
 use mathlib.Core.List.{List, [], _∷_, _++_}
 use lib.ListN.{length}
 use Rattle.table.specs.declared.Section.{Section}
 use Rattle.table.specs.declared.Sections.{Sections}
+use Rattle.table.specs.declared.Checked.{Checked}
 use Rattle.table.specs.declared.Checked.the-variants.{Refused, Table}
-use Rattle.table.specs.Layout.{typeWidth, memberWidth, valueWidth, operationWidth, mostTypes, mostMembers, mostValues, mostOperations, sectionEnd, counted}
-use Rattle.types.specs.Rules.{typeOk}
-use Rattle.types.specs.Operations.{operationOk}
-use Rattle.types.specs.Sizes.{mostBytes, largest}
+use Rattle.table.specs.Layout.{sectionEnd, counted}
+use Rattle.types.specs.Sizes.{largest}
 use Rattle.types.specs.Table.{checked}
 use Rattle.promises.specs.Checks.{Check, _when_, Answers, Outside}
+use Rattle.promises.specs.Rules32.{TypeKeeps, OperationKeeps}
 
--- the four sections, each behind the one before it
+-- the four sections, each behind the one before it: 8 bytes a type, 2 a member, 8 a value, 8 an operation
 abbrev pub sectionsIn : List ℕ → Sections
 sectionsIn t =
     let types : Section = counted t 0 in
-    let members : Section = counted t (sectionEnd typeWidth types) in
-    let values : Section = counted t (sectionEnd memberWidth members) in
-    let operations : Section = counted t (sectionEnd valueWidth values) in
+    let members : Section = counted t (sectionEnd 8 types) in
+    let values : Section = counted t (sectionEnd 2 members) in
+    let operations : Section = counted t (sectionEnd 8 values) in
     record { types = types; members = members; values = values; operations = operations }
 
 -- a section whose count stands at p: the count is cut off, or outside its limit, or the entries are cut off
@@ -32,25 +31,29 @@ sectionChecks width least most t p =
     ∷ 30 when (length t < sectionEnd width (counted t p))
     ∷ []
 
--- an entry breaks a rule (types/specs/Rules and Operations); a type can exceed 65,536 bytes (types/specs/Sizes)
+-- an entry breaks a rule (specs/Rules32); a type can exceed 65,536 bytes (types/specs/Sizes)
 pub data BreaksARule (t : List ℕ) (s : Sections) : Type 0 where
-  a-type : (i : ℕ) → i < s .types .count → typeOk t s i ≡ false → BreaksARule t s
-  an-operation : (i : ℕ) → i < s .operations .count → operationOk t s i ≡ false → BreaksARule t s
+  a-type : (i : ℕ) → i < s .types .count → ¬ (TypeKeeps t s i) → BreaksARule t s
+  an-operation : (i : ℕ) → i < s .operations .count → ¬ (OperationKeeps t s i) → BreaksARule t s
 
 pub data IsTooLarge (t : List ℕ) (s : Sections) : Type 0 where
-  a-type : (i : ℕ) → i < s .types .count → mostBytes < largest t s i → IsTooLarge t s
+  a-type : (i : ℕ) → i < s .types .count → 65536 < largest t s i → IsTooLarge t s
 
--- in reading order; the last 30 is for bytes after the end
+-- in reading order: 1 to 256 types, up to 1,024 members, values and operations; the last 30 is for bytes after the end
 unfoldable pub tableChecks : List ℕ → List Check
 tableChecks t =
-    sectionChecks typeWidth 1 mostTypes t 0
-    ++ (sectionChecks memberWidth 0 mostMembers t (sectionEnd typeWidth (sectionsIn t .types))
-    ++ (sectionChecks valueWidth 0 mostValues t (sectionEnd memberWidth (sectionsIn t .members))
-    ++ (sectionChecks operationWidth 0 mostOperations t (sectionEnd valueWidth (sectionsIn t .values))
-    ++ (30 when (¬ (sectionEnd operationWidth (sectionsIn t .operations) ≡ length t))
+    sectionChecks 8 1 256 t 0
+    ++ (sectionChecks 2 0 1024 t (sectionEnd 8 (sectionsIn t .types))
+    ++ (sectionChecks 8 0 1024 t (sectionEnd 2 (sectionsIn t .members))
+    ++ (sectionChecks 8 0 1024 t (sectionEnd 8 (sectionsIn t .values))
+    ++ (30 when (¬ (sectionEnd 8 (sectionsIn t .operations) ≡ length t))
     ∷ 32 when BreaksARule t (sectionsIn t)
     ∷ 33 when IsTooLarge t (sectionsIn t)
     ∷ []))))
 
+-- a check, ours or any other
+abbrev pub TableInOrderBy : (List ℕ → Checked) → Type 1
+TableInOrderBy C = (t : List ℕ) → Answers Refused (Table (sectionsIn t)) (tableChecks t) (C t)
+
 abbrev pub TableInOrder : Type 1
-TableInOrder = (t : List ℕ) → Answers Refused (Table (sectionsIn t)) (tableChecks t) (checked t)
+TableInOrder = TableInOrderBy checked

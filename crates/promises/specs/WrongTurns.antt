@@ -4,6 +4,8 @@ use Rattle.promises.specs.WrongJoiners.{NoWrongJoiner}
 use Rattle.promises.specs.WrongCalls.{NoWrongCall}
 use Rattle.promises.specs.WrongCodecs.{NoWrongCodec}
 use Rattle.promises.specs.WrongPlatforms.{NoWrongPlatform}
+use Rattle.promises.specs.WrongReports.{NoWrongReport}
+use Rattle.promises.specs.WrongChecks.{NoWrongCheck}
 use Rattle.promises.specs.NotRuledOut.{NotRuledOut}
 
 pub record WrongTurns : Type 1 where
@@ -14,5 +16,9 @@ pub record WrongTurns : Type 1 where
   pub codecs : NoWrongCodec
   -- the replies of start-up: two platforms fall silent
   pub platforms : NoWrongPlatform
+  -- what was heard of a message
+  pub reports : NoWrongReport
+  -- 30 to 33, with 01's rules for the entries of a type table
+  pub checks : NoWrongCheck
   -- met by demand 3, and ruled out by the steps' own equations (`missedOf`, `steppedOf`) and the order of refusals
   pub left-to-others : NotRuledOut

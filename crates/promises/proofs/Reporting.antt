@@ -1,0 +1,174 @@
+-- What is reported of a message of each kind.
+-- Assumes nothing.
+use Prim.Native.Nat.{ℕ, zero, suc, _-_, _≤_, _<_}
+use mathlib.Core.Path.{_≡_, refl, sym, ap, ap₂, subst, _∙_}
+use mathlib.Core.Bool.{Bool, true, false, not, cond}
+use mathlib.Core.Logic.{⊎-elim}
+use mathlib.Core.List.{List}
+use native.Mathlib.Nat.{eq-or-lt-of-le}
+use native.Mathlib.Omega.{arith}
+use borrow.Author.Tests.{eqb-true, eqb-false, ltb-true, ltb-false}
+use lib.Dec.{eqb, ltb}
+use lib.ListN.{length, drop, length-drop}
+use lib.Seq.{take-all}
+use Rattle.wire.proofs.Runs.{part-in}
+use Rattle.table.specs.declared.Sections.{Sections}
+use Rattle.table.specs.declared.Found.{Found}
+use Rattle.table.specs.declared.Found.the-variants as found
+use Rattle.table.specs.Entries.{idAt, operationAt}
+use Rattle.table.specs.Operations.{idsRise, orElse, firstBelow, operationOf}
+use Rattle.table.specs.Search.{lookedUp}
+use Rattle.table.proofs.AllBelow.{at-below}
+use Rattle.table.proofs.Rising.{rising-apart}
+use Rattle.message.specs.declared.Header.{Header}
+use Rattle.message.specs.declared.Status.the-variants.{Down, Up}
+use Rattle.message.specs.declared.Message.{Message}
+use Rattle.message.specs.declared.Message.the-variants as message
+use Rattle.states.specs.States.{isUp}
+use Rattle.platform.specs.declared.reactions.Standing.{Standing}
+use Rattle.platform.specs.declared.reactions.Heard.the-variants as heard
+use Rattle.platform.specs.declared.reactions.Reaction.{Reaction}
+use Rattle.platform.specs.Replies.{allData}
+use Rattle.platform.specs.Reaction.{operationFor, isData, notData, noData, cameUp, onStatus, onPullAll, onPullOne, onPull, onOperation, reactionTo}
+use Rattle.platform.specs.Receiving.{payloadHeard}
+use Rattle.promises.specs.Reports.{HasID, IsVersioned, Pulled, Operated, Reports, all, none-of-all, one, not-versioned, in-table, not-in-table}
+use Rattle.promises.proofs.Rules32.{some-below}
+use Rattle.promises.proofs.Reacting.{X}
+
+not-true : (b : Bool) → not b ≡ true → b ≡ false
+not-true true e = let z : _≡_ {A = ℕ} 0 1 = cc in absurd (omega arith)
+not-true false e = refl
+
+not-false : (b : Bool) → not b ≡ false → b ≡ true
+not-false true e = refl
+not-false false e = let z : _≡_ {A = ℕ} 0 1 = cc in absurd (omega arith)
+
+module _ (t : List ℕ) (s : Sections) where
+  -- versioned data
+  data-is : (i : ℕ) → isData t s i ≡ true → IsVersioned t s i
+  unfolding isData
+  data-is i e = eqb-true (operationAt t s i .kind) 1 e
+
+  not-data : (i : ℕ) → isData t s i ≡ false → ¬ (IsVersioned t s i)
+  unfolding isData
+  not-data i e = eqb-false (operationAt t s i .kind) 1 e
+
+  no-data : noData t s ≡ true → (i : ℕ) → i < s .operations .count → ¬ (IsVersioned t s i)
+  unfolding noData notData
+  no-data e i l = not-data i (not-true (isData t s i) (at-below (notData t s) (s .operations .count) i e l))
+
+  some-data : noData t s ≡ false → (i : ℕ) × (i < s .operations .count) × IsVersioned t s i
+  unfolding noData notData
+  some-data e =
+      let r : (i : ℕ) × (i < s .operations .count) × (notData t s i ≡ false) = some-below (notData t s) (s .operations .count) e in
+      (r .0, r .1, data-is (r .0) (not-false (isData t s (r .0)) (r .2)))
+
+  -- the operation of an ID: an entry that has it, or none does
+  module _ (id : ℕ) where
+    abbrev Bears : ℕ → Found → Type 0
+    Bears n (found.At i) = (i < n) × (idAt t s i ≡ id)
+    Bears n found.Nothing = (k : ℕ) → k < n → ¬ (idAt t s k ≡ id)
+
+    scanned : (n : ℕ) → Bears n (firstBelow t s id n)
+    unfolding firstBelow
+    scanned zero = λ k h. absurd (omega arith)
+    scanned (suc n) = go (firstBelow t s id n) (scanned n) (eqb (idAt t s n) id) refl
+      where
+        go : (x : Found) → Bears n x → (b : Bool) → eqb (idAt t s n) id ≡ b → Bears (suc n) (orElse x (cond b (found.At n) found.Nothing))
+        go (found.At i) h b p = (omega arith, h .1)
+        go found.Nothing h true p = (omega arith, eqb-true (idAt t s n) id p)
+        go found.Nothing h false p = λ k l q.
+            let m : k ≤ n = omega arith in
+            ⊎-elim (λ (e : k ≡ n). eqb-false (idAt t s n) id p (subst (λ (j : ℕ). idAt t s j ≡ id) e q)) (λ (g : k < n). h k g q) (eq-or-lt-of-le m)
+
+    bears : Bears (s .operations .count) (operationOf t s id)
+    unfolding operationOf
+    bears = scanned (s .operations .count)
+
+    has : (i : ℕ) → operationOf t s id ≡ found.At i → HasID t s id i
+    unfolding operationAt
+    has i e = subst (Bears (s .operations .count)) e bears
+
+    has-not : operationOf t s id ≡ found.Nothing → (i : ℕ) → ¬ (HasID t s id i)
+    unfolding operationAt
+    has-not e i h = subst (Bears (s .operations .count)) e bears i (h .0) (h .1)
+
+  module _ (rise : idsRise t s ≡ true) where
+    same : (id i j : ℕ) → HasID t s id i → HasID t s id j → i ≡ j
+    unfolding idsRise operationAt
+    same id i j hi hj = go (ltb i j) refl (ltb j i) refl
+      where
+        apart : (m n : ℕ) → m < n → n < s .operations .count → idAt t s m < idAt t s n
+        apart m n l h = rising-apart (idAt t s) (s .operations .count) rise m n l h
+
+        go : (a : Bool) → ltb i j ≡ a → (b : Bool) → ltb j i ≡ b → i ≡ j
+        go true p b r = absurd (omega (arith, apart i j (ltb-true i j p) (hj .0), hi .1, hj .1))
+        go false p true r = absurd (omega (arith, apart j i (ltb-true j i r) (hi .0), hi .1, hj .1))
+        go false p false r = omega (arith, ltb-false i j p, ltb-false j i r)
+
+    module _ (own : ℕ) (p : Standing) (h : Header) (start len : ℕ) (m : List ℕ) (long : 20 ≤ length m) (at : start ≡ 20) (rest : len ≡ length m - 20)
+        (scan : (id : ℕ) → lookedUp t s id ≡ operationOf t s id) where
+      abbrev its : Message → Reaction
+      its kind = X own t s p h start len kind
+
+      of-up : its (message.PlatformStatus Up) .heard ≡ heard.Status Up
+      unfolding reactionTo onStatus cameUp
+      of-up = go (isUp own (p .states) (h .platform)) refl
+        where
+          go : (b : Bool) → isUp own (p .states) (h .platform) ≡ b → its (message.PlatformStatus Up) .heard ≡ heard.Status Up
+          go true e = rw e
+          go false e = rw e
+
+      of-down : its (message.PlatformStatus Down) .heard ≡ heard.Status Down
+      unfolding reactionTo onStatus
+      of-down = go (isUp own (p .states) (h .platform)) refl
+        where
+          go : (b : Bool) → isUp own (p .states) (h .platform) ≡ b → its (message.PlatformStatus Down) .heard ≡ heard.Status Down
+          go true e = rw e
+          go false e = rw e
+
+      of-pull : (id : ℕ) → Pulled t s id (its (message.VersionedDataPull id) .heard)
+      unfolding reactionTo operationFor onPull onPullAll onPullOne
+      of-pull id = go (eqb id allData) refl (noData t s) refl (operationOf t s id) refl (scan id)
+        where
+          at-one : (b : Bool) (i : ℕ) → eqb id allData ≡ false → operationOf t s id ≡ found.At i → lookedUp t s id ≡ operationOf t s id
+              → isData t s i ≡ b → Pulled t s id (its (message.VersionedDataPull id) .heard)
+          at-one true i e f g d = one (eqb-false id allData e) i (has id i f) (data-is i d) (rw (e, g, f, d))
+          at-one false i e f g d =
+              not-versioned (eqb-false id allData e)
+              (λ j k v. not-data i d (subst (IsVersioned t s) (same id j i k (has id i f)) v)) (rw (e, g, f, d))
+
+          go : (a : Bool) → eqb id allData ≡ a → (b : Bool) → noData t s ≡ b → (x : Found) → operationOf t s id ≡ x → lookedUp t s id
+              ≡ operationOf t s id → Pulled t s id (its (message.VersionedDataPull id) .heard)
+          go true e true d x f g =
+              none-of-all (eqb-true id allData e) (no-data d) (rw (e, d) (ap heard.NotVersionedData (sym (eqb-true id allData e))))
+          go true e false d x f g =
+              let r : (i : ℕ) × (i < s .operations .count) × IsVersioned t s i = some-data d in
+              all (eqb-true id allData e) (r .0) (r .1) (r .2) (rw (e, d))
+          go false e b d (found.At i) f g = at-one (isData t s i) i e f g refl
+          go false e b d found.Nothing f g =
+              not-versioned (eqb-false id allData e) (λ i k v. has-not id f i k) (rw (e, g, f))
+
+      of-operation : Operated t s (h .id) m (its message.Operation .heard)
+      unfolding reactionTo operationFor onOperation
+      of-operation = go (operationOf t s (h .id)) refl (scan (h .id))
+        where
+          whole : (i : ℕ) → payloadHeard m (heard.Operation i 20 (length m - 20)) ≡ drop 20 m
+          whole i =
+              part-in m 20 (length m - 20) (omega (arith, long)) ∙ take-all (length m - 20) (drop 20 m) (omega (arith, length-drop 20 m))
+
+          go : (x : Found) → operationOf t s (h .id) ≡ x → lookedUp t s (h .id) ≡ operationOf t s (h .id)
+              → Operated t s (h .id) m (its message.Operation .heard)
+          go (found.At i) f g =
+              let e : its message.Operation .heard ≡ heard.Operation i 20 (length m - 20) = rw (g, f) (ap₂ (heard.Operation i) at rest) in
+              in-table i (has (h .id) i f) e (ap (payloadHeard m) e ∙ whole i)
+          go found.Nothing f g = not-in-table (has-not (h .id) f) (rw (g, f))
+
+      pub reports : (kind : Message) → Reports t s h m kind (its kind .heard)
+      unfolding reactionTo
+      reports (message.PlatformStatus Up) = of-up
+      reports (message.PlatformStatus Down) = of-down
+      reports message.PlatformStatusRequest = refl
+      reports (message.UnknownOperation id) = refl
+      reports (message.VersionedDataPull id) = of-pull id
+      reports message.Operation = of-operation

@@ -1,0 +1,83 @@
+-- Whole messages and tables of the papers, byte for byte: 01's own type table, a PLATFORM_STATUS and an operation by 000, Table 2,
+-- each field in its place. The theorem is in proofs/Numbers.antt.
+use Prim.Native.Nat.{ℕ, _≤_}
+use mathlib.Core.Path.{_≡_}
+use mathlib.Core.List.{List, [], _∷_, _++_}
+use lib.ListN.{length, drop}
+use Rattle.table.specs.declared.Checked.the-variants.{Table}
+use Rattle.types.specs.Table.{checked}
+use Rattle.message.specs.declared.Status.the-variants.{Up}
+use Rattle.message.specs.declared.Message.the-variants as message
+use Rattle.message.specs.declared.Reading.the-variants.{Read}
+use Rattle.message.specs.declared.Writing.the-variants.{Written}
+use Rattle.message.specs.Reading.{readOf}
+use Rattle.message.specs.Writing.{writeOf, outputAfter}
+use Rattle.payload.specs.declared.Answer.the-variants.{Gave}
+use Rattle.payload.specs.Calls.{unpacked, wordsAfter, packed, bytesAfter}
+
+-- 01, "Whole table, a record of two uint16"
+abbrev pub wholeTable : List ℕ
+wholeTable =
+    0x00 ∷ 0x02
+    ∷ 0x00 ∷ 0x00 ∷ 0x00 ∷ 0x08 ∷ 0x00 ∷ 0x00 ∷ 0x00 ∷ 0x00
+    ∷ 0x00 ∷ 0x02 ∷ 0x00 ∷ 0x00 ∷ 0x00 ∷ 0x00 ∷ 0x00 ∷ 0x02
+    ∷ 0x00 ∷ 0x02 ∷ 0x00 ∷ 0x00 ∷ 0x00 ∷ 0x00
+    ∷ 0x00 ∷ 0x00
+    ∷ 0x00 ∷ 0x00
+    ∷ []
+
+-- it has 28 bytes and is accepted, its sections standing where they do; and its record is two uint16
+pub record TableIs : Type 0 where
+  pub long : length wholeTable ≡ 28
+  pub accepted : checked wholeTable
+      ≡ Table
+      (record {
+        types = record { at = 2; count = 2 };
+        members = record { at = 20; count = 2 };
+        values = record { at = 26; count = 0 };
+        operations = record { at = 28; count = 0 };
+      })
+  pub unpacks : unpacked wholeTable 1 (0x01 ∷ 0x02 ∷ 0xFF ∷ 0xFE ∷ []) 2 ≡ Gave 2
+  pub words : wordsAfter wholeTable 1 (0x01 ∷ 0x02 ∷ 0xFF ∷ 0xFE ∷ []) (9 ∷ 9 ∷ []) ≡ 258 ∷ 65534 ∷ []
+  pub packs : packed wholeTable 1 (258 ∷ 65534 ∷ []) 4 ≡ Gave 4
+  pub bytes : bytesAfter wholeTable 1 (258 ∷ 65534 ∷ []) (9 ∷ 9 ∷ 9 ∷ 9 ∷ []) ≡ 0x01 ∷ 0x02 ∷ 0xFF ∷ 0xFE ∷ []
+
+-- the status UP from platform 3, numbered 0x05060708: mark, version, domain, platform, ID, payload size, number, state
+abbrev pub status : List ℕ
+status =
+    0xEC ∷ 0x0A ∷ 0x02 ∷ 0x00
+    ∷ 0x00 ∷ 0x00 ∷ 0x00 ∷ 0x03
+    ∷ 0x00 ∷ 0x00 ∷ 0x00 ∷ 0x01
+    ∷ 0x00 ∷ 0x00 ∷ 0x00 ∷ 0x04
+    ∷ 0x05 ∷ 0x06 ∷ 0x07 ∷ 0x08
+    ∷ 0x00 ∷ 0x00 ∷ 0x00 ∷ 0x01
+    ∷ []
+
+-- operation 0x0A0B0C0D from the same, its payload two bytes
+abbrev pub operation : List ℕ
+operation =
+    0xEC ∷ 0x0A ∷ 0x02 ∷ 0x01
+    ∷ 0x00 ∷ 0x00 ∷ 0x00 ∷ 0x03
+    ∷ 0x0A ∷ 0x0B ∷ 0x0C ∷ 0x0D
+    ∷ 0x00 ∷ 0x00 ∷ 0x00 ∷ 0x02
+    ∷ 0x05 ∷ 0x06 ∷ 0x07 ∷ 0x08
+    ∷ 0xFF ∷ 0xFE
+    ∷ []
+
+-- 24 bytes, and 22; read as such at every other platform, and written as such into every output that is long enough
+pub record MessagesAre : Type 0 where
+  pub status-long : length status ≡ 24
+  pub status-read : (own : ℕ) → ¬ (own ≡ 3) → readOf own status
+      ≡ Read (record { domain = 0; platform = 3; id = 1; «payload_size» = 4; sequence = 0x05060708 }) (message.PlatformStatus Up) 20 4
+  pub status-answer : (room : ℕ) → 24 ≤ room → writeOf 0 1 (0x00 ∷ 0x00 ∷ 0x00 ∷ 0x01 ∷ []) room ≡ Written 24
+  pub status-written : (out : List ℕ) → 24 ≤ length out
+      → outputAfter 3 0 1 0x05060708 (0x00 ∷ 0x00 ∷ 0x00 ∷ 0x01 ∷ []) out ≡ status ++ drop 24 out
+  pub operation-long : length operation ≡ 22
+  pub operation-read : (own : ℕ) → ¬ (own ≡ 3) → readOf own operation
+      ≡ Read (record { domain = 1; platform = 3; id = 0x0A0B0C0D; «payload_size» = 2; sequence = 0x05060708 }) message.Operation 20 2
+  pub operation-answer : (room : ℕ) → 22 ≤ room → writeOf 1 0x0A0B0C0D (0xFF ∷ 0xFE ∷ []) room ≡ Written 22
+  pub operation-written : (out : List ℕ) → 22 ≤ length out
+      → outputAfter 3 1 0x0A0B0C0D 0x05060708 (0xFF ∷ 0xFE ∷ []) out ≡ operation ++ drop 22 out
+
+abbrev pub Numbers : Type 0
+Numbers = TableIs × MessagesAre
