@@ -23,7 +23,7 @@ use Rattle.joiner.proofs.FoundBack.{words-back}
 use Rattle.joiner.proofs.WordsBack.{taken-back}
 use Rattle.promises.specs.Traffic.{Datagram, isOf, handedBack, deliveredBy, fresh, deliveredOn, outcomesOn, leftOn, AreBytes, none, more}
 use Rattle.promises.specs.InNumbers.{SetUp}
-use Rattle.promises.specs.Linked.{SetupLent, SetsUp, TakeLent, TakeLeft, Takes, Call, Run, over, next, SetUpAndRun}
+use Rattle.promises.specs.Linked.{SetupLent, SetsUp, TakeLent, TakeLeft, Takes, Call, InTurn, over, next, SetUpAndRun}
 use Rattle.promises.specs.Linked.{SomeRun, Delivers, MixMakesNoDifference}
 use Rattle.promises.specs.Linked.{messageIn, deliveredIn, outcomeFrom, outcomesIn, stateIn, roomsIn, lyingIn, linked, AsAJoiner}
 use Rattle.promises.proofs.Demand3.{underway, demand-3, mix-makes-no-difference}
@@ -132,7 +132,7 @@ module _ (ids : List ℕ) (R k : ℕ) (known : k < length ids) where
     outcomes : outcomesIn ids k cs ≡ outcomesOn ids k (joinerIn ws) rooms ds
     left : lyingIn R k (stateIn ws cs) (roomsIn rooms cs) ≡ lyingBy (leftOn k (joinerIn ws) rooms ds)
 
-  in-run : {ws rooms : List ℕ} {ds : List Datagram} {cs : List Call} → Run ws rooms ds cs → length ws ≡ joinerWords → AreBytes ds
+  in-run : {ws rooms : List ℕ} {ds : List Datagram} {cs : List Call} → InTurn ws rooms ds cs → length ws ≡ joinerWords → AreBytes ds
       → Underway ids R (joinerIn ws) rooms → InRun ws rooms ds cs
   in-run (over {ws} {rooms}) w none u = record { delivered = refl; outcomes = refl; left = lying-is ids R k ws rooms known u }
   in-run (next {ws} {rooms} {out} {d} {n} {l} {ds} {cs} p r) w (more o os) u =
@@ -230,7 +230,7 @@ callsFrom ws rooms (d ∷ ds) =
     let left : TakeLeft = record { state = takeWords ws rooms d; rooms = takeRooms ws rooms d; answer = takeAnswer ws rooms d (replicate 5 0) } in
     record { datagram = d; number = takeNumber ws rooms d; left = left } ∷ callsFrom (takeWords ws rooms d) (takeRooms ws rooms d) ds
 
-runs : (ws rooms : List ℕ) (ds : List Datagram) → Run ws rooms ds (callsFrom ws rooms ds)
+runs : (ws rooms : List ℕ) (ds : List Datagram) → InTurn ws rooms ds (callsFrom ws rooms ds)
 runs ws rooms [] = over
 runs ws rooms (d ∷ ds) = next (takes ws rooms d (replicate 5 0)) (runs (takeWords ws rooms d) (takeRooms ws rooms d) ds)
 

@@ -62,11 +62,11 @@ pub record Call : Type 0 where
 
 -- a run of `nyr_take` over a traffic, each call on the joiner and the rooms that the one before left; the answer's words hold
 -- anything before a call
-pub data Run : List ℕ → List ℕ → List Datagram → List Call → Type 0 where
-  over : {ws rooms : List ℕ} → Run ws rooms [] []
+pub data InTurn : List ℕ → List ℕ → List Datagram → List Call → Type 0 where
+  over : {ws rooms : List ℕ} → InTurn ws rooms [] []
   next : {ws rooms out : List ℕ} {d : Datagram} {n : ℕ} {l : TakeLeft} {ds : List Datagram} {cs : List Call}
-      → Takes (record { state = ws; rooms = rooms; datagram = d; answer = out }) n l → Run (l .state) (l .rooms) ds cs
-      → Run ws rooms (d ∷ ds) (record { datagram = d; number = n; left = l } ∷ cs)
+      → Takes (record { state = ws; rooms = rooms; datagram = d; answer = out }) n l → InTurn (l .state) (l .rooms) ds cs
+      → InTurn ws rooms (d ∷ ds) (record { datagram = d; number = n; left = l } ∷ cs)
 
 -- a set-up, and a run from it
 pub record SetUpAndRun (ids : List ℕ) (R : ℕ) (rooms : List ℕ) (traffic : List Datagram) : Type 0 where
@@ -75,7 +75,7 @@ pub record SetUpAndRun (ids : List ℕ) (R : ℕ) (rooms : List ℕ) (traffic : 
   pub state : List ℕ
   pub sets-up : SetsUp (record { state = was; ids = ids; room = R; rooms = length rooms }) number state
   pub calls : List Call
-  pub run : Run state rooms traffic calls
+  pub run : InTurn state rooms traffic calls
 
 -- and there is one, whatever is lent
 abbrev pub SomeRun : Type 0

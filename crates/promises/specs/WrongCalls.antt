@@ -29,8 +29,8 @@ linkedBy C was out =
 abbrev pub Meets : Calls → Type 0
 Meets C = (was out : List ℕ) → Demand3For (linkedBy C was out)
 
-abbrev pub ours : Calls
-ours = record { setup = setupWords; number = takeNumber; state = takeWords; rooms = takeRooms; answer = takeAnswer }
+abbrev pub ourCalls : Calls
+ourCalls = record { setup = setupWords; number = takeNumber; state = takeWords; rooms = takeRooms; answer = takeAnswer }
 
 -- with another answer: its words are outcome, missed, bytes, slice, start
 abbrev pub answering : (List ℕ → List ℕ) → Calls
@@ -64,8 +64,8 @@ abbrev pub notSetUp : Calls
 notSetUp = record { setup = λ ids R b was. was; number = takeNumber; state = takeWords; rooms = takeRooms; answer = takeAnswer }
 
 pub record NoWrongCall : Type 1 where
-  pub with-ours : (was out : List ℕ) → linkedBy ours was out ≡ linked was out
-  pub ours-meet : Meets ours
+  pub with-ours : (was out : List ℕ) → linkedBy ourCalls was out ≡ linked was out
+  pub ours-meet : Meets ourCalls
   pub other-slice : Meets (answering otherSlice) → ⊥
   pub start-for-bytes : Meets (answering startForBytes) → ⊥
   pub from-the-start : Meets (answering fromTheStart) → ⊥
