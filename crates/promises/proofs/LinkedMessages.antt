@@ -326,4 +326,10 @@ cut-then-joined msg s sender first g k a n e p em es =
     )
 
 pub linked-messages : LinkedMessages
-linked-messages = record { write-then-read = write-then-read; read-then-write = read-then-write; each-is-written = each-is-written; cut-then-joined = cut-then-joined }
+linked-messages =
+    record {
+      write-then-read = write-then-read;
+      read-then-write = read-then-write;
+      each-is-written = each-is-written;
+      cut-then-joined = cut-then-joined;
+    }
