@@ -1,28 +1,29 @@
 -- What is linked writes and reads messages, and cuts them, as demand 2 asks.
 -- Assumes nothing.
-use Prim.Native.Nat.{ℕ, zero, suc, _+_, _^_, _≤_, _<_}
+use Prim.Native.Nat.{ℕ, zero, suc, _+_, _-_, _^_, _≤_, _<_}
 use mathlib.Core.Path.{_≡_, refl, sym, ap, ap₂, _∙_}
 use mathlib.Core.Bool.{Bool, true, false, not, cond, _&&_, _||_, true≢false}
 use mathlib.Core.List.{List, [], _∷_}
 use native.Mathlib.Omega.{arith}
 use native.Mathlib.Nat.{suc-ne-zero}
-use borrow.Author.Tests.{eqb-true, eqb-false, ltb-false, leb-false, not-false}
+use borrow.Author.Tests.{eqb-true, eqb-false, ne-eqb, ltb-false, leb-false, not-false}
 use lib.Dec.{eqb, leb, ltb}
 use lib.ListN.{length, take, drop}
 use lib.Seq.{drop-at}
 use denote.Ref.{now}
-use Rattle.wire.specs.Bytes.{number, bytes, over}
+use Rattle.wire.specs.Bytes.{Octets, number, bytes, over}
 use Rattle.wire.proofs.Cond.{yes-if, passed}
 use Rattle.wire.proofs.Numbers.{past-end}
+use Rattle.message.specs.declared.Reading.{Reading}
 use Rattle.message.specs.declared.Writing.the-variants as writing
-use Rattle.message.specs.Header.{headerLength}
+use Rattle.message.specs.Header.{headerLength, domainIn, senderIn, idIn, payloadSizeIn, sequenceIn, headerIn}
 use Rattle.message.specs.Platform.{reservedID, payloadLength, statusOf, statusValue, platformMessage, messageOf}
 use Rattle.message.specs.Refusal.{contentsRefusal, readRefusal, writeRefusal}
 use Rattle.message.specs.Reading.{readOut, readOf, payloadOf}
 use Rattle.message.specs.Reading as reads
 use Rattle.message.specs.Writing.{headerFor, messageBytes, unlessRefused, writeOf, outputAfter}
 use Rattle.message.specs.Writing as writes
-use Rattle.message.proofs.Accepted.{Writable, writable, admits}
+use Rattle.message.proofs.Accepted.{Readable, readable, Writable, writable, admits}
 use Rattle.platform.proofs.Unchanged.{payload-stands}
 use Rattle.binding.specs.Header.{senders, counters}
 use Rattle.binding.specs.Cutting.{canCut, pieceCount, datagramOf, countedOf, countRefusal, madeOf, cutRefusal, cutInto}
@@ -34,9 +35,9 @@ use Rattle.nyrkovash.specs.PieceCalls.{countLeft, madeLeft}
 use Rattle.promises.specs.Traffic.{Datagram, deliveredOn, fresh}
 use Rattle.promises.specs.Headers.{ReadsAs}
 use Rattle.promises.specs.CutAndJoined.{datagramsFrom}
-use Rattle.promises.specs.LinkedMessages.{kindSent, valueSent, IsRead, Wrote, WriteThenRead, IsWritten, EachIsWritten, CanBeCut}
+use Rattle.promises.specs.LinkedMessages.{kindSent, valueSent, IsRead, Wrote, WriteThenRead, WasRead, ReadThenWrite, IsWritten, EachIsWritten, CanBeCut}
 use Rattle.promises.specs.LinkedMessages.{IsCut, AreCut, CutsEach, CanJoin, CutThenJoined, LinkedMessages, call, none, more}
-use Rattle.promises.proofs.Headers.{was-read, written-then-read}
+use Rattle.promises.proofs.Headers.{was-read, written-then-read, read-then-written}
 use Rattle.promises.proofs.CutAndJoined.{cut-and-joined}
 
 -- a state that is not reserved is 0 or 1
@@ -158,6 +159,71 @@ write-then-read k a x e p ho hi hs z =
     (write-is (a .0) (a .1 .0) (a .1 .1 .0) (a .1 .1 .1 .0) payload out ho hi hs w))
     (p .1 .0)
 
+-- what was read, written again
+read-zero : (r : ℕ) (x : Reading) → reads.numberGiven (reads.answered r x) ≡ 0 → r ≡ 0
+read-zero zero x e = refl
+read-zero (suc r) x e = absurd (suc-ne-zero r e)
+
+fields-told : (d i : ℕ) (p : List ℕ) → d < 2 → contentsRefusal d i p ≡ 0
+    → (cond (eqb (kindSent d i) 5) 1 0 ≡ d) × (cond (eqb (kindSent d i) 5) (valueSent d i p) (kindSent d i) ≡ i)
+fields-told zero i p h e =
+    let l : i ≤ 4 = ids-known i p e .1 in
+    let f : eqb i 5 ≡ false = ne-eqb i 5 (λ (z : i ≡ 5). omega arith) in
+    (ap (λ (b : Bool). cond {A = ℕ} b 1 0) f, ap (λ (b : Bool). cond b (number 2 p 0) i) f)
+fields-told (suc zero) i p h e = (refl, refl)
+fields-told (suc (suc d)) i p h e = absurd (omega arith)
+
+module _ (own : ℕ) (m : List ℕ) (o : Octets m) (z : readRefusal own m ≡ 0) where
+  abbrev d : ℕ
+  d = domainIn m
+
+  abbrev i : ℕ
+  i = idIn m
+
+  is-readable : Readable own m
+  is-readable = readable own m z
+
+  read-is : readOf own m ≡ readOut m
+  read-is = ap (λ (r : ℕ). reads.answered r (readOut m)) z
+
+  behind : payloadOf m (readOf own m) ≡ drop 20 m
+  behind = ap (λ (r : ℕ). payloadOf m (reads.answered r (readOut m))) z ∙ payload-stands own m z
+
+  six-words : (was : List ℕ) → readLeft was (readOf own m)
+      ≡ kindSent d i ∷ valueSent d i (drop 20 m) ∷ senderIn m ∷ sequenceIn m ∷ 20 ∷ (length m - 20) ∷ []
+  six-words was =
+      let t = told-words d i (drop 20 m) (is-readable .domain) (is-readable .contents) in
+      ap (readLeft was) read-is
+      ∙ ap₂ (λ (x y : ℕ). x ∷ y ∷ senderIn m ∷ sequenceIn m ∷ 20 ∷ payloadSizeIn m ∷ []) (t .0) (t .1)
+      ∙ ap (λ (x : ℕ). kindSent d i ∷ valueSent d i (drop 20 m) ∷ senderIn m ∷ sequenceIn m ∷ 20 ∷ x ∷ []) (is-readable .size)
+
+  written-again : (own′ domain id seq : ℕ) (payload out : List ℕ) → own′ ≡ senderIn m → domain ≡ d → id ≡ i → seq ≡ sequenceIn m → payload ≡ drop 20 m
+      → length m ≤ length out
+      → (writeOf domain id payload (length out) ≡ writing.Written (length m)) × (outputAfter own′ domain id seq payload out ≡ over out 0 m)
+  written-again own′ domain id seq payload out eo ed ei es ep l =
+      rw (eo, ed, ei, es, ep ∙ sym behind)
+      (read-then-written own m (headerIn m) (messageOf d i (number 2 (drop 20 m) 0)) headerLength (payloadSizeIn m) out o read-is l)
+
+  was-told : (answer was : List ℕ) → answer ≡ readLeft was (readOf own m) → WasRead m answer
+  was-told answer was e =
+      let f = fields-told d i (drop 20 m) (is-readable .domain) (is-readable .contents) in
+      record {
+        kind = kindSent d i;
+        value = valueSent d i (drop 20 m);
+        sender = senderIn m;
+        seq = sequenceIn m;
+        words = e ∙ six-words was;
+        again = λ k a n x p eo ed ei es ep l.
+            let w = written-again (a .0) (a .1 .0) (a .1 .1 .0) (a .1 .1 .1 .0) (now (a .1 .1 .1 .1 .0)) (now (a .1 .1 .1 .1 .1 .0))
+            eo (ed ∙ f .0) (ei ∙ f .1) es ep l in
+            (p .0 ∙ ap writes.numberGiven (w .0), p .1 .1 ∙ ap (writeLeft (now (a .1 .1 .1 .1 .1 .1 .0))) (w .0), p .1 .0 ∙ w .1);
+      }
+
+read-then-write : ReadThenWrite
+read-then-write k a n e p o z =
+    let m = now (a .1 .0) in
+    was-told (a .0) m o (read-zero (readRefusal (a .0) m) (readOut m) (sym (p .0) ∙ z)) (now (e .1 .1 .0)) (now (a .1 .1 .0)) (p .1)
+
 -- each message
 is-written : (domain id : ℕ) (payload : List ℕ) → domain < 2 → length payload < 2 ^ 32 → contentsRefusal domain id payload ≡ 0 → IsWritten domain id payload
 is-written domain id payload dom few ok k a n e p ed ei ep room =
@@ -213,7 +279,7 @@ is-cut msg s sender first i d (call k a n e p q) =
     (now (a .1 .1 .1 .1 .1 .1 .0)) _ _ (sym (p .0) ∙ q .5) (p .1 .1) (p .1 .0)
     ∙ rw (q .0, q .1, q .2, q .3, q .4) refl
 
-are-cut : (msg : List ℕ) (s sender first i : ℕ) (ds : List Datagram) → AreCut msg s sender first i ds → ds ≡ datagramsFrom msg s sender first i (length ds)
+pub are-cut : (msg : List ℕ) (s sender first i : ℕ) (ds : List Datagram) → AreCut msg s sender first i ds → ds ≡ datagramsFrom msg s sender first i (length ds)
 are-cut msg s sender first i [] none = refl
 are-cut msg s sender first i (d ∷ ds) (more c r) = ap₂ _∷_ (is-cut msg s sender first i d c) (are-cut msg s sender first (suc i) ds r)
 
@@ -260,4 +326,10 @@ cut-then-joined msg s sender first g k a n e p em es =
     )
 
 pub linked-messages : LinkedMessages
-linked-messages = record { write-then-read = write-then-read; each-is-written = each-is-written; cut-then-joined = cut-then-joined }
+linked-messages =
+    record {
+      write-then-read = write-then-read;
+      read-then-write = read-then-write;
+      each-is-written = each-is-written;
+      cut-then-joined = cut-then-joined;
+    }

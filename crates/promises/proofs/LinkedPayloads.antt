@@ -1,6 +1,6 @@
 -- What is linked packs and unpacks as demand 2 asks.
 -- Assumes nothing.
-use Prim.Native.Nat.{ℕ, zero, suc, _<_}
+use Prim.Native.Nat.{ℕ, zero, suc, _≤_, _<_}
 use mathlib.Core.Path.{_≡_, refl, sym, ap, ap₂, subst, _∙_}
 use mathlib.Core.Bool.{Bool, true, false, cond}
 use mathlib.Core.List.{List, []}
@@ -8,6 +8,7 @@ use native.Mathlib.Omega.{arith}
 use borrow.Author.Tests.{ltb-true}
 use lib.ListN.{length, take}
 use denote.Ref.{now}
+use Rattle.wire.specs.Bytes.{Octets, over}
 use Rattle.table.specs.declared.Sections.{Sections}
 use Rattle.table.specs.declared.Checked.{Checked}
 use Rattle.table.specs.declared.Checked.the-variants as check
@@ -25,6 +26,7 @@ use Rattle.payload.specs.Calls.{answeredType, answeredIn, answeredIf, unpackedI
 use Rattle.unpack.specs.Reading.{reader}
 use Rattle.pack.specs.Writing.{writer}
 use Rattle.values.proofs.Checked.{same-answer, same-left}
+use Rattle.values.specs.Values.{Value, Spoken}
 use Rattle.nyrkovash.specs.TableCalls.{checkRefusal, sectionsLeft}
 use Rattle.nyrkovash.specs.PayloadCalls.{refusalIn, givenLeft}
 use Rattle.promises.specs.Checks.{Keeps}
@@ -32,7 +34,7 @@ use Rattle.promises.specs.PayloadOrder.{numberOf}
 use Rattle.promises.specs.Payloads.{Known, PackGivesBy, UnpackGivesBy, PacksExactlyBy, UnpacksExactlyBy, RoundTripsBy, PackGives, UnpackGives}
 use Rattle.promises.specs.Payloads.{PacksExactly, UnpacksExactly, RoundTrips}
 use Rattle.promises.specs.WrongCodecs.{KeepsBy}
-use Rattle.promises.specs.LinkedPayloads.{givenBack, toldOf, linkedCoding, PackedBack, UnpackedBack, LinkedPayloads}
+use Rattle.promises.specs.LinkedPayloads.{givenBack, toldOf, linkedCoding, PacksAs, UnpacksAs, PackedBack, UnpackedBack, LinkedPayloads}
 use Rattle.promises.proofs.Payloads.{payloads}
 use Rattle.promises.proofs.Demand1.{demand-1}
 use Rattle.promises.proofs.Numbered.{Numbered, TableNumbered, table-numbered, bytes-numbered}
@@ -181,6 +183,39 @@ gave-known c n t i room k e = go (checked t) refl e
     go (check.Refused r) f h = let z : _≡_ {A = ℕ} 0 1 = cc in absurd (omega arith)
     go (check.Table s) f h = (s, record { accepted = f; known = known s (within t s) (isType s i) refl h })
 
+-- a call that packed, and one that unpacked, by number and count
+just-packs : (t : List ℕ) (s : Sections) (i : ℕ) (ws bs out : List ℕ) (n given : ℕ) (left : List ℕ) → PacksAs t i ws out n given left
+    → Known t s i → Value t s i ws bs → length bs ≤ length out → (n ≡ 0) × (given ≡ length bs) × (left ≡ over out 0 bs)
+just-packs t s i ws bs out n given left p k v l =
+    let g = packs-exactly t s i k .values ws bs out v l in
+    let y = zero-is-given n given (length bs) (p .0 ∙ g .0) in
+    (y .0, y .1, p .1 ∙ g .1)
+
+packs-only : (t : List ℕ) (i : ℕ) (ws out : List ℕ) (n given : ℕ) (left : List ℕ) → PacksAs t i ws out n given left → n ≡ 0
+    → (s : Sections) × (bs : List ℕ) × Known t s i × Value t s i ws bs × (given ≡ length bs) × (left ≡ over out 0 bs)
+packs-only t i ws out n given left p z =
+    let e : toldOf (packed t i ws (length out)) ≡ Gave given = sym (p .0) ∙ ap (λ (x : ℕ). givenBack x given) z in
+    let a : packed t i ws (length out) ≡ Gave given = told-gave (packed t i ws (length out)) given (pack-numbered t i ws (length out)) e in
+    let k = gave-known (writer ws) (length ws) t i (length out) given a in
+    let g = packs-exactly t (k .0) i (k .1) .only ws out given e in
+    (k .0, g .0, k .1, g .1, zero-is-given n given (length (g .0)) (p .0 ∙ g .2 .0) .1, p .1 ∙ g .2 .1)
+
+just-unpacks : (t : List ℕ) (s : Sections) (i : ℕ) (ws b words : List ℕ) (n given : ℕ) (left : List ℕ) → UnpacksAs t i b words n given left
+    → Known t s i → Spoken t s i ws b → length ws ≤ length words → (n ≡ 0) × (given ≡ length ws) × (left ≡ over words 0 ws)
+just-unpacks t s i ws b words n given left p k v l =
+    let g = unpacks-exactly t s i k .forms ws b words v l in
+    let y = zero-is-given n given (length ws) (p .0 ∙ g .0) in
+    (y .0, y .1, p .1 ∙ g .1)
+
+unpacks-only : (t : List ℕ) (i : ℕ) (b words : List ℕ) (n given : ℕ) (left : List ℕ) → Octets b → UnpacksAs t i b words n given left
+    → n ≡ 0 → (s : Sections) × (ws : List ℕ) × Known t s i × Spoken t s i ws b × (given ≡ length ws) × (left ≡ over words 0 ws)
+unpacks-only t i b words n given left o p z =
+    let e : toldOf (unpacked t i b (length words)) ≡ Gave given = sym (p .0) ∙ ap (λ (x : ℕ). givenBack x given) z in
+    let a : unpacked t i b (length words) ≡ Gave given = told-gave (unpacked t i b (length words)) given (unpack-numbered t i b (length words)) e in
+    let k = gave-known (reader b) (length b) t i (length words) given a in
+    let g = unpacks-exactly t (k .0) i (k .1) .only b words given o e in
+    (k .0, g .0, k .1, g .1, zero-is-given n given (length (g .0)) (p .0 ∙ g .2 .0) .1, p .1 ∙ g .2 .1)
+
 -- a call that gave 0 back, and the one behind it
 packed-back : PackedBack
 packed-back t i ws out n given left p z words n′ given′ left′ u room =
@@ -208,9 +243,9 @@ unpacked-back t i b words n given left o u z out n′ given′ left′ p room =
 pub linked-payloads : LinkedPayloads
 linked-payloads =
     record {
-      zero-is-given = zero-is-given;
       meets = λ t s i h. (packs-exactly t s i h, unpacks-exactly t s i h, round-trips t s i h);
       keeps = keeps;
+      gives-just = record { pack = just-packs; pack-only = packs-only; unpack = just-unpacks; unpack-only = unpacks-only };
       packed-back = packed-back;
       unpacked-back = unpacked-back;
       pack = λ k a n e p.

@@ -1,6 +1,6 @@
 -- Demand 2 for messages and pieces, of the calls as programs in C have them (include/nyrkovash.h), over their very contracts, in
 -- the papers' numbers. The theorems are in proofs/LinkedMessages.antt.
-use Prim.Native.Nat.{ℕ, suc, _+_, _^_, _≤_, _<_}
+use Prim.Native.Nat.{ℕ, suc, _+_, _-_, _^_, _≤_, _<_}
 use mathlib.Core.Path.{_≡_}
 use mathlib.Core.Bool.{cond}
 use mathlib.Core.List.{List, [], _∷_}
@@ -8,7 +8,7 @@ use mathlib.Core.Logic.{_⊎_}
 use lib.Dec.{eqb}
 use lib.ListN.{length, getD, take, drop}
 use denote.Ref.{now}
-use Rattle.wire.specs.Bytes.{Octets, number, bytes}
+use Rattle.wire.specs.Bytes.{Octets, number, bytes, over}
 use Rattle.joiner.specs.declared.setups.Verdict.the-variants.{Accepted}
 use Rattle.joiner.specs.Setup.{setupOf}
 use Rattle.nyrkovash.proofs.nyr_pieces.Reads.{Post as nyr-pieces}
@@ -46,6 +46,21 @@ WriteThenRead =
     Whenever nyr-write (λ k a n e. a .0 < 256 → a .1 .1 .0 < 2 ^ 32 → a .1 .1 .1 .0 < 2 ^ 32 → n ≡ 0 →
     Wrote (a .0) (a .1 .0) (a .1 .1 .0) (a .1 .1 .1 .0) (now (a .1 .1 .1 .1 .0)) (now (a .1 .1 .1 .1 .1 .0))
     (now (e .1 .1 .1 .1 .1 .1 .0)) (now (e .1 .1 .1 .1 .1 .0)))
+
+-- a message that was read is told in six words, and what they tell of it, written again at its sender, is the same bytes: kind 5 is
+-- domain 1, with the value for its ID, and any other is domain 0, with the kind for its ID
+pub record WasRead (m answer : List ℕ) : Type 0 where
+  pub kind : ℕ
+  pub value : ℕ
+  pub sender : ℕ
+  pub seq : ℕ
+  pub words : answer ≡ kind ∷ value ∷ sender ∷ seq ∷ 20 ∷ (length m - 20) ∷ []
+  pub again : Whenever nyr-write (λ k a n e. a .0 ≡ sender → a .1 .0 ≡ cond (eqb kind 5) 1 0 → a .1 .1 .0 ≡ cond (eqb kind 5) value kind →
+      a .1 .1 .1 .0 ≡ seq → now (a .1 .1 .1 .1 .0) ≡ drop 20 m → length m ≤ length (now (a .1 .1 .1 .1 .1 .0)) →
+      (n ≡ 0) × (now (e .1 .1 .1 .1 .1 .1 .0) ≡ length m) × (now (e .1 .1 .1 .1 .1 .0) ≡ over (now (a .1 .1 .1 .1 .1 .0)) 0 m))
+
+abbrev pub ReadThenWrite : Type 0
+ReadThenWrite = Whenever nyr-read (λ k a n e. Octets (now (a .1 .0)) → n ≡ 0 → WasRead (now (a .1 .0)) (now (e .1 .1 .0)))
 
 -- a message of this domain, ID and payload is written, wherever there is room
 abbrev pub IsWritten : ℕ → ℕ → List ℕ → Type 0
@@ -113,5 +128,6 @@ CutThenJoined =
 
 pub record LinkedMessages : Type 0 where
   pub write-then-read : WriteThenRead
+  pub read-then-write : ReadThenWrite
   pub each-is-written : EachIsWritten
   pub cut-then-joined : CutThenJoined

@@ -14,7 +14,7 @@ use Rattle.types.specs.Table.{checked}
 use Rattle.payload.specs.declared.Answer.{Answer}
 use Rattle.payload.specs.declared.Answer.the-variants.{Refused, Gave}
 use Rattle.payload.specs.Calls.{unpacked, wordsAfter, packed, bytesAfter}
-use Rattle.values.specs.Values.{BooleansAsOne}
+use Rattle.values.specs.Values.{Value, Spoken, BooleansAsOne}
 use Rattle.nyrkovash.specs.PayloadCalls.{refusalIn, givenLeft}
 use Rattle.nyrkovash.proofs.nyr_check_table.Reads.{Post as nyr-check-table}
 use Rattle.nyrkovash.proofs.nyr_unpack.Reads.{Post as nyr-unpack}
@@ -51,6 +51,18 @@ abbrev pub UnpacksAs : List ℕ → ℕ → List ℕ → List ℕ → ℕ → �
 UnpacksAs t i b words n given left =
     (givenBack n given ≡ linkedCoding .unpacks t i b (length words)) × (left ≡ linkedCoding .words-left t i b words)
 
+-- such a call gives 0 back just for the values of a type of an accepted table, wherever there is room: and as its count the number
+-- of their bytes, or words, which it leaves at the start of what was lent to it, and the rest as it was
+pub record GivesJust : Type 0 where
+  pub pack : (t : List ℕ) (s : Sections) (i : ℕ) (ws bs out : List ℕ) (n given : ℕ) (left : List ℕ) → PacksAs t i ws out n given left
+      → Known t s i → Value t s i ws bs → length bs ≤ length out → (n ≡ 0) × (given ≡ length bs) × (left ≡ over out 0 bs)
+  pub pack-only : (t : List ℕ) (i : ℕ) (ws out : List ℕ) (n given : ℕ) (left : List ℕ) → PacksAs t i ws out n given left → n ≡ 0
+      → (s : Sections) × (bs : List ℕ) × Known t s i × Value t s i ws bs × (given ≡ length bs) × (left ≡ over out 0 bs)
+  pub unpack : (t : List ℕ) (s : Sections) (i : ℕ) (ws b words : List ℕ) (n given : ℕ) (left : List ℕ) → UnpacksAs t i b words n given left
+      → Known t s i → Spoken t s i ws b → length ws ≤ length words → (n ≡ 0) × (given ≡ length ws) × (left ≡ over words 0 ws)
+  pub unpack-only : (t : List ℕ) (i : ℕ) (b words : List ℕ) (n given : ℕ) (left : List ℕ) → Octets b → UnpacksAs t i b words n given left
+      → n ≡ 0 → (s : Sections) × (ws : List ℕ) × Known t s i × Spoken t s i ws b × (given ≡ length ws) × (left ≡ over words 0 ws)
+
 -- "What we pack unpacks to the same values": of any two such calls, on table bytes or on sections, where the first gives 0 back and
 -- the second is handed the bytes that it gave
 abbrev pub PackedBack : Type 0
@@ -72,11 +84,11 @@ abbrev pub Whenever : {K : Type 0} {A E : K → Type 0}
 Whenever {K} {A} {E} post so = (k : K) (a : A k) (n : ℕ) (e : E k) → post k a n e → so k a n e
 
 pub record LinkedPayloads : Type 0 where
-  -- all is given just where the number is 0, and as much as the count says
-  pub zero-is-given : (n given k : ℕ) → givenBack n given ≡ Gave k → (n ≡ 0) × (given ≡ k)
   -- packing and unpacking exactly the values, and both round trips; and a refusal leaves the output
   pub meets : PayloadsBy linkedCoding
   pub keeps : KeepsBy linkedCoding
+  -- the same in numbers and counts, which is what a program sees
+  pub gives-just : GivesJust
   pub packed-back : PackedBack
   pub unpacked-back : UnpackedBack
   -- handed table bytes, the calls are that codec, on every table
