@@ -41,3 +41,4 @@ mod Reporting
 pub mod WrongReports
 pub mod Rules32
 pub mod WrongChecks
+pub mod Sizes33

@@ -32,3 +32,4 @@ pub mod Reports
 pub mod WrongReports
 pub mod Rules32
 pub mod WrongChecks
+pub mod Sizes33

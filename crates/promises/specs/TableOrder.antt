@@ -31,7 +31,7 @@ sectionChecks width least most t p =
     ∷ 30 when (length t < sectionEnd width (counted t p))
     ∷ []
 
--- an entry breaks a rule (specs/Rules32); a type can exceed 65,536 bytes (types/specs/Sizes)
+-- an entry breaks a rule (specs/Rules32); a type can exceed 65,536 bytes (specs/Sizes33)
 pub data BreaksARule (t : List ℕ) (s : Sections) : Type 0 where
   a-type : (i : ℕ) → i < s .types .count → ¬ (TypeKeeps t s i) → BreaksARule t s
   an-operation : (i : ℕ) → i < s .operations .count → ¬ (OperationKeeps t s i) → BreaksARule t s
