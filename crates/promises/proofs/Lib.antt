@@ -32,3 +32,4 @@ mod LinkedRuns
 pub mod Linked
 pub mod InNumbers
 pub mod WrongCalls
+pub mod LinkedCut

@@ -24,3 +24,4 @@ pub mod ExportsKeep
 pub mod InNumbers
 pub mod Linked
 pub mod WrongCalls
+pub mod LinkedCut
