@@ -124,7 +124,7 @@ module _ (ids : List ℕ) (k : ℕ) (known : k < length ids) (range : getD ids k
   all-own i (suc n) h =
       ap₂ (λ (b : Bool) (ds : List Datagram). cond b (datagramOf msg s id first i ∷ []) [] ++ ds) (is-own i (omega arith)) (all-own (suc i) n (omega arith))
 
-  all-bytes : (i n : ℕ) → AreBytes (datagramsFrom msg s id first i n)
+  pub all-bytes : (i n : ℕ) → AreBytes (datagramsFrom msg s id first i n)
   all-bytes i zero = none
   all-bytes i (suc n) =
       more

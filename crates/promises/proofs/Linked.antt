@@ -127,10 +127,10 @@ module _ {ws rooms out : List ℕ} {d : Datagram} {n : ℕ} {l : TakeLeft}
 
 -- a run that the contracts allow
 module _ (ids : List ℕ) (R k : ℕ) (known : k < length ids) where
-  record InRun (ws rooms : List ℕ) (ds : List Datagram) (cs : List Call) : Type 0 where
-    delivered : deliveredIn ids k cs ≡ deliveredOn ids k (joinerIn ws) rooms ds
-    outcomes : outcomesIn ids k cs ≡ outcomesOn ids k (joinerIn ws) rooms ds
-    left : lyingIn R k (stateIn ws cs) (roomsIn rooms cs) ≡ lyingBy (leftOn k (joinerIn ws) rooms ds)
+  pub record InRun (ws rooms : List ℕ) (ds : List Datagram) (cs : List Call) : Type 0 where
+    pub delivered : deliveredIn ids k cs ≡ deliveredOn ids k (joinerIn ws) rooms ds
+    pub outcomes : outcomesIn ids k cs ≡ outcomesOn ids k (joinerIn ws) rooms ds
+    pub left : lyingIn R k (stateIn ws cs) (roomsIn rooms cs) ≡ lyingBy (leftOn k (joinerIn ws) rooms ds)
 
   in-run : {ws rooms : List ℕ} {ds : List Datagram} {cs : List Call} → InTurn ws rooms ds cs → length ws ≡ joinerWords → AreBytes ds
       → Underway ids R (joinerIn ws) rooms → InRun ws rooms ds cs
@@ -153,7 +153,7 @@ module _ (ids : List ℕ) (R : ℕ) (rooms : List ℕ) (ds : List Datagram) (s :
   ok : Acceptable ids R (length rooms)
   ok = acceptable ids R (length rooms) s
 
-  answered : x .number ≡ 0
+  pub answered : x .number ≡ 0
   answered =
       x .sets-up .1 .1 .1 .0 .0 ∙ ap (λ (y : SetupLent). setupNumber (y .ids) (y .room) (y .rooms)) (x .sets-up .1 .1 .1 .1 .0)
       ∙ set-number ids R (length rooms) ok
@@ -163,10 +163,10 @@ module _ (ids : List ℕ) (R : ℕ) (rooms : List ℕ) (ds : List Datagram) (s :
       sym (x .sets-up .1 .1 .1 .1 .1) ∙ x .sets-up .1 .1 .1 .0 .1
       ∙ ap (λ (y : SetupLent). setupWords (y .ids) (y .room) (y .rooms) (y .state)) (x .sets-up .1 .1 .1 .1 .0)
 
-  start : joinerIn (x .state) ≡ fresh ids R rooms
+  pub start : joinerIn (x .state) ≡ fresh ids R rooms
   start = ap joinerIn words ∙ set-back ids R (length rooms) ok (x .was)
 
-  ran : (k : ℕ) (h : k < length ids) → AreBytes ds → InRun ids R k h (x .state) rooms ds (x .calls)
+  pub ran : (k : ℕ) (h : k < length ids) → AreBytes ds → InRun ids R k h (x .state) rooms ds (x .calls)
   ran k h o =
       let u : Underway ids R (joinerIn (x .state)) rooms =
       rw start (underway ids R rooms (set-ups ids R (length rooms) s)) in

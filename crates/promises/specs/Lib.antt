@@ -33,3 +33,4 @@ pub mod WrongReports
 pub mod Rules32
 pub mod WrongChecks
 pub mod Sizes33
+pub mod LinkedCut
