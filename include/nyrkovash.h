@@ -36,7 +36,7 @@ enum {
     NYR_VERSION = 3,           /* not version 2 */
     NYR_DOMAIN = 4,            /* neither 0, platform, nor 1, operation */
     NYR_PAYLOAD_SIZE = 5,      /* the payload size is not what follows; writing: 2^32 bytes or more */
-    NYR_SENDER = 6,            /* the sender is this platform, or above 255 */
+    NYR_SENDER = 6,            /* the sender is this platform */
     NYR_PLATFORM_ID = 7,       /* domain 0, and the ID is not 1 to 4 */
     NYR_PLATFORM_LENGTH = 8,   /* domain 0, and the payload is not 4 bytes long (a request's: 0) */
     NYR_PLATFORM_VALUE = 9,    /* a status that is neither DOWN nor UP */
@@ -152,7 +152,7 @@ uint32_t nyr_cut(const uint8_t *message, size_t message_length, size_t piece_siz
 typedef struct {
     uint64_t kind;             /* what it is, as below */
     uint64_t value;            /* as below */
-    uint64_t sender;           /* the sending platform */
+    uint64_t sender;           /* the sending platform, any number of 32 bits but ours */
     uint64_t sequence;         /* the sequence number */
     uint64_t payload_start;    /* the byte at which the payload starts */
     uint64_t payload_length;
@@ -260,7 +260,8 @@ typedef struct {
 
 /* What a message was. */
 enum {
-    NYR_HEARD_STATUS = 1,      /* value: 0 DOWN, 1 UP; answered where its sender was DOWN and is UP */
+    NYR_HEARD_STATUS = 1,      /* value: 0 DOWN, 1 UP; answered where its sender was DOWN and is UP.
+                                * Of a sender above 255 no state is kept: nothing is noted or owed */
     NYR_HEARD_REQUEST = 2,     /* answered with our status */
     NYR_HEARD_UNKNOWN = 3,     /* value: an ID that the sender does not know; nothing is owed */
     NYR_HEARD_PULL_ALL = 4,    /* all versioned data is asked for: the caller sends it */

@@ -145,7 +145,7 @@ fn any_message(random: &mut Random) -> Vec<u8> {
     };
     let mut bytes = message(
         domain,
-        random.below(4) as u32,
+        [0, 1, 2, 3, 257, 300, u32::MAX][random.below(7)],
         id,
         random.next() as u32,
         &payload,

@@ -34,7 +34,7 @@ static const struct {
     {4, {BYTES, N16, WORDS, ROOM}},
     {1, {N8}},
     {3, {BYTES, BYTES, ROOM}},
-    {1, {N8}},
+    {1, {N32}},
     {0, {NONE}},
     {4, {N32, RECORDS, BYTES, BYTES}},
     {2, {N64, N64}},

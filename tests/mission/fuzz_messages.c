@@ -29,8 +29,16 @@ static uint32_t make_id(void)
                                                 : (uint32_t)any();
 }
 
+/* A sender of 32 bits: another platform, one above 255 whose low byte may be ours, or this platform. */
+static uint32_t make_sender(uint8_t own, size_t others)
+{
+    return one_in(16)   ? own
+           : one_in(12) ? (one_in(2) ? own : (uint32_t)any()) | 256
+                        : (uint32_t)below(others);
+}
+
 /* A message that is mostly good, from mostly another platform. */
-static size_t make_message(unsigned sender)
+static size_t make_message(uint32_t sender)
 {
     uint32_t id = make_id();
     int domain = id <= 4 && one_in(2) ? 0 : (int)below(2);
@@ -56,7 +64,7 @@ static size_t make_message(unsigned sender)
 void fuzz_read(void)
 {
     uint8_t own = (uint8_t)any();
-    size_t length = make_message(one_in(16) ? own : (unsigned)below(one_in(16) ? 300 : 256));
+    size_t length = make_message(make_sender(own, 256));
     uint32_t number;
     if (one_in(64))
         fill(message, length);
@@ -64,12 +72,13 @@ void fuzz_read(void)
     uint8_t *lent = lend(MESSAGE, message, length, 1);
     nyr_message *answer = lend_answer(ANSWER, sizeof *answer, sizeof answer->kind);
     number = called(nyr_read(own, lent, length, answer), READING);
+    expect(number != NYR_SENDER || be32(message + 4) == own, "6, and the sender is another platform");
     if (number != 0)
         return;
     expect(answer->kind >= NYR_STATUS && answer->kind <= NYR_SERVICE_OPERATION, "no such kind");
     kinds_met |= N(answer->kind);
     expect((answer->kind == NYR_SERVICE_OPERATION) == (message[3] == 1), "the kind of another domain");
-    expect(answer->sender == be32(message + 4) && answer->sender < 256 && answer->sender != own, "the sender");
+    expect(answer->sender == be32(message + 4) && answer->sender != own, "the sender");
     expect(answer->sequence == be32(message + 16), "the sequence number");
     expect(answer->payload_start == NYR_MESSAGE_HEADER && answer->payload_length == length - NYR_MESSAGE_HEADER,
            "the payload's place");
@@ -123,13 +132,15 @@ static int is_up(const nyr_platform *states, uint8_t own, uint64_t k)
     return k == own || (k < 256 && (states->up[k / 64] >> k % 64 & 1));
 }
 
-/* The replies that were written: each reads at the message's sender, with its own number or with the message's. */
+/* The replies that were written: each reads at the message's sender (above 255 at another platform, since a reader is one of the
+ * 256), with its own number or with the message's. */
 static void check_replies(uint8_t own, const nyr_platform *before, const uint8_t *out, const nyr_heard *heard)
 {
+    uint8_t reader = heard->sender < 256 ? (uint8_t)heard->sender : (uint8_t)(own + 1);
     for (size_t at = 0; at < heard->replies; at += NYR_REPLY_BYTES) {
         nyr_message read;
         calls++;
-        expect(nyr_read((uint8_t)heard->sender, out + at, NYR_REPLY_BYTES, &read) == 0 && read.sender == own,
+        expect(nyr_read(reader, out + at, NYR_REPLY_BYTES, &read) == 0 && read.sender == own,
                "a reply that its receiver refuses");
         expect(heard->replies == NYR_REPLIES_BYTES ? read.sequence == (uint32_t)(before->next + at / NYR_REPLY_BYTES)
                                                    : read.sequence == heard->sequence,
@@ -144,14 +155,14 @@ static void check_received(uint8_t own, const nyr_platform *before, const nyr_pl
     uint64_t owed = 0;
     expect(heard->kind >= NYR_HEARD_STATUS && heard->kind <= NYR_HEARD_NOT_IN_TABLE, "nothing that can be heard");
     heard_met |= N(heard->kind);
-    expect(heard->sender < 256 && heard->sender != own, "the sender");
+    expect(heard->sender == be32(message + 4) && heard->sender != own, "the sender");
     expect(heard->sequence == be32(message + 16), "the sequence number");
     for (uint64_t k = 0; k < 4; k++)
         expect((before->up[k] ^ after->up[k]) ==
                    (was != is && k == heard->sender / 64 ? UINT64_C(1) << heard->sender % 64 : 0),
                "another state");
     if (heard->kind == NYR_HEARD_STATUS) {
-        expect(heard->value < 2 && is == (int)heard->value, "the state is not noted");
+        expect(heard->value < 2 && (heard->sender > 255 || is == (int)heard->value), "the state is not noted");
         owed = !was && is ? NYR_REPLIES_BYTES : 0;
     } else {
         expect(was == is, "a state is noted of no status");
@@ -218,7 +229,7 @@ void fuzz_receive(void)
     if (!good)
         scramble(spoilt, table.length);
     bytes = good ? table.length : near(table.length) % sizeof table.bytes;
-    length = make_message(one_in(16) ? own : (unsigned)below(one_in(3) ? 256 : 4));
+    length = make_message(make_sender(own, one_in(3) ? 256 : 4));
     if (one_in(64))
         fill(&before, sizeof before);
     first = receive(0, own, &before, spoilt, bytes, length, room);

@@ -24,7 +24,7 @@ pub enum Kind {
 #[derive(Clone, Copy, Debug, PartialEq, Eq)]
 pub struct Message<'a> {
     pub kind: Kind,
-    pub sender: u8,
+    pub sender: u32,
     pub sequence: u32,
     pub payload: &'a [u8],
 }
@@ -49,12 +49,12 @@ pub fn read(own: u8, message: &[u8]) -> Result<Message<'_>, u32> {
         return Err(5);
     }
     let sender = be32(header, 4);
-    if sender > 255 || sender == u32::from(own) {
+    if sender == u32::from(own) {
         return Err(6);
     }
     Ok(Message {
         kind: kind(domain, be32(header, 8), payload)?,
-        sender: sender as u8,
+        sender,
         sequence: be32(header, 16),
         payload,
     })

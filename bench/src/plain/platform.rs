@@ -31,7 +31,7 @@ pub enum Heard<'a> {
 #[derive(Clone, Copy, Debug, PartialEq, Eq)]
 pub struct Answer<'a> {
     pub heard: Heard<'a>,
-    pub sender: u8,
+    pub sender: u32,
     pub sequence: u32,
     pub written: usize,
 }
@@ -73,10 +73,17 @@ impl Platform {
     ) -> Result<Answer<'m>, u32> {
         let table = Table::within(bytes, sections)?;
         let got = message::read(self.own, message)?;
+        // Whose state changes: a platform above 255 has none.
+        let turned = match got.kind {
+            Kind::Status { up } => u8::try_from(got.sender)
+                .ok()
+                .filter(|sender| self.is_up(*sender) != up),
+            _ => None,
+        };
         let none = |heard| (heard, [None, None]);
         let one = |heard, id, field| (heard, [Some((id, got.sequence, field)), None]);
         let (heard, replies): (Heard, [Option<Reply>; 2]) = match got.kind {
-            Kind::Status { up: true } if !self.is_up(got.sender) => (
+            Kind::Status { up: true } if turned.is_some() => (
                 Heard::Status { up: true },
                 [
                     Some((STATUS, self.next, 1)),
@@ -118,8 +125,8 @@ impl Platform {
                 place,
             )?;
         }
-        if let Kind::Status { up } = got.kind {
-            self.note(got.sender, up);
+        if let Some(sender) = turned {
+            self.turn(sender);
         }
         Ok(Answer {
             heard,
@@ -129,12 +136,10 @@ impl Platform {
         })
     }
 
-    fn note(&mut self, sender: u8, up: bool) {
-        if self.is_up(sender) != up {
-            self.up[usize::from(sender / 64)] ^= 1 << (sender % 64);
-            if up {
-                self.next = self.next.wrapping_add(2);
-            }
+    fn turn(&mut self, sender: u8) {
+        self.up[usize::from(sender / 64)] ^= 1 << (sender % 64);
+        if self.is_up(sender) {
+            self.next = self.next.wrapping_add(2);
         }
     }
 }

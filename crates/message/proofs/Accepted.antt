@@ -2,16 +2,16 @@
 -- Assumes nothing.
 use Prim.Native.Nat.{ℕ, zero, suc, _+_, _-_, _^_, _≤_, _<_}
 use mathlib.Core.Path.{_≡_, refl, sym, ap, _∙_}
-use mathlib.Core.Bool.{Bool, true, false, not, cond, _||_, true≢false}
+use mathlib.Core.Bool.{not}
 use mathlib.Core.List.{List}
 use native.Mathlib.Nat.{suc-ne-zero}
-use borrow.Author.Tests.{lt-leb, ne-eqb, ltb-false, leb-false, eqb-true, eqb-false, not-false}
+use borrow.Author.Tests.{ltb-false, leb-false, eqb-true, eqb-false, not-false}
 use lib.Dec.{eqb, leb, ltb}
 use lib.ListN.{length}
-use Rattle.wire.proofs.Cond.{no-if, no-lt, no-le, no-ne, passed}
+use Rattle.wire.proofs.Cond.{no-lt, no-le, no-ne, no-eq, passed}
 use Rattle.message.specs.Header.{headerLength, theMark, markIn, theVersion, versionIn, reservedDomains, domainIn, senderIn}
 use Rattle.message.specs.Header.{idIn, payloadSizeIn, payloadIn}
-use Rattle.message.specs.Refusal.{first, platforms, contentsRefusal, frameRefusal, addressRefusal, readRefusal, sizeLimit, writeRefusal}
+use Rattle.message.specs.Refusal.{first, contentsRefusal, frameRefusal, addressRefusal, readRefusal, sizeLimit, writeRefusal}
 
 pub record Readable (own : ℕ) (s : List ℕ) : Type 0 where
   pub long : headerLength ≤ length s
@@ -19,7 +19,6 @@ pub record Readable (own : ℕ) (s : List ℕ) : Type 0 where
   pub version : versionIn s ≡ theVersion
   pub domain : domainIn s < reservedDomains
   pub size : payloadSizeIn s ≡ length s - headerLength
-  pub platform : senderIn s < platforms
   pub other : senderIn s ≡ own → ⊥
   pub contents : contentsRefusal (domainIn s) (idIn s) (payloadIn s) ≡ 0
 
@@ -41,10 +40,6 @@ both : (n m : ℕ) → first n m ≡ 0 → (n ≡ 0) × (m ≡ 0)
 both zero m e = (refl, e)
 both (suc n) m e = absurd (suc-ne-zero n e)
 
-neither : (a b : Bool) → (a || b) ≡ false → (a ≡ false) × (b ≡ false)
-neither false b e = (refl, e)
-neither true b e = absurd (true≢false e)
-
 pub readable : (own : ℕ) (s : List ℕ) → readRefusal own s ≡ 0 → Readable own s
 readable own s e =
     let r = both (frameRefusal s) _ e in
@@ -54,16 +49,14 @@ readable own s e =
     let f3 = passed (not (eqb (versionIn s) theVersion)) 2 _ (f2 .1) in
     let f4 = passed (leb reservedDomains (domainIn s)) 3 0 (f3 .1) in
     let a5 = passed (not (eqb (payloadSizeIn s) (length s - headerLength))) 4 _ (q .0) in
-    let a6 = passed (leb platforms (senderIn s) || eqb (senderIn s) own) 5 0 (a5 .1) in
-    let o = neither (leb platforms (senderIn s)) (eqb (senderIn s) own) (a6 .0) in
+    let a6 = passed (eqb (senderIn s) own) 5 0 (a5 .1) in
     record {
       long = ltb-false (length s) headerLength (f1 .0);
       mark = eqb-true (markIn s) theMark (not-false _ (f2 .0));
       version = eqb-true (versionIn s) theVersion (not-false _ (f3 .0));
       domain = leb-false reservedDomains (domainIn s) (f4 .0);
       size = eqb-true (payloadSizeIn s) (length s - headerLength) (not-false _ (a5 .0));
-      platform = leb-false platforms (senderIn s) (o .0);
-      other = eqb-false (senderIn s) own (o .1);
+      other = eqb-false (senderIn s) own (a6 .0);
       contents = q .1;
     }
 
@@ -86,11 +79,9 @@ accepts own s a =
     let f : frameRefusal s ≡ 0 =
     no-lt 1 _ (length s) headerLength (a .long) ∙ no-ne 2 _ (markIn s) theMark (a .mark) ∙ no-ne 3 _ (versionIn s) theVersion (a .version)
     ∙ no-le 4 0 reservedDomains (domainIn s) (a .domain) in
-    let n : (leb platforms (senderIn s) || eqb (senderIn s) own) ≡ false =
-    simp (lt-leb platforms (senderIn s) (a .platform), ne-eqb (senderIn s) own (a .other)) in
     let q : addressRefusal own s ≡ 0 =
     no-ne 5 _ (payloadSizeIn s) (length s - headerLength) (a .size)
-    ∙ no-if 6 0 n in
+    ∙ no-eq 6 0 (senderIn s) own (a .other) in
     first-none (frameRefusal s) _ f ∙ first-none (addressRefusal own s) _ q ∙ a .contents
 
 pub admits : (domain id : ℕ) (payload : List ℕ) (room : ℕ) → Writable domain id payload room → writeRefusal domain id payload room ≡ 0

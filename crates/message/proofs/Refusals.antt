@@ -1,22 +1,22 @@
 -- Which refusal each return of the functions in `refusal` stands for: the tests that led there say which case of the
 -- definition holds.
 -- Assumes nothing.
-use Prim.Native.Nat.{ℕ, _+_, _-_, _*_, _≤_, _<_}
+use Prim.Native.Nat.{ℕ, _+_, _-_, _≤_, _<_}
 use mathlib.Core.Path.{_≡_, refl, sym, _∙_}
-use mathlib.Core.Bool.{Bool, true, false, not, cond, _&&_, _||_}
+use mathlib.Core.Bool.{Bool, true, false, not, cond, _&&_}
 use mathlib.Core.List.{List, []}
 use native.Mathlib.Omega.{arith}
-use borrow.Author.Tests.{eq-eqb, ne-eqb, eqb-true, eqb-false, le-leb, lt-leb, not-true, not-false}
+use borrow.Author.Tests.{eq-eqb, ne-eqb}
 use lib.Dec.{eqb, leb}
 use lib.ListN.{length, take, drop, length-drop, drop-of-length-le}
 use lib.Seq.{take-all}
-use Rattle.wire.specs.Bytes.{number, Octets}
+use Rattle.wire.specs.Bytes.{number}
 use Rattle.message.specs.Header.{headerLength, theMark, markIn, theVersion, versionIn, platformDomain, domainIn}
 use Rattle.message.specs.Header.{reservedDomains, senderIn, idIn, payloadSizeIn, payloadIn}
 use Rattle.message.specs.Platform.{platformStatus, reservedID, payloadLength, reservedStates}
-use Rattle.message.specs.Refusal.{first, frameRefusal, platforms, addressRefusal, contentsRefusal, readRefusal}
+use Rattle.message.specs.Refusal.{first, frameRefusal, addressRefusal, contentsRefusal, readRefusal}
 use Rattle.message.proofs.Accepted.{first-none, first-some}
-use Rattle.wire.proofs.Cond.{yes-if, no-if, yes-lt, no-lt, yes-le, no-le, yes-ne, no-ne}
+use Rattle.wire.proofs.Cond.{yes-if, no-if, yes-lt, no-lt, yes-le, no-le, yes-ne, no-ne, yes-eq, no-eq}
 
 module _ (s : List ℕ) where
   pub frame-1 : length s < headerLength → 1 ≡ frameRefusal s
@@ -44,34 +44,15 @@ module _ (own : ℕ) (s : List ℕ) (size len : ℕ) (z : size ≡ payloadSizeIn
   pub address-5 : (size ≡ len → ⊥) → 5 ≡ addressRefusal own s
   address-5 h = sym (yes-ne 5 _ (payloadSizeIn s) (length s - headerLength) (λ e. h (z ∙ e ∙ sym l)))
 
-  module _ (other : Bool) (sized : size ≡ len) (f : other ≡ not (leb platforms (senderIn s) || eqb (senderIn s) own)) where
-    past-size : addressRefusal own s ≡ cond (leb platforms (senderIn s) || eqb (senderIn s) own) 6 0
+  module _ (sender : ℕ) (sized : size ≡ len) (f : sender ≡ senderIn s) where
+    past-size : addressRefusal own s ≡ cond (eqb (senderIn s) own) 6 0
     past-size = no-ne 5 _ (payloadSizeIn s) (length s - headerLength) (sym z ∙ sized ∙ l)
 
-    pub address-6 : other ≡ false → 6 ≡ addressRefusal own s
-    address-6 h = sym (past-size ∙ yes-if 6 0 (not-false (leb platforms (senderIn s) || eqb (senderIn s) own) (sym f ∙ h)))
+    pub address-6 : sender ≡ own → 6 ≡ addressRefusal own s
+    address-6 h = sym (past-size ∙ yes-eq 6 0 (senderIn s) own (sym f ∙ h))
 
-    pub address-0 : other ≡ true → 0 ≡ addressRefusal own s
-    address-0 h = sym (past-size ∙ no-if 6 0 (not-true (leb platforms (senderIn s) || eqb (senderIn s) own) (sym f ∙ h)))
-
--- the sender by its bytes: two, one, and the last
-by-bytes : (n a b c own : ℕ) → c < 256 → n ≡ a * 65536 + (b * 256 + c) → ((eqb a 0 && eqb b 0) && not (eqb c own)) ≡ not (leb 256 n || eqb n own)
-by-bytes n a b c own h e = go (eqb a 0) (eqb b 0) refl refl
-  where
-    go : (x y : Bool) → eqb a 0 ≡ x → eqb b 0 ≡ y → ((eqb a 0 && eqb b 0) && not (eqb c own)) ≡ not (leb 256 n || eqb n own)
-    go true true p q =
-        let k : n ≡ c = omega (arith, eqb-true a 0 p, eqb-true b 0 q) in
-        rw (p, q, k, lt-leb 256 c h)
-    go true false p q =
-        let k : 256 ≤ n = omega (arith, eqb-false b 0 q) in
-        rw (p, q, le-leb 256 n k)
-    go false y p q =
-        let k : 256 ≤ n = omega (arith, eqb-false a 0 p) in
-        rw (p, le-leb 256 n k)
-
-pub sender-judged : {a b c : ℕ} (own : ℕ) (s : List ℕ) → Octets s → a ≡ number 1 s 4 → b ≡ number 0 s 6 → c ≡ number 0 s 7
-    → ((eqb a 0 && eqb b 0) && not (eqb c own)) ≡ not (leb platforms (senderIn s) || eqb (senderIn s) own)
-sender-judged {a} {b} {c} own s o p q r = by-bytes (senderIn s) a b c own (rw r (o 7)) (rw (p, q, r) (omega arith))
+    pub address-0 : (sender ≡ own → ⊥) → 0 ≡ addressRefusal own s
+    address-0 h = sym (past-size ∙ no-eq 6 0 (senderIn s) own (λ e. h (f ∙ e)))
 
 module _ (domain id : ℕ) (payload : List ℕ) where
   pub contents-other : (domain ≡ platformDomain → ⊥) → 0 ≡ contentsRefusal domain id payload

@@ -15,7 +15,7 @@ use Rattle.message.specs.declared.Reading.{Reading}
 use Rattle.message.specs.declared.Reading.the-variants.{Read}
 use Rattle.message.specs.Header.{headerLength, theMark, theVersion, domainIn, senderIn, idIn, payloadSizeIn, sequenceIn, payloadIn, headerIn, headerBytes}
 use Rattle.message.specs.Platform.{messageOf}
-use Rattle.message.specs.Refusal.{platforms, contentsRefusal, readRefusal, writeRefusal}
+use Rattle.message.specs.Refusal.{contentsRefusal, readRefusal, writeRefusal}
 use Rattle.message.specs.Reading.{answered, readOut, readOf, payloadOf}
 use Rattle.message.specs.Writing.{headerFor, messageBytes}
 use Rattle.message.proofs.Accepted.{Readable, readable, Writable, writable, accepts, admits}
@@ -24,7 +24,7 @@ abbrev fields : ℕ → ℕ → ℕ → ℕ → ℕ → Header
 fields domain size seq platform id = record { domain = domain; platform = platform; id = id; «payload_size» = size; sequence = seq }
 
 -- what is written reads back
-module _ (own domain id seq : ℕ) (payload : List ℕ) (room reader : ℕ) (o : own < platforms) (r : own ≡ reader → ⊥) (i : id < span 2)
+module _ (own domain id seq : ℕ) (payload : List ℕ) (room reader : ℕ) (o : own < span 2) (r : own ≡ reader → ⊥) (i : id < span 2)
     (q : seq < span 2) (w : writeRefusal domain id payload room ≡ 0) where
   abbrev message : List ℕ
   message = messageBytes own domain id seq payload
@@ -33,7 +33,7 @@ module _ (own domain id seq : ℕ) (payload : List ℕ) (room reader : ℕ) (o :
   ok = writable domain id payload room w
 
   sender : senderIn message ≡ own
-  sender = number-bytes 2 own (bytes 2 id ++ (bytes 2 (length payload) ++ (bytes 2 seq ++ payload))) (omega arith)
+  sender = number-bytes 2 own (bytes 2 id ++ (bytes 2 (length payload) ++ (bytes 2 seq ++ payload))) o
 
   its-id : idIn message ≡ id
   its-id = number-bytes 2 id (bytes 2 (length payload) ++ (bytes 2 seq ++ payload)) i
@@ -54,7 +54,6 @@ module _ (own domain id seq : ℕ) (payload : List ℕ) (room reader : ℕ) (o :
         version = refl;
         domain = ok .domain;
         size = omega arith;
-        platform = omega (arith, sender);
         other = λ e. r (sym sender ∙ e);
         contents = ap (λ (n : ℕ). contentsRefusal domain n payload) its-id ∙ ok .contents;
       })

@@ -1,7 +1,7 @@
 -- 01, "Numbers given back", 1 to 10: when each is given, in their order.
 use Prim.Native.Nat.{ℕ, zero, suc, _+_, _-_, _^_}
 use mathlib.Core.List.{List}
-use mathlib.Core.Bool.{not, cond, _&&_, _||_}
+use mathlib.Core.Bool.{not, cond, _&&_}
 use lib.Dec.{eqb, leb, ltb}
 use lib.ListN.{length}
 use Rattle.wire.specs.Bytes.{number}
@@ -54,14 +54,15 @@ frameRefusal s =
     (cond (leb reservedDomains (domainIn s)) reservedDomain
     0)))
 
--- 5 and 6. The sender has to be one of the other 255 platforms (docs/DECISIONS.md, 4)
+-- how many platforms have a number and a state here, this one among them
 abbrev pub platforms : ℕ
 platforms = 256
 
+-- 5 and 6. The sender may be any other number of 32 bits (docs/DECISIONS.md, 4)
 abbrev pub addressRefusal : ℕ → List ℕ → ℕ
 addressRefusal own s =
     cond (not (eqb (payloadSizeIn s) (length s - headerLength))) wrongSize
-    (cond (leb platforms (senderIn s) || eqb (senderIn s) own) wrongSender
+    (cond (eqb (senderIn s) own) wrongSender
     0)
 
 -- 7 to 9: domain 0 alone is judged here

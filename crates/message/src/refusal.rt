@@ -1,12 +1,10 @@
 // When a message is refused: 01, "Numbers given back", 1 to 9.
 ghost use mathlib.Core.Path.{_≡_};
-ghost use mathlib.Core.Bool.{not, _||_};
-ghost use lib.Dec.{eqb, leb};
 ghost use Prim.Native.Nat.{_-_};
 ghost use lib.ListN.{length};
-ghost use Rattle.message.specs.Header.{headerLength, senderIn, payloadIn};
+ghost use Rattle.message.specs.Header.{headerLength, payloadIn};
 ghost use Rattle.message.specs.Platform.{reservedID, payloadLength};
-ghost use Rattle.message.specs.Refusal.{frameRefusal, platforms, addressRefusal, contentsRefusal, readRefusal};
+ghost use Rattle.message.specs.Refusal.{frameRefusal, addressRefusal, contentsRefusal, readRefusal};
 use crate::Header;
 use crate::Message;
 use crate::Own;
@@ -77,21 +75,10 @@ pub fn address_refusal(own: Own, message: &[u8]) -> u32
     if wire::u32_at(message, Header::PAYLOAD_SIZE_AT) as usize != payload_length(message) {
         return WRONG_SIZE;
     }
-    if is_other(own, message) {
-        0
-    } else {
-        WRONG_SENDER
+    if wire::u32_at(message, Header::PLATFORM_AT) == own.platform as u32 {
+        return WRONG_SENDER;
     }
-}
-
-// The sender is one of the other 255 platforms: the upper three bytes of its number are 0, and the last is not ours. By bytes,
-// since a test of the whole number makes the compiler put it together again from them.
-fn is_other(own: Own, message: &[u8]) -> bool
-    ensures { λ r. ⌜ r ≡ not (leb platforms (senderIn (now (message .entry))) || eqb (senderIn (now (message .entry))) (own .platform)) ⌝ }
-{
-    (wire::u16_at(message, Header::PLATFORM_AT) == 0)
-        & (wire::u8_at(message, Header::PLATFORM_AT + 2) == 0)
-        & (wire::u8_at(message, Header::PLATFORM_AT + 3) != own.platform)
+    0
 }
 
 // 7 to 9.

@@ -18,9 +18,10 @@ use Rattle.message.specs.declared.Status.{Status}
 use Rattle.message.specs.declared.Status.the-variants.{Down, Up}
 use Rattle.message.specs.declared.Message.{Message}
 use Rattle.message.specs.declared.Message.the-variants as message
+use Rattle.message.specs.Refusal.{platforms}
 use Rattle.message.specs.declared.Reading.{Reading}
 use Rattle.message.specs.declared.Reading.the-variants as reading
-use Rattle.wire.proofs.Cond.{yes-if, no-if, yes-eq, no-eq}
+use Rattle.wire.proofs.Cond.{yes-if, no-if, yes-lt, no-lt, yes-eq, no-eq}
 use Rattle.states.specs.declared.States.{States}
 use Rattle.platform.specs.declared.reactions.Standing.{Standing}
 use Rattle.platform.specs.declared.reactions.Heard.{Heard}
@@ -33,7 +34,7 @@ use Rattle.platform.specs.declared.reactions.Reaction.{Reaction}
 use Rattle.states.specs.States.{isUp, turned}
 use Rattle.platform.specs.Replies.{allData, drawn}
 use Rattle.platform.specs.Reaction.{operationFor, operationIn, isData, notData, noData, silent, replied, noted, cameUp}
-use Rattle.platform.specs.Reaction.{onStatus, notVersioned, onPullAll, onPullOne, onPull, onOperation, reactionTo}
+use Rattle.platform.specs.Reaction.{onState, onStatus, notVersioned, onPullAll, onPullOne, onPull, onOperation, reactionTo}
 
 -- what is looked up
 module _ (t : List ℕ) (s : Sections) (h : Header) (m : Message) where
@@ -101,21 +102,30 @@ came-up-is p q sender b d e f g =
     ap₂ (λ (x : Standing) (y : ℕ). record { standing = x; heard = heard.Status Up; owed = owed.Two (StatusUp (p .next)) (PullAll y) }) k e
 
 module _ (own : ℕ) (p : Standing) (sender : ℕ) (x : Status) (u : Bool) (e : u ≡ isUp own (p .states) sender) (r : Reaction) where
-  pub still-up : x ≡ Up → u ≡ true → r ≡ silent p (heard.Status Up) → r ≡ onStatus own p sender x
-  unfolding onStatus
+  pub still-up : x ≡ Up → u ≡ true → r ≡ silent p (heard.Status Up) → r ≡ onState own p sender x
+  unfolding onState
   still-up k t d = rw (k, ← e, t) d
 
-  pub down-to-up : x ≡ Up → u ≡ false → r ≡ cameUp p sender → r ≡ onStatus own p sender x
-  unfolding onStatus
+  pub down-to-up : x ≡ Up → u ≡ false → r ≡ cameUp p sender → r ≡ onState own p sender x
+  unfolding onState
   down-to-up k t d = rw (k, ← e, t) d
 
-  pub up-to-down : (q : Standing) → x ≡ Down → u ≡ true → q ≡ noted p sender (p .next) → r ≡ silent q (heard.Status Down) → r ≡ onStatus own p sender x
-  unfolding onStatus
+  pub up-to-down : (q : Standing) → x ≡ Down → u ≡ true → q ≡ noted p sender (p .next) → r ≡ silent q (heard.Status Down) → r ≡ onState own p sender x
+  unfolding onState
   up-to-down q k t n d = rw (k, ← e, t) (d ∙ ap (λ (z : Standing). silent z (heard.Status Down)) n)
 
-  pub still-down : x ≡ Down → u ≡ false → r ≡ silent p (heard.Status Down) → r ≡ onStatus own p sender x
-  unfolding onStatus
+  pub still-down : x ≡ Down → u ≡ false → r ≡ silent p (heard.Status Down) → r ≡ onState own p sender x
+  unfolding onState
   still-down k t d = rw (k, ← e, t) d
+
+module _ (own : ℕ) (p : Standing) (sender : ℕ) (x : Status) (r : Reaction) where
+  pub with-state : sender < platforms → r ≡ onState own p sender x → r ≡ onStatus own p sender x
+  unfolding onStatus
+  with-state l d = d ∙ sym (yes-lt {A = Reaction} (onState own p sender x) (silent p (heard.Status x)) sender platforms l)
+
+  pub without-state : platforms ≤ sender → r ≡ silent p (heard.Status x) → r ≡ onStatus own p sender x
+  unfolding onStatus
+  without-state l d = d ∙ sym (no-lt {A = Reaction} (onState own p sender x) (silent p (heard.Status x)) sender platforms l)
 
 -- a pull
 module _ (t : List ℕ) (s : Sections) (p : Standing) (n : ℕ) (r : Reaction) where

@@ -8,7 +8,8 @@ use mathlib.Core.Bool.{Bool, true, false, cond}
 use mathlib.Core.List.{List, [], _∷_, _++_}
 use native.Mathlib.Omega.{arith}
 use native.Mathlib.Nat.{mod-lt, zero-lt-suc}
-use lib.Dec.{eqb}
+use borrow.Author.Tests.{lt-ltb}
+use lib.Dec.{eqb, ltb}
 use lib.ListN.{length}
 use lib.Pow.{pow-pos}
 use Rattle.wire.specs.Bytes.{number, bytes, over, part}
@@ -41,9 +42,10 @@ use Rattle.platform.specs.declared.reactions.Reaction.{Reaction}
 use Rattle.states.specs.States.{isUp}
 use Rattle.platform.specs.Replies.{allData, drawn, replyID, replyNumber, replyField, replyBytes, replyHeader, meant, Wide}
 use Rattle.platform.specs.Replies.{replyLength, replies, Each, owedBytes, owedLength}
-use Rattle.platform.specs.Reaction.{noData, isData, silent, replied, cameUp, onStatus, notVersioned, onPullAll, onPullOne}
+use Rattle.platform.specs.Reaction.{noData, isData, silent, replied, noted, cameUp, onState, onStatus, notVersioned, onPullAll, onPullOne}
 use Rattle.platform.specs.Reaction.{onPull, onOperation, reactionTo}
 use Rattle.platform.specs.Receiving.{laidOut}
+use Rattle.platform.proofs.ReactionLaws.{without-state}
 use Rattle.platform.proofs.ReplyBytes.{reply-writable, length-owed}
 
 -- at every platform but its sender a reply reads back as what it means
@@ -61,7 +63,7 @@ pub reply-reads-back : (own reader : ℕ) (r : Reply) → own < platforms → (o
     ≡ Read (replyHeader own r) (meant r) headerLength 4
 unfolding replyBytes
 reply-reads-back own reader r o d w =
-    reads-back own platformDomain (replyID r) (replyNumber r) (bytes 2 (replyField r)) replyLength reader o d (id-fits r) (w .number)
+    reads-back own platformDomain (replyID r) (replyNumber r) (bytes 2 (replyField r)) replyLength reader (omega arith) d (id-fits r) (w .number)
     (reply-writable r replyLength (omega arith))
     ∙ ap (λ (m : Message). Read (replyHeader own r) m headerLength 4) (means r (w .field))
 
@@ -121,21 +123,30 @@ repeats-its-number own t s f p h (message.VersionedDataPull id) start len k = pu
 repeats-its-number own t s (found.At i) p h message.Operation start len k = tt
 repeats-its-number own t s found.Nothing p h message.Operation start len k = (refl, tt)
 
--- a status: DOWN to UP is answered with the next two own numbers, and nothing else is
+-- a status: DOWN to UP is answered with the next two own numbers, and nothing else is; nothing above 255
 module _ (own : ℕ) (p : Standing) (sender : ℕ) where
   pub up-to-up-is-silent : isUp own (p .states) sender ≡ true → onStatus own p sender Up ≡ silent p (heard.Status Up)
-  unfolding onStatus
-  up-to-up-is-silent e = rw e refl
+  unfolding onStatus onState
+  up-to-up-is-silent e = rw e (go (ltb sender platforms))
+    where
+      go : (b : Bool) → cond b (silent p (heard.Status Up)) (silent p (heard.Status Up)) ≡ silent p (heard.Status Up)
+      go true = refl
+      go false = refl
 
-  pub down-to-up-is-answered : isUp own (p .states) sender ≡ false → replies (onStatus own p sender Up .owed) ≡ StatusUp (p .next)
-      ∷ PullAll (drawn (p .next)) ∷ []
-  unfolding onStatus cameUp
-  down-to-up-is-answered e = rw e refl
+  pub down-to-up-is-answered : sender < platforms → isUp own (p .states) sender ≡ false → replies (onStatus own p sender Up .owed)
+      ≡ StatusUp (p .next) ∷ PullAll (drawn (p .next)) ∷ []
+  unfolding onStatus onState cameUp
+  down-to-up-is-answered l e = rw (lt-ltb sender platforms l, e) refl
 
   pub down-is-silent : replies (onStatus own p sender Down .owed) ≡ []
-  unfolding onStatus
-  down-is-silent = go (isUp own (p .states) sender) refl
+  unfolding onStatus onState
+  down-is-silent = go (ltb sender platforms) (isUp own (p .states) sender)
     where
-      go : (b : Bool) → isUp own (p .states) sender ≡ b → replies (onStatus own p sender Down .owed) ≡ []
-      go true e = rw e refl
-      go false e = rw e refl
+      go : (a b : Bool) → replies (cond a (cond b (silent (noted p sender (p .next)) (heard.Status Down)) (silent p (heard.Status Down)))
+          (silent p (heard.Status Down)) .owed) ≡ []
+      go true true = refl
+      go true false = refl
+      go false b = refl
+
+  pub above-is-silent : (x : Status) → platforms ≤ sender → onStatus own p sender x ≡ silent p (heard.Status x)
+  above-is-silent x l = sym (without-state own p sender x (silent p (heard.Status x)) l refl)

@@ -10,6 +10,7 @@ use mathlib.Core.Bool.{Bool, true, false, not, cond}
 use mathlib.Core.List.{List, [], _∷_, _++_}
 use native.Mathlib.Omega.{arith}
 use native.Mathlib.Nat.{mod-lt}
+use borrow.Author.Tests.{lt-ltb}
 use lib.Dec.{ltb}
 use lib.Pow.{pow-pos}
 use Rattle.table.specs.declared.Sections.{Sections}
@@ -28,7 +29,7 @@ use Rattle.platform.specs.declared.reactions.Reply.the-variants.{StatusU
 use Rattle.platform.specs.declared.reactions.Reaction.{Reaction}
 use Rattle.states.specs.States.{isUp}
 use Rattle.platform.specs.Replies.{allData, drawn, replyBytes, replyHeader, meant, Wide, replies, Each, owedLength}
-use Rattle.platform.specs.Reaction.{noData, silent, cameUp, onStatus, notVersioned, onPullAll, onPull, reactionTo}
+use Rattle.platform.specs.Reaction.{noData, silent, cameUp, onState, onStatus, notVersioned, onPullAll, onPull, reactionTo}
 use Rattle.platform.specs.Receiving.{refused, taken, answered, outcomeOf}
 use Rattle.platform.specs.Exchange.{written, sentOf, Setting, keeps, sends, Pair, Step, Exchange, started, longestExchange}
 use Rattle.platform.specs.Exchange.Step.{arrives-at-a, arrives-at-b, lost-to-a, lost-to-b}
@@ -65,16 +66,16 @@ module _ (own other : ℕ) (t : List ℕ) (s : Sections) (f : Found) (p : Standi
   X r = reactionTo own t s f p (replyHeader other r) (meant r) headerLength 4
 
   status-lighter : (n : ℕ) → Lighter own other p (StatusUp n) (X (StatusUp n) .standing) (replies (X (StatusUp n) .owed))
-  unfolding reactionTo onStatus cameUp
+  unfolding reactionTo onStatus onState cameUp
   status-lighter n = go (isUp own (p .states) other) refl
     where
       go : (b : Bool) → isUp own (p .states) other ≡ b → Lighter own other p (StatusUp n) (X (StatusUp n) .standing) (replies (X (StatusUp n) .owed))
-      go true e = rw e (record { sum = rw e (omega arith); wide = tt; next = hn })
+      go true e = rw (lt-ltb other 256 hp, e) (record { sum = rw e (omega arith); wide = tt; next = hn })
       go false e =
           let u : isUp own (cameUp p other .standing .states) other ≡ true = noted-there own (p .states) other hp d ∙ ap not e in
           let w : Wide (StatusUp (p .next)) = record { number = hn; field = omega arith } in
           let v : Wide (PullAll (drawn (p .next))) = record { number = mod-lt (p .next + 1) (pow-pos 32); field = omega arith } in
-          rw e (record { sum = rw (u, e) (omega arith); wide = (w, (v, tt)); next = mod-lt (drawn (p .next) + 1) (pow-pos 32) })
+          rw (lt-ltb other 256 hp, e) (record { sum = rw (u, e) (omega arith); wide = (w, (v, tt)); next = mod-lt (drawn (p .next) + 1) (pow-pos 32) })
 
   pull-lighter : (n : ℕ) → n < 2 ^ 32 → Lighter own other p (PullAll n) (X (PullAll n) .standing) (replies (X (PullAll n) .owed))
   unfolding reactionTo onPull onPullAll

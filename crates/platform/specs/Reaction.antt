@@ -3,7 +3,7 @@
 use Prim.Native.Nat.{ℕ}
 use mathlib.Core.Bool.{Bool, true, false, cond, not}
 use mathlib.Core.List.{List}
-use lib.Dec.{eqb}
+use lib.Dec.{eqb, ltb}
 use Rattle.table.specs.declared.Sections.{Sections}
 use Rattle.table.specs.declared.Found.{Found}
 use Rattle.table.specs.declared.Found.the-variants as found
@@ -15,6 +15,7 @@ use Rattle.message.specs.declared.Status.{Status}
 use Rattle.message.specs.declared.Status.the-variants.{Down, Up}
 use Rattle.message.specs.declared.Message.{Message}
 use Rattle.message.specs.declared.Message.the-variants as message
+use Rattle.message.specs.Refusal.{platforms}
 use Rattle.message.specs.declared.Reading.{Reading}
 use Rattle.message.specs.declared.Reading.the-variants as reading
 use Rattle.platform.specs.declared.reactions.Standing.{Standing}
@@ -64,7 +65,8 @@ abbrev pub replied : Standing → Heard → Reply → Reaction
 replied p x r = record { standing = p; heard = x; owed = owed.One r }
 
 -- PLATFORM_STATUS. DOWN to UP: noted, and the two replies take the next two own numbers. UP to DOWN: noted, nothing owed.
--- No change: nothing owed
+-- No change: nothing owed. States are kept of the 256: a platform above 255 is heard, nothing is noted and nothing owed
+-- (docs/DECISIONS.md, 4)
 abbrev pub noted : Standing → ℕ → ℕ → Standing
 noted p sender n = record { states = turned (p .states) sender; next = n }
 
@@ -76,9 +78,12 @@ cameUp p sender =
       owed = owed.Two (StatusUp (p .next)) (PullAll (drawn (p .next)));
     }
 
+unfoldable pub onState : ℕ → Standing → ℕ → Status → Reaction
+onState own p sender Up = cond (isUp own (p .states) sender) (silent p (heard.Status Up)) (cameUp p sender)
+onState own p sender Down = cond (isUp own (p .states) sender) (silent (noted p sender (p .next)) (heard.Status Down)) (silent p (heard.Status Down))
+
 unfoldable pub onStatus : ℕ → Standing → ℕ → Status → Reaction
-onStatus own p sender Up = cond (isUp own (p .states) sender) (silent p (heard.Status Up)) (cameUp p sender)
-onStatus own p sender Down = cond (isUp own (p .states) sender) (silent (noted p sender (p .next)) (heard.Status Down)) (silent p (heard.Status Down))
+onStatus own p sender x = cond (ltb sender platforms) (onState own p sender x) (silent p (heard.Status x))
 
 -- VERSIONED_DATA_PULL: all, or the one operation; if the ID isn't versioned data here, or all is pulled where there is none
 -- (docs/DECISIONS.md, 24), UNKNOWN_OPERATION with that ID

@@ -14,7 +14,7 @@ use table::Found;
 use table::Sections;
 ghost use mathlib.Core.Path.{_≡_};
 ghost use Rattle.platform.specs.Reaction.{operationFor, operationIn, isData, notData, noData, silent, replied, noted};
-ghost use Rattle.platform.specs.Reaction.{cameUp, onStatus, notVersioned, onPullAll, onPullOne, onPull, onOperation};
+ghost use Rattle.platform.specs.Reaction.{cameUp, onState, onStatus, notVersioned, onPullAll, onPullOne, onPull, onOperation};
 ghost use Rattle.platform.specs.Reaction.{reactionTo};
 
 // The kind of an operation that is versioned data.
@@ -75,9 +75,20 @@ fn looked_for(table: &[u8], s: Sections, header: Header, message: Message) -> Fo
     }
 }
 
-// DOWN to UP is answered, UP to UP never is: two platforms would answer each other for ever.
+// A platform above 255 has no state that could change.
 fn on_status(own: Own, standing: Standing, sender: u32, status: Status) -> Reaction
     ensures { λ r. ⌜ r ≡ onStatus (own .platform) standing sender status ⌝ }
+{
+    if sender < Own::PLATFORMS {
+        on_state(own, standing, sender, status)
+    } else {
+        silent(standing, Heard::Status(status))
+    }
+}
+
+// DOWN to UP is answered, UP to UP never is: two platforms would answer each other for ever.
+fn on_state(own: Own, standing: Standing, sender: u32, status: Status) -> Reaction
+    ensures { λ r. ⌜ r ≡ onState (own .platform) standing sender status ⌝ }
 {
     let states = standing.states;
     let up = states::is_up(own, states, sender);

@@ -1,13 +1,11 @@
 -- A platform in its words: what reading and writing show, and that the words of a platform read back as that platform.
 -- Assumes nothing.
-use Prim.Native.Nat.{ℕ, _%_, _^_, _≤_, _<_}
-use mathlib.Core.Path.{_≡_, sym, ap, _∙_}
-use mathlib.Core.Bool.{Bool, true, false, cond}
+use Prim.Native.Nat.{ℕ, _%_, _^_, _<_}
+use mathlib.Core.Path.{_≡_, ap, _∙_}
+use mathlib.Core.Bool.{Bool, true, false}
 use mathlib.Core.List.{List, _++_}
 use native.Mathlib.Nat.{mod-eq-of-lt}
 use lib.ListN.{getD}
-use Rattle.wire.proofs.Cond.{yes-lt, no-lt}
-use Rattle.message.specs.Refusal.{platforms}
 use Rattle.states.specs.declared.States.{States}
 use Rattle.platform.specs.declared.reactions.Standing.{Standing}
 use Rattle.states.specs.States.{isUp, howManyUp}
@@ -28,15 +26,12 @@ module _ (ws : List ℕ) where
     pub up-states : {r : ℕ} → r ≡ howManyUp own s → r ≡ howManyUp own (statesIn ws)
     up-states e = e ∙ ap (howManyUp own) es
 
-    module _ {t : Bool} (k : ℕ) (l : k < platforms) (e : t ≡ isUp own s k) where
+    module _ {t : Bool} (k : ℕ) (e : t ≡ isUp own s k) where
       pub is-up : t ≡ true → 1 ≡ upNumber own ws k
-      is-up f = sym (yes-lt (cond (isUp own (statesIn ws) k) 1 0) 0 k platforms l ∙ rw (← es, ← e, f))
+      is-up f = rw (← es, ← e, f)
 
       pub is-down : t ≡ false → 0 ≡ upNumber own ws k
-      is-down f = sym (yes-lt (cond (isUp own (statesIn ws) k) 1 0) 0 k platforms l ∙ rw (← es, ← e, f))
-
-  pub no-platform : (own k : ℕ) → platforms ≤ k → 0 ≡ upNumber own ws k
-  no-platform own k l = sym (no-lt (cond (isUp own (statesIn ws) k) 1 0) 0 k platforms l)
+      is-down f = rw (← es, ← e, f)
 
 -- a fresh one
 pub fresh-words : {x : List ℕ} {p : Standing} (own : ℕ) → p ≡ freshStanding own → x ≡ standingWords p → x ≡ standingWords (freshStanding own)

@@ -11,9 +11,6 @@ ghost use Rattle.platform_words.specs.StateCalls.{upNumber};
 // How many words a platform is.
 pub const PLATFORM_WORDS: usize = 5;
 
-// How many platforms there are.
-const PLATFORMS: u32 = 256;
-
 // One more than the largest own number.
 const NUMBERS: u64 = 4294967296;
 
@@ -27,16 +24,12 @@ pub fn fresh(own: u8, platform: &mut [u64; PLATFORM_WORDS]) -> u32
     0
 }
 
-// 1 where there is a platform of that number and it is UP, else 0.
+// 1 where the platform of that number is UP, else 0; one above 255 is DOWN.
 pub fn is_up(own: u8, platform: &[u64; PLATFORM_WORDS], number: u32) -> u32
     ensures { λ r. ⌜ r ≡ upNumber own (now (platform .entry)) number ⌝ }
 {
-    if number < PLATFORMS {
-        if states::is_up(Own { platform: own }, states_in(platform), number) {
-            1
-        } else {
-            0
-        }
+    if states::is_up(Own { platform: own }, states_in(platform), number) {
+        1
     } else {
         0
     }

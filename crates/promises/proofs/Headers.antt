@@ -54,8 +54,8 @@ module _ (own domain id seq : ℕ) (payload out : List ℕ) (w : writeRefusal do
       (headerFor own domain id seq payload) (messageOf domain id (number 2 payload 0)) payload
   as-read reader a =
       rw front (record {
-        answer = reads-back own domain id seq payload (length out) reader (a .platform) (a .other) (a .id-fits) (a .sequence-fits) w;
-        payload = payload-back own domain id seq payload (length out) reader (a .platform) (a .other) (a .id-fits) (a .sequence-fits) w;
+        answer = reads-back own domain id seq payload (length out) reader (omega (arith, a .platform)) (a .other) (a .id-fits) (a .sequence-fits) w;
+        payload = payload-back own domain id seq payload (length out) reader (omega (arith, a .platform)) (a .other) (a .id-fits) (a .sequence-fits) w;
       })
 
 pub written-then-read : WrittenThenRead

@@ -2,7 +2,7 @@
 -- Assumes nothing.
 use Prim.Native.Nat.{ℕ, suc, _+_, _-_, _≤_, _<_}
 use mathlib.Core.Path.{_≡_, refl}
-use mathlib.Core.Bool.{Bool, true, false, not, cond, _&&_, _||_}
+use mathlib.Core.Bool.{Bool, true, false, not, cond, _&&_}
 use mathlib.Core.Logic.{_⊎_, inl, inr, ⊎-elim}
 use mathlib.Core.List.{List, [], _∷_, _++_}
 use native.Mathlib.Omega.{arith}
@@ -17,7 +17,7 @@ use Rattle.message.specs.declared.Writing.the-variants as writing
 use Rattle.message.specs.Header.{headerLength, theMark, markIn, theVersion, versionIn, platformDomain, reservedDomains, domainIn}
 use Rattle.message.specs.Header.{senderIn, idIn, payloadSizeIn, payloadIn}
 use Rattle.message.specs.Platform.{platformStatus, versionedDataPull, reservedID, payloadLength, reservedStates}
-use Rattle.message.specs.Refusal.{first, platforms, sizeLimit, addressRefusal, contentsRefusal}
+use Rattle.message.specs.Refusal.{first, sizeLimit, addressRefusal, contentsRefusal}
 use Rattle.message.specs.Reading.{readOut, readOf}
 use Rattle.message.specs.Reading as reads
 use Rattle.message.specs.Writing.{writeOf}
@@ -87,8 +87,7 @@ read-in-order own s =
     (by-number reading.Refused (readOut s) framed (λ k. refl) (leb reservedDomains (domainIn s)) 3 0 (le-decides reservedDomains (domainIn s))
     (by-number reading.Refused (readOut s) addressed (λ k. refl) (not (eqb (payloadSizeIn s) (length s - headerLength))) 4 _
     (not-decides (eqb (payloadSizeIn s) (length s - headerLength)) (eq-decides (payloadSizeIn s) (length s - headerLength)))
-    (by-number reading.Refused (readOut s) addressed (λ k. refl) (leb platforms (senderIn s) || eqb (senderIn s) own) 5 0
-    (or-decides (leb platforms (senderIn s)) (eqb (senderIn s) own) (le-decides platforms (senderIn s)) (eq-decides (senderIn s) own))
+    (by-number reading.Refused (readOut s) addressed (λ k. refl) (eqb (senderIn s) own) 5 0 (eq-decides (senderIn s) own)
     (contents-in-order reading.Refused (readOut s) checked (λ k. refl) (domainIn s) (idIn s) (payloadIn s) [] none))))))
 
 -- a message written

@@ -7,12 +7,12 @@ use Rattle.table.specs.declared.Found.the-variants as found
 use Rattle.table.specs.All.{allBelow}
 use Rattle.states.specs.States.{wordOf, withWord, bitOf, isUp, turned, withOwn}
 use Rattle.platform.specs.Replies.{replyBytes}
-use Rattle.platform.specs.Reaction.{noData, cameUp, onStatus, onPullAll, onPull, reactionTo}
+use Rattle.platform.specs.Reaction.{noData, cameUp, onState, onStatus, onPullAll, onPull, reactionTo}
 use Rattle.platform.specs.Receiving.{freshStanding, answered, outcomeOf}
 use Rattle.platform.specs.Exchange.{sentOf, Setting, keeps, sends, Pair, Exchange, started, longestExchange}
 use Rattle.platform.specs.Exchange.Step.{arrives-at-a, arrives-at-b}
 use Rattle.platform.specs.Exchange.Exchange.{none, more}
-use Rattle.states.proofs.Ups.{own-is-up, others-start-down, count-is}
+use Rattle.states.proofs.Ups.{own-is-up, others-start-down, above-is-down, count-is}
 use Rattle.platform.proofs.Silence.{falls-silent, silence-after-seven}
 use Rattle.promises.specs.Platforms.{StatesAre, Replies, FallSilent}
 use Rattle.promises.proofs.Replying.{notes, too-short}
@@ -22,6 +22,7 @@ states-are =
     record {
       own-is-up = own-is-up;
       others-start-down = others-start-down;
+      none-above-255 = above-is-down;
       numbers-start-at-0 = λ own. refl;
       counted = count-is;
     }
@@ -40,7 +41,8 @@ bare =
     }
 
 reached : (z : Pair) × Exchange 1 2 longestExchange (started (freshStanding 1) (freshStanding 2) 0) z
-unfolding allBelow wordOf withWord bitOf isUp turned withOwn replyBytes noData cameUp onStatus onPullAll onPull reactionTo answered outcomeOf sentOf keeps sends
+unfolding allBelow wordOf withWord bitOf isUp turned withOwn replyBytes noData cameUp onState onStatus onPullAll onPull reactionTo
+    answered outcomeOf sentOf keeps sends
 reached = (
   _,
   more 6 _ _ _ (arrives-at-b bare _ _ [] [] [] _)

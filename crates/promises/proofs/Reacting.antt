@@ -2,12 +2,12 @@
 -- Assumes nothing.
 use Prim.Native.Nat.{ℕ, _+_, _*_, _^_, _≤_, _<_}
 use mathlib.Core.Path.{_≡_, refl, sym, ap, _∙_}
-use mathlib.Core.Bool.{Bool, true, false, not, cond}
+use mathlib.Core.Bool.{Bool, true, false, not, cond, _||_}
 use mathlib.Core.List.{List, [], _∷_, map}
 use native.Mathlib.Nat.{mod-lt}
 use native.Mathlib.Omega.{arith}
-use borrow.Author.Tests.{eqb-true, eqb-false}
-use lib.Dec.{eqb}
+use borrow.Author.Tests.{ne-eqb, le-leb, lt-leb, eqb-true, eqb-false, ltb-true, ltb-false}
+use lib.Dec.{eqb, leb, ltb}
 use lib.Pow.{pow-pos}
 use lib.ListN.{length}
 use Rattle.wire.specs.Bytes.{number}
@@ -26,14 +26,18 @@ use Rattle.states.specs.declared.States.{States}
 use Rattle.platform.specs.declared.reactions.Standing.{Standing}
 use Rattle.states.specs.States.{isUp, turned}
 use Rattle.platform.specs.Replies.{allData, replyNumber, meant, Wide, replies, Each, owedLength}
-use Rattle.platform.specs.Reaction.{operationFor, isData, foundData, noData, cameUp, onStatus, onPullAll, onPullOne, onPull, onOperation, reactionTo}
+use Rattle.platform.specs.Reaction.{operationFor, isData, foundData, noData, cameUp, onState, onStatus, onPullAll, onPullOne, onPull, onOperation, reactionTo}
 use Rattle.platform.specs.declared.reactions.Reply.{Reply}
 use Rattle.platform.specs.declared.reactions.Reaction.{Reaction}
 use Rattle.states.proofs.Ups.{noted-there, noted-elsewhere}
-use Rattle.promises.specs.Platforms.{Owed, owedFor, stateAfter, nextAfter, replyLength}
+use Rattle.promises.specs.Platforms.{Owed, noNews, owedFor, stateAfter, nextAfter, replyLength}
 
 abbrev pub said : Reply → Owed
 said r = record { number = replyNumber r; means = meant r }
+
+either-way : {a : Bool} (b : Bool) → a ≡ true → (b || a) ≡ true
+either-way true e = refl
+either-way false e = e
 
 -- a state that is as it was said already, and one that is turned
 module _ (own : ℕ) (s : States) (k who : ℕ) where
@@ -51,6 +55,9 @@ module _ (own : ℕ) (s : States) (k who : ℕ) where
       go : (c : Bool) → eqb k who ≡ c → isUp own (turned s who) k ≡ cond c (not b) (isUp own s k)
       go true q = ap (isUp own (turned s who)) (eqb-true k who q) ∙ noted-there own s who hw other ∙ ap not e
       go false q = noted-elsewhere own s who hw k hk (eqb-false k who q)
+
+  none-there : (b : Bool) → k < platforms → platforms ≤ who → isUp own s k ≡ cond (eqb k who) b (isUp own s k)
+  none-there b hk hw = let n : k ≡ who → ⊥ = λ e. omega arith in rw (ne-eqb k who n) refl
 
 -- the 32-bit field of a message's payload, if it has one
 abbrev pub fieldOf : Message → ℕ
@@ -72,41 +79,70 @@ module _ (own : ℕ) (t : List ℕ) (s : Sections) (p : Standing) (h : Header) (
     pub next : X kind .standing .next ≡ nextAfter own p h kind
     pub states : (k : ℕ) → k < platforms → isUp own (X kind .standing .states) k ≡ stateAfter own p h kind k
 
-  module _ (hn : p .next < 2 ^ 32) (hs : h .platform < platforms) (other : h .platform ≡ own → ⊥) where
+  module _ (hn : p .next < 2 ^ 32) (other : h .platform ≡ own → ⊥) where
     on-up : Reacts (message.PlatformStatus Up)
-    unfolding reactionTo onStatus cameUp
-    on-up = go (isUp own (p .states) (h .platform)) refl
+    unfolding reactionTo onStatus onState cameUp
+    on-up = go (ltb (h .platform) platforms) (isUp own (p .states) (h .platform)) refl refl
       where
-        go : (b : Bool) → isUp own (p .states) (h .platform) ≡ b → Reacts (message.PlatformStatus Up)
-        go true e = record { owed-is = rw e; long = rw e; wide = rw e tt; next = rw e; states = λ k l. rw e (as-it-was own (p .states) k (h .platform) true e) }
-        go false e =
+        go : (a b : Bool) → ltb (h .platform) platforms ≡ a → isUp own (p .states) (h .platform) ≡ b → Reacts (message.PlatformStatus Up)
+        go true true c e = record {
+          owed-is = rw (c, e);
+          long = rw (c, e);
+          wide = rw (c, e) tt;
+          next = rw (c, e);
+          states = λ k l. rw (c, e) (as-it-was own (p .states) k (h .platform) true e);
+        }
+        go true false c e =
+            let hs : h .platform < platforms = ltb-true (h .platform) platforms c in
+            let d : leb platforms (h .platform) ≡ false = lt-leb platforms (h .platform) hs in
             record {
-              owed-is = rw e;
-              long = rw e;
-              wide = rw e (record { number = hn; field = omega arith }, (record { number = mod-lt (p .next + 1) (pow-pos 32); field = omega arith }, tt));
-              next = rw e;
-              states = λ k l. rw e (now-turned own (p .states) k (h .platform) false e l hs other);
+              owed-is = rw (c, e, d);
+              long = rw (c, e);
+              wide = rw (c, e) (record { number = hn; field = omega arith }, (record { number = mod-lt (p .next + 1) (pow-pos 32); field = omega arith }, tt));
+              next = rw (c, e, d);
+              states = λ k l. rw (c, e) (now-turned own (p .states) k (h .platform) false e l hs other);
+            }
+        go false b c e =
+            let hs : platforms ≤ h .platform = ltb-false (h .platform) platforms c in
+            let d : noNews own p h ≡ true = either-way (isUp own (p .states) (h .platform)) (le-leb platforms (h .platform) hs) in
+            record {
+              owed-is = rw (c, d);
+              long = rw c;
+              wide = rw c tt;
+              next = rw (c, d);
+              states = λ k l. rw c (none-there own (p .states) k (h .platform) true l hs);
             }
 
     on-down : Reacts (message.PlatformStatus Down)
-    unfolding reactionTo onStatus
-    on-down = go (isUp own (p .states) (h .platform)) refl
+    unfolding reactionTo onStatus onState
+    on-down = go (ltb (h .platform) platforms) (isUp own (p .states) (h .platform)) refl refl
       where
-        go : (b : Bool) → isUp own (p .states) (h .platform) ≡ b → Reacts (message.PlatformStatus Down)
-        go true e = record {
-          owed-is = rw e;
-          long = rw e;
-          wide = rw e tt;
-          next = rw e;
-          states = λ k l. rw e (now-turned own (p .states) k (h .platform) true e l hs other);
+        go : (a b : Bool) → ltb (h .platform) platforms ≡ a → isUp own (p .states) (h .platform) ≡ b → Reacts (message.PlatformStatus Down)
+        go true true c e =
+            let hs : h .platform < platforms = ltb-true (h .platform) platforms c in
+            record {
+              owed-is = rw (c, e);
+              long = rw (c, e);
+              wide = rw (c, e) tt;
+              next = rw (c, e);
+              states = λ k l. rw (c, e) (now-turned own (p .states) k (h .platform) true e l hs other);
+            }
+        go true false c e = record {
+          owed-is = rw (c, e);
+          long = rw (c, e);
+          wide = rw (c, e) tt;
+          next = rw (c, e);
+          states = λ k l. rw (c, e) (as-it-was own (p .states) k (h .platform) false e);
         }
-        go false e = record {
-          owed-is = rw e;
-          long = rw e;
-          wide = rw e tt;
-          next = rw e;
-          states = λ k l. rw e (as-it-was own (p .states) k (h .platform) false e);
-        }
+        go false b c e =
+            let hs : platforms ≤ h .platform = ltb-false (h .platform) platforms c in
+            record {
+              owed-is = rw c;
+              long = rw c;
+              wide = rw c tt;
+              next = rw c;
+              states = λ k l. rw c (none-there own (p .states) k (h .platform) false l hs);
+            }
 
     module _ (hq : h .sequence < 2 ^ 32) (hi : h .id < 2 ^ 32) (scan : (id : ℕ) → lookedUp t s id ≡ operationOf t s id) where
       on-request : Reacts message.PlatformStatusRequest

@@ -118,7 +118,6 @@ module _ (own : ℕ) (t : List ℕ) (s : Sections) (p : Standing) (m out : List 
   how : Reacts own t s p h (c .start) (c .len) kind
   how =
       reacts own t s p h (c .start) (c .len) (c .next)
-      (subst (λ (x : Header). x .platform < platforms) its-header (seen .platform))
       from-another
       (subst (λ (x : Header). x .sequence < 2 ^ 32) its-header (number-lt 2 m 16 (c .bytes)))
       (subst (λ (x : Header). x .id < 2 ^ 32) its-header (number-lt 2 m 8 (c .bytes)))

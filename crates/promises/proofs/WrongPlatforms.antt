@@ -9,7 +9,7 @@ use Rattle.table.specs.declared.Found.the-variants as found
 use Rattle.table.specs.All.{allBelow}
 use Rattle.states.specs.States.{wordOf, withWord, bitOf, isUp, turned, withOwn}
 use Rattle.platform.specs.Replies.{replyBytes}
-use Rattle.platform.specs.Reaction.{noData, cameUp, onStatus, onPullAll, onPull, reactionTo}
+use Rattle.platform.specs.Reaction.{noData, cameUp, onState, onStatus, onPullAll, onPull, reactionTo}
 use Rattle.platform.specs.Receiving.{freshStanding, answered}
 use Rattle.platform.specs.Exchange.{Setting, Pair, Step, Exchange, started}
 use Rattle.platform.specs.Exchange.Step.{arrives-at-a, arrives-at-b, lost-to-a, lost-to-b}
@@ -44,7 +44,7 @@ bare =
     }
 
 eight : (z : Pair) × ExchangeBy (reacting upAnsweredAgain) 1 2 8 (started (freshStanding 1) (freshStanding 2) 0) z
-unfolding allBelow wordOf withWord bitOf isUp turned withOwn replyBytes noData cameUp onStatus onPullAll onPull reactionTo answered
+unfolding allBelow wordOf withWord bitOf isUp turned withOwn replyBytes noData cameUp onState onStatus onPullAll onPull reactionTo answered
 eight = (
   _,
   goes-on 7 _ _ _ (at-b bare _ _ [] [] [] _)

@@ -41,7 +41,7 @@ contentsChecks domain id payload =
     ∷ 9 when ((domain ≡ 0) × ((id ≡ 1) × (1 < number 2 payload 0)))
     ∷ []
 
--- a message read at the platform `own`; 6 also where the sender is none of the 256 (docs/DECISIONS.md, 4)
+-- a message read at the platform `own`
 unfoldable pub readChecks : ℕ → List ℕ → List Check
 readChecks own s =
     1 when (length s < 20)
@@ -49,7 +49,7 @@ readChecks own s =
     ∷ 3 when (¬ (versionIn s ≡ 2))
     ∷ 4 when (1 < domainIn s)
     ∷ 5 when (¬ (payloadSizeIn s ≡ length s - 20))
-    ∷ 6 when ((255 < senderIn s) ⊎ (senderIn s ≡ own))
+    ∷ 6 when (senderIn s ≡ own)
     ∷ contentsChecks (domainIn s) (idIn s) (payloadIn s)
 
 -- a message written; "5 .. writing: payload too long for the size field", "10 output shorter than what must be written"

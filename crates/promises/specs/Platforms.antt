@@ -3,9 +3,9 @@
 -- fall silent. The theorems are in proofs/Platforms.antt.
 use Prim.Native.Nat.{ℕ, _*_, _^_, _≤_, _<_}
 use mathlib.Core.Path.{_≡_}
-use mathlib.Core.Bool.{Bool, true, false, not, cond}
+use mathlib.Core.Bool.{Bool, true, false, not, cond, _||_}
 use mathlib.Core.List.{List, [], _∷_}
-use lib.Dec.{eqb}
+use lib.Dec.{eqb, leb}
 use lib.ListN.{length, take, drop}
 use Rattle.wire.specs.Bytes.{Octets}
 use Rattle.table.specs.declared.Sections.{Sections}
@@ -37,6 +37,7 @@ use Rattle.promises.specs.Reports.{Reports}
 pub record StatesAre : Type 0 where
   pub own-is-up : (own : ℕ) (s : States) → isUp own s own ≡ true
   pub others-start-down : (own k : ℕ) → own < platforms → k < platforms → (k ≡ own → ⊥) → isUp own (freshStanding own .states) k ≡ false
+  pub none-above-255 : (own : ℕ) (s : States) (k : ℕ) → own < platforms → platforms ≤ k → isUp own s k ≡ false
   pub numbers-start-at-0 : (own : ℕ) → freshStanding own .next ≡ 0
   pub counted : (own : ℕ) (s : States) → own < platforms → Words s → howManyUp own s ≡ countBelow (isUp own s) platforms
 
@@ -53,11 +54,15 @@ abbrev pub isThere : Found → Bool
 isThere (found.At i) = true
 isThere found.Nothing = false
 
+-- UP from a platform that is UP already, or above 255, where no state is kept, changes nothing
+abbrev pub noNews : ℕ → Standing → Header → Bool
+noNews own p h = isUp own (p .states) (h .platform) || leb platforms (h .platform)
+
 -- what is owed for a message of each kind: "The pair at DOWN to UP take the platform's next two own numbers", and "a reply to a
 -- request, a pull or an operation repeats its sequence number"
 abbrev pub owedFor : ℕ → List ℕ → Sections → Standing → Header → Message → List Owed
 owedFor own t s p h (message.PlatformStatus Up) =
-    cond (isUp own (p .states) (h .platform)) []
+    cond (noNews own p h) []
     (record { number = p .next; means = message.PlatformStatus Up } ∷ record { number = drawn (p .next); means = message.VersionedDataPull allData } ∷ [])
 owedFor own t s p h (message.PlatformStatus Down) = []
 owedFor own t s p h message.PlatformStatusRequest = record { number = h .sequence; means = message.PlatformStatus Up } ∷ []
@@ -77,7 +82,7 @@ stateAfter own p h (message.VersionedDataPull id) k = isUp own (p .states) k
 stateAfter own p h message.Operation k = isUp own (p .states) k
 
 abbrev pub nextAfter : ℕ → Standing → Header → Message → ℕ
-nextAfter own p h (message.PlatformStatus Up) = cond (isUp own (p .states) (h .platform)) (p .next) (drawn (drawn (p .next)))
+nextAfter own p h (message.PlatformStatus Up) = cond (noNews own p h) (p .next) (drawn (drawn (p .next)))
 nextAfter own p h (message.PlatformStatus Down) = p .next
 nextAfter own p h message.PlatformStatusRequest = p .next
 nextAfter own p h (message.UnknownOperation id) = p .next

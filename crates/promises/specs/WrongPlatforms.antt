@@ -20,7 +20,7 @@ use Rattle.platform.specs.declared.reactions.Reply.the-variants.{StatusUp, Pull
 use Rattle.platform.specs.declared.reactions.Owed.the-variants as owed
 use Rattle.platform.specs.declared.reactions.Reaction.{Reaction}
 use Rattle.platform.specs.Replies.{drawn, replyBytes}
-use Rattle.platform.specs.Reaction.{cameUp, reactionTo}
+use Rattle.platform.specs.Reaction.{reactionTo}
 use Rattle.platform.specs.Receiving.{answered}
 use Rattle.platform.specs.Exchange.{written, Setting, keeps, sends, Pair, started, longestExchange}
 use Rattle.promises.specs.Platforms.{Starts}
@@ -83,7 +83,8 @@ againUp p =
     }
 
 abbrev pub upAnsweredAgain : Reacting
-upAnsweredAgain own t s f p h (message.PlatformStatus Up) start len = cond (isUp own (p .states) (h .platform)) (againUp p) (cameUp p (h .platform))
+upAnsweredAgain own t s f p h (message.PlatformStatus Up) start len =
+    cond (isUp own (p .states) (h .platform)) (againUp p) (reactionTo own t s f p h (message.PlatformStatus Up) start len)
 upAnsweredAgain own t s f p h (message.PlatformStatus Down) start len = reactionTo own t s f p h (message.PlatformStatus Down) start len
 upAnsweredAgain own t s f p h message.PlatformStatusRequest start len = reactionTo own t s f p h message.PlatformStatusRequest start len
 upAnsweredAgain own t s f p h (message.UnknownOperation id) start len = reactionTo own t s f p h (message.UnknownOperation id) start len

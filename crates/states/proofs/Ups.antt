@@ -6,13 +6,14 @@ use mathlib.Core.Path.{_≡_, refl, sym, ap, ap₂, subst, _∙_}
 use mathlib.Core.Bool.{Bool, true, false, not, cond, _||_}
 use native.Mathlib.Omega.{arith}
 use native.Mathlib.Nat.{zero-add, mod-lt, div-eq-of-lt, zero-lt-suc}
-use borrow.Author.Tests.{eq-eqb, ne-eqb, eqb-true, eqb-false}
+use borrow.Author.Tests.{eq-eqb, ne-eqb, eqb-true, eqb-false, lt-ltb, le-ltb}
 use lib.Dec.{eqb}
 use lib.Pow.{pow-lt, pow-pos}
 use lib.Bits.{bitOr, bitXor, or-lt}
 use lib.Count.{ones}
 use Rattle.states.specs.declared.States.{States}
 use Rattle.states.specs.States.{wordOf, withWord, mask, bitOf, isUp, turned, withOwn, sumOfOnes, howManyUp, countBelow, Words, noneUp, freshStates}
+use Rattle.states.proofs.WordLaws.{not-turned}
 use Rattle.states.proofs.Bits.{bit, bit-or, set-there, set-elsewhere, turned-there, turned-elsewhere, isSet, count-split, count-same, ones-count}
 
 -- 01: this platform is UP
@@ -58,16 +59,36 @@ module _ (s : States) (x k j : ℕ) (hk : k < 256) (hj : j < 256) where
   unfolding bitOf
   in-another h = ap (λ (w : ℕ). bit w (j % 64)) (word-elsewhere s x (k / 64) (j / 64) (omega arith) (omega arith) h)
 
+-- a state noted is one bit of one word; above 255 there is none
+one-turned : (s : States) (k : ℕ) → k < 256 → turned s k ≡ withWord s (k / 64) (bitXor (wordOf s (k / 64)) (mask k))
+unfolding turned
+one-turned s k h = ap (λ (b : Bool). cond b (withWord s (k / 64) (bitXor (wordOf s (k / 64)) (mask k))) s) (lt-ltb k 256 h)
+
+pub none-turned : (s : States) (k : ℕ) → 256 ≤ k → turned s k ≡ s
+none-turned s k h = sym (not-turned s k h)
+
+-- 01: states are kept of 256; any other number is DOWN
+pub above-is-down : (own : ℕ) (s : States) (k : ℕ) → own < 256 → 256 ≤ k → isUp own s k ≡ false
+unfolding isUp
+above-is-down own s k ho h =
+    let n : k ≡ own → ⊥ = λ e. omega arith in
+    rw (ne-eqb k own n, le-ltb k 256 h) refl
+
+-- of a platform that has a bit, the bit tells
+by-bit : (own : ℕ) (s : States) (k : ℕ) → k < 256 → isUp own s k ≡ (eqb k own || eqb (bitOf s k) 1)
+unfolding isUp
+by-bit own s k h = rw (lt-ltb k 256 h) refl
+
 module _ (s : States) (k j : ℕ) (hk : k < 256) (hj : j < 256) (h : j ≡ k → ⊥) where
   -- two platforms of one word have bits of their own
   apart : j / 64 ≡ k / 64 → j % 64 ≡ k % 64 → ⊥
   apart a b = h (omega arith)
 
   turned-other : bitOf (turned s k) j ≡ bitOf s j
-  unfolding turned bitOf
-  turned-other = go (eqb (j / 64) (k / 64)) refl
+  unfolding bitOf
+  turned-other = ap (λ (x : States). bitOf x j) (one-turned s k hk) ∙ go (eqb (j / 64) (k / 64)) refl
     where
-      go : (b : Bool) → eqb (j / 64) (k / 64) ≡ b → bitOf (turned s k) j ≡ bitOf s j
+      go : (b : Bool) → eqb (j / 64) (k / 64) ≡ b → bitOf (withWord s (k / 64) (bitXor (wordOf s (k / 64)) (mask k))) j ≡ bitOf s j
       go true e =
           let q : j / 64 ≡ k / 64 = eqb-true (j / 64) (k / 64) e in
           in-its-word s (bitXor (wordOf s (k / 64)) (mask k)) k j hk hj q ∙ turned-elsewhere (wordOf s (k / 64)) (k % 64) (j % 64) (apart q)
@@ -86,8 +107,9 @@ module _ (s : States) (k j : ℕ) (hk : k < 256) (hj : j < 256) (h : j ≡ k →
       go false e = in-another s (bitOr (wordOf s (k / 64)) (mask k)) k j hk hj (eqb-false (j / 64) (k / 64) e)
 
 turned-same : (s : States) (k : ℕ) → k < 256 → bitOf (turned s k) k ≡ 1 - bitOf s k
-unfolding turned bitOf
-turned-same s k h = in-its-word s (bitXor (wordOf s (k / 64)) (mask k)) k k h h refl ∙ turned-there (wordOf s (k / 64)) (k % 64)
+unfolding bitOf
+turned-same s k h = ap (λ (x : States). bitOf x k) (one-turned s k h)
+    ∙ in-its-word s (bitXor (wordOf s (k / 64)) (mask k)) k k h h refl ∙ turned-there (wordOf s (k / 64)) (k % 64)
 
 own-same : (s : States) (k : ℕ) → k < 256 → bitOf (withOwn k s) k ≡ 1
 unfolding withOwn bitOf
@@ -101,14 +123,14 @@ flips (suc (suc b)) h = absurd (omega arith)
 
 module _ (own : ℕ) (s : States) (k : ℕ) (hk : k < 256) where
   pub noted-there : (k ≡ own → ⊥) → isUp own (turned s k) k ≡ not (isUp own s k)
-  unfolding isUp bitOf
+  unfolding bitOf
   noted-there h =
       let n : eqb k own ≡ false = ne-eqb k own h in
-      rw (n, turned-same s k hk) (flips (bitOf s k) (mod-lt (wordOf s (k / 64) / 2 ^ (k % 64)) (zero-lt-suc 1)))
+      rw (by-bit own (turned s k) k hk, by-bit own s k hk, n, turned-same s k hk) (flips (bitOf s k) (mod-lt (wordOf s (k / 64) / 2 ^ (k % 64)) (zero-lt-suc 1)))
 
   pub noted-elsewhere : (j : ℕ) → j < 256 → (j ≡ k → ⊥) → isUp own (turned s k) j ≡ isUp own s j
-  unfolding isUp
-  noted-elsewhere j hj h = ap (λ (b : ℕ). eqb j own || eqb b 1) (turned-other s k j hk hj h)
+  noted-elsewhere j hj h =
+      by-bit own (turned s k) j hj ∙ ap (λ (b : ℕ). eqb j own || eqb b 1) (turned-other s k j hk hj h) ∙ sym (by-bit own s j hj)
 
 -- 000, 6.3 b: at the start every other platform is DOWN
 none-bit : (k : ℕ) → k < 256 → bitOf noneUp k ≡ 0
@@ -125,15 +147,13 @@ none-bit k h = ap (λ (w : ℕ). bit w (k % 64)) (zeros (k / 64)) ∙ bit-zero (
     bit-zero j = ap (λ (n : ℕ). n % 2) (div-eq-of-lt (pow-pos j))
 
 pub others-start-down : (own k : ℕ) → own < 256 → k < 256 → (k ≡ own → ⊥) → isUp own (freshStates own) k ≡ false
-unfolding isUp
-others-start-down own k ho hk h = rw (ne-eqb k own h, own-other noneUp own k ho hk h, none-bit k hk) refl
+others-start-down own k ho hk h = rw (by-bit own (freshStates own) k hk, ne-eqb k own h, own-other noneUp own k ho hk h, none-bit k hk) refl
 
 -- 01: how many of the 256 are UP, this one counted
 module _ (own : ℕ) (s : States) (ho : own < 256) where
   -- with the own bit set, the bits are the states
   up-bit : (k : ℕ) → k < 256 → isUp own s k ≡ eqb (bitOf (withOwn own s) k) 1
-  unfolding isUp
-  up-bit k hk = go (eqb k own) refl
+  up-bit k hk = by-bit own s k hk ∙ go (eqb k own) refl
     where
       go : (b : Bool) → eqb k own ≡ b → (eqb k own || eqb (bitOf s k) 1) ≡ eqb (bitOf (withOwn own s) k) 1
       go true e =

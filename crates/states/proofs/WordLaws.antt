@@ -2,15 +2,17 @@
 -- Assumes nothing.
 use Prim.Native.Nat.{ℕ, zero, suc, _+_, _*_, _/_, _%_, _^_, _≤_, _<_}
 use mathlib.Core.Path.{_≡_, refl, sym, ap, _∙_}
-use mathlib.Core.Bool.{_||_}
+use mathlib.Core.Bool.{Bool, cond, _&&_, _||_}
 use native.Mathlib.Nat.{mod-lt, mod-eq-of-lt, one-mul, zero-lt-suc}
 use native.Mathlib.Omega.{arith}
 use mir.Syntax.{w32, w64}
 use mir.Val.{Fits}
-use lib.Dec.{eqb}
+use borrow.Author.Tests.{lt-ltb, le-ltb}
+use lib.Dec.{eqb, ltb}
 use lib.Pow.{pow-lt}
 use lib.Bits.{bitOr, bitXor}
 use lib.Count.{ones, ones-le}
+use Rattle.message.specs.Refusal.{platforms}
 use Rattle.states.specs.declared.States.{States}
 use Rattle.states.specs.States.{wordBits, wordOf, withWord, mask, bitOf, isUp, turned, withOwn, sumOfOnes, howManyUp}
 
@@ -84,15 +86,20 @@ module _ (s : States) (k w : ℕ) (e : w ≡ wordOf s (k / 64)) where
   the-bit = rw e
 
   module _ (m : ℕ) (q : m ≡ mask k) where
-    pub turned-is : (r : States) → r ≡ withWord s (k / 64) (bitXor w m) → r ≡ turned s k
+    pub turned-is : (r : States) → k < platforms → r ≡ withWord s (k / 64) (bitXor w m) → r ≡ turned s k
     unfolding turned
-    turned-is r h = h ∙ ap (withWord s (k / 64)) (rw (e, q) refl)
+    turned-is r l h = h ∙ ap (withWord s (k / 64)) (rw (e, q) refl)
+        ∙ sym (ap (λ (b : Bool). cond b (withWord s (k / 64) (bitXor (wordOf s (k / 64)) (mask k))) s) (lt-ltb k platforms l))
 
     pub own-is : (r : States) → r ≡ withWord s (k / 64) (bitOr w m) → r ≡ withOwn k s
     unfolding withOwn
     own-is r h = h ∙ ap (withWord s (k / 64)) (rw (e, q) refl)
 
-pub up-is : (own : ℕ) (s : States) (k b : ℕ) → b ≡ bitOf s k → (eqb k own || eqb b 1) ≡ isUp own s k
+pub not-turned : (s : States) (k : ℕ) → platforms ≤ k → s ≡ turned s k
+unfolding turned
+not-turned s k l = sym (ap (λ (b : Bool). cond b (withWord s (k / 64) (bitXor (wordOf s (k / 64)) (mask k))) s) (le-ltb k platforms l))
+
+pub up-is : (own : ℕ) (s : States) (k b : ℕ) → b ≡ bitOf s k → (eqb k own || (ltb k platforms && eqb b 1)) ≡ isUp own s k
 unfolding isUp
 up-is own s k b e = rw e
 

@@ -2,10 +2,11 @@
 -- word k / 64, and a bit that is set says UP.
 use Prim.Native.Nat.{ℕ, zero, suc, _+_, _/_, _%_, _^_, _<_}
 use mathlib.Core.Path.{_≡_}
-use mathlib.Core.Bool.{Bool, cond, _||_}
-use lib.Dec.{eqb}
+use mathlib.Core.Bool.{Bool, cond, _&&_, _||_}
+use lib.Dec.{eqb, ltb}
 use lib.Bits.{bitOr, bitXor}
 use lib.Count.{ones}
+use Rattle.message.specs.Refusal.{platforms}
 use Rattle.states.specs.declared.States.{States}
 
 -- how many platforms a word holds
@@ -32,13 +33,13 @@ mask k = 2 ^ (k % wordBits)
 unfoldable pub bitOf : States → ℕ → ℕ
 bitOf s k = wordOf s (k / wordBits) / mask k % 2
 
--- this platform is UP, whatever its bit says (docs/DECISIONS.md, 26); of another the bit tells
+-- this platform is UP, whatever its bit says (docs/DECISIONS.md, 26); of another the bit tells, and a number above 255 has none
 unfoldable pub isUp : ℕ → States → ℕ → Bool
-isUp own s k = eqb k own || eqb (bitOf s k) 1
+isUp own s k = eqb k own || (ltb k platforms && eqb (bitOf s k) 1)
 
--- a state noted: platform k's bit the other way round
+-- a state noted: platform k's bit the other way round; above 255 there is nothing to note
 unfoldable pub turned : States → ℕ → States
-turned s k = withWord s (k / wordBits) (bitXor (wordOf s (k / wordBits)) (mask k))
+turned s k = cond (ltb k platforms) (withWord s (k / wordBits) (bitXor (wordOf s (k / wordBits)) (mask k))) s
 
 -- the own bit counts as set
 unfoldable pub withOwn : ℕ → States → States

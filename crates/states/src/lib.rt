@@ -29,11 +29,11 @@ pub fn fresh(own: Own) -> States
     )
 }
 
-// This platform is UP, whatever its bit says.
+// This platform is UP, whatever its bit says; a number above 255 is DOWN.
 pub fn is_up(own: Own, s: States, k: u32) -> bool
     ensures { λ r. ⌜ r ≡ isUp (own .platform) s k ⌝ }
 {
-    (k == own.platform as u32) | (bit_of(s, k) == 1)
+    (k == own.platform as u32) | ((k < Own::PLATFORMS) & (bit_of(s, k) == 1))
 }
 
 pub fn how_many_up(own: Own, s: States) -> u32
@@ -42,11 +42,15 @@ pub fn how_many_up(own: Own, s: States) -> u32
     sum_of_ones(with_own(own, s))
 }
 
-// The state of platform k the other way round.
+// The state of platform k the other way round; a number above 255 has none.
 pub fn turned(s: States, k: u32) -> States
     ensures { λ r. ⌜ r ≡ turned s k ⌝ }
 {
-    with_word(s, k / WORD_BITS, word_of(s, k / WORD_BITS) ^ mask(k))
+    if k < Own::PLATFORMS {
+        with_word(s, k / WORD_BITS, word_of(s, k / WORD_BITS) ^ mask(k))
+    } else {
+        s
+    }
 }
 
 fn with_own(own: Own, s: States) -> States

@@ -111,7 +111,7 @@ fn answer(platform: &mut Platform, code: u64, arguments: &[Argument]) -> Result<
             Ok(format!("{} from {from} owed {owed}", what(&got.what)))
         }
         (9, [Number(asked)]) => {
-            let up = platform.is_up(*asked as u8);
+            let up = platform.is_up(*asked as u32);
             Ok(up_or_down(up).to_string())
         }
         (10, []) => Ok(format!("count {}", platform.count())),

@@ -15,7 +15,7 @@ pub const ARGUMENTS: [&str; 16] = [
     "b 16 w o",
     "08",
     "b b o",
-    "08",
+    "32",
     "",
     "32 r b b",
     "64 64",

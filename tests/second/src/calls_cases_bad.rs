@@ -132,7 +132,8 @@ pub const CASES: &[Worked] = &[
         BAD,
     ),
     ends("an id too wide", "000F 0002 | 00000000 | 00000005 0100000000", BAD),
-    ends("a platform too wide", "0009 0001 | 00000002 0100", BAD),
+    ends("an own platform too wide", "0007 0001 | 00000002 0100", BAD),
+    ends("a platform too wide", "0009 0001 | 00000005 0100000000", BAD),
     ends(
         "a domain too wide",
         "0002 0006 | 00000001 01 | 00000002 0101 | 00000001 01 | 00000001 09 | 00000000 | 00000001 20",

@@ -21,6 +21,7 @@ pub const CASES: &[Worked] = &[
                 6 operation 0 255 0 -\n",
     },
     Worked {
+        // R4: 258 is no 2, though its low byte is.
         name: "messages refused 1 to 9",
         calls: "0001 0002 | 00000001 02 | 00000013 EC0A0200 00000001 00000002 00000000 000000 \
                 0001 0002 | 00000001 02 | 00000014 EC0B0200 00000001 00000002 00000000 00000007 \
@@ -31,10 +32,10 @@ pub const CASES: &[Worked] = &[
                 0001 0002 | 00000001 02 | 00000014 EC0A0200 00000001 00000005 00000000 00000007 \
                 0001 0002 | 00000001 02 | 00000014 EC0A0200 00000001 00000001 00000000 00000007 \
                 0001 0002 | 00000001 02 | 00000018 EC0A0200 00000001 00000001 00000004 00000007 00000002 \
-                0001 0002 | 00000001 02 | 00000014 EC0A0200 00000101 00000002 00000000 00000007 \
+                0001 0002 | 00000001 02 | 00000014 EC0A0200 00000102 00000002 00000000 00000007 \
                 0001 0002 | 00000001 02 | 00000000",
         lines: "0 refused 1\n1 refused 2\n2 refused 3\n3 refused 4\n4 refused 5\n5 refused 6\n\
-                6 refused 7\n7 refused 8\n8 refused 9\n9 refused 6\n10 refused 1\n",
+                6 refused 7\n7 refused 8\n8 refused 9\n9 request 258 7\n10 refused 1\n",
     },
     Worked {
         name: "messages written",

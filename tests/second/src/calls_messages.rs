@@ -54,13 +54,12 @@ pub fn sequence(rng: &mut Prng) -> u32 {
 }
 
 /// A good message from this sender; operations and pulls draw from these IDs.
-pub fn good(rng: &mut Prng, from: u8, ids: &[u32]) -> Fields {
+pub fn good(rng: &mut Prng, from: u32, ids: &[u32]) -> Fields {
     let id = match rng.below(6) {
         0 => rng.pick(&[0, 1, 0xFFFF_FFFF, 0xFFFF_FFFE]),
         1 => rng.draw() as u32,
         _ => rng.pick(ids),
     };
-    let from = u32::from(from);
     let number = sequence(rng);
     let field = |value: u32| value.to_be_bytes().to_vec();
     match rng.below(10) {
@@ -86,7 +85,7 @@ pub fn spoilt(rng: &mut Prng, own: u8, mut fields: Fields) -> Vec<u8> {
             2 => fields.domain = rng.pick(&[2, 3, 15, 16, 128, 255]),
             3 => fields.lie = rng.pick(&[-1, 1, 4, -4, 20, 1 << 16, 1 << 24]),
             4 => fields.from = u32::from(own),
-            // R4: its low byte may be another platform's.
+            // R4: above 255, which refuses nothing; its low byte may be another platform's, or ours.
             5 => fields.from |= rng.pick(&[1 << 8, 1 << 16, 1 << 31]),
             6 => {
                 fields.domain = 0;
@@ -127,8 +126,9 @@ pub fn spoilt(rng: &mut Prng, own: u8, mut fields: Fields) -> Vec<u8> {
 /// Code 1.
 pub fn read(rng: &mut Prng) -> Call {
     let own = rng.pick(&[0u8, 1, 2, 127, 255]);
-    let from = rng.pick(&[0u8, 1, 3, 128, 254, 255]);
-    let from = if from == own { 77 } else { from };
+    let like_ours = 256 + u32::from(own);
+    let from = rng.pick(&[0, 1, 3, 128, 254, 255, 300, like_ours, 0xFFFF_FFFF]);
+    let from = if from == u32::from(own) { 77 } else { from };
     let mut fields = good(rng, from, &[1, 2, 5, 1000]);
     // The longest argument, and messages too long for the piece that would carry them.
     if fields.domain == 1 && rng.chance(1, 30) {
@@ -146,7 +146,7 @@ pub fn read(rng: &mut Prng) -> Call {
 /// Code 2.
 pub fn write(rng: &mut Prng) -> Call {
     let own = rng.pick(&[0u8, 1, 77, 255]);
-    let mut fields = good(rng, own, &[1, 2, 5, 1000]);
+    let mut fields = good(rng, u32::from(own), &[1, 2, 5, 1000]);
     match rng.below(12) {
         0 => fields.domain = rng.pick(&[2, 3, 16, 255]),
         1 => fields.domain ^= 1,

@@ -9,7 +9,7 @@ use crate::prng::Prng;
 /// Who talks to whom, about what.
 pub struct Talk {
     own: u8,
-    others: Vec<u8>,
+    others: Vec<u32>,
     ids: Vec<u32>,
     plan: Plan,
 }
@@ -38,12 +38,19 @@ impl Talk {
         talk
     }
 
-    /// Others, at the edges of the four words that hold the states too.
+    /// Others, at the edges of the four words that hold the states too, and above 255 (R4), where
+    /// the low byte may be ours or another's.
     fn meet(&mut self, rng: &mut Prng, count: usize) {
         self.others.clear();
         while self.others.len() < count {
-            let other = rng.pick(&[0u8, 1, 63, 64, 127, 128, 191, 192, 254, 255, 77, 78, 79]);
-            if other != self.own {
+            let other = match rng.below(8) {
+                0 => {
+                    let low = rng.pick(&[u32::from(self.own), 1, 77, 255]);
+                    low | rng.pick(&[1 << 8, 1 << 16, 1 << 31])
+                }
+                _ => rng.pick(&[0, 1, 63, 64, 127, 128, 191, 192, 254, 255, 77, 78, 79]),
+            };
+            if other != u32::from(self.own) {
                 self.others.push(other);
             }
         }
@@ -59,9 +66,10 @@ impl Talk {
                 Call::new(7).number(rng, u64::from(self.own))
             }
             1..=5 => {
-                let asked = match rng.below(5) {
-                    0 => self.own,
-                    1 => rng.below(256) as u8,
+                let asked = match rng.below(6) {
+                    0 => u32::from(self.own),
+                    1 => rng.below(256) as u32,
+                    2 => rng.pick(&[256, 300, 0x8000_0000, 0xFFFF_FFFF]) | u32::from(self.own),
                     _ => rng.pick(&self.others),
                 };
                 Call::new(9).number(rng, u64::from(asked))
@@ -89,18 +97,19 @@ impl Talk {
     }
 }
 
-fn status(from: u8, up: u32) -> Fields {
+fn status(from: u32, up: u32) -> Fields {
     let field = up.to_be_bytes().to_vec();
-    Fields::new(0, u32::from(from), 1, 0, field)
+    Fields::new(0, from, 1, 0, field)
 }
 
 /// All 256 announce themselves, this one's own message refused among them, and the count goes on
-/// to 256; then some go down, and up again with the own numbers that follow.
+/// to 256; those above change nothing (R4). Then some go down, and up again with the own numbers
+/// that follow.
 pub fn everybody(rng: &mut Prng, plan: &Plan) -> Vec<Call> {
     let own: u8 = rng.pick(&[0, 100, 255]);
     let table = plan.bytes();
     let mut out = vec![Call::new(7).number(rng, u64::from(own))];
-    let say = |rng: &mut Prng, from: u8, up: u32| {
+    let say = |rng: &mut Prng, from: u32, up: u32| {
         let message = status(from, up).bytes();
         Call::new(8).bytes(&table).bytes(&message).number(rng, 48)
     };
@@ -110,8 +119,14 @@ pub fn everybody(rng: &mut Prng, plan: &Plan) -> Vec<Call> {
             out.push(Call::new(10));
         }
     }
+    for from in [256, 300, 511, 1 << 31, u32::MAX] {
+        out.push(say(rng, from, 1));
+        out.push(say(rng, from, 0));
+        out.push(Call::new(9).number(rng, u64::from(from)));
+        out.push(Call::new(10));
+    }
     for _ in 0..20 {
-        let from = rng.below(256) as u8;
+        let from = rng.below(256) as u32;
         out.push(say(rng, from, 0));
         out.push(Call::new(9).number(rng, u64::from(from)));
         out.push(Call::new(10));

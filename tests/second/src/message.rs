@@ -24,7 +24,7 @@ pub enum Content {
 
 #[derive(Clone, Debug, PartialEq, Eq)]
 pub struct Message {
-    pub from: u8,
+    pub from: u32,
     pub sequence: u32,
     pub content: Content,
 }
@@ -70,7 +70,7 @@ pub fn read(own: u8, bytes: &[u8]) -> Result<Message, u8> {
     let mark = number(&header[0..2]);
     let version = number(&header[2..3]);
     let domain = number(&header[3..4]);
-    let from = number(&header[4..8]);
+    let from = number(&header[4..8]) as u32;
     let id = number(&header[8..12]) as u32;
     let size = number(&header[12..16]);
     let sequence = number(&header[16..20]) as u32;
@@ -79,8 +79,8 @@ pub fn read(own: u8, bytes: &[u8]) -> Result<Message, u8> {
         (3, version != 2),
         (4, domain > 1),
         (5, size != payload.len() as u64),
-        // R4: the sender has to be one of the other 255.
-        (6, from > 255 || from == u64::from(own)),
+        // R4: this platform, and nobody else; the sender is any number of 32 bits.
+        (6, from == u32::from(own)),
     ])?;
     lowest(&platform_level(domain, id, payload))?;
     let content = match (domain, id) {
@@ -96,7 +96,7 @@ pub fn read(own: u8, bytes: &[u8]) -> Result<Message, u8> {
         },
     };
     Ok(Message {
-        from: from as u8,
+        from,
         sequence,
         content,
     })
@@ -189,6 +189,48 @@ mod tests {
         );
     }
 
+    /// R4: 6 is this platform's; the low byte of a larger number is nobody's.
+    #[test]
+    fn senders_above_255() {
+        for (sender, from) in [
+            ("0000012C", 300),
+            ("00000100", 256),
+            ("00000102", 258),
+            ("02000002", 0x0200_0002),
+            ("FFFFFFFF", 0xFFFF_FFFF),
+        ] {
+            let operation = format!("EC0A0201 {sender} 00000005 00000001 00000007 AB");
+            let content = Content::Operation {
+                id: 5,
+                payload: bytes("AB"),
+            };
+            let sequence = 7;
+            assert_eq!(
+                at_2(&operation),
+                Ok(Message {
+                    from,
+                    sequence,
+                    content
+                })
+            );
+            let request = format!("EC0A0200 {sender} 00000002 00000000 00000007");
+            let content = Content::Request;
+            assert_eq!(
+                at_2(&request),
+                Ok(Message {
+                    from,
+                    sequence,
+                    content
+                })
+            );
+        }
+        assert_eq!(
+            refused("EC0A0201 00000002 00000005 00000001 00000007 AB"),
+            6
+        );
+        assert_eq!(refused("EC0A0200 0000012C 00000005 00000000 00000007"), 7);
+    }
+
     #[test]
     fn refusals() {
         for length in 0..20 {
@@ -205,8 +247,6 @@ mod tests {
             5
         );
         assert_eq!(refused("EC0A0200 00000002 00000002 00000000 00000007"), 6);
-        assert_eq!(refused("EC0A0200 00000100 00000002 00000000 00000007"), 6);
-        assert_eq!(refused("EC0A0200 01000001 00000002 00000000 00000007"), 6);
         assert_eq!(refused("EC0A0200 00000001 00000000 00000000 00000007"), 7);
         assert_eq!(refused("EC0A0200 00000001 00000005 00000000 00000007"), 7);
         assert_eq!(refused("EC0A0200 00000001 FFFFFFFF 00000000 00000007"), 7);

@@ -29,7 +29,7 @@ pub enum What {
 #[derive(Clone, Debug, PartialEq, Eq)]
 pub struct Answer {
     pub what: What,
-    pub from: u8,
+    pub from: u32,
     pub owed: Vec<u8>,
 }
 
@@ -44,8 +44,9 @@ impl Platform {
         }
     }
 
-    pub fn is_up(&self, platform: u8) -> bool {
-        platform == self.own || self.others.contains(&platform)
+    /// R4: states are kept of the 256, and any other number is DOWN.
+    pub fn is_up(&self, platform: u32) -> bool {
+        u8::try_from(platform).is_ok_and(|one| one == self.own || self.others.contains(&one))
     }
 
     /// How many of the 256 are UP, this one counted.
@@ -73,13 +74,16 @@ impl Platform {
         let what = match got.content {
             Content::Status { up } => {
                 let was_up = self.is_up(got.from);
-                if up && !was_up {
-                    after.others.insert(got.from);
-                    replies.push((STATUS, after.draw(), UP));
-                    replies.push((PULL, after.draw(), ALL));
-                }
-                if !up {
-                    after.others.remove(&got.from);
+                // R4: a platform above 255 is heard, nothing is noted and nothing owed.
+                if let Ok(one) = u8::try_from(got.from) {
+                    if up && !was_up {
+                        after.others.insert(one);
+                        replies.push((STATUS, after.draw(), UP));
+                        replies.push((PULL, after.draw(), ALL));
+                    }
+                    if !up {
+                        after.others.remove(&one);
+                    }
                 }
                 What::Status { up }
             }

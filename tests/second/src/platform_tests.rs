@@ -66,6 +66,57 @@ fn down_is_noted_and_owes_nothing() {
     assert_eq!(ask(&mut one, up).owed[16..20], [0, 0, 0, 2]);
 }
 
+/// R4: 300 has no state; its low byte, 44, is another platform's, and stays as it was.
+#[test]
+fn a_platform_above_255() {
+    let mut one = Platform::new(1);
+    let up = "EC0A0200 0000012C 00000001 00000004 00000009 00000001";
+    let down = "EC0A0200 0000012C 00000001 00000004 00000009 00000000";
+    let as_44 = "EC0A0200 0000002C 00000001 00000004 00000009 00000001";
+    let heard = |up| Answer {
+        what: What::Status { up },
+        from: 300,
+        owed: vec![],
+    };
+    for (count, forty_four) in [(1, false), (2, true)] {
+        let before = one.clone();
+        assert_eq!(ask(&mut one, up), heard(true));
+        assert_eq!(ask(&mut one, down), heard(false));
+        assert_eq!(one, before);
+        let states = (one.count(), one.is_up(300), one.is_up(44), one.is_up(257));
+        assert_eq!(states, (count, false, forty_four, false));
+        if !forty_four {
+            assert_eq!(ask(&mut one, as_44).owed.len(), 48);
+        }
+    }
+    // Everything else from it is answered as anybody's.
+    let got = ask(&mut one, "EC0A0200 0000012C 00000002 00000000 00000007");
+    let reply = "EC0A0200 00000001 00000001 00000004 00000007 00000001";
+    assert_eq!(
+        got,
+        Answer {
+            what: What::Request,
+            from: 300,
+            owed: bytes(reply)
+        }
+    );
+    let got = ask(&mut one, "EC0A0201 0000012C 00000009 00000000 00000007");
+    let reply = "EC0A0200 00000001 00000003 00000004 00000007 00000009";
+    assert_eq!(
+        got,
+        Answer {
+            what: What::OperationUnknown(9),
+            from: 300,
+            owed: bytes(reply)
+        }
+    );
+    // 257 is not this platform, which is 1.
+    let ours = "EC0A0200 00000001 00000002 00000000 00000007";
+    assert_eq!(one.call(&bytes(TABLE), &bytes(ours), 48), Err(6));
+    let like_ours = "EC0A0200 00000101 00000002 00000000 00000007";
+    assert_eq!(ask(&mut one, like_ours).from, 257);
+}
+
 #[test]
 fn own_numbers_go_round() {
     let mut one = Platform {

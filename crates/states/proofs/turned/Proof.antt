@@ -1,7 +1,7 @@
--- `states::turned` meets its contract: one bit of one word.
+-- `states::turned` meets its contract: one bit of one word, or none.
 -- Assumes nothing.
 use borrow.Author.Needs.{needs}
-use Rattle.states.proofs.WordLaws.{turned-is}
+use Rattle.states.proofs.WordLaws.{turned-is, not-turned}
 use Rattle.states.proofs.turned.Statement.{statement}
 use Rattle.states.proofs.turned.Tie as tie
 
@@ -12,4 +12,5 @@ turned-spec =
     (λ c κs. search needs)
     (λ c κs. search needs)
     (λ c κs. search needs)
-    (λ c. search turned-is))
+    (λ c. search turned-is)
+    (λ c. search not-turned))

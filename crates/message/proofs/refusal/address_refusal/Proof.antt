@@ -14,5 +14,6 @@ address-refusal-spec =
     (λ c κs. search needs)
     (λ c. search address-5)
     (λ c κs. search needs)
-    (λ c. search address-0)
-    (λ c. search address-6))
+    (λ c. search needs)
+    (λ c. search address-6)
+    (λ c. search address-0))

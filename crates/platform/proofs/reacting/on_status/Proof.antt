@@ -1,7 +1,7 @@
--- `platform::reacting::on_status` meets its contract.
+-- `platform::reacting::on_status` meets its contract: of the 256 by their states, of the others nothing.
 -- Assumes nothing.
 use borrow.Author.Needs.{needs}
-use Rattle.platform.proofs.ReactionLaws.{still-up, down-to-up, up-to-down, still-down}
+use Rattle.platform.proofs.ReactionLaws.{with-state, without-state}
 use Rattle.platform.proofs.reacting.on_status.Statement.{statement}
 use Rattle.platform.proofs.reacting.on_status.Tie as tie
 
@@ -10,14 +10,6 @@ on-status-spec =
     tie.close
     (tie.spec
     (λ c κs. search needs)
-    (λ c. search needs)
     (λ c κs. search needs)
-    (λ c κs. search needs)
-    (λ c. search needs)
-    (λ c κs. search needs)
-    (λ c κs. search needs)
-    (λ c κs. search needs)
-    (λ c. search still-up)
-    (λ c. search down-to-up)
-    (λ c. search up-to-down)
-    (λ c. search still-down))
+    (λ c. search with-state)
+    (λ c. search without-state))

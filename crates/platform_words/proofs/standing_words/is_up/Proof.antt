@@ -1,7 +1,7 @@
 -- `platform_words::is_up` meets its contract.
 -- Assumes nothing.
 use borrow.Author.Needs.{needs}
-use Rattle.platform_words.proofs.Storing.{is-up, is-down, no-platform}
+use Rattle.platform_words.proofs.Storing.{is-up, is-down}
 use Rattle.platform_words.proofs.standing_words.is_up.Statement.{statement}
 use Rattle.platform_words.proofs.standing_words.is_up.Tie as tie
 
@@ -12,5 +12,4 @@ is-up-spec =
     (λ c κs. search needs)
     (λ c κs. search needs)
     (λ c. search is-up)
-    (λ c. search is-down)
-    (λ c. search no-platform))
+    (λ c. search is-down))
