@@ -6,7 +6,7 @@ use mathlib.Core.Bool.{Bool, true, false, cond}
 use mathlib.Core.List.{List, [], _∷_}
 use native.Mathlib.Nat.{mod-lt}
 use native.Mathlib.Omega.{arith}
-use borrow.Author.Tests.{eqb-true, eqb-false, ltb-true}
+use borrow.Author.Tests.{eqb-true, eqb-false, ltb-true, ltb-false}
 use lib.Dec.{eqb, ltb}
 use lib.Pow.{pow-pos}
 use lib.ListN.{length, getD}
@@ -26,7 +26,7 @@ use Rattle.message.specs.declared.Message.{Message}
 use Rattle.message.specs.declared.Message.the-variants as message
 use Rattle.message.specs.declared.Reading.{Reading}
 use Rattle.message.specs.declared.Reading.the-variants as reading
-use Rattle.message.specs.Refusal.{noRoom, readRefusal}
+use Rattle.message.specs.Refusal.{platforms, noRoom, readRefusal}
 use Rattle.message.specs.Reading.{readOut}
 use Rattle.message.proofs.Accepted.{readable}
 use Rattle.states.specs.States.{isUp}
@@ -36,7 +36,7 @@ use Rattle.platform.specs.declared.Answer.{Answer}
 use Rattle.platform.specs.declared.Answer.the-variants.{Noted}
 use Rattle.platform.specs.declared.reactions.Reaction.{Reaction}
 use Rattle.platform.specs.Replies.{allData, owedLength}
-use Rattle.platform.specs.Reaction.{operationFor, isData, foundData, noData, cameUp, onStatus, onPullAll, onPullOne, onPull, onOperation, reactionTo}
+use Rattle.platform.specs.Reaction.{operationFor, isData, foundData, noData, cameUp, onState, onStatus, onPullAll, onPullOne, onPull, onOperation, reactionTo}
 use Rattle.platform.specs.Receiving.{freshStanding, refused, taken, answered, receivedOf, leftOf, sectionsOutcome, sectionsOutput, numberGiven}
 use Rattle.platform_words.specs.Words.{standingIn, standingWords}
 use Rattle.platform_words.specs.HeardWords.{heardWords, answerWords, notedWords, heardAfter, platformAfter}
@@ -57,20 +57,22 @@ module _ (own : ℕ) (t : List ℕ) (s : Sections) (p : Standing) (m : List ℕ)
   HeardSo kind = heardWords h n (X own t s p h 20 (length m - 20) kind .heard) ≡ heardFor t s m h n kind
 
   on-up : HeardSo (message.PlatformStatus Up)
-  unfolding reactionTo onStatus cameUp
-  on-up = go (isUp own (p .states) (h .platform)) refl
+  unfolding reactionTo onStatus onState cameUp
+  on-up = go (ltb (h .platform) platforms) (isUp own (p .states) (h .platform)) refl refl
     where
-      go : (b : Bool) → isUp own (p .states) (h .platform) ≡ b → HeardSo (message.PlatformStatus Up)
-      go true e = rw e
-      go false e = rw e
+      go : (a b : Bool) → ltb (h .platform) platforms ≡ a → isUp own (p .states) (h .platform) ≡ b → HeardSo (message.PlatformStatus Up)
+      go true true c e = rw (c, e)
+      go true false c e = rw (c, e)
+      go false b c e = rw c
 
   on-down : HeardSo (message.PlatformStatus Down)
-  unfolding reactionTo onStatus
-  on-down = go (isUp own (p .states) (h .platform)) refl
+  unfolding reactionTo onStatus onState
+  on-down = go (ltb (h .platform) platforms) (isUp own (p .states) (h .platform)) refl refl
     where
-      go : (b : Bool) → isUp own (p .states) (h .platform) ≡ b → HeardSo (message.PlatformStatus Down)
-      go true e = rw e
-      go false e = rw e
+      go : (a b : Bool) → ltb (h .platform) platforms ≡ a → isUp own (p .states) (h .platform) ≡ b → HeardSo (message.PlatformStatus Down)
+      go true true c e = rw (c, e)
+      go true false c e = rw (c, e)
+      go false b c e = rw c
 
   module _ (scan : (id : ℕ) → lookedUp t s id ≡ operationOf t s id) where
     on-pull : (id : ℕ) → HeardSo (message.VersionedDataPull id)
@@ -117,18 +119,19 @@ lengthRead (reading.Read h m start len) = len
 lengthRead (reading.Refused n) = 0
 
 -- asking who is UP
-up-number : (own : ℕ) (q : Standing) (up : ℕ → Bool) → ((k : ℕ) → k < 256 → isUp own (q .states) k ≡ up k) → (k : ℕ)
+up-number : (own : ℕ) (q : Standing) (up : ℕ → Bool) → own < 256 → ((k : ℕ) → k < 256 → isUp own (q .states) k ≡ up k) → (k : ℕ)
     → upNumber own (standingWords q) k ≡ cond (ltb k 256) (cond (up k) 1 0) 0
-up-number own q up h k = go (ltb k 256) refl
+up-number own q up ho h k = go (ltb k 256) refl
   where
-    go : (b : Bool) → ltb k 256 ≡ b → cond b (cond {A = ℕ} (isUp own (q .states) k) 1 0) 0 ≡ cond b (cond {A = ℕ} (up k) 1 0) 0
+    go : (b : Bool) → ltb k 256 ≡ b → cond {A = ℕ} (isUp own (q .states) k) 1 0 ≡ cond b (cond {A = ℕ} (up k) 1 0) 0
     go true l = ap (λ (x : Bool). cond {A = ℕ} x 1 0) (h k (ltb-true k 256 l))
-    go false l = refl
+    go false l = ap (λ (x : Bool). cond {A = ℕ} x 1 0) (states-are .none-above-255 own (q .states) k ho (ltb-false k 256 l))
 
-up-is : (own : ℕ) (after : List ℕ) (q : Standing) (up : ℕ → Bool) → after ≡ standingWords q → ((k : ℕ) → k < 256 → isUp own (q .states) k ≡ up k)
+up-is : (own : ℕ) (after : List ℕ) (q : Standing) (up : ℕ → Bool) → own < 256 → after ≡ standingWords q
+    → ((k : ℕ) → k < 256 → isUp own (q .states) k ≡ up k)
     → UpIs own after up
-up-is own after q up w h k a n e p eo ew =
-    p ∙ ap₂ (λ (o : ℕ) (ws : List ℕ). upNumber o ws (a .1 .1 .0)) eo (ew ∙ w) ∙ up-number own q up h (a .1 .1 .0)
+up-is own after q up ho w h k a n e p eo ew =
+    p ∙ ap₂ (λ (o : ℕ) (ws : List ℕ). upNumber o ws (a .1 .1 .0)) eo (ew ∙ w) ∙ up-number own q up ho h (a .1 .1 .0)
 
 -- a fresh platform
 fresh-up : (own : ℕ) → own < 256 → (k : ℕ) → k < 256 → isUp own (freshStanding own .states) k ≡ eqb k own
@@ -205,7 +208,7 @@ module _ (own : ℕ) (ws t : List ℕ) (s : Sections) (m out : List ℕ) (h : He
           replies = rw (el ∙ alike) (x .written);
           rest = rw (el ∙ alike) (x .rest);
           heard-is = eh ∙ ap (λ (y : Answer). answerWords y was) a ∙ heard-words;
-          states = up-is own after q (stateAfter own p h kind) w (x .states);
+          states = up-is own after q (stateAfter own p h kind) (c .platform) w (x .states);
           next = ap (λ (y : List ℕ). getD y 4 0) w ∙ x .next;
         }
 
@@ -233,7 +236,7 @@ linked-replies =
     record {
       start = λ k a n e p ho. (
         p .0,
-        up-is (a .0) (now (e .1 .0)) (freshStanding (a .0)) (λ who. eqb who (a .0)) (p .1) (fresh-up (a .0) ho),
+        up-is (a .0) (now (e .1 .0)) (freshStanding (a .0)) (λ who. eqb who (a .0)) ho (p .1) (fresh-up (a .0) ho),
         ap (λ (y : List ℕ). getD y 4 0) (p .1),
       );
       receive = λ s h kind k a n e p c.
