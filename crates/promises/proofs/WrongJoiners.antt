@@ -59,7 +59,7 @@ pub record Small (s : Sender) : Type 0 where
   pub bytes : allOctets (arrives sender s) ≡ true
   pub own : ofChannel ids 0 (arrives sender s) ≡ arrives sender s
 
-granted : (s : Sender) → Small s → Granted ids 24 (room 24) (λ k. s) (arrives sender s)
+pub granted : (s : Sender) → Small s → Granted ids 24 (room 24) (λ k. s) (arrives sender s)
 unfolding goodSizes good freshOf setupOf
 granted s w =
     record {

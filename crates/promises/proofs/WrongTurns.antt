@@ -8,4 +8,11 @@ use Rattle.promises.proofs.WrongPlatforms.{no-wrong-platform}
 use Rattle.promises.proofs.NotRuledOut.{not-ruled-out}
 
 pub wrong-turns : WrongTurns
-wrong-turns = record { joiners = no-wrong-joiner; calls = no-wrong-call; codecs = no-wrong-codec; platforms = no-wrong-platform; left-to-others = not-ruled-out }
+wrong-turns =
+    record {
+      joiners = no-wrong-joiner;
+      calls = no-wrong-call;
+      codecs = no-wrong-codec;
+      platforms = no-wrong-platform;
+      left-to-others = not-ruled-out;
+    }

@@ -7,7 +7,7 @@ use lib.ListN.{length, getD}
 use Rattle.joiner.specs.Calls.{setupWords, takeNumber, takeWords, takeRooms, takeAnswer}
 use Rattle.promises.specs.Traffic.{Datagram, Joining}
 use Rattle.promises.specs.Demand3.{Demand3For}
-use Rattle.promises.specs.Linked.{outcomeFrom, linked}
+use Rattle.promises.specs.Linked.{Contracts, nyr, DeliversFor, outcomeFrom, linked}
 
 -- a set-up and a take in words, ours or any other
 pub record Calls : Type 0 where
@@ -63,6 +63,20 @@ roomsLeft = record { setup = setupWords; number = takeNumber; state = takeWords;
 abbrev pub notSetUp : Calls
 notSetUp = record { setup = λ ids R b was. was; number = takeNumber; state = takeWords; rooms = takeRooms; answer = takeAnswer }
 
+-- contracts that refuse every set-up (20) or every datagram (23), or that say nothing of what `take` does
+abbrev pub refusesSetups : Contracts
+refusesSetups = record { SetsUp = λ x n l. (n ≡ 20) × (l ≡ x .state); Takes = nyr .Takes }
+
+abbrev pub refusesDatagrams : Contracts
+refusesDatagrams =
+    record {
+      SetsUp = nyr .SetsUp;
+      Takes = λ x n l. (n ≡ 23) × (l ≡ record { state = x .state; rooms = x .rooms; answer = x .answer });
+    }
+
+abbrev pub saysNothing : Contracts
+saysNothing = record { SetsUp = nyr .SetsUp; Takes = λ x n l. n ≡ n }
+
 pub record NoWrongCall : Type 1 where
   pub with-ours : (was out : List ℕ) → linkedBy ours was out ≡ linked was out
   pub ours-meet : Meets ours
@@ -73,3 +87,6 @@ pub record NoWrongCall : Type 1 where
   pub state-left : Meets stateLeft → ⊥
   pub rooms-left : Meets roomsLeft → ⊥
   pub not-set-up : Meets notSetUp → ⊥
+  pub refuses-setups : DeliversFor refusesSetups → ⊥
+  pub refuses-datagrams : DeliversFor refusesDatagrams → ⊥
+  pub says-nothing : DeliversFor saysNothing → ⊥
