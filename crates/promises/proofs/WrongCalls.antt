@@ -10,16 +10,16 @@ use Rattle.channel.specs.Channel.{missedOf, keeping, notedOf, begunOf, followed
 use Rattle.joiner.specs.Setup.{goodSizes, good, freshOf, setupOf}
 use Rattle.joiner.specs.Take.{sentTo, heardBy, judgedOf, takenBy, takenOf, putBy, roomsBy, roomsAfter, messageOf}
 use Rattle.joiner.specs.JoinerWords.{joinerIn, wordsOf}
-use Rattle.joiner.specs.Calls.{setupWords, takeNumber, takeWords, takeRooms, takeAnswer}
-use Rattle.promises.specs.WrongCalls.{linkedBy, Meets, answering, otherSlice, startForBytes, fromTheStart, neverTwo}
-use Rattle.promises.specs.WrongCalls.{stateLeft, roomsLeft, notSetUp, refusesSetups, refusesDatagrams, saysNothing, NoWrongCall}
+use Rattle.joiner.specs.Calls.{setupNumber, setupWords, takeNumber, takeWords, takeRooms, takeAnswer}
+use Rattle.promises.specs.WrongCalls.{Calls, linkedBy, Meets, answering, otherSlice, startForBytes, fromTheStart, neverTwo}
+use Rattle.promises.specs.WrongCalls.{stateLeft, roomsLeft, notSetUp, refusesSetups, refusesDatagrams, saysNothing, contractsOf, firstOnly, NoWrongCall}
 use Rattle.promises.specs.Cases.{sender, ids, room}
 use Rattle.promises.specs.Senders.{arrives}
 use Rattle.promises.specs.Traffic.{Datagram, isOf}
 use Rattle.promises.specs.InNumbers.{Given}
 use Rattle.promises.specs.Linked.{TakeLeft, Call, Run, over, next, SetUpAndRun, messageIn, deliveredIn, DeliversFor}
 use Rattle.promises.proofs.InNumbers.{granted-back}
-use Rattle.promises.proofs.WrongJoiners.{granted, kept, total, firstByte, wraps, small-wraps, two, small-two}
+use Rattle.promises.proofs.WrongJoiners.{granted, kept, total, firstByte, wraps, small-wraps, two, small-two, both-ids, senders, mix, granted-mix}
 use Rattle.promises.proofs.Linked.{as-a-joiner}
 
 other-slice : Meets (answering otherSlice) → ⊥
@@ -121,6 +121,40 @@ says-nothing d =
     let e : _≡_ {A = ℕ} 0 2 = ap length (sym (none-given (a .some .state) (room 24) ds) ∙ a .delivered x 0 (omega arith)) in
     absurd (omega (arith, e))
 
+-- the run of calls that a contract says all of
+module _ (C : Calls) where
+  abbrev leftBy : List ℕ → List ℕ → Datagram → TakeLeft
+  leftBy ws rooms d = record { state = C .state ws rooms d; rooms = C .rooms ws rooms d; answer = C .answer ws rooms d [] }
+
+  abbrev callsBy : List ℕ → List ℕ → List Datagram → List Call
+  callsBy ws rooms [] = []
+  callsBy ws rooms (d ∷ ds) =
+      record { datagram = d; number = C .number ws rooms d; left = leftBy ws rooms d } ∷ callsBy (C .state ws rooms d) (C .rooms ws rooms d) ds
+
+  run-by : (ws rooms : List ℕ) (ds : List Datagram) → Run (contractsOf C) ws rooms ds (callsBy ws rooms ds)
+  run-by ws rooms [] = over
+  run-by ws rooms (d ∷ ds) = next {out = []} (refl, refl) (run-by (C .state ws rooms d) (C .rooms ws rooms d) ds)
+
+  from-setup : (ids : List ℕ) (R : ℕ) (rooms : List ℕ) (ds : List Datagram) → SetUpAndRun (contractsOf C) ids R rooms ds
+  from-setup ids R rooms ds =
+      let state : List ℕ = C .setup ids R (length rooms) [] in
+      record {
+        was = [];
+        number = setupNumber ids R (length rooms);
+        state = state;
+        sets-up = (refl, refl);
+        calls = callsBy state rooms ds;
+        run = run-by state rooms ds;
+      }
+
+first-only : DeliversFor (contractsOf firstOnly) → ⊥
+unfolding missedOf keeping notedOf begunOf followedOf placedOf steppedOf goodSizes good freshOf setupOf sentTo heardBy judgedOf
+    takenBy takenOf putBy roomsBy roomsAfter messageOf joinerIn wordsOf setupWords takeNumber takeWords takeRooms takeAnswer from-setup
+first-only d =
+    let a = d both-ids 24 (room 48) senders mix (granted-back both-ids 24 (room 48) senders mix granted-mix) in
+    let e : _≡_ {A = ℕ} 0 1 = ap length (a .delivered (from-setup firstOnly both-ids 24 (room 48) mix) 1 (omega arith)) in
+    absurd (omega (arith, e))
+
 pub no-wrong-call : NoWrongCall
 no-wrong-call =
     record {
@@ -136,4 +170,5 @@ no-wrong-call =
       refuses-setups = refuses-setups;
       refuses-datagrams = refuses-datagrams;
       says-nothing = says-nothing;
+      first-only = first-only;
     }
