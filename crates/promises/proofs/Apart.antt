@@ -91,7 +91,8 @@ module _ (ids : List ℕ) (R k : ℕ) (known : k < length ids) where
   abbrev room : Room
   room = roomOf R k
 
-  pub next : (j : Joiner) (rooms : List ℕ) (d : Datagram) → Underway ids R j rooms → Octets d → Underway ids R (takenOf j rooms d .joiner) (roomsAfter j rooms d)
+  pub next : (j : Joiner) (rooms : List ℕ) (d : Datagram) → Underway ids R j rooms → Octets d
+      → Underway ids R (takenOf j rooms d .joiner) (roomsAfter j rooms d)
   next j rooms d u o =
       record { stands = take-standing j rooms d (u .stands) o; senders = take-senders j rooms d ∙ u .senders; size = take-room j rooms d ∙ u .size }
 

@@ -232,17 +232,6 @@ header-is Middle id c = refl
 header-is End id c = refl
 header-is Whole id c = refl
 
-pub in-numbers : InNumbers
-in-numbers =
-    record {
-      set-ups = set-ups;
-      set-ups-back = set-ups-back;
-      genuine = genuine-is;
-      genuine-back = genuine-back;
-      next-counter = λ c. refl;
-      header = header-is;
-    }
-
 pub granted : (ids : List ℕ) (R : ℕ) (rooms : List ℕ) (sender : ℕ → Sender) (traffic : List Datagram) → Given ids R rooms sender traffic
     → Granted ids R rooms sender traffic
 granted ids R rooms sender traffic g =
@@ -251,4 +240,27 @@ granted ids R rooms sender traffic g =
       genuine = λ k h. genuine-is R (sender k) (g .genuine k h);
       mixed = g .mixed;
       bytes = g .bytes;
+    }
+
+pub granted-back : (ids : List ℕ) (R : ℕ) (rooms : List ℕ) (sender : ℕ → Sender) (traffic : List Datagram) → Granted ids R rooms sender traffic
+    → Given ids R rooms sender traffic
+granted-back ids R rooms sender traffic g =
+    record {
+      set-up = set-ups-back ids R (length rooms) (g .set-up);
+      genuine = λ k h. genuine-back R (sender k) (g .genuine k h);
+      mixed = g .mixed;
+      bytes = g .bytes;
+    }
+
+pub in-numbers : InNumbers
+in-numbers =
+    record {
+      set-ups = set-ups;
+      set-ups-back = set-ups-back;
+      genuine = genuine-is;
+      genuine-back = genuine-back;
+      granted = granted;
+      granted-back = granted-back;
+      next-counter = λ c. refl;
+      header = header-is;
     }

@@ -23,8 +23,8 @@ use Rattle.joiner.proofs.FoundBack.{words-back}
 use Rattle.joiner.proofs.WordsBack.{taken-back}
 use Rattle.promises.specs.Traffic.{Datagram, isOf, handedBack, deliveredBy, fresh, deliveredOn, outcomesOn, leftOn, AreBytes, none, more}
 use Rattle.promises.specs.InNumbers.{SetUp}
-use Rattle.promises.specs.Linked.{SetupLent, SetsUp, TakeLent, TakeLeft, Takes, Call, InTurn, over, next, SetUpAndRun}
-use Rattle.promises.specs.Linked.{SomeRun, Delivers, MixMakesNoDifference}
+use Rattle.promises.specs.Linked.{SetupLent, TakeLent, TakeLeft, nyr, Call, InTurn, over, next, SetUpAndRun}
+use Rattle.promises.specs.Linked.{Delivers, MixMakesNoDifference}
 use Rattle.promises.specs.Linked.{messageIn, deliveredIn, outcomeFrom, outcomesIn, stateIn, roomsIn, lyingIn, linked, AsAJoiner}
 use Rattle.promises.proofs.Demand3.{underway, demand-3, mix-makes-no-difference}
 use Rattle.promises.proofs.Apart.{Underway, next as then}
@@ -89,7 +89,7 @@ as-a-joiner was out ids R rooms sender traffic g k h =
 
 -- one call that the contract allows
 module _ {ws rooms out : List ℕ} {d : Datagram} {n : ℕ} {l : TakeLeft}
-    (p : Takes (record { state = ws; rooms = rooms; datagram = d; answer = out }) n l) where
+    (p : nyr .Takes (record { state = ws; rooms = rooms; datagram = d; answer = out }) n l) where
   number-left : n ≡ takeNumber ws rooms d
   number-left = p .1 .1 .1 .0 .0 ∙ ap (λ (y : TakeLent). takeNumber (y .state) (y .rooms) (y .datagram)) (p .1 .1 .1 .1 .0)
 
@@ -132,7 +132,7 @@ module _ (ids : List ℕ) (R k : ℕ) (known : k < length ids) where
     pub outcomes : outcomesIn ids k cs ≡ outcomesOn ids k (joinerIn ws) rooms ds
     pub left : lyingIn R k (stateIn ws cs) (roomsIn rooms cs) ≡ lyingBy (leftOn k (joinerIn ws) rooms ds)
 
-  in-run : {ws rooms : List ℕ} {ds : List Datagram} {cs : List Call} → InTurn ws rooms ds cs → length ws ≡ joinerWords → AreBytes ds
+  in-run : {ws rooms : List ℕ} {ds : List Datagram} {cs : List Call} → InTurn nyr ws rooms ds cs → length ws ≡ joinerWords → AreBytes ds
       → Underway ids R (joinerIn ws) rooms → InRun ws rooms ds cs
   in-run (over {ws} {rooms}) w none u = record { delivered = refl; outcomes = refl; left = lying-is ids R k ws rooms known u }
   in-run (next {ws} {rooms} {out} {d} {n} {l} {ds} {cs} p r) w (more o os) u =
@@ -149,7 +149,7 @@ module _ (ids : List ℕ) (R k : ℕ) (known : k < length ids) where
       }
 
 -- from a set-up
-module _ (ids : List ℕ) (R : ℕ) (rooms : List ℕ) (ds : List Datagram) (s : SetUp ids R (length rooms)) (x : SetUpAndRun ids R rooms ds) where
+module _ (ids : List ℕ) (R : ℕ) (rooms : List ℕ) (ds : List Datagram) (s : SetUp ids R (length rooms)) (x : SetUpAndRun nyr ids R rooms ds) where
   ok : Acceptable ids R (length rooms)
   ok = acceptable ids R (length rooms) s
 
@@ -171,14 +171,6 @@ module _ (ids : List ℕ) (R : ℕ) (rooms : List ℕ) (ds : List Datagram) (s :
       let u : Underway ids R (joinerIn (x .state)) rooms =
       rw start (underway ids R rooms (set-ups ids R (length rooms) s)) in
       in-run ids R k h (x .run) (ap length words ∙ set-length ids R (length rooms) ok (x .was)) o u
-
-pub delivers : Delivers
-delivers ids R rooms sender traffic g x = (
-  answered ids R rooms traffic (g .set-up) x,
-  λ k h. ran ids R rooms traffic (g .set-up) x k h (g .bytes) .delivered
-      ∙ ap (λ (i : Joiner). deliveredOn ids k i rooms traffic) (start ids R rooms traffic (g .set-up) x)
-      ∙ demand-3 ids R rooms sender traffic (granted ids R rooms sender traffic g) k h,
-)
 
 pub the-mix-makes-no-difference : MixMakesNoDifference
 the-mix-makes-no-difference ids R rooms rooms′ k one other a x y =
@@ -204,7 +196,8 @@ the-mix-makes-no-difference ids R rooms rooms′ k one other a x y =
 abbrev lent : List ℕ → RefT (List ℕ)
 lent xs = record { ptr = (0, 0); name = 0; now = xs }
 
-takes : (ws rooms : List ℕ) (d : Datagram) (out : List ℕ) → Takes (record { state = ws; rooms = rooms; datagram = d; answer = out }) (takeNumber ws rooms d)
+takes : (ws rooms : List ℕ) (d : Datagram) (out : List ℕ)
+    → nyr .Takes (record { state = ws; rooms = rooms; datagram = d; answer = out }) (takeNumber ws rooms d)
     (record { state = takeWords ws rooms d; rooms = takeRooms ws rooms d; answer = takeAnswer ws rooms d out })
 takes ws rooms d out = (
   ([], ([], ([], ([], tt)))),
@@ -218,7 +211,7 @@ takes ws rooms d out = (
 )
 
 setting : (ids : List ℕ) (R b : ℕ) (was : List ℕ)
-    → SetsUp (record { state = was; ids = ids; room = R; rooms = b }) (setupNumber ids R b) (setupWords ids R b was)
+    → nyr .SetsUp (record { state = was; ids = ids; room = R; rooms = b }) (setupNumber ids R b) (setupWords ids R b was)
 setting ids R b was = (
   ([], ([], tt)),
   ((lent was, (lent ids, (R, (b, tt)))), ((lent (setupWords ids R b was), (lent ids, (R, (b, tt)))), ((refl, refl), (refl, refl)))),
@@ -230,11 +223,11 @@ callsFrom ws rooms (d ∷ ds) =
     let left : TakeLeft = record { state = takeWords ws rooms d; rooms = takeRooms ws rooms d; answer = takeAnswer ws rooms d (replicate 5 0) } in
     record { datagram = d; number = takeNumber ws rooms d; left = left } ∷ callsFrom (takeWords ws rooms d) (takeRooms ws rooms d) ds
 
-runs : (ws rooms : List ℕ) (ds : List Datagram) → InTurn ws rooms ds (callsFrom ws rooms ds)
+runs : (ws rooms : List ℕ) (ds : List Datagram) → InTurn nyr ws rooms ds (callsFrom ws rooms ds)
 runs ws rooms [] = over
 runs ws rooms (d ∷ ds) = next (takes ws rooms d (replicate 5 0)) (runs (takeWords ws rooms d) (takeRooms ws rooms d) ds)
 
-pub some-run : SomeRun
+some-run : (ids : List ℕ) (R : ℕ) (rooms : List ℕ) (traffic : List Datagram) → SetUpAndRun nyr ids R rooms traffic
 some-run ids R rooms traffic =
     let was : List ℕ = replicate joinerWords 0 in
     let state : List ℕ = setupWords ids R (length rooms) was in
@@ -245,4 +238,14 @@ some-run ids R rooms traffic =
       sets-up = setting ids R (length rooms) was;
       calls = callsFrom state rooms traffic;
       run = runs state rooms traffic;
+    }
+
+pub delivers : Delivers
+delivers ids R rooms sender traffic g =
+    record {
+      some = some-run ids R rooms traffic;
+      accepted = answered ids R rooms traffic (g .set-up);
+      delivered = λ x k h. ran ids R rooms traffic (g .set-up) x k h (g .bytes) .delivered
+          ∙ ap (λ (i : Joiner). deliveredOn ids k i rooms traffic) (start ids R rooms traffic (g .set-up) x)
+          ∙ demand-3 ids R rooms sender traffic (granted ids R rooms sender traffic g) k h;
     }

@@ -18,7 +18,7 @@ use Rattle.joiner.specs.declared.Joiner.{Joiner}
 use Rattle.nyrkovash.specs.PieceCalls.{piecesNumber, piecesGiven, countLeft, cutNumber, cutGiven, madeLeft}
 use Rattle.promises.specs.Traffic.{Datagram, AreBytes, deliveredOn}
 use Rattle.promises.specs.CutAndJoined.{datagramsFrom, cutUp}
-use Rattle.promises.specs.Linked.{SetUpAndRun, deliveredIn}
+use Rattle.promises.specs.Linked.{nyr, SetUpAndRun, deliveredIn}
 use Rattle.promises.specs.LinkedCut.{PiecesLent, Counts, CutLent, CutLeft, Cuts, CutCall, CutRun, over, next}
 use Rattle.promises.specs.LinkedCut.{numbersIn, datagramsIn, CutThenTaken, SomeCutRun}
 use Rattle.promises.proofs.CutAndJoined.{all-bytes, cut-and-joined}
@@ -105,7 +105,7 @@ cut-then-taken ids R rooms k msg s first g was n count p cuts r = (count-number 
     bytes : AreBytes (datagramsIn cuts)
     bytes = subst AreBytes (sym same) (all-bytes ids k (g .known) range msg s first w (g .bytes) 0 (pieceCount (length msg) s))
 
-    taken : (x : SetUpAndRun ids R rooms (datagramsIn cuts)) → (x .number ≡ 0) × (deliveredIn ids k (x .calls) ≡ msg ∷ [])
+    taken : (x : SetUpAndRun nyr ids R rooms (datagramsIn cuts)) → (x .number ≡ 0) × (deliveredIn ids k (x .calls) ≡ msg ∷ [])
     taken x = (
       answered ids R rooms (datagramsIn cuts) (g .set-up) x,
       ran ids R rooms (datagramsIn cuts) (g .set-up) x k (g .known) bytes .delivered

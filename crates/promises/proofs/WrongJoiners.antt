@@ -31,7 +31,7 @@ use Rattle.promises.specs.Traffic.{Datagram, isOf, ofChannel, handedBack
 use Rattle.promises.specs.Demand3.{Granted, Demand3For}
 use Rattle.promises.specs.WrongJoiners.{heardWith, tookBy, delivers, always, NeverDelivers, DeliversOnce, firstOnly}
 use Rattle.promises.specs.WrongJoiners.{againAnswered, stepping, testing, notAbove, never, beginningKeeps, repeatedPlaced}
-use Rattle.promises.specs.WrongJoiners.{strayForgotten, sharedRoom, NoWrongJoiner}
+use Rattle.promises.specs.WrongJoiners.{strayForgotten, sharedRoom, firstChannelOnly, NoWrongJoiner}
 
 -- bytes, by a test
 abbrev pub octets : List ℕ → Bool
@@ -59,7 +59,7 @@ pub record Small (s : Sender) : Type 0 where
   pub bytes : allOctets (arrives sender s) ≡ true
   pub own : ofChannel ids 0 (arrives sender s) ≡ arrives sender s
 
-granted : (s : Sender) → Small s → Granted ids 24 (room 24) (λ k. s) (arrives sender s)
+pub granted : (s : Sender) → Small s → Granted ids 24 (room 24) (λ k. s) (arrives sender s)
 unfolding goodSizes good freshOf setupOf
 granted s w =
     record {
@@ -291,22 +291,22 @@ pub stray-forgotten : Demand3For (stepping strayForgotten) → ⊥
 stray-forgotten = strays (counters - 3) (omega arith) (omega arith)
 
 -- two channels, whose pieces come in turn
-abbrev both-ids : List ℕ
+abbrev pub both-ids : List ℕ
 both-ids = 0x102 ∷ 0x103 ∷ []
 
-abbrev senders : ℕ → Sender
+abbrev pub senders : ℕ → Sender
 senders zero = from 7 ((one 0xAA ∷ one 0xBB ∷ []) ∷ [])
 senders (suc k) = from 7 ((one 0xCC ∷ one 0xDD ∷ []) ∷ [])
 
-abbrev inTurn : List Datagram → List Datagram → List Datagram
+abbrev pub inTurn : List Datagram → List Datagram → List Datagram
 inTurn [] es = es
 inTurn (d ∷ ds) [] = d ∷ ds
 inTurn (d ∷ ds) (e ∷ es) = d ∷ e ∷ inTurn ds es
 
-abbrev mix : List Datagram
+abbrev pub mix : List Datagram
 mix = inTurn (arrives 0x102 (senders 0)) (arrives 0x103 (senders 1))
 
-granted-mix : Granted both-ids 24 (room 48) senders mix
+pub granted-mix : Granted both-ids 24 (room 48) senders mix
 unfolding goodSizes good freshOf setupOf
 granted-mix = record { set-up = refl; genuine = genuine; mixed = mixed; bytes = all-are mix refl }
   where
@@ -328,6 +328,11 @@ unfolding missedOf keeping notedOf begunOf followedOf placedOf steppedOf goodSiz
     takenBy takenOf putBy roomsBy roomsAfter messageOf
 shared-room d = let e : _≡_ {A = ℕ} 0xCC 0xAA = ap firstByte (d both-ids 24 (room 48) senders mix granted-mix 0 (omega arith)) in absurd (omega (arith, e))
 
+pub first-channel-only : Demand3For (stepping firstChannelOnly) → ⊥
+unfolding missedOf keeping notedOf begunOf followedOf placedOf steppedOf goodSizes good freshOf setupOf sentTo heardBy judgedOf
+    takenBy takenOf putBy roomsBy roomsAfter messageOf
+first-channel-only d = let e : _≡_ {A = ℕ} 0 1 = ap length (d both-ids 24 (room 48) senders mix granted-mix 1 (omega arith)) in absurd (omega (arith, e))
+
 pub no-wrong-joiner : NoWrongJoiner
 no-wrong-joiner =
     record {
@@ -343,4 +348,5 @@ no-wrong-joiner =
       middle-twice = middle-twice;
       stray-forgotten = stray-forgotten;
       shared-room = shared-room;
+      first-channel-only = first-channel-only;
     }

@@ -12,6 +12,7 @@ use Rattle.joiner.specs.declared.setups.Verdict.the-variants.{Accepted}
 use Rattle.joiner.specs.Setup.{setupOf}
 use Rattle.promises.specs.Senders.{Piece, Message, Sender, Sent, Genuine, sentBy, after, arrives, together}
 use Rattle.promises.specs.Traffic.{Datagram, ofChannel, AreBytes}
+use Rattle.promises.specs.Demand3.{Granted}
 
 -- 01, number 20: what is asked of a set-up, over rooms of so many bytes
 pub record SetUp (ids : List ℕ) (R buffer : ℕ) : Type 0 where
@@ -70,6 +71,10 @@ pub record InNumbers : Type 0 where
   pub set-ups-back : (ids : List ℕ) (R buffer : ℕ) → setupOf ids R buffer .answer ≡ Accepted → SetUp ids R buffer
   pub genuine : (R : ℕ) (s : Sender) → GenuineIn R s → Genuine R s
   pub genuine-back : (R : ℕ) (s : Sender) → Genuine R s → GenuineIn R s
+  pub granted : (ids : List ℕ) (R : ℕ) (rooms : List ℕ) (sender : ℕ → Sender) (traffic : List Datagram)
+      → Given ids R rooms sender traffic → Granted ids R rooms sender traffic
+  pub granted-back : (ids : List ℕ) (R : ℕ) (rooms : List ℕ) (sender : ℕ → Sender) (traffic : List Datagram)
+      → Granted ids R rooms sender traffic → Given ids R rooms sender traffic
   -- "number its datagrams in turn, round a counter of M steps"
   pub next-counter : (c : ℕ) → after c ≡ (c + 1) % 65536
   pub header : (p : MessagePart) (id c : ℕ) → headerBytes (headerOf p id c) ≡ (partNumber p * 16 + id / 256) ∷ id % 256 ∷ c / 256 ∷ c % 256 ∷ []

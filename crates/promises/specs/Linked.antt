@@ -34,9 +34,6 @@ pub record SetupLent : Type 0 where
   pub room : ℕ
   pub rooms : ℕ
 
-abbrev pub SetsUp : SetupLent → ℕ → List ℕ → Type 0
-SetsUp = Allows nyr-setup (λ k a. record { state = now (a .0); ids = now (a .1 .0); room = a .1 .1 .0; rooms = a .1 .1 .1 .0 }) (λ k e. now (e .0))
-
 -- `nyr_take`: the joiner's words, the rooms, a datagram and the words of an answer; and what it leaves of them
 pub record TakeLent : Type 0 where
   pub state : List ℕ
@@ -49,10 +46,19 @@ pub record TakeLeft : Type 0 where
   pub rooms : List ℕ
   pub answer : List ℕ
 
-abbrev pub Takes : TakeLent → ℕ → TakeLeft → Type 0
-Takes = Allows nyr-take
-    (λ k a. record { state = now (a .0); rooms = now (a .1 .0); datagram = now (a .1 .1 .0); answer = now (a .1 .1 .1 .0) })
-    (λ k e. record { state = now (e .0); rooms = now (e .1 .0); answer = now (e .1 .1 .1 .0) })
+-- what the contracts of two such calls allow, ours or any other
+pub record Contracts : Type 1 where
+  pub SetsUp : SetupLent → ℕ → List ℕ → Type 0
+  pub Takes : TakeLent → ℕ → TakeLeft → Type 0
+
+abbrev pub nyr : Contracts
+nyr =
+    record {
+      SetsUp = Allows nyr-setup (λ k a. record { state = now (a .0); ids = now (a .1 .0); room = a .1 .1 .0; rooms = a .1 .1 .1 .0 }) (λ k e. now (e .0));
+      Takes = Allows nyr-take
+          (λ k a. record { state = now (a .0); rooms = now (a .1 .0); datagram = now (a .1 .1 .0); answer = now (a .1 .1 .1 .0) })
+          (λ k e. record { state = now (e .0); rooms = now (e .1 .0); answer = now (e .1 .1 .1 .0) });
+    }
 
 -- a call of `nyr_take` in a run: its datagram, its number, and what it left
 pub record Call : Type 0 where
@@ -62,24 +68,20 @@ pub record Call : Type 0 where
 
 -- a run of `nyr_take` over a traffic, each call on the joiner and the rooms that the one before left; the answer's words hold
 -- anything before a call
-pub data InTurn : List ℕ → List ℕ → List Datagram → List Call → Type 0 where
-  over : {ws rooms : List ℕ} → InTurn ws rooms [] []
+pub data InTurn (C : Contracts) : List ℕ → List ℕ → List Datagram → List Call → Type 0 where
+  over : {ws rooms : List ℕ} → InTurn C ws rooms [] []
   next : {ws rooms out : List ℕ} {d : Datagram} {n : ℕ} {l : TakeLeft} {ds : List Datagram} {cs : List Call}
-      → Takes (record { state = ws; rooms = rooms; datagram = d; answer = out }) n l → InTurn (l .state) (l .rooms) ds cs
-      → InTurn ws rooms (d ∷ ds) (record { datagram = d; number = n; left = l } ∷ cs)
+      → C .Takes (record { state = ws; rooms = rooms; datagram = d; answer = out }) n l → InTurn C (l .state) (l .rooms) ds cs
+      → InTurn C ws rooms (d ∷ ds) (record { datagram = d; number = n; left = l } ∷ cs)
 
 -- a set-up, and a run from it
-pub record SetUpAndRun (ids : List ℕ) (R : ℕ) (rooms : List ℕ) (traffic : List Datagram) : Type 0 where
+pub record SetUpAndRun (C : Contracts) (ids : List ℕ) (R : ℕ) (rooms : List ℕ) (traffic : List Datagram) : Type 0 where
   pub was : List ℕ
   pub number : ℕ
   pub state : List ℕ
-  pub sets-up : SetsUp (record { state = was; ids = ids; room = R; rooms = length rooms }) number state
+  pub sets-up : C .SetsUp (record { state = was; ids = ids; room = R; rooms = length rooms }) number state
   pub calls : List Call
-  pub run : InTurn state rooms traffic calls
-
--- and there is one, whatever is lent
-abbrev pub SomeRun : Type 0
-SomeRun = (ids : List ℕ) (R : ℕ) (rooms : List ℕ) (traffic : List Datagram) → SetUpAndRun ids R rooms traffic
+  pub run : InTurn C state rooms traffic calls
 
 -- the answer's five words: outcome, missed, bytes, slice, start. A message lies in the datagram (slice 1) or in the rooms (2)
 abbrev pub messageIn : ℕ → List ℕ → Datagram → List ℕ → List (List ℕ)
@@ -92,12 +94,20 @@ deliveredIn ids k [] = []
 deliveredIn ids k (c ∷ cs) =
     cond (isOf ids k (c .datagram)) (messageIn (c .number) (c .left .answer) (c .datagram) (c .left .rooms)) [] ++ deliveredIn ids k cs
 
--- `nyr_setup` answers 0; and then each channel delivers exactly those of its messages whose every piece arrived, in order, once
--- each
-abbrev pub Delivers : Type 0
-Delivers =
+-- set-up answers 0; and then each channel delivers exactly those of its messages whose every piece arrived, in order, once each.
+-- Of whatever run the contracts allow, and they allow one
+pub record AllDelivered (C : Contracts) (ids : List ℕ) (R : ℕ) (rooms : List ℕ) (sender : ℕ → Sender) (traffic : List Datagram) : Type 0 where
+  pub some : SetUpAndRun C ids R rooms traffic
+  pub accepted : (x : SetUpAndRun C ids R rooms traffic) → x .number ≡ 0
+  pub delivered : (x : SetUpAndRun C ids R rooms traffic) (k : ℕ) → k < length ids → deliveredIn ids k (x .calls) ≡ completeOf (sender k .messages)
+
+abbrev pub DeliversFor : Contracts → Type 0
+DeliversFor C =
     (ids : List ℕ) (R : ℕ) (rooms : List ℕ) (sender : ℕ → Sender) (traffic : List Datagram) → Given ids R rooms sender traffic
-    → (x : SetUpAndRun ids R rooms traffic) → (x .number ≡ 0) × ((k : ℕ) → k < length ids → deliveredIn ids k (x .calls) ≡ completeOf (sender k .messages))
+    → AllDelivered C ids R rooms sender traffic
+
+abbrev pub Delivers : Type 0
+Delivers = DeliversFor nyr
 
 -- the outcome, by the number and the answer's words
 abbrev pub placeFrom : List ℕ → Place
@@ -160,8 +170,8 @@ pub record Alike (ids : List ℕ) (R : ℕ) (rooms rooms′ : List ℕ) (k : ℕ
   pub bytes : AreBytes one
   pub bytes′ : AreBytes other
 
-pub record Same {ids : List ℕ} {R : ℕ} {rooms rooms′ : List ℕ} {one other : List Datagram} (k : ℕ) (x : SetUpAndRun ids R rooms one)
-    (y : SetUpAndRun ids R rooms′ other) : Type 0 where
+pub record Same {ids : List ℕ} {R : ℕ} {rooms rooms′ : List ℕ} {one other : List Datagram} (k : ℕ) (x : SetUpAndRun nyr ids R rooms one)
+    (y : SetUpAndRun nyr ids R rooms′ other) : Type 0 where
   pub delivered : deliveredIn ids k (x .calls) ≡ deliveredIn ids k (y .calls)
   pub outcomes : outcomesIn ids k (x .calls) ≡ outcomesIn ids k (y .calls)
   pub left : lyingIn R k (stateIn (x .state) (x .calls)) (roomsIn rooms (x .calls)) ≡ lyingIn R k (stateIn (y .state) (y .calls)) (roomsIn rooms′ (y .calls))
@@ -170,4 +180,4 @@ pub record Same {ids : List ℕ} {R : ℕ} {rooms rooms′ : List ℕ} {one othe
 abbrev pub MixMakesNoDifference : Type 0
 MixMakesNoDifference =
     (ids : List ℕ) (R : ℕ) (rooms rooms′ : List ℕ) (k : ℕ) (one other : List Datagram) → Alike ids R rooms rooms′ k one other
-    → (x : SetUpAndRun ids R rooms one) (y : SetUpAndRun ids R rooms′ other) → Same k x y
+    → (x : SetUpAndRun nyr ids R rooms one) (y : SetUpAndRun nyr ids R rooms′ other) → Same k x y

@@ -11,7 +11,7 @@ use Rattle.nyrkovash.proofs.nyr_pieces.Reads.{Post as nyr-pieces}
 use Rattle.nyrkovash.proofs.nyr_cut.Reads.{Post as nyr-cut}
 use Rattle.promises.specs.Traffic.{Datagram}
 use Rattle.promises.specs.InNumbers.{SetUp}
-use Rattle.promises.specs.Linked.{Allows, SetUpAndRun, deliveredIn}
+use Rattle.promises.specs.Linked.{Allows, nyr, SetUpAndRun, deliveredIn}
 
 -- `nyr_pieces`: the message's length, the piece size, and a number lent for the answer; and what it leaves there
 pub record PiecesLent : Type 0 where
@@ -88,7 +88,7 @@ CutThenTaken =
     → (was n count : ℕ) → Counts (record { total = length msg; size = s; given = was }) n count
     → (cuts : List CutCall) → CutRun msg s (getD ids k 0) first 0 count cuts
     → (n ≡ 0) × ((numbersIn cuts ≡ replicate count 0)
-    × ((x : SetUpAndRun ids R rooms (datagramsIn cuts)) → (x .number ≡ 0) × (deliveredIn ids k (x .calls) ≡ msg ∷ [])))
+    × ((x : SetUpAndRun nyr ids R rooms (datagramsIn cuts)) → (x .number ≡ 0) × (deliveredIn ids k (x .calls) ≡ msg ∷ [])))
 
 -- and there are such calls, whatever is cut
 abbrev pub SomeCutRun : Type 0

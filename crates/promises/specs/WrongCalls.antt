@@ -2,12 +2,15 @@
 -- theorem is in proofs/WrongCalls.antt.
 use Prim.Native.Nat.{ℕ, _-_}
 use mathlib.Core.Path.{_≡_}
+use mathlib.Core.Bool.{Bool, cond}
 use mathlib.Core.List.{List, [], _∷_}
+use lib.Dec.{eqb}
 use lib.ListN.{length, getD}
-use Rattle.joiner.specs.Calls.{setupWords, takeNumber, takeWords, takeRooms, takeAnswer}
+use Rattle.binding.specs.Header.{senderIn}
+use Rattle.joiner.specs.Calls.{setupNumber, setupWords, takeNumber, takeWords, takeRooms, takeAnswer}
 use Rattle.promises.specs.Traffic.{Datagram, Joining}
 use Rattle.promises.specs.Demand3.{Demand3For}
-use Rattle.promises.specs.Linked.{outcomeFrom, linked}
+use Rattle.promises.specs.Linked.{Contracts, nyr, DeliversFor, outcomeFrom, linked}
 
 -- a set-up and a take in words, ours or any other
 pub record Calls : Type 0 where
@@ -63,6 +66,46 @@ roomsLeft = record { setup = setupWords; number = takeNumber; state = takeWords;
 abbrev pub notSetUp : Calls
 notSetUp = record { setup = λ ids R b was. was; number = takeNumber; state = takeWords; rooms = takeRooms; answer = takeAnswer }
 
+-- contracts that refuse every set-up (20) or every datagram (23), or that say nothing of what `take` does
+abbrev pub refusesSetups : Contracts
+refusesSetups = record { SetsUp = λ x n l. (n ≡ 20) × (l ≡ x .state); Takes = nyr .Takes }
+
+abbrev pub refusesDatagrams : Contracts
+refusesDatagrams =
+    record {
+      SetsUp = nyr .SetsUp;
+      Takes = λ x n l. (n ≡ 23) × (l ≡ record { state = x .state; rooms = x .rooms; answer = x .answer });
+    }
+
+abbrev pub saysNothing : Contracts
+saysNothing = record { SetsUp = nyr .SetsUp; Takes = λ x n l. n ≡ n }
+
+-- contracts that say just what these calls do, and calls that refuse all but the first channel's datagrams (23)
+abbrev pub contractsOf : Calls → Contracts
+contractsOf C =
+    record {
+      SetsUp = λ x n l. (n ≡ setupNumber (x .ids) (x .room) (x .rooms)) × (l ≡ C .setup (x .ids) (x .room) (x .rooms) (x .state));
+      Takes = λ x n l. (n ≡ C .number (x .state) (x .rooms) (x .datagram))
+          × (l ≡ record {
+            state = C .state (x .state) (x .rooms) (x .datagram);
+            rooms = C .rooms (x .state) (x .rooms) (x .datagram);
+            answer = C .answer (x .state) (x .rooms) (x .datagram) (x .answer);
+          });
+    }
+
+abbrev pub isFirst : List ℕ → Datagram → Bool
+isFirst ws d = eqb (getD ws 2 0) (senderIn d)
+
+abbrev pub firstOnly : Calls
+firstOnly =
+    record {
+      setup = setupWords;
+      number = λ ws rooms d. cond (isFirst ws d) (takeNumber ws rooms d) 23;
+      state = λ ws rooms d. cond (isFirst ws d) (takeWords ws rooms d) ws;
+      rooms = λ ws rooms d. cond (isFirst ws d) (takeRooms ws rooms d) rooms;
+      answer = λ ws rooms d out. cond (isFirst ws d) (takeAnswer ws rooms d out) out;
+    }
+
 pub record NoWrongCall : Type 1 where
   pub with-ours : (was out : List ℕ) → linkedBy ourCalls was out ≡ linked was out
   pub ours-meet : Meets ourCalls
@@ -73,3 +116,7 @@ pub record NoWrongCall : Type 1 where
   pub state-left : Meets stateLeft → ⊥
   pub rooms-left : Meets roomsLeft → ⊥
   pub not-set-up : Meets notSetUp → ⊥
+  pub refuses-setups : DeliversFor refusesSetups → ⊥
+  pub refuses-datagrams : DeliversFor refusesDatagrams → ⊥
+  pub says-nothing : DeliversFor saysNothing → ⊥
+  pub first-only : DeliversFor (contractsOf firstOnly) → ⊥

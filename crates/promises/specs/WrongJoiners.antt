@@ -169,6 +169,11 @@ strayForgotten room ch p c n =
 abbrev pub sharedRoom : Stepping
 sharedRoom room ch p c n = steppedOf (record { start = 0; size = room .size }) ch p c n
 
+-- every channel but the first is passed over
+abbrev pub firstChannelOnly : Stepping
+firstChannelOnly room ch p c n =
+    cond (eqb (room .start) 0) (steppedOf room ch p c n) (record { outcome = Repeated; channel = ch; put = Nowhere })
+
 -- with our step it is ourJoining; and with the others, and those above, it does not meet demand 3
 pub record NoWrongJoiner : Type 1 where
   pub with-our-step : (j : Joiner) (rooms : List ℕ) (d : Datagram) → stepping steppedOf .take j rooms d ≡ ourJoining .take j rooms d
@@ -183,3 +188,4 @@ pub record NoWrongJoiner : Type 1 where
   pub middle-twice : Demand3For (stepping repeatedPlaced) → ⊥
   pub stray-forgotten : Demand3For (stepping strayForgotten) → ⊥
   pub shared-room : Demand3For (stepping sharedRoom) → ⊥
+  pub first-channel-only : Demand3For (stepping firstChannelOnly) → ⊥

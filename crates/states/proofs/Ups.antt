@@ -126,7 +126,8 @@ module _ (own : ℕ) (s : States) (k : ℕ) (hk : k < 256) where
   unfolding bitOf
   noted-there h =
       let n : eqb k own ≡ false = ne-eqb k own h in
-      rw (by-bit own (turned s k) k hk, by-bit own s k hk, n, turned-same s k hk) (flips (bitOf s k) (mod-lt (wordOf s (k / 64) / 2 ^ (k % 64)) (zero-lt-suc 1)))
+      rw (by-bit own (turned s k) k hk, by-bit own s k hk, n, turned-same s k hk)
+      (flips (bitOf s k) (mod-lt (wordOf s (k / 64) / 2 ^ (k % 64)) (zero-lt-suc 1)))
 
   pub noted-elsewhere : (j : ℕ) → j < 256 → (j ≡ k → ⊥) → isUp own (turned s k) j ≡ isUp own s j
   noted-elsewhere j hj h =
