@@ -220,7 +220,8 @@ uint32_t nyr_find(const uint8_t *table, size_t table_length, const nyr_sections 
  * booleans 0 or 1. `given` is how many words that made, from the start of words on.
  *   30 to 33 for the table; then 44; then 40, 42 or 43, the first met from the left; then 41; then 45.
  * Stack 131072, where types nest as deep as they can; time: the payload's length times the nesting of its types (at
- * most 255), and for each enum among the leaves its values; and, but for _in, the table's check.
+ * most 255: 65,535 bytes nested 254 deep took half a second where it was tried), and for each enum among the leaves
+ * its values; and, but for _in, the table's check.
  */
 uint32_t nyr_unpack(const uint8_t *table, size_t table_length, uint16_t type_number, const uint8_t *payload,
                     size_t payload_length, uint64_t *words, size_t words_length, size_t *given);
