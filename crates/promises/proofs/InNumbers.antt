@@ -17,20 +17,21 @@ use Rattle.joiner.specs.declared.setups.Verdict.the-variants.{Accepted}
 use Rattle.joiner.specs.declared.setups.NewJoiner.{NewJoiner}
 use Rattle.joiner.specs.Setup.{setupOf, Acceptable}
 use Rattle.joiner.proofs.Accepted.{accepts, accepted}
+use Rattle.promises.specs.Order.{CanSetUp}
 use Rattle.promises.specs.Senders.{Piece, Message, Sender, Sent, Genuine, sentBy, arrived, lossesWithin, together, goodPieces, goodMessage, goodMessages}
 use Rattle.promises.specs.Traffic.{Datagram}
 use Rattle.promises.specs.Demand3.{Granted}
-use Rattle.promises.specs.InNumbers.{SetUp, noPiece, Fits, copiesAt, FewLost, GenuineIn, Given, partNumber, InNumbers}
+use Rattle.promises.specs.InNumbers.{noPiece, Fits, copiesAt, FewLost, GenuineIn, Given, partNumber, InNumbers}
 
 -- a set-up
-pub acceptable : (ids : List ℕ) (R b : ℕ) → SetUp ids R b → Acceptable ids R b
+pub acceptable : (ids : List ℕ) (R b : ℕ) → CanSetUp ids R b → Acceptable ids R b
 acceptable ids R b s =
     record { some = s .some; few = s .few; wide = s .wide; narrow = s .narrow; whole = s .whole; range = s .range; once = s .once }
 
-pub set-ups : (ids : List ℕ) (R b : ℕ) → SetUp ids R b → setupOf ids R b .answer ≡ Accepted
+pub set-ups : (ids : List ℕ) (R b : ℕ) → CanSetUp ids R b → setupOf ids R b .answer ≡ Accepted
 set-ups ids R b s = ap (λ (x : NewJoiner). x .answer) (accepts ids R b (acceptable ids R b s))
 
-set-ups-back : (ids : List ℕ) (R b : ℕ) → setupOf ids R b .answer ≡ Accepted → SetUp ids R b
+set-ups-back : (ids : List ℕ) (R b : ℕ) → setupOf ids R b .answer ≡ Accepted → CanSetUp ids R b
 set-ups-back ids R b e =
     let a : Acceptable ids R b = accepted ids R b e in
     record { some = a .some; few = a .few; wide = a .wide; narrow = a .narrow; whole = a .whole; range = a .range; once = a .once }

@@ -21,8 +21,8 @@ use Rattle.joiner.proofs.Accepted.{accepts, accepted, fresh-width, fresh-channe
 use Rattle.joiner.proofs.Storing.{words-some, words-length}
 use Rattle.joiner.proofs.FoundBack.{words-back}
 use Rattle.joiner.proofs.WordsBack.{taken-back}
+use Rattle.promises.specs.Order.{CanSetUp}
 use Rattle.promises.specs.Traffic.{Datagram, isOf, handedBack, deliveredBy, fresh, deliveredOn, outcomesOn, leftOn, AreBytes, none, more}
-use Rattle.promises.specs.InNumbers.{SetUp}
 use Rattle.promises.specs.Linked.{SetupLent, TakeLent, TakeLeft, nyr, Call, InTurn, over, next, SetUpAndRun}
 use Rattle.promises.specs.Linked.{Delivers, MixMakesNoDifference}
 use Rattle.promises.specs.Linked.{messageIn, deliveredIn, outcomeFrom, outcomesIn, stateIn, roomsIn, lyingIn, linked, AsAJoiner}
@@ -149,7 +149,7 @@ module _ (ids : List ℕ) (R k : ℕ) (known : k < length ids) where
       }
 
 -- from a set-up
-module _ (ids : List ℕ) (R : ℕ) (rooms : List ℕ) (ds : List Datagram) (s : SetUp ids R (length rooms)) (x : SetUpAndRun nyr ids R rooms ds) where
+module _ (ids : List ℕ) (R : ℕ) (rooms : List ℕ) (ds : List Datagram) (s : CanSetUp ids R (length rooms)) (x : SetUpAndRun nyr ids R rooms ds) where
   ok : Acceptable ids R (length rooms)
   ok = acceptable ids R (length rooms) s
 
@@ -174,8 +174,8 @@ module _ (ids : List ℕ) (R : ℕ) (rooms : List ℕ) (ds : List Datagram) (s :
 
 pub the-mix-makes-no-difference : MixMakesNoDifference
 the-mix-makes-no-difference ids R rooms rooms′ k one other a x y =
-    let s : SetUp ids R (length rooms) = a .set-up in
-    let s′ : SetUp ids R (length rooms′) =
+    let s : CanSetUp ids R (length rooms) = a .set-up in
+    let s′ : CanSetUp ids R (length rooms′) =
     record { some = s .some; few = s .few; range = s .range; once = s .once; wide = s .wide; narrow = s .narrow; whole = a .as-long ∙ s .whole } in
     let p = ran ids R rooms one s x k (a .known) (a .bytes) in
     let q = ran ids R rooms′ other s′ y k (a .known) (a .bytes′) in

@@ -26,7 +26,7 @@ use Rattle.message.specs.declared.Message.{Message}
 use Rattle.message.specs.declared.Message.the-variants as message
 use Rattle.message.specs.declared.Reading.{Reading}
 use Rattle.message.specs.declared.Reading.the-variants as reading
-use Rattle.message.specs.Refusal.{platforms, noRoom, readRefusal}
+use Rattle.message.specs.Refusal.{noRoom, readRefusal}
 use Rattle.message.specs.Reading.{readOut}
 use Rattle.message.proofs.Accepted.{readable}
 use Rattle.states.specs.States.{isUp}
@@ -36,7 +36,7 @@ use Rattle.platform.specs.declared.Answer.{Answer}
 use Rattle.platform.specs.declared.Answer.the-variants.{Noted}
 use Rattle.platform.specs.declared.reactions.Reaction.{Reaction}
 use Rattle.platform.specs.Replies.{allData, owedLength}
-use Rattle.platform.specs.Reaction.{operationFor, isData, foundData, noData, cameUp, onState, onStatus, onPullAll, onPullOne, onPull, onOperation, reactionTo}
+use Rattle.platform.specs.Reaction.{operationFor, isData, foundData, noData, onPullAll, onPullOne, onPull, onOperation, reactionTo}
 use Rattle.platform.specs.Receiving.{freshStanding, refused, taken, answered, receivedOf, leftOf, sectionsOutcome, sectionsOutput, numberGiven}
 use Rattle.platform_words.specs.Words.{standingIn, standingWords}
 use Rattle.platform_words.specs.HeardWords.{heardWords, answerWords, notedWords, heardAfter, platformAfter}
@@ -45,7 +45,7 @@ use Rattle.promises.specs.Platforms.{stateAfter, Receives, Notes}
 use Rattle.promises.specs.LinkedReplies.{UpIs, heardFor, Comes, owedBytes, Says, Answered, LinkedReplies}
 use Rattle.promises.proofs.Headers.{was-read}
 use Rattle.promises.proofs.Lookups.{accepted-find}
-use Rattle.promises.proofs.Reacting.{X}
+use Rattle.promises.proofs.Reacting.{X, status-heard}
 use Rattle.promises.proofs.Replying.{the, received-is, its-length, notes, too-short}
 use Rattle.promises.proofs.Platforms.{states-are}
 use Rattle.promises.proofs.Unique.{unique}
@@ -57,22 +57,10 @@ module _ (own : ℕ) (t : List ℕ) (s : Sections) (p : Standing) (m : List ℕ)
   HeardSo kind = heardWords h n (X own t s p h 20 (length m - 20) kind .heard) ≡ heardFor t s m h n kind
 
   on-up : HeardSo (message.PlatformStatus Up)
-  unfolding reactionTo onStatus onState cameUp
-  on-up = go (ltb (h .platform) platforms) (isUp own (p .states) (h .platform)) refl refl
-    where
-      go : (a b : Bool) → ltb (h .platform) platforms ≡ a → isUp own (p .states) (h .platform) ≡ b → HeardSo (message.PlatformStatus Up)
-      go true true c e = rw (c, e)
-      go true false c e = rw (c, e)
-      go false b c e = rw c
+  on-up = ap (heardWords h n) (status-heard own t s p h 20 (length m - 20) Up)
 
   on-down : HeardSo (message.PlatformStatus Down)
-  unfolding reactionTo onStatus onState
-  on-down = go (ltb (h .platform) platforms) (isUp own (p .states) (h .platform)) refl refl
-    where
-      go : (a b : Bool) → ltb (h .platform) platforms ≡ a → isUp own (p .states) (h .platform) ≡ b → HeardSo (message.PlatformStatus Down)
-      go true true c e = rw (c, e)
-      go true false c e = rw (c, e)
-      go false b c e = rw c
+  on-down = ap (heardWords h n) (status-heard own t s p h 20 (length m - 20) Down)
 
   module _ (scan : (id : ℕ) → lookedUp t s id ≡ operationOf t s id) where
     on-pull : (id : ℕ) → HeardSo (message.VersionedDataPull id)

@@ -17,6 +17,7 @@ use Rattle.table.specs.declared.Found.the-variants as found
 use Rattle.table.specs.Operations.{operationOf}
 use Rattle.table.specs.Search.{lookedUp}
 use Rattle.message.specs.declared.Header.{Header}
+use Rattle.message.specs.declared.Status.{Status}
 use Rattle.message.specs.declared.Status.the-variants.{Down, Up}
 use Rattle.message.specs.declared.Message.{Message}
 use Rattle.message.specs.declared.Message.the-variants as message
@@ -26,7 +27,9 @@ use Rattle.states.specs.declared.States.{States}
 use Rattle.platform.specs.declared.reactions.Standing.{Standing}
 use Rattle.states.specs.States.{isUp, turned}
 use Rattle.platform.specs.Replies.{allData, replyNumber, meant, Wide, replies, Each, owedLength}
-use Rattle.platform.specs.Reaction.{operationFor, isData, foundData, noData, cameUp, onState, onStatus, onPullAll, onPullOne, onPull, onOperation, reactionTo}
+use Rattle.platform.specs.Reaction.{operationFor, isData, foundData, noData, silent, noted, cameUp, onState, onStatus}
+use Rattle.platform.specs.Reaction.{onPullAll, onPullOne, onPull, onOperation, reactionTo}
+use Rattle.platform.specs.declared.reactions.Heard.the-variants as heard
 use Rattle.platform.specs.declared.reactions.Reply.{Reply}
 use Rattle.platform.specs.declared.reactions.Reaction.{Reaction}
 use Rattle.states.proofs.Ups.{noted-there, noted-elsewhere}
@@ -71,6 +74,23 @@ fieldOf message.Operation = 0
 module _ (own : ℕ) (t : List ℕ) (s : Sections) (p : Standing) (h : Header) (start len : ℕ) where
   abbrev pub X : Message → Reaction
   X kind = reactionTo own t s (operationFor t s h kind) p h kind start len
+
+  -- a status is heard as what it says, whoever sends it
+  pub status-heard : (x : Status) → X (message.PlatformStatus x) .heard ≡ heard.Status x
+  unfolding reactionTo onStatus onState cameUp
+  status-heard Up = go (ltb (h .platform) platforms) (isUp own (p .states) (h .platform))
+    where
+      go : (a b : Bool) → cond a (cond b (silent p (heard.Status Up)) (cameUp p (h .platform))) (silent p (heard.Status Up)) .heard ≡ heard.Status Up
+      go true true = refl
+      go true false = refl
+      go false b = refl
+  status-heard Down = go (ltb (h .platform) platforms) (isUp own (p .states) (h .platform))
+    where
+      go : (a b : Bool) → cond a (cond b (silent (noted p (h .platform) (p .next)) (heard.Status Down)) (silent p (heard.Status Down)))
+          (silent p (heard.Status Down)) .heard ≡ heard.Status Down
+      go true true = refl
+      go true false = refl
+      go false b = refl
 
   pub record Reacts (kind : Message) : Type 0 where
     pub owed-is : map said (replies (X kind .owed)) ≡ owedFor own t s p h kind

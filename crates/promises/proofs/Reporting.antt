@@ -20,21 +20,19 @@ use Rattle.table.specs.Operations.{idsRise, orElse, firstBelow, operationOf}
 use Rattle.table.specs.Search.{lookedUp}
 use Rattle.table.proofs.AllBelow.{at-below}
 use Rattle.table.proofs.Rising.{rising-apart}
-use Rattle.message.specs.Refusal.{platforms}
 use Rattle.message.specs.declared.Header.{Header}
 use Rattle.message.specs.declared.Status.the-variants.{Down, Up}
 use Rattle.message.specs.declared.Message.{Message}
 use Rattle.message.specs.declared.Message.the-variants as message
-use Rattle.states.specs.States.{isUp}
 use Rattle.platform.specs.declared.reactions.Standing.{Standing}
 use Rattle.platform.specs.declared.reactions.Heard.the-variants as heard
 use Rattle.platform.specs.declared.reactions.Reaction.{Reaction}
 use Rattle.platform.specs.Replies.{allData}
-use Rattle.platform.specs.Reaction.{operationFor, isData, notData, noData, cameUp, onState, onStatus, onPullAll, onPullOne, onPull, onOperation, reactionTo}
+use Rattle.platform.specs.Reaction.{operationFor, isData, notData, noData, onPullAll, onPullOne, onPull, onOperation, reactionTo}
 use Rattle.platform.specs.Receiving.{payloadHeard}
 use Rattle.promises.specs.Reports.{HasID, IsVersioned, Pulled, Operated, Reports, all, none-of-all, one, not-versioned, in-table, not-in-table}
 use Rattle.promises.proofs.Rules32.{some-below}
-use Rattle.promises.proofs.Reacting.{X}
+use Rattle.promises.proofs.Reacting.{X, status-heard}
 
 not-true : (b : Bool) → not b ≡ true → b ≡ false
 not-true true e = let z : _≡_ {A = ℕ} 0 1 = cc in absurd (omega arith)
@@ -113,24 +111,10 @@ module _ (t : List ℕ) (s : Sections) where
       its kind = X own t s p h start len kind
 
       of-up : its (message.PlatformStatus Up) .heard ≡ heard.Status Up
-      unfolding reactionTo onStatus onState cameUp
-      of-up = go (ltb (h .platform) platforms) (isUp own (p .states) (h .platform)) refl refl
-        where
-          go : (a b : Bool) → ltb (h .platform) platforms ≡ a → isUp own (p .states) (h .platform) ≡ b
-              → its (message.PlatformStatus Up) .heard ≡ heard.Status Up
-          go true true c e = rw (c, e)
-          go true false c e = rw (c, e)
-          go false b c e = rw c
+      of-up = status-heard own t s p h start len Up
 
       of-down : its (message.PlatformStatus Down) .heard ≡ heard.Status Down
-      unfolding reactionTo onStatus onState
-      of-down = go (ltb (h .platform) platforms) (isUp own (p .states) (h .platform)) refl refl
-        where
-          go : (a b : Bool) → ltb (h .platform) platforms ≡ a → isUp own (p .states) (h .platform) ≡ b
-              → its (message.PlatformStatus Down) .heard ≡ heard.Status Down
-          go true true c e = rw (c, e)
-          go true false c e = rw (c, e)
-          go false b c e = rw c
+      of-down = status-heard own t s p h start len Down
 
       of-pull : (id : ℕ) → Pulled t s id (its (message.VersionedDataPull id) .heard)
       unfolding reactionTo operationFor onPull onPullAll onPullOne

@@ -10,22 +10,10 @@ use Rattle.binding.specs.declared.MessagePart.the-variants.{Begin, Middle, End,
 use Rattle.binding.specs.Header.{headerOf, headerBytes}
 use Rattle.joiner.specs.declared.setups.Verdict.the-variants.{Accepted}
 use Rattle.joiner.specs.Setup.{setupOf}
+use Rattle.promises.specs.Order.{CanSetUp}
 use Rattle.promises.specs.Senders.{Piece, Message, Sender, Sent, Genuine, sentBy, after, arrives, together}
 use Rattle.promises.specs.Traffic.{Datagram, ofChannel, AreBytes}
 use Rattle.promises.specs.Demand3.{Granted}
-
--- 01, number 20: what is asked of a set-up, over rooms of so many bytes
-pub record SetUp (ids : List ℕ) (R buffer : ℕ) : Type 0 where
-  -- 1 to 32 sender IDs, each below 4,096, none twice
-  pub some : 1 ≤ length ids
-  pub few : length ids ≤ 32
-  pub range : (k : ℕ) → k < length ids → getD ids k 0 < 4096
-  pub once : (a b : ℕ) → a < b → b < length ids → ¬ (getD ids a 0 ≡ getD ids b 0)
-  -- R from 24 to 65,560
-  pub wide : 24 ≤ R
-  pub narrow : R ≤ 65560
-  -- R bytes for each
-  pub whole : buffer ≡ length ids * R
 
 -- a message: one or more pieces, each of 1 to 65,503 bytes; one that is cut in two or more is not longer than its room
 abbrev pub noPiece : Piece
@@ -54,7 +42,7 @@ pub record GenuineIn (R : ℕ) (s : Sender) : Type 0 where
 
 -- what the user grants: see Demand3
 pub record Given (ids : List ℕ) (R : ℕ) (rooms : List ℕ) (sender : ℕ → Sender) (traffic : List Datagram) : Type 0 where
-  pub set-up : SetUp ids R (length rooms)
+  pub set-up : CanSetUp ids R (length rooms)
   pub genuine : (k : ℕ) → k < length ids → GenuineIn R (sender k)
   pub mixed : (k : ℕ) → k < length ids → ofChannel ids k traffic ≡ arrives (getD ids k 0) (sender k)
   pub bytes : AreBytes traffic
@@ -67,8 +55,8 @@ partNumber End = 2
 partNumber Whole = 3
 
 pub record InNumbers : Type 0 where
-  pub set-ups : (ids : List ℕ) (R buffer : ℕ) → SetUp ids R buffer → setupOf ids R buffer .answer ≡ Accepted
-  pub set-ups-back : (ids : List ℕ) (R buffer : ℕ) → setupOf ids R buffer .answer ≡ Accepted → SetUp ids R buffer
+  pub set-ups : (ids : List ℕ) (R buffer : ℕ) → CanSetUp ids R buffer → setupOf ids R buffer .answer ≡ Accepted
+  pub set-ups-back : (ids : List ℕ) (R buffer : ℕ) → setupOf ids R buffer .answer ≡ Accepted → CanSetUp ids R buffer
   pub genuine : (R : ℕ) (s : Sender) → GenuineIn R s → Genuine R s
   pub genuine-back : (R : ℕ) (s : Sender) → Genuine R s → GenuineIn R s
   pub granted : (ids : List ℕ) (R : ℕ) (rooms : List ℕ) (sender : ℕ → Sender) (traffic : List Datagram)

@@ -16,10 +16,11 @@ use Rattle.joiner.specs.Calls.{setupWords, takeNumber, takeWords, takeRooms, ta
 use Rattle.joiner.specs.View.{bytesAt}
 use Rattle.nyrkovash.proofs.nyr_setup.Reads.{Post as nyr-setup}
 use Rattle.nyrkovash.proofs.nyr_take.Reads.{Post as nyr-take}
+use Rattle.promises.specs.Order.{CanSetUp}
 use Rattle.promises.specs.Senders.{Sender, completeOf}
 use Rattle.promises.specs.Traffic.{Datagram, isOf, ofChannel, Joining, AreBytes}
 use Rattle.promises.specs.Demand3.{Demand3For}
-use Rattle.promises.specs.InNumbers.{SetUp, Given}
+use Rattle.promises.specs.InNumbers.{Given}
 
 -- whatever a call's contract allows: what was lent to it, the number that it answers, and what it leaves
 abbrev pub Allows : {K : Type 0} {A E : K → Type 0} {B C : Type 0} → ((k : K) → A k → ℕ → E k → Type 0) → ((k : K) → A k → B) → ((k : K) → E k → C)
@@ -163,7 +164,7 @@ lyingIn R k ws rooms =
 
 -- two traffics with the same datagrams of channel k in the same order, genuine or not, and any bytes in the rooms at the start
 pub record Alike (ids : List ℕ) (R : ℕ) (rooms rooms′ : List ℕ) (k : ℕ) (one other : List Datagram) : Type 0 where
-  pub set-up : SetUp ids R (length rooms)
+  pub set-up : CanSetUp ids R (length rooms)
   pub as-long : length rooms′ ≡ length rooms
   pub known : k < length ids
   pub same : ofChannel ids k one ≡ ofChannel ids k other

@@ -9,8 +9,8 @@ use denote.Ref.{now}
 use Rattle.wire.specs.Bytes.{Octets}
 use Rattle.nyrkovash.proofs.nyr_pieces.Reads.{Post as nyr-pieces}
 use Rattle.nyrkovash.proofs.nyr_cut.Reads.{Post as nyr-cut}
+use Rattle.promises.specs.Order.{CanSetUp}
 use Rattle.promises.specs.Traffic.{Datagram}
-use Rattle.promises.specs.InNumbers.{SetUp}
 use Rattle.promises.specs.Linked.{Allows, nyr, SetUpAndRun, deliveredIn}
 
 -- `nyr_pieces`: the message's length, the piece size, and a number lent for the answer; and what it leaves there
@@ -68,7 +68,7 @@ datagramsIn [] = []
 datagramsIn (c ∷ cs) = take (c .left .written) (c .left .out) ∷ datagramsIn cs
 
 pub record CanCut (ids : List ℕ) (R : ℕ) (rooms : List ℕ) (k : ℕ) (msg : List ℕ) (s first : ℕ) : Type 0 where
-  pub set-up : SetUp ids R (length rooms)
+  pub set-up : CanSetUp ids R (length rooms)
   pub known : k < length ids
   -- a message of 1 to 65,560 bytes, a piece size of 1 to 65,503, a counter below 65,536
   pub some : 1 ≤ length msg
