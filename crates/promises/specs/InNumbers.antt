@@ -45,6 +45,7 @@ pub record Given (ids : List ℕ) (R : ℕ) (rooms : List ℕ) (sender : ℕ →
   pub set-up : CanSetUp ids R (length rooms)
   pub genuine : (k : ℕ) → k < length ids → GenuineIn R (sender k)
   pub mixed : (k : ℕ) → k < length ids → ofChannel ids k traffic ≡ arrives (getD ids k 0) (sender k)
+  -- a datagram is a string of bytes
   pub bytes : AreBytes traffic
 
 -- 000, Table 9 and annex A.4: the four bytes before a piece
