@@ -1,8 +1,7 @@
 /*
  * mission RECORDING TABLE: plays recorded datagrams as a mission computer would meet them. Each is joined; each message
  * that this completes is read, and answered where its sender is owed replies; and the payload of an operation that the
- * type table has is unpacked to its words. For a network, hand `take` what a socket receives, and send what
- * `send_reply` prints.
+ * table has is unpacked to its words. For a network, hand `take` what a socket receives; send what `send_reply` prints.
  */
 #include "nyrkovash.h"
 
@@ -13,6 +12,7 @@ enum {
     OWN = 1,                /* this platform's number */
     OWN_SENDER = OWN * 256, /* our sender ID: platform times 256 plus channel */
     PIECE = 1400,           /* bytes of a message in one of our datagrams */
+    SENDER_IDS = 6,         /* where they stand in a recording */
     MOST_ROOMS = 65536,     /* a recording's limit for all rooms together */
     MOST_WORDS = 65560,     /* no leaf is shorter than a byte, and no joined message longer than a room */
     TABLE_BYTES = 20488     /* the largest table */
@@ -123,34 +123,37 @@ static void take(size_t number, const uint8_t *datagram, size_t length)
         receive(rooms + taken.start, (size_t)taken.bytes);
 }
 
-/* Sets the joiner up as the recording's start says; where its datagrams start, or 0. */
-static size_t set_up(void)
+/* Sets the joiner up as the recording's start says, and leaves where its datagrams start; why not, or null. */
+static const char *set_up(size_t *at)
 {
     uint16_t ids[NYR_CHANNELS];
-    size_t channels, room, at = 6;
-    if (recorded < at) {
-        puts("cut short");
-        return 0;
-    }
+    size_t channels, room;
+    if (recorded < *at)
+        return "cut short";
     channels = number_at(recording, 2);
     room = number_at(recording + 2, 4);
-    if (channels < 1 || channels > NYR_CHANNELS || room < NYR_SMALLEST_ROOM || room > MOST_ROOMS / channels) {
-        printf("setup refused %d\n", NYR_NO_JOINER);
-        return 0;
-    }
+    if (channels < 1 || channels > NYR_CHANNELS || room < NYR_SMALLEST_ROOM || room > MOST_ROOMS / channels)
+        return "setup refused 20";
     rooms_length = channels * room;
-    for (size_t k = 0; k < channels; k++, at += 2) {
-        if (recorded - at < 2) {
-            puts("cut short");
-            return 0;
-        }
-        ids[k] = (uint16_t)number_at(recording + at, 2);
+    for (size_t k = 0; k < channels; k++, *at += 2) {
+        if (recorded - *at < 2)
+            return "cut short";
+        ids[k] = (uint16_t)number_at(recording + *at, 2);
     }
-    if (nyr_setup(&joiner, ids, channels, (uint32_t)room, rooms_length) != NYR_OK) {
-        printf("setup refused %d\n", NYR_NO_JOINER);
-        return 0;
+    return nyr_setup(&joiner, ids, channels, (uint32_t)room, rooms_length) == NYR_OK ? NULL : "setup refused 20";
+}
+
+/* Plays the recording; why it ended early, or null. */
+static const char *play(void)
+{
+    size_t length, at = SENDER_IDS;
+    const char *early = set_up(&at);
+    for (size_t i = 0; early == NULL && at < recorded; i++, at += 2 + length) {
+        if (recorded - at < 2 || recorded - at - 2 < (length = number_at(recording + at, 2)))
+            return "cut short";
+        take(i, recording + at + 2, length);
     }
-    return at;
+    return early;
 }
 
 static int read_file(const char *name, uint8_t *bytes, size_t room, size_t *length)
@@ -169,8 +172,12 @@ static int read_file(const char *name, uint8_t *bytes, size_t room, size_t *leng
 
 int main(int argc, char **argv)
 {
-    size_t at, length;
-    uint32_t number;
+    uint32_t number, linked = nyr_library_version();
+    const char *early = NULL;
+    if (linked / 10000 != NYR_LIBRARY_VERSION / 10000 || linked < NYR_LIBRARY_VERSION) {
+        fprintf(stderr, "compiled for version " NYR_LIBRARY_VERSION_TEXT ", linked with %" PRIu32 "\n", linked);
+        return 2;
+    }
     if (argc != 3) {
         fprintf(stderr, "usage: %s RECORDING TABLE\n", argv[0]);
         return 2;
@@ -178,21 +185,15 @@ int main(int argc, char **argv)
     if (!read_file(argv[1], recording, sizeof recording, &recorded) ||
         !read_file(argv[2], table, sizeof table, &table_length))
         return 2;
-    number = nyr_check_table(table, table_length, &sections);
-    if (number != NYR_OK) {
-        printf("table refused %" PRIu32 "\n", number);
-        return 1;
-    }
     nyr_start(OWN, &platform);
-    at = set_up();
-    if (at == 0)
-        return 1;
-    for (size_t i = 0; at < recorded; i++, at += 2 + length) {
-        if (recorded - at < 2 || recorded - at - 2 < (length = number_at(recording + at, 2))) {
-            puts("cut short");
-            return 1;
-        }
-        take(i, recording + at + 2, length);
+    number = nyr_check_table(table, table_length, &sections);
+    if (number != NYR_OK)
+        printf("table refused %" PRIu32 "\n", number);
+    else if ((early = play()) != NULL)
+        puts(early);
+    if (fflush(stdout) != 0 || ferror(stdout)) {
+        perror("standard output");
+        return 3;
     }
-    return 0;
+    return number == NYR_OK && early == NULL ? 0 : 1;
 }

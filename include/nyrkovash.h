@@ -27,6 +27,19 @@
 extern "C" {
 #endif
 
+/*
+ * The library's version: its first number times 10000, plus the second times 100, plus the third. The first grows where
+ * a struct grows or a call changes: what was compiled with another first number must be compiled again, or the library
+ * would write past the ends of its structs. The second grows where there are more calls or names, the third where
+ * neither is so. So a program asks at its start, and goes on where the archive's first number is that of its header and
+ * the whole is not less than its header's.
+ */
+#define NYR_LIBRARY_VERSION 10000
+#define NYR_LIBRARY_VERSION_TEXT "1.0.0"
+
+/* The version of the archive that was linked.  Stack 256. */
+uint32_t nyr_library_version(void);
+
 /* The numbers that refuse. Of several that apply the lowest is given, unless a call says otherwise. */
 enum {
     NYR_OK = 0,
@@ -185,10 +198,21 @@ uint32_t nyr_write(uint8_t own, uint8_t domain, uint32_t id, uint32_t sequence, 
 
 /* ---- Type tables. */
 
-/* First byte and count of the types, then of the members, the values, the operations. */
 typedef struct {
-    uint64_t words[8];
+    uint64_t words[8];         /* each section's first byte in the table, and its count, as below */
 } nyr_sections;
+
+/* Which word of a table's sections is which. */
+enum {
+    NYR_TYPES_AT = 0,
+    NYR_TYPES_COUNT = 1,
+    NYR_MEMBERS_AT = 2,
+    NYR_MEMBERS_COUNT = 3,
+    NYR_VALUES_AT = 4,
+    NYR_VALUES_COUNT = 5,
+    NYR_OPERATIONS_AT = 6,
+    NYR_OPERATIONS_COUNT = 7
+};
 
 typedef struct {
     uint64_t found;            /* 1 if the table has it, else 0 */

@@ -1,7 +1,6 @@
 //! The two programs on the same inputs, most of them spoilt at random: every number, answer, state and buffer must be the same.
 //! So the plain program makes each check that the proved one makes.
 
-use crate::ours;
 use crate::pair::{
     our_heard, our_joiner, our_message, our_platform, our_sections, our_taken, plain_joiner,
     plain_sections, OWN,
@@ -10,6 +9,7 @@ use crate::tables::{self, message, put_binding_header, Random};
 use bench::plain::joiner::Joiner;
 use bench::plain::platform::Platform;
 use bench::plain::{binding, message as plain_message, payload, types};
+use nyrkovash as ours;
 
 /// So many inputs for each family of calls.
 pub fn compare(count: usize, seed: u64) {
@@ -187,7 +187,7 @@ fn tables_and_payloads(count: usize, random: &mut Random) {
             spoil(&mut table, random);
         }
         let mut given = ours::Sections::default();
-        let refused = ours::check(&table, &mut given);
+        let refused = ours::check_table(&table, &mut given);
         match types::check(&table) {
             Ok(sections) => assert_eq!((refused, given), (0, our_sections(&sections))),
             Err(number) => assert_eq!(refused, number),

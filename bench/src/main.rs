@@ -8,7 +8,6 @@
 mod cases;
 mod equal;
 mod measure;
-mod ours;
 mod pair;
 mod tables;
 

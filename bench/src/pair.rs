@@ -1,10 +1,10 @@
 //! The plain program's state and answers as the library's structs, and back, so that they can be compared.
 
-use crate::ours;
 use bench::plain::joiner::{Channel, Joiner, Outcome, Place};
 use bench::plain::message::{Kind, Message};
 use bench::plain::platform::{Answer, Heard, Platform};
 use bench::plain::types::{Section, Sections};
+use nyrkovash as ours;
 
 pub const OWN: u8 = 1;
 

@@ -40,6 +40,8 @@ int main(int argc, char **argv)
     }
     lent_start();
     seed(from);
+    calling("nyr_library_version");
+    expect(nyr_library_version() == NYR_LIBRARY_VERSION, "the archive is of another version than the header");
     fuzz_setup();
     while (calls < most) {
         families[below(sizeof families / sizeof *families)]();

@@ -1,11 +1,11 @@
 //! Joining and cutting.
 
 use crate::measure::{opaque, shared, Calls, Case, Shared};
-use crate::ours;
 use crate::pair::{our_joiner, our_taken};
 use crate::tables::{put_binding_header, Random};
 use bench::plain::binding;
 use bench::plain::joiner::{Joiner, Outcome};
+use nyrkovash as ours;
 use std::rc::Rc;
 
 type Take = fn(&mut Joiner, &mut [u8], &[u8]) -> Result<Outcome, u32>;

@@ -2,11 +2,11 @@
 
 use super::payloads::checked;
 use crate::measure::{opaque, Case};
-use crate::ours;
 use crate::pair::{our_heard, our_message, our_platform, OWN};
 use bench::plain::message::{self, Message};
 use bench::plain::platform::{Answer, Platform};
 use bench::plain::types::Sections;
+use nyrkovash as ours;
 use std::rc::Rc;
 
 type Read = for<'m> fn(u8, &'m [u8]) -> Result<Message<'m>, u32>;

@@ -1,10 +1,10 @@
 //! Tables checked, payloads unpacked and packed.
 
 use crate::measure::{opaque, shared, Case};
-use crate::ours;
 use crate::pair::our_sections;
 use bench::plain::payload;
 use bench::plain::types::{self, Sections};
+use nyrkovash as ours;
 use std::rc::Rc;
 
 type Unpack = fn(&[u8], &Sections, u16, &[u8], &mut [u64]) -> Result<usize, u32>;
@@ -13,7 +13,7 @@ type Check = fn(&[u8]) -> Result<Sections, u32>;
 
 pub fn checked(table: &[u8]) -> (ours::Sections, Sections) {
     let mut given = ours::Sections::default();
-    assert_eq!(ours::check(table, &mut given), 0);
+    assert_eq!(ours::check_table(table, &mut given), 0);
     let sections = types::check(table).unwrap();
     assert_eq!(given, our_sections(&sections));
     (given, sections)
@@ -107,7 +107,7 @@ pub fn checking(table: Vec<u8>) -> Case {
     Case {
         ours: Box::new(move |count| {
             for _ in 0..count {
-                assert_eq!(ours::check(&table, &mut sections), 0);
+                assert_eq!(ours::check_table(&table, &mut sections), 0);
             }
         }),
         plain: Box::new(move |count| {

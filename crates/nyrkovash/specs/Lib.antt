@@ -2,3 +2,4 @@ pub mod PieceCalls
 pub mod MessageCalls
 pub mod TableCalls
 pub mod PayloadCalls
+pub mod Releases

@@ -1,12 +1,13 @@
 // The library as programs in C, C++, Ada and Rust link it (include/nyrkovash.h): a slice is a pointer and a length, and what has a
-// fixed size an array behind a reference. A call answers 0 or 01's number, but for the two that ask states; where it is refused
-// all that was lent is as it was.
+// fixed size an array behind a reference. A call answers 0 or 01's number, but for the two that ask states and the one that asks
+// which library this is; where it is refused all that was lent is as it was.
 mod joining;
 mod messages;
 mod payloads;
 mod platforms;
 mod reading;
 mod tables;
+mod version;
 
 pub use joining::nyr_setup;
 pub use joining::nyr_take;
@@ -28,3 +29,5 @@ pub use tables::FOUND;
 pub use tables::FOUND_WORDS;
 pub use tables::nyr_check_table;
 pub use tables::nyr_find;
+pub use version::LIBRARY_VERSION;
+pub use version::nyr_library_version;

@@ -50,4 +50,5 @@ unique-calls =
       nyr-receive-in-heard = λ k a z z′ e e′ p q. p .1 .1 .1 ∙ sym (q .1 .1 .1);
       nyr-is-up = λ k a z z′ e e′ p q. p ∙ sym q;
       nyr-how-many-up = λ k a z z′ e e′ p q. p ∙ sym q;
+      nyr-library-version = λ k a z z′ e e′ p q. p ∙ sym q;
     }

@@ -19,6 +19,7 @@ use Rattle.nyrkovash.proofs.nyr_receive.Reads.{Post as nyrkovash-nyr-receive}
 use Rattle.nyrkovash.proofs.nyr_receive_in.Reads.{Post as nyrkovash-nyr-receive-in}
 use Rattle.nyrkovash.proofs.nyr_is_up.Reads.{Post as nyrkovash-nyr-is-up}
 use Rattle.nyrkovash.proofs.nyr_how_many_up.Reads.{Post as nyrkovash-nyr-how-many-up}
+use Rattle.nyrkovash.proofs.nyr_library_version.Reads.{Post as nyrkovash-nyr-library-version}
 
 pub record UniqueCalls : Type 0 where
   pub nyr-pieces : Answer nyrkovash-nyr-pieces
@@ -65,3 +66,4 @@ pub record UniqueCalls : Type 0 where
   pub nyr-receive-in-heard : Lent nyrkovash-nyr-receive-in (λ k e. now (e .1 .1 .1 .1 .1 .1 .0))
   pub nyr-is-up : Answer nyrkovash-nyr-is-up
   pub nyr-how-many-up : Answer nyrkovash-nyr-how-many-up
+  pub nyr-library-version : Answer nyrkovash-nyr-library-version

@@ -1,0 +1,127 @@
+//! The calls as C has them. The functions at the crate's root are these over slices, and safe.
+
+use crate::{Heard, Joiner, Message, Operation, Platform, Sections, Taken};
+
+extern "C" {
+    pub fn nyr_library_version() -> u32;
+    pub fn nyr_setup(
+        joiner: *mut Joiner,
+        ids: *const u16,
+        channels: usize,
+        room: u32,
+        rooms_length: usize,
+    ) -> u32;
+    pub fn nyr_take(
+        joiner: *mut Joiner,
+        rooms: *mut u8,
+        rooms_length: usize,
+        datagram: *const u8,
+        datagram_length: usize,
+        taken: *mut Taken,
+    ) -> u32;
+    pub fn nyr_pieces(message_length: usize, piece_size: usize, pieces: *mut usize) -> u32;
+    pub fn nyr_cut(
+        message: *const u8,
+        message_length: usize,
+        piece_size: usize,
+        sender: usize,
+        first_counter: usize,
+        piece: usize,
+        output: *mut u8,
+        output_length: usize,
+        written: *mut usize,
+    ) -> u32;
+    pub fn nyr_read(
+        own: u8,
+        message: *const u8,
+        message_length: usize,
+        answer: *mut Message,
+    ) -> u32;
+    pub fn nyr_write(
+        own: u8,
+        domain: u8,
+        id: u32,
+        sequence: u32,
+        payload: *const u8,
+        payload_length: usize,
+        output: *mut u8,
+        output_length: usize,
+        written: *mut usize,
+    ) -> u32;
+    pub fn nyr_check_table(table: *const u8, table_length: usize, sections: *mut Sections) -> u32;
+    pub fn nyr_find(
+        table: *const u8,
+        table_length: usize,
+        sections: *const Sections,
+        id: u32,
+        operation: *mut Operation,
+    ) -> u32;
+    pub fn nyr_unpack(
+        table: *const u8,
+        table_length: usize,
+        type_number: u16,
+        payload: *const u8,
+        payload_length: usize,
+        words: *mut u64,
+        words_length: usize,
+        given: *mut usize,
+    ) -> u32;
+    pub fn nyr_unpack_in(
+        table: *const u8,
+        table_length: usize,
+        sections: *const Sections,
+        type_number: u16,
+        payload: *const u8,
+        payload_length: usize,
+        words: *mut u64,
+        words_length: usize,
+        given: *mut usize,
+    ) -> u32;
+    pub fn nyr_pack(
+        table: *const u8,
+        table_length: usize,
+        type_number: u16,
+        words: *const u64,
+        words_length: usize,
+        output: *mut u8,
+        output_length: usize,
+        given: *mut usize,
+    ) -> u32;
+    pub fn nyr_pack_in(
+        table: *const u8,
+        table_length: usize,
+        sections: *const Sections,
+        type_number: u16,
+        words: *const u64,
+        words_length: usize,
+        output: *mut u8,
+        output_length: usize,
+        given: *mut usize,
+    ) -> u32;
+    pub fn nyr_start(own: u8, platform: *mut Platform) -> u32;
+    pub fn nyr_receive(
+        own: u8,
+        platform: *mut Platform,
+        table: *const u8,
+        table_length: usize,
+        message: *const u8,
+        message_length: usize,
+        output: *mut u8,
+        output_length: usize,
+        heard: *mut Heard,
+    ) -> u32;
+    pub fn nyr_receive_in(
+        own: u8,
+        platform: *mut Platform,
+        table: *const u8,
+        table_length: usize,
+        sections: *const Sections,
+        message: *const u8,
+        message_length: usize,
+        output: *mut u8,
+        output_length: usize,
+        heard: *mut Heard,
+    ) -> u32;
+    pub fn nyr_is_up(own: u8, platform: *const Platform, number: u32) -> u32;
+    pub fn nyr_how_many_up(own: u8, platform: *const Platform) -> u32;
+}

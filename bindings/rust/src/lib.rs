@@ -1,0 +1,13 @@
+//! Nyrkovash for Rust: the calls of `include/nyrkovash.h`, which says what each does, what it writes, its stack and its time.
+//! A call answers 0 (`OK`), or the number that refuses it and then nothing is changed.
+//!
+//! It links the proved archive, for x86-64 (`build.rs`). The gate compares names, values, structs and parameters with the header.
+
+pub mod c;
+mod calls;
+mod names;
+mod structs;
+
+pub use calls::*;
+pub use names::*;
+pub use structs::*;

@@ -1,0 +1,97 @@
+//! The names of `include/nyrkovash.h`, without their `NYR_`; what each means stands there.
+
+pub const LIBRARY_VERSION: u32 = 10_000;
+pub const LIBRARY_VERSION_TEXT: &str = "1.0.0";
+
+// The numbers that refuse.
+pub const OK: u32 = 0;
+pub const MESSAGE_SHORT: u32 = 1;
+pub const MARK: u32 = 2;
+pub const VERSION: u32 = 3;
+pub const DOMAIN: u32 = 4;
+pub const PAYLOAD_SIZE: u32 = 5;
+pub const SENDER: u32 = 6;
+pub const PLATFORM_ID: u32 = 7;
+pub const PLATFORM_LENGTH: u32 = 8;
+pub const PLATFORM_VALUE: u32 = 9;
+pub const NO_ROOM: u32 = 10;
+pub const NO_JOINER: u32 = 20;
+pub const DATAGRAM_LENGTH: u32 = 21;
+pub const DATAGRAM_VERSION: u32 = 22;
+pub const NOT_SET_UP: u32 = 23;
+pub const TABLE_LENGTH: u32 = 30;
+pub const TABLE_COUNT: u32 = 31;
+pub const TABLE_ENTRY: u32 = 32;
+pub const TABLE_SIZE: u32 = 33;
+pub const INPUT_SHORT: u32 = 40;
+pub const INPUT_LEFT: u32 = 41;
+pub const VALUE: u32 = 42;
+pub const ARRAY_COUNT: u32 = 43;
+pub const NO_TYPE: u32 = 44;
+pub const OUTPUT_SHORT: u32 = 45;
+pub const CANNOT_CUT: u32 = 50;
+pub const NO_PIECE: u32 = 51;
+pub const DATAGRAM_ROOM: u32 = 52;
+
+// Limits and sizes.
+pub const CHANNELS: usize = 32;
+pub const SMALLEST_ROOM: usize = 24;
+pub const LARGEST_ROOM: usize = 65_560;
+pub const MESSAGE_HEADER: usize = 20;
+pub const DATAGRAM_HEADER: usize = 4;
+pub const LARGEST_PIECE: usize = 65_503;
+pub const LARGEST_DATAGRAM: usize = 65_507;
+pub const LARGEST_MESSAGE: usize = 65_560;
+pub const REPLY_BYTES: usize = 24;
+pub const REPLIES_BYTES: usize = 48;
+
+// `Taken::outcome`.
+pub const REPEATED: u64 = 1;
+pub const DELIVERED: u64 = 2;
+pub const HELD: u64 = 3;
+pub const STRAY: u64 = 4;
+pub const TOO_LONG: u64 = 5;
+
+// `Taken::slice`.
+pub const NOWHERE: u64 = 0;
+pub const IN_DATAGRAM: u64 = 1;
+pub const IN_ROOMS: u64 = 2;
+
+// `Message::kind`; the first four are the IDs of domain 0 in `write`.
+pub const STATUS: u64 = 1;
+pub const REQUEST: u64 = 2;
+pub const UNKNOWN_OPERATION: u64 = 3;
+pub const PULL: u64 = 4;
+pub const SERVICE_OPERATION: u64 = 5;
+
+// `Message::value` of a pull.
+pub const ALL_DATA: u64 = 0xFFFF_FFFF;
+
+// The domains of `write`.
+pub const PLATFORM_DOMAIN: u8 = 0;
+pub const OPERATION_DOMAIN: u8 = 1;
+
+// Places in `Sections::words`.
+pub const TYPES_AT: usize = 0;
+pub const TYPES_COUNT: usize = 1;
+pub const MEMBERS_AT: usize = 2;
+pub const MEMBERS_COUNT: usize = 3;
+pub const VALUES_AT: usize = 4;
+pub const VALUES_COUNT: usize = 5;
+pub const OPERATIONS_AT: usize = 6;
+pub const OPERATIONS_COUNT: usize = 7;
+
+// `Operation::kind`, and `Operation::carries` of one without a payload.
+pub const EVENT: u64 = 0;
+pub const VERSIONED_DATA: u64 = 1;
+pub const NO_PAYLOAD: u64 = 0xFFFF;
+
+// `Heard::kind`.
+pub const HEARD_STATUS: u64 = 1;
+pub const HEARD_REQUEST: u64 = 2;
+pub const HEARD_UNKNOWN: u64 = 3;
+pub const HEARD_PULL_ALL: u64 = 4;
+pub const HEARD_PULL_ONE: u64 = 5;
+pub const HEARD_PULL_NONE: u64 = 6;
+pub const HEARD_OPERATION: u64 = 7;
+pub const HEARD_NOT_IN_TABLE: u64 = 8;

@@ -1,0 +1,316 @@
+--  The calls of nyrkovash.h for Ada: its names, its order, its values. The header says what each call does, and the
+--  gate compares the two. What differs:
+--
+--  A buffer is an array, or a slice of one, and its length: (Bytes, Bytes'Length). Of no elements it may be any.
+--  What a call writes is `in out`, since a refusal leaves it as it was; nothing is null, and no two parameters of a call
+--  may be parts of one object where it writes either.
+--  A place that a call answers counts from 0: byte K of B is B (B'First + K).
+--  Ada has no case: the call nyr_library_version, beside the number NYR_LIBRARY_VERSION, is Nyr_Linked_Version.
+pragma Ada_2012;
+with Interfaces; use Interfaces;
+with Interfaces.C;
+
+package Nyrkovash is
+   pragma Preelaborate;
+
+   subtype Nyr_Size is Interfaces.C.size_t;
+
+   type Nyr_Bytes is array (Nyr_Size range <>) of Unsigned_8 with Convention => C;
+   type Nyr_Ids is array (Nyr_Size range <>) of Unsigned_16 with Convention => C;
+   type Nyr_Words is array (Nyr_Size range <>) of Unsigned_64 with Convention => C;
+
+   Nyr_Library_Version : constant := 10_000;
+   Nyr_Library_Version_Text : constant String := "1.0.0";
+
+   function Nyr_Linked_Version return Unsigned_32
+     with Import, Convention => C, External_Name => "nyr_library_version";
+
+   --  The numbers that refuse.
+
+   Nyr_OK : constant := 0;
+   Nyr_Message_Short : constant := 1;
+   Nyr_Mark : constant := 2;
+   Nyr_Version : constant := 3;
+   Nyr_Domain : constant := 4;
+   Nyr_Payload_Size : constant := 5;
+   Nyr_Sender : constant := 6;
+   Nyr_Platform_Id : constant := 7;
+   Nyr_Platform_Length : constant := 8;
+   Nyr_Platform_Value : constant := 9;
+   Nyr_No_Room : constant := 10;
+   Nyr_No_Joiner : constant := 20;
+   Nyr_Datagram_Length : constant := 21;
+   Nyr_Datagram_Version : constant := 22;
+   Nyr_Not_Set_Up : constant := 23;
+   Nyr_Table_Length : constant := 30;
+   Nyr_Table_Count : constant := 31;
+   Nyr_Table_Entry : constant := 32;
+   Nyr_Table_Size : constant := 33;
+   Nyr_Input_Short : constant := 40;
+   Nyr_Input_Left : constant := 41;
+   Nyr_Value : constant := 42;
+   Nyr_Array_Count : constant := 43;
+   Nyr_No_Type : constant := 44;
+   Nyr_Output_Short : constant := 45;
+   Nyr_Cannot_Cut : constant := 50;
+   Nyr_No_Piece : constant := 51;
+   Nyr_Datagram_Room : constant := 52;
+
+   --  Limits and sizes.
+
+   Nyr_Channels : constant := 32;
+   Nyr_Smallest_Room : constant := 24;
+   Nyr_Largest_Room : constant := 65_560;
+   Nyr_Message_Header : constant := 20;
+   Nyr_Datagram_Header : constant := 4;
+   Nyr_Largest_Piece : constant := 65_503;
+   Nyr_Largest_Datagram : constant := 65_507;
+   Nyr_Largest_Message : constant := 65_560;
+   Nyr_Reply_Bytes : constant := 24;
+   Nyr_Replies_Bytes : constant := 48;
+
+   --  Joining.
+
+   type Nyr_Channel is record
+      Sender : Unsigned_32;
+      Seen   : Unsigned_32;
+      Last   : Unsigned_32;
+      Held   : Unsigned_32;
+   end record with Convention => C;
+   for Nyr_Channel use record
+      Sender at 0 range 0 .. 31;
+      Seen   at 4 range 0 .. 31;
+      Last   at 8 range 0 .. 31;
+      Held   at 12 range 0 .. 31;
+   end record;
+   for Nyr_Channel'Size use 128;
+
+   type Nyr_Channel_Array is array (0 .. Nyr_Channels - 1) of Nyr_Channel with Convention => C;
+
+   type Nyr_Joiner is record
+      Count   : Unsigned_32;
+      Room    : Unsigned_32;
+      Channel : Nyr_Channel_Array;
+   end record with Convention => C;
+   for Nyr_Joiner use record
+      Count   at 0 range 0 .. 31;
+      Room    at 4 range 0 .. 31;
+      Channel at 8 range 0 .. 4095;
+   end record;
+   for Nyr_Joiner'Size use 4160;
+
+   type Nyr_Taken is record
+      Outcome : Unsigned_64;
+      Missed  : Unsigned_64;
+      Bytes   : Unsigned_64;
+      Slice   : Unsigned_64;
+      Start   : Unsigned_64;
+   end record with Convention => C;
+   for Nyr_Taken use record
+      Outcome at 0 range 0 .. 63;
+      Missed  at 8 range 0 .. 63;
+      Bytes   at 16 range 0 .. 63;
+      Slice   at 24 range 0 .. 63;
+      Start   at 32 range 0 .. 63;
+   end record;
+   for Nyr_Taken'Size use 320;
+
+   Nyr_Repeated : constant := 1;
+   Nyr_Delivered : constant := 2;
+   Nyr_Held : constant := 3;
+   Nyr_Stray : constant := 4;
+   Nyr_Too_Long : constant := 5;
+
+   Nyr_Nowhere : constant := 0;
+   Nyr_In_Datagram : constant := 1;
+   Nyr_In_Rooms : constant := 2;
+
+   function Nyr_Setup (Joiner : in out Nyr_Joiner; Ids : Nyr_Ids; Channels : Nyr_Size; Room : Unsigned_32;
+                       Rooms_Length : Nyr_Size) return Unsigned_32
+     with Import, Convention => C, External_Name => "nyr_setup";
+
+   function Nyr_Take (Joiner : in out Nyr_Joiner; Rooms : in out Nyr_Bytes; Rooms_Length : Nyr_Size;
+                      Datagram : Nyr_Bytes; Datagram_Length : Nyr_Size; Taken : in out Nyr_Taken) return Unsigned_32
+     with Import, Convention => C, External_Name => "nyr_take";
+
+   --  Cutting.
+
+   function Nyr_Pieces (Message_Length : Nyr_Size; Piece_Size : Nyr_Size; Pieces : in out Nyr_Size) return Unsigned_32
+     with Import, Convention => C, External_Name => "nyr_pieces";
+
+   function Nyr_Cut (Message : Nyr_Bytes; Message_Length : Nyr_Size; Piece_Size : Nyr_Size; Sender : Nyr_Size;
+                     First_Counter : Nyr_Size; Piece : Nyr_Size; Output : in out Nyr_Bytes; Output_Length : Nyr_Size;
+                     Written : in out Nyr_Size) return Unsigned_32
+     with Import, Convention => C, External_Name => "nyr_cut";
+
+   --  Messages.
+
+   type Nyr_Message is record
+      Kind           : Unsigned_64;
+      Value          : Unsigned_64;
+      Sender         : Unsigned_64;
+      Sequence       : Unsigned_64;
+      Payload_Start  : Unsigned_64;
+      Payload_Length : Unsigned_64;
+   end record with Convention => C;
+   for Nyr_Message use record
+      Kind           at 0 range 0 .. 63;
+      Value          at 8 range 0 .. 63;
+      Sender         at 16 range 0 .. 63;
+      Sequence       at 24 range 0 .. 63;
+      Payload_Start  at 32 range 0 .. 63;
+      Payload_Length at 40 range 0 .. 63;
+   end record;
+   for Nyr_Message'Size use 384;
+
+   Nyr_Status : constant := 1;
+   Nyr_Request : constant := 2;
+   Nyr_Unknown_Operation : constant := 3;
+   Nyr_Pull : constant := 4;
+   Nyr_Service_Operation : constant := 5;
+
+   Nyr_All_Data : constant := 16#FFFF_FFFF#;
+
+   Nyr_Platform_Domain : constant := 0;
+   Nyr_Operation_Domain : constant := 1;
+
+   function Nyr_Read (Own : Unsigned_8; Message : Nyr_Bytes; Message_Length : Nyr_Size;
+                      Answer : in out Nyr_Message) return Unsigned_32
+     with Import, Convention => C, External_Name => "nyr_read";
+
+   function Nyr_Write (Own : Unsigned_8; Domain : Unsigned_8; Id : Unsigned_32; Sequence : Unsigned_32;
+                       Payload : Nyr_Bytes; Payload_Length : Nyr_Size; Output : in out Nyr_Bytes;
+                       Output_Length : Nyr_Size; Written : in out Nyr_Size) return Unsigned_32
+     with Import, Convention => C, External_Name => "nyr_write";
+
+   --  Type tables.
+
+   type Nyr_Sections is record
+      Words : Nyr_Words (0 .. 7);
+   end record with Convention => C;
+   for Nyr_Sections use record
+      Words at 0 range 0 .. 511;
+   end record;
+   for Nyr_Sections'Size use 512;
+
+   Nyr_Types_At : constant := 0;
+   Nyr_Types_Count : constant := 1;
+   Nyr_Members_At : constant := 2;
+   Nyr_Members_Count : constant := 3;
+   Nyr_Values_At : constant := 4;
+   Nyr_Values_Count : constant := 5;
+   Nyr_Operations_At : constant := 6;
+   Nyr_Operations_Count : constant := 7;
+
+   type Nyr_Operation is record
+      Found   : Unsigned_64;
+      Kind    : Unsigned_64;
+      Carries : Unsigned_64;
+   end record with Convention => C;
+   for Nyr_Operation use record
+      Found   at 0 range 0 .. 63;
+      Kind    at 8 range 0 .. 63;
+      Carries at 16 range 0 .. 63;
+   end record;
+   for Nyr_Operation'Size use 192;
+
+   Nyr_Event : constant := 0;
+   Nyr_Versioned_Data : constant := 1;
+   Nyr_No_Payload : constant := 16#FFFF#;
+
+   function Nyr_Check_Table (Table : Nyr_Bytes; Table_Length : Nyr_Size;
+                             Sections : in out Nyr_Sections) return Unsigned_32
+     with Import, Convention => C, External_Name => "nyr_check_table";
+
+   function Nyr_Find (Table : Nyr_Bytes; Table_Length : Nyr_Size; Sections : Nyr_Sections; Id : Unsigned_32;
+                      Operation : in out Nyr_Operation) return Unsigned_32
+     with Import, Convention => C, External_Name => "nyr_find";
+
+   --  Payloads.
+
+   function Nyr_Unpack (Table : Nyr_Bytes; Table_Length : Nyr_Size; Type_Number : Unsigned_16; Payload : Nyr_Bytes;
+                        Payload_Length : Nyr_Size; Words : in out Nyr_Words; Words_Length : Nyr_Size;
+                        Given : in out Nyr_Size) return Unsigned_32
+     with Import, Convention => C, External_Name => "nyr_unpack";
+
+   function Nyr_Unpack_In (Table : Nyr_Bytes; Table_Length : Nyr_Size; Sections : Nyr_Sections;
+                           Type_Number : Unsigned_16; Payload : Nyr_Bytes; Payload_Length : Nyr_Size;
+                           Words : in out Nyr_Words; Words_Length : Nyr_Size;
+                           Given : in out Nyr_Size) return Unsigned_32
+     with Import, Convention => C, External_Name => "nyr_unpack_in";
+
+   function Nyr_Pack (Table : Nyr_Bytes; Table_Length : Nyr_Size; Type_Number : Unsigned_16; Words : Nyr_Words;
+                      Words_Length : Nyr_Size; Output : in out Nyr_Bytes; Output_Length : Nyr_Size;
+                      Given : in out Nyr_Size) return Unsigned_32
+     with Import, Convention => C, External_Name => "nyr_pack";
+
+   function Nyr_Pack_In (Table : Nyr_Bytes; Table_Length : Nyr_Size; Sections : Nyr_Sections;
+                         Type_Number : Unsigned_16; Words : Nyr_Words; Words_Length : Nyr_Size;
+                         Output : in out Nyr_Bytes; Output_Length : Nyr_Size;
+                         Given : in out Nyr_Size) return Unsigned_32
+     with Import, Convention => C, External_Name => "nyr_pack_in";
+
+   --  Platforms.
+
+   type Nyr_Platform is record
+      Up   : Nyr_Words (0 .. 3);
+      Next : Unsigned_64;
+   end record with Convention => C;
+   for Nyr_Platform use record
+      Up   at 0 range 0 .. 255;
+      Next at 32 range 0 .. 63;
+   end record;
+   for Nyr_Platform'Size use 320;
+
+   type Nyr_Heard is record
+      Kind           : Unsigned_64;
+      Value          : Unsigned_64;
+      Sender         : Unsigned_64;
+      Sequence       : Unsigned_64;
+      Number         : Unsigned_64;
+      Payload_Start  : Unsigned_64;
+      Payload_Length : Unsigned_64;
+      Replies        : Unsigned_64;
+   end record with Convention => C;
+   for Nyr_Heard use record
+      Kind           at 0 range 0 .. 63;
+      Value          at 8 range 0 .. 63;
+      Sender         at 16 range 0 .. 63;
+      Sequence       at 24 range 0 .. 63;
+      Number         at 32 range 0 .. 63;
+      Payload_Start  at 40 range 0 .. 63;
+      Payload_Length at 48 range 0 .. 63;
+      Replies        at 56 range 0 .. 63;
+   end record;
+   for Nyr_Heard'Size use 512;
+
+   Nyr_Heard_Status : constant := 1;
+   Nyr_Heard_Request : constant := 2;
+   Nyr_Heard_Unknown : constant := 3;
+   Nyr_Heard_Pull_All : constant := 4;
+   Nyr_Heard_Pull_One : constant := 5;
+   Nyr_Heard_Pull_None : constant := 6;
+   Nyr_Heard_Operation : constant := 7;
+   Nyr_Heard_Not_In_Table : constant := 8;
+
+   function Nyr_Start (Own : Unsigned_8; Platform : in out Nyr_Platform) return Unsigned_32
+     with Import, Convention => C, External_Name => "nyr_start";
+
+   function Nyr_Receive (Own : Unsigned_8; Platform : in out Nyr_Platform; Table : Nyr_Bytes; Table_Length : Nyr_Size;
+                         Message : Nyr_Bytes; Message_Length : Nyr_Size; Output : in out Nyr_Bytes;
+                         Output_Length : Nyr_Size; Heard : in out Nyr_Heard) return Unsigned_32
+     with Import, Convention => C, External_Name => "nyr_receive";
+
+   function Nyr_Receive_In (Own : Unsigned_8; Platform : in out Nyr_Platform; Table : Nyr_Bytes;
+                            Table_Length : Nyr_Size; Sections : Nyr_Sections; Message : Nyr_Bytes;
+                            Message_Length : Nyr_Size; Output : in out Nyr_Bytes; Output_Length : Nyr_Size;
+                            Heard : in out Nyr_Heard) return Unsigned_32
+     with Import, Convention => C, External_Name => "nyr_receive_in";
+
+   function Nyr_Is_Up (Own : Unsigned_8; Platform : Nyr_Platform; Number : Unsigned_32) return Unsigned_32
+     with Import, Convention => C, External_Name => "nyr_is_up";
+
+   function Nyr_How_Many_Up (Own : Unsigned_8; Platform : Nyr_Platform) return Unsigned_32
+     with Import, Convention => C, External_Name => "nyr_how_many_up";
+
+end Nyrkovash;
