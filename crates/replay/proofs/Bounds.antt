@@ -1,8 +1,8 @@
 -- That every part of a buffer that the program lends lies in the buffer.
 -- Assumes nothing.
 use Prim.Native.Nat.{ℕ, suc, _+_, _-_, _≤_, _<_}
-use mathlib.Core.Path.{_≡_, refl, sym, subst}
-use mathlib.Core.Bool.{Bool, true, false}
+use mathlib.Core.Path.{_≡_, refl, sym, _∙_, subst}
+use mathlib.Core.Bool.{Bool, true, false, true≢false}
 use mathlib.Core.List.{List}
 use native.Mathlib.Omega.{arith}
 use borrow.Author.Tests.{leb-true, leb-false}
@@ -28,7 +28,7 @@ use Rattle.replay.specs.Bounds.{inputLength, roomsLength, RoomsFit}
 use Rattle.recording.specs.declared.lines.Ending.{Ending}
 use Rattle.replay.specs.Endings.{Says20, RefusalIs20, NextWithin}
 use Rattle.replay.specs.declared.player.Next.{Next}
-use Rattle.replay.specs.declared.player.Next.the-variants.{Filled, End}
+use Rattle.replay.specs.declared.player.Next.the-variants.{Write, Filled, End}
 
 octets-take : (n : ℕ) (s : List ℕ) → Octets s → Octets (take n s)
 octets-take n s o i = go (leb (suc i) n) refl
@@ -98,3 +98,7 @@ module _ {next : Next} (h : NextWithin next) where
 
   pub next-ending : (e : Ending) → next ≡ End e → Says20 e
   next-ending e f = subst NextWithin f h
+
+-- no line is owed, and anything may be next
+pub not-owed : {owed : Bool} (next : Next) → owed ≡ false → owed ≡ true → next ≡ Write
+not-owed next e f = absurd (true≢false (sym f ∙ e))

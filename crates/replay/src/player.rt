@@ -1,11 +1,14 @@
-// Replays a recording: reads it in blocks of a fixed buffer, and writes its lines in blocks. What stands in a recording and
-// what its lines say is `recording`'s; here blocks only come and go.
+// Replays a recording: reads it in blocks of a fixed buffer, and writes its lines in blocks, or as soon as they are made where
+// the next read may wait. What stands in a recording and what its lines say is `recording`'s; here blocks only come and go.
 ghost use Prim.Native.Nat.{_≤_, _<_};
 ghost use mathlib.Core.Path.{_≡_};
+ghost use mathlib.Core.Bool.{true};
 ghost use lib.ListN.{length};
 ghost use Rattle.replay.specs.Bounds.{inputLength, roomsLength, RoomsFit};
 ghost use Rattle.replay.specs.Endings.{Says20, Refuses20, RefusalIs20, NextWithin};
+ghost use Rattle.replay.specs.declared.player.Next.the-variants.{Write};
 use files::Came;
+use libc::SEEK_CUR;
 use recording::Coming;
 use recording::Ending;
 use recording::Opened;
@@ -146,13 +149,14 @@ fn play_all(
     requires { ⌜ (length (now input) ≡ inputLength) × (filled ≤ inputLength) ⌝ }
     ensures { λ r. ⌜ Refuses20 r ⌝ }
 {
+    let waits = may_wait(fd);
     let mut run = run;
     let mut filled = filled;
     let mut turns = u64::MAX;
     while turns > 0 {
         turns -= 1;
         run = recording::play(run, rooms, &input[..filled], output);
-        match read_on(fd, input, filled, run.at) {
+        match read_on(fd, input, filled, run.at, waits & (run.made > 0)) {
             Next::Write => {
                 if files::flush(output, run.made) {
                     run.made = 0;
@@ -171,11 +175,22 @@ fn play_all(
     Replayed::Unreadable
 }
 
-// Reads on behind what is left of the input, unless a whole datagram is left, for whose line the output had no room.
-fn read_on(fd: i32, input: &mut [u8], filled: usize, at: usize) -> Next
+// Whether a read may wait for bytes that are not there yet. A file has a place from which it is read, and all its bytes are
+// there; a pipe, a socket and a terminal have none.
+fn may_wait(fd: i32) -> bool {
+    libc::lseek(fd, 0, SEEK_CUR) < 0
+}
+
+// Reads on behind what is left of the input, unless lines are to be written before: those that are owed to whoever waits for
+// them, or a whole datagram is left, for whose line the output had no room.
+fn read_on(fd: i32, input: &mut [u8], filled: usize, at: usize, owed: bool) -> Next
     requires { ⌜ (length (now input) ≡ inputLength) × (filled ≤ inputLength) ⌝ }
     ensures { λ r. ⌜ NextWithin r ⌝ }
+    ensures { λ r. ⌜ (owed ≡ true → r ≡ Write) ⌝ }
 {
+    if owed {
+        return Next::Write;
+    }
     match recording::next(&input[..filled], at) {
         Coming::Datagram {
             start: _,

@@ -157,6 +157,21 @@ pub const EDGES: &[Edge] = &[
         lines: "0 held 0 1\n1 held 0 2\n2 held 0 1\n3 held 0 2\n4 delivered 0 2\n5 held 0 4\n\
                 6 stray 1 0\n7 delivered 0 3\n8 delivered 0 1\n",
     },
+    // Every outcome, a loss, 21, 22 and 23, and a file that ends inside a datagram.
+    Edge {
+        name: "every-outcome",
+        bytes: "0002 00000018 0001 0F02 \
+                | 000A 3001FFFE 737461747573 | 0010 0F020007 747261636B206C6973743A20 \
+                | 000A 0001FFFF 626567696E20 | 000B 10010000 6D6964646C6520 \
+                | 000B 10010000 6D6964646C6520 | 0007 20010001 656E64 | 0007 20010001 656E64 \
+                | 0008 2F020009 7461696C | 001C 0F02000A 78*24 | 0005 2F02000B79 \
+                | 0005 2F02000C7A | 002C 3F029C40 77*40 | 0004 00000000 | 0005 7001000276 \
+                | 0005 3002000276 | 001D 00010003 62*25 | 0007 00010004 637574 | 0009 2001",
+        lines: "0 delivered 0 6\n1 held 0 12\n2 held 0 6\n3 held 0 13\n4 repeated 0 0\n\
+                5 delivered 0 16\n6 repeated 0 0\n7 stray 1 0\n8 held 0 24\n9 too long 0 0\n\
+                10 stray 0 0\n11 delivered 39987 40\n12 refused 21\n13 refused 22\n\
+                14 refused 23\n15 too long 1 0\n16 held 0 3\ncut short\n",
+    },
     // 32 channels of 2,048 bytes: the whole 65,536. First and last sender, and a full room.
     Edge {
         name: "channels-32-of-2048",

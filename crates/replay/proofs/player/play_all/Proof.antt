@@ -10,7 +10,7 @@ use Rattle.replay.proofs.player.play_all.Statement.{statement}
 use Rattle.replay.proofs.player.play_all.Tie as tie
 
 abbrev Inv-loop : tie.InvT-loop
-Inv-loop fd name rooms₀ input₀ filled output₀ run₀ filled₀ turns₀ rooms input output run filled' turns =
+Inv-loop fd name rooms₀ input₀ filled output₀ waits run₀ filled₀ turns₀ rooms input output run filled' turns =
     (length input ≡ inputLength)
     × (length input ≡ length input₀)
     × (length rooms ≡ length rooms₀)
@@ -18,7 +18,7 @@ Inv-loop fd name rooms₀ input₀ filled output₀ run₀ filled₀ turns₀ ro
     × (filled' ≤ inputLength)
 
 abbrev μ-loop : tie.MeasureT-loop
-μ-loop fd name rooms₀ input₀ filled output₀ run₀ filled₀ turns₀ rooms input output run filled' turns = turns
+μ-loop fd name rooms₀ input₀ filled output₀ waits run₀ filled₀ turns₀ rooms input output run filled' turns = turns
 
 pub play-all-spec : {M : Type 1} → statement M
 play-all-spec =
@@ -26,6 +26,7 @@ play-all-spec =
     (tie.spec
     Inv-loop
     μ-loop
+    (λ c κs. search needs)
     (λ c. (search needs, search needs, search needs, search needs, search needs))
     (λ c. search needs)
     (λ c. search needs)

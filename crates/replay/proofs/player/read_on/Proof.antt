@@ -1,7 +1,7 @@
--- `replay::read_on` meets its contract: what is left is shorter than the input.
+-- `replay::read_on` meets its contract: lines that are owed come first, and what is left is shorter than the input.
 -- Assumes nothing.
 use borrow.Author.Needs.{needs}
-use Rattle.replay.proofs.Bounds.{filled-part, left-within, kept-room}
+use Rattle.replay.proofs.Bounds.{filled-part, left-within, kept-room, not-owed}
 use Rattle.replay.proofs.player.read_on.Statement.{statement}
 use Rattle.replay.proofs.player.read_on.Tie as tie
 
@@ -9,6 +9,7 @@ pub read-on-spec : {M : Type 1} → statement M
 read-on-spec =
     tie.close
     (tie.spec
+    (λ c. search needs)
     (λ c. search needs)
     (λ c. search filled-part)
     (λ c κs. search needs)
@@ -22,6 +23,6 @@ read-on-spec =
     (λ c. search needs)
     (λ c. search needs)
     (λ c. search needs)
+    (λ c. (search needs, search not-owed))
     (λ c. search needs)
-    (λ c. search needs)
-    (λ c. search needs))
+    (λ c. (search needs, search not-owed)))
