@@ -18,8 +18,8 @@ use Rattle.table.specs.declared.Found.the-variants as found
 use Rattle.table.specs.Entries.{idAt, operationAt}
 use Rattle.table.specs.Operations.{idsRise, orElse, firstBelow, operationOf}
 use Rattle.table.specs.Search.{lookedUp}
-use Rattle.table.proofs.AllBelow.{at-below}
-use Rattle.table.proofs.Rising.{rising-apart}
+use Rattle.wire.proofs.AllBelow.{at-below}
+use Rattle.wire.proofs.Rising.{rising-apart}
 use Rattle.message.specs.declared.Header.{Header}
 use Rattle.message.specs.declared.Status.the-variants.{Down, Up}
 use Rattle.message.specs.declared.Message.{Message}

@@ -11,11 +11,11 @@ use borrow.Author.Tests.{ne-eqb, leb-true, leb-false}
 use lib.Dec.{eqb, leb, ltb}
 use Rattle.table.specs.declared.Sections.{Sections}
 use Rattle.table.specs.declared.Entry.{Entry}
-use Rattle.table.specs.All.{allBelow, above}
+use Rattle.wire.specs.All.{allBelow, above}
 use Rattle.table.specs.Entries.{typeAt, memberAt, valueAt, idAt, operationAt}
 use Rattle.table.specs.Leaf.{isEnumBase, base, inSigned, isValue, allowed}
 use Rattle.table.specs.Fields.{fieldsOk}
-use Rattle.table.proofs.AllBelow.{at-below}
+use Rattle.wire.proofs.AllBelow.{at-below}
 use Rattle.types.specs.Values.{valueOk, unlike, unlikeBefore, distinct, valuesOk}
 use Rattle.types.specs.Rules.{memberOk, membersOk, pointedOk, typeOk}
 use Rattle.types.specs.Operations as ops

@@ -9,7 +9,7 @@ use lib.ListN.{length, getD}
 use Rattle.wire.specs.Bytes.{bytes}
 use Rattle.table.specs.declared.Sections.{Sections}
 use Rattle.table.specs.declared.Checked.the-variants.{Table}
-use Rattle.table.specs.All.{allBelow, above}
+use Rattle.wire.specs.All.{allBelow, above}
 use Rattle.table.specs.Layout.{sectionAt, after, ended, afterValues, afterMembers, afterTypes, sectionsOf, liesIn, within}
 use Rattle.table.specs.Entries.{typeAt, memberAt, valueAt, idAt, operationAt}
 use Rattle.table.specs.Leaf.{base, bytesOf, inSigned, finite, isValue, width, allowed}

@@ -14,7 +14,7 @@ use Rattle.table.specs.declared.Found.{Found}
 use Rattle.table.specs.declared.Found.the-variants.{At, Nothing}
 use Rattle.table.specs.Entries.{idAt}
 use Rattle.table.specs.Operations.{idsRise, orElse, firstBelow, operationOf}
-use Rattle.table.proofs.Rising.{rising-apart, rising-up-to}
+use Rattle.wire.proofs.Rising.{rising-apart, rising-up-to}
 use Rattle.table.specs.Search.{middle, halved, mostLooks, lookedUp}
 use Rattle.table.proofs.Halving.{reach, none-left, bears-it, above-it, below-it}
 

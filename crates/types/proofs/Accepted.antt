@@ -14,7 +14,7 @@ use Rattle.table.specs.declared.Operation.{Operation}
 use Rattle.table.specs.declared.Checked.{Checked}
 use Rattle.table.specs.declared.Checked.the-variants.{Refused, Table}
 use Rattle.types.specs.declared.Largest.the-variants.{Bytes}
-use Rattle.table.specs.All.{allBelow, above}
+use Rattle.wire.specs.All.{allBelow, above}
 use Rattle.table.specs.Leaf.{isBase, isEnumBase, allowed}
 use Rattle.table.specs.Layout.{mostTypes, sectionsOf, within}
 use Rattle.table.specs.Entries.{noId, noType, typeAt, memberAt, valueAt, idAt, operationAt}
@@ -26,7 +26,7 @@ use Rattle.types.specs.Operations.{fieldsOk as operationFields, operatio
 use Rattle.types.specs.Sizes.{mostBytes, largest, sizeFits, bytesUpTo, largestBelow, largestOf}
 use Rattle.types.specs.Table.{ruleBroken, tooLarge, entriesOk, sizesOk, judged, judging, checked}
 use Rattle.wire.proofs.Cond.{and-left, and-right}
-use Rattle.table.proofs.AllBelow.{at-below, all-below}
+use Rattle.wire.proofs.AllBelow.{at-below, all-below}
 use Rattle.table.proofs.Fields.{three, base-entry, enum-entry, record-entry, fixed-entry, array-entry, no-entry}
 use Rattle.types.proofs.TypeRules.{points-to-values, points-to-members}
 use Rattle.table.proofs.Chain.{Chain, chain, finished, chain-within}

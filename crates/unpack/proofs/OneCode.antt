@@ -16,9 +16,9 @@ use lib.ListN.{length, set}
 use Rattle.wire.specs.Bytes.{written, Octets}
 use Rattle.wire.proofs.Cond.{yes-if, no-if}
 use Rattle.wire.proofs.Runs.{length-written, written-out}
-use Rattle.table.specs.All.{allBelow}
+use Rattle.wire.specs.All.{allBelow}
 use Rattle.table.specs.Leaf.{width, allowed}
-use Rattle.table.proofs.AllBelow.{all-below}
+use Rattle.wire.proofs.AllBelow.{all-below}
 use Rattle.leaf.specs.Forms.{wordAt}
 use Rattle.walk.specs.declared.Place.{Place}
 use Rattle.walk.specs.Walk.{Step, on, through}

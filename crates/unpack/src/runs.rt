@@ -8,7 +8,7 @@ ghost use Prim.Native.Nat.{_+_, _*_, _/_, _%_, _≤_, _<_};
 ghost use lib.Dec.{leb, eqb};
 ghost use lib.ListN.{length};
 ghost use Rattle.wire.specs.Bytes.{number};
-ghost use Rattle.table.specs.All.{allBelow};
+ghost use Rattle.wire.specs.All.{allBelow};
 ghost use Rattle.table.specs.Leaf.{width, allowed};
 ghost use Rattle.unpack.specs.OneCode.{isGood, filled, runThere};
 

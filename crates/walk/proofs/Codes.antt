@@ -17,8 +17,8 @@ use Rattle.wire.proofs.Cond.{yes-if, no-if, yes-le, no-le}
 use Rattle.wire.proofs.Runs.{set-over, over-over, length-over}
 use Rattle.table.specs.declared.Sections.{Sections}
 use Rattle.table.specs.declared.Entry.{Entry}
-use Rattle.table.specs.All.{allBelow}
-use Rattle.table.proofs.AllBelow.{none-below, next-below, at-below, stop-below}
+use Rattle.wire.specs.All.{allBelow}
+use Rattle.wire.proofs.AllBelow.{none-below, next-below, at-below, stop-below}
 use Rattle.table.specs.Layout.{typePlace, memberPlace}
 use Rattle.table.specs.Entries.{memberAt}
 use Rattle.walk.specs.Tree.{noBase, baseAt}

@@ -8,7 +8,7 @@ use lib.ListN.{length}
 use Rattle.wire.specs.Bytes.{span}
 use Rattle.table.specs.declared.Sections.{Sections}
 use Rattle.table.specs.declared.Entry.{Entry}
-use Rattle.table.specs.All.{allBelow}
+use Rattle.wire.specs.All.{allBelow}
 use Rattle.table.specs.Layout.{typeWidth, memberWidth, typePlace, memberPlace}
 use Rattle.table.specs.Entries.{memberAt}
 use Rattle.walk.specs.Tree.{noBase, baseAt}
