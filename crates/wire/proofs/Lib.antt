@@ -6,3 +6,4 @@ mod Writes
 pub mod MetCases
 pub mod AllBelow
 pub mod Rising
+pub mod Bits
