@@ -266,7 +266,17 @@ module _ (msg : List ℕ) (s sender first : ℕ) (g : CanBeCut msg s sender firs
       (are-cut msg s sender first 0 ds r
       ∙ ap₂ (λ (x n : ℕ). datagramsFrom msg s x first 0 n) (sym (j .its-id)) l)
       ∙ cut-and-joined ids R rooms c msg s first
-      (record { set-up = j .set-up; known = j .known; cut = cuts; counter = g .counter-fits; room = j .room; bytes = j .bytes })
+      (record {
+        set-up = j .set-up;
+        known = j .known;
+        some = g .some;
+        most = g .most;
+        size = g .size;
+        piece = g .largest;
+        counter = g .counter-fits;
+        room = j .room;
+        bytes = j .bytes;
+      })
 
 cut-then-joined : CutThenJoined
 cut-then-joined msg s sender first g k a n e p em es =
