@@ -7,6 +7,7 @@ pub mod Demand1
 pub mod Headers
 pub mod CutAndJoined
 pub mod Payloads
+pub mod OneCodec
 mod Lookups
 mod Reacting
 mod Replying

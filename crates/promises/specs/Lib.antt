@@ -6,6 +6,7 @@ pub mod Demand1
 pub mod Headers
 pub mod CutAndJoined
 pub mod Payloads
+pub mod OneCodec
 pub mod Platforms
 pub mod Demand2
 pub mod Senders
