@@ -1,7 +1,7 @@
 // Cutting: a message to send becomes datagrams, one call for each, of 000's annex A. Joining them again is the joiner's.
 ghost use mathlib.Core.Path.{_≡_};
 ghost use mathlib.Core.Bool.{true, cond};
-ghost use Prim.Native.Nat.{min, _<_, _≤_};
+ghost use Prim.Native.Nat.{_<_, _≤_};
 ghost use lib.Dec.{ltb};
 ghost use lib.ListN.{length};
 ghost use Rattle.wire.specs.Bytes.{over, written};
@@ -155,7 +155,7 @@ fn put_datagram(
     ensures answer { λ r. ⌜ r ≡ madeIn (behind header (now (message .entry)) start size) (length (now (out .entry))) ⌝ }
     ensures output { λ _. ⌜ now (out .exit) ≡ written (now (out .entry)) 0 (behind header (now (message .entry)) start size) ⌝ }
 {
-    let count = least(size, message.len() - start);
+    let count = wire::least(size, message.len() - start);
     let whole = BindingHeader::LENGTH + count;
     if whole <= out.len() {
         put_header(header, out);
@@ -195,10 +195,4 @@ fn code_of(part: MessagePart) -> u8
         MessagePart::End => 2,
         MessagePart::Whole => 3,
     }
-}
-
-fn least(a: usize, b: usize) -> usize
-    ensures { λ r. ⌜ r ≡ min a b ⌝ }
-{
-    if a <= b { a } else { b }
 }

@@ -109,11 +109,7 @@ fn room_behind(filled: usize, len: usize, chunk: usize) -> usize
     if len <= filled {
         return 0;
     }
-    if len - filled <= chunk {
-        len - filled
-    } else {
-        chunk
-    }
+    wire::least(len - filled, chunk)
 }
 
 fn read_once(fd: i32, chunk: &mut [u8]) -> Came

@@ -10,7 +10,9 @@ use borrow.Author.Tests.{ltb-true, leb-true, leb-false, lt-ltb, le-leb}
 use lib.Dec.{leb, ltb}
 use lib.ListN.{length, getD, take, replicate, List·getD-append}
 use lib.Seq.{take-suc, take-at, getD-append-add}
-use Rattle.wire.proofs.Cond.{and-left, and-right, and-true}
+use Rattle.wire.proofs.Cond.{and-left, and-right}
+use Rattle.wire.specs.All.{allBelow}
+use Rattle.wire.proofs.AllBelow.{all-below}
 use Rattle.binding.specs.Header.{senders, counters}
 use Rattle.channel.specs.Record.{channelLimit, newChannel, goodChannel}
 use Rattle.channel.specs.declared.Channel.{Channel}
@@ -62,9 +64,7 @@ module _ (n R : ℕ) (chs : List Channel) where
   records-are (suc k) h = rw (records-are k (omega arith), record-is k (omega arith), take-suc chs k (newChannel 0) (omega arith))
 
   all-records : (k : ℕ) → k ≤ length chs → ((i : ℕ) → i < k → getD chs i (newChannel 0) .sender < senderLimit) → areRecords all k ≡ true
-  all-records zero h s = refl
-  all-records (suc k) h s =
-      and-true (areRecords all k) (isRecord all k) (all-records k (omega arith) (λ i l. s i (omega arith))) (is-one k (omega arith) (s k (omega arith)))
+  all-records k h s = all-below (isRecord all) k (λ i l. is-one i (omega arith) (s i l))
 
 none-found : (j : Joiner) (b x : ℕ) → good j b ≡ false → foundOf j b x ≡ Bad
 unfolding foundOf
@@ -158,7 +158,7 @@ module _ (j : Joiner) (w : length (j .channels) ≡ channelLimit) (h : j .count 
 
 -- one of more channels than there can be
 none-in : (b : ℕ) → good (joinerIn (replicate joinerWords 0)) b ≡ false
-unfolding joinerIn good goodSizes
+unfolding allBelow joinerIn good goodSizes
 none-in b = refl
 
 too-many : (j : Joiner) (b : ℕ) → leb (j .count) channelLimit ≡ false → good j b ≡ false

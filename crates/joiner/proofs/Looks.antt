@@ -5,15 +5,16 @@ use mathlib.Core.Path.{_≡_, refl, sym, ap, _∙_}
 use mathlib.Core.Bool.{Bool, true, false, _&&_, cond}
 use mathlib.Core.List.{List}
 use native.Mathlib.Omega.{arith}
-use native.Mathlib.Numerals.{add-one}
 use borrow.Author.Count.{below-more}
 use borrow.Author.Tests.{ltb-true, leb-true, lt-ltb, le-ltb}
 use mir.Syntax.{w16}
 use mir.Val.{Fits}
-use lib.Bits.{bitOr, or-add-and, and-le-l, and-le-r}
+use lib.Bits.{bitOr}
 use lib.Dec.{leb, ltb}
 use lib.ListN.{length, getD}
 use Rattle.wire.proofs.Cond.{and-left, and-right, and-true}
+use Rattle.wire.proofs.AllBelow.{at-below, all-below}
+use Rattle.wire.proofs.Bits.{or-left, or-right}
 use Rattle.binding.specs.Header.{senders, counters}
 use Rattle.channel.specs.Record.{channelLimit, goodChannel}
 use Rattle.channel.specs.declared.Channel.{Channel}
@@ -25,7 +26,7 @@ use Rattle.joiner.proofs.Places.{not-true-false, is-distinct}
 use Rattle.joiner.proofs.Lookups.{few-channels, senders-length, senders-at, found-here, found-nowhere, twice, never-twice}
 use Rattle.joiner.specs.JoinerWords.{recordAt, joinerWords, seenLimit, recordIn, joinerIn}
 use Rattle.joiner.specs.Records.{Sized, storedIn, sendersIn, goodRecord, goodRecords, areGood, foundAt}
-use Rattle.joiner.proofs.Stored.{stored-length, stored-at, kept-says, says-kept, all-at, all-by, stored-joiner, is-joiner, well-joiner, good-well}
+use Rattle.joiner.proofs.Stored.{stored-length, stored-at, kept-says, says-kept, stored-joiner, is-joiner, well-joiner, good-well}
 
 -- `find` and `are_distinct`
 module _ (ws : List ℕ) (z : Sized ws) {n : ℕ} (en : n ≡ getD ws 0 0) where
@@ -55,32 +56,7 @@ module _ (ws : List ℕ) (z : Sized ws) {n : ℕ} (en : n ≡ getD ws 0 0) where
 pub none-earlier : {p : ℕ} (l : List ℕ) (x i : ℕ) → p ≡ placeOf l x → i ≤ p → i ≤ placeOf l x
 none-earlier l x i e h = omega arith
 
--- `each_is_good`
-module _ (ws : List ℕ) {t : Bool} (i : ℕ) (e : t ≡ goodRecord ws i) where
-  pub one-more : goodRecords ws i ≡ true → t ≡ true → goodRecords ws (i + 1) ≡ true
-  one-more g h = rw (add-one i) (and-true (goodRecords ws i) (goodRecord ws i) g (sym e ∙ h))
-
-  pub one-bad : {n : ℕ} → n ≡ getD ws 0 0 → i < n → t ≡ false → false ≡ goodRecords ws (getD ws 0 0)
-  one-bad en l f = sym (not-true-false (goodRecords ws (getD ws 0 0)) no)
-    where
-      no : goodRecords ws (getD ws 0 0) ≡ true → ⊥
-      no g =
-          let y : true ≡ false = sym (all-at (goodRecord ws) (getD ws 0 0) g i (omega arith)) ∙ sym e ∙ f in
-          let q : _≡_ {A = ℕ} 0 1 = cc in
-          omega arith
-
-pub all-good : (ws : List ℕ) (i : ℕ) {n : ℕ} → n ≡ getD ws 0 0 → goodRecords ws i ≡ true → i ≤ n → n ≤ i → true ≡ goodRecords ws (getD ws 0 0)
-all-good ws i {n} en g l m =
-    let e : i ≡ getD ws 0 0 = omega arith in
-    sym (ap (goodRecords ws) (sym e) ∙ g)
-
 -- `rise`
-or-left : (a b : ℕ) → a ≤ bitOr a b
-or-left a b = omega (arith, or-add-and a b, and-le-r a b)
-
-or-right : (a b : ℕ) → b ≤ bitOr a b
-or-right a b = omega (arith, or-add-and a b, and-le-l a b)
-
 -- what is known of the first i records: their IDs rise and are below `next`, and each word is within what they were put
 -- together to
 pub record Risen (ws : List ℕ) (i next seens lasts : ℕ) : Type 0 where
@@ -136,7 +112,7 @@ pub risen-all : (ws : List ℕ) (i next seens lasts : ℕ) {n : ℕ} → Sized w
     → (leb next senders && (ltb seens seenLimit && ltb lasts counters)) ≡ true → areGood ws ≡ true
 unfolding areGood
 risen-all ws i next seens lasts {n} z en l m r e = and-true (goodRecords ws (getD ws 0 0)) (distinct (sendersIn ws))
-    (all-by (goodRecord ws) (getD ws 0 0) kept) (is-distinct (sendersIn ws) once)
+    (all-below (goodRecord ws) (getD ws 0 0) kept) (is-distinct (sendersIn ws) once)
   where
     rest : (ltb seens seenLimit && ltb lasts counters) ≡ true
     rest = and-right (leb next senders) (ltb seens seenLimit && ltb lasts counters) e
@@ -182,7 +158,7 @@ module _ (ws : List ℕ) (k : ℕ) where
   module _ (e : areGood ws ≡ true) {n : ℕ} (en : n ≡ getD ws 0 0) where
     pub good-one : k < n → goodRecord ws k ≡ true
     unfolding areGood
-    good-one h = all-at (goodRecord ws) (getD ws 0 0) (and-left (goodRecords ws (getD ws 0 0)) (distinct (sendersIn ws)) e) k (omega arith)
+    good-one h = at-below (goodRecord ws) (getD ws 0 0) k (and-left (goodRecords ws (getD ws 0 0)) (distinct (sendersIn ws)) e) (omega arith)
 
     pub found-one : {ch : Channel} → k < n → ch ≡ recordIn ws k → Somebody k ch ≡ foundAt ws k
     unfolding foundAt

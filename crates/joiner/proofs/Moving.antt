@@ -16,7 +16,7 @@ use Rattle.binding.specs.declared.MessagePart.{MessagePart}
 use Rattle.binding.specs.declared.Heard.{Heard}
 use Rattle.channel.specs.Record.{channelLimit, newChannel}
 use Rattle.channel.specs.declared.Channel.{Channel}
-use Rattle.channel.specs.Channel.{roomOf, notedOf}
+use Rattle.channel.specs.Channel.{roomOf}
 use Rattle.channel.specs.Outcomes.{refusalIn}
 use Rattle.channel.specs.declared.Room.{Room}
 use Rattle.channel.specs.declared.Step.{Step}
@@ -52,16 +52,6 @@ module _ {room : Room} {ch : Channel} {c n : ℕ} where
   step-number (long r) = refl
   step-number (goes-on r z f) = refl
   step-number (ends r z f) = refl
-
-  pub step-sender : {p : MessagePart} {s : Step} → Stepped room ch c n p s → s .channel .sender ≡ ch .sender
-  unfolding notedOf
-  step-sender (again r) = refl
-  step-sender (whole r) = refl
-  step-sender (begins r f) = refl
-  step-sender (stray r z) = refl
-  step-sender (long r) = refl
-  step-sender (goes-on r z f) = refl
-  step-sender (ends r z f) = refl
 
 -- a joiner with a channel is one that the words are
 pub some-joiner : (ws : List ℕ) (k : ℕ) → k < joinerIn ws .count → isJoiner ws ≡ true

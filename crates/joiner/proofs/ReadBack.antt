@@ -16,7 +16,8 @@ use Rattle.wire.proofs.Numbers.{read-before, read-behind}
 use Rattle.channel.specs.Record.{channelLimit, newChannel}
 use Rattle.channel.specs.declared.Channel.{Channel}
 use Rattle.joiner.specs.Take.{changed}
-use Rattle.wire.proofs.Cond.{and-left, and-right, and-true}
+use Rattle.wire.proofs.Cond.{and-left, and-right}
+use Rattle.wire.proofs.AllBelow.{at-below, all-below}
 use Rattle.joiner.specs.JoinerWords.{recordAt, joinerWords, senderLimit, recordIn, isRecord, areRecords, recordsIn}
 use Rattle.joiner.specs.JoinerWords.{channelsIn, isJoiner, joinerIn, recordWords}
 use Rattle.joiner.proofs.Stored.{records-length}
@@ -68,13 +69,11 @@ module _ (ws : List ℕ) (k : ℕ) (ch : Channel) (w : length ws ≡ joinerWords
   other-is i d = rw (other-first i d, other-word i 1 (omega arith) d)
 
   still-records : ch .sender < senderLimit → (n : ℕ) → areRecords ws n ≡ true → areRecords after n ≡ true
-  still-records h zero e = refl
-  still-records h (suc n) e =
-      go (eqb n k) refl (still-records h n (and-left (areRecords ws n) (isRecord ws n) e))
+  still-records h n e = all-below (isRecord after) n (λ i l. go i (eqb i k) refl (at-below (isRecord ws) n i e l))
     where
-      go : (b : Bool) → eqb n k ≡ b → areRecords after n ≡ true → areRecords after (suc n) ≡ true
-      go true q f = and-true (areRecords after n) (isRecord after n) f (rw (eqb-true n k q) (own-is h))
-      go false q f = and-true (areRecords after n) (isRecord after n) f (other-is n (eqb-false n k q) ∙ and-right (areRecords ws n) (isRecord ws n) e)
+      go : (i : ℕ) (b : Bool) → eqb i k ≡ b → isRecord ws i ≡ true → isRecord after i ≡ true
+      go i true q f = rw (eqb-true i k q) (own-is h)
+      go i false q f = other-is i (eqb-false i k q) ∙ f
 
   records-below : (n : ℕ) → n ≤ k → recordsIn after n ≡ recordsIn ws n
   records-below zero h = refl

@@ -10,13 +10,14 @@ use lib.Dec.{leb, ltb}
 use lib.ListN.{length, getD, replicate, length-append, length-replicate}
 use lib.Seq.{getD-append-add}
 use Rattle.wire.proofs.Cond.{and-left, and-right, and-true}
+use Rattle.wire.proofs.AllBelow.{at-below, all-below}
 use Rattle.binding.specs.Header.{senders, counters}
 use Rattle.channel.specs.Record.{channelLimit, newChannel, goodChannel}
 use Rattle.channel.specs.declared.Channel.{Channel}
 use Rattle.joiner.specs.Setup.{freshOf, channelAt, channelsOf, distinct, every, goodSizes, good}
 use Rattle.joiner.proofs.Places.{every-at, every-by}
 use Rattle.joiner.proofs.Lookups.{channels-length, channels-at}
-use Rattle.joiner.specs.JoinerWords.{recordAt, senderLimit, seenLimit, recordIn, isRecord, allBelow, areRecords, recordsIn, isJoiner, joinerIn}
+use Rattle.joiner.specs.JoinerWords.{recordAt, senderLimit, seenLimit, recordIn, isRecord, areRecords, recordsIn, isJoiner, joinerIn}
 use Rattle.joiner.specs.Records.{Sized, storedIn, sendersIn, goodRecord, goodRecords, areGood}
 
 pub records-length : (ws : List ℕ) (n : ℕ) → length (recordsIn ws n) ≡ n
@@ -110,22 +111,6 @@ module _ (ws : List ℕ) (k : ℕ) where
       let c : (fourth && third) ≡ true = and-right first (fourth && third) f in
       rw (a, b, and-right fourth third c, and-left fourth third c)
 
--- all of them
-module _ (f : ℕ → Bool) where
-  pub all-at : (n : ℕ) → allBelow f n ≡ true → (k : ℕ) → k < n → f k ≡ true
-  all-at zero e k h = absurd (omega arith)
-  all-at (suc n) e k h = go (ltb k n) refl (λ l. all-at n (and-left (allBelow f n) (f n) e) k l)
-    where
-      go : (t : Bool) → ltb k n ≡ t → (k < n → f k ≡ true) → f k ≡ true
-      go true q g = g (ltb-true k n q)
-      go false q g =
-          let s : k ≡ n = omega (arith, ltb-false k n q) in
-          ap f s ∙ and-right (allBelow f n) (f n) e
-
-  pub all-by : (n : ℕ) → ((k : ℕ) → k < n → f k ≡ true) → allBelow f n ≡ true
-  all-by zero h = refl
-  all-by (suc n) h = and-true (allBelow f n) (f n) (all-by n (λ k l. h k (omega arith))) (h n (omega arith))
-
 -- words that are no joiner are not good, whatever the rooms
 pub none-good : (ws : List ℕ) (b : ℕ) → isJoiner ws ≡ false → good (joinerIn ws) b ≡ false
 unfolding joinerIn good goodSizes freshOf
@@ -158,7 +143,7 @@ module _ (ws : List ℕ) (b : ℕ) (z : Sized ws) where
   unfolding areGood
   well-joiner e =
       let g : goodRecords ws n ≡ true = and-left (goodRecords ws n) (distinct (sendersIn ws)) e in
-      let r : areRecords ws n ≡ true = all-by (isRecord ws) n (λ k h. kept-record ws k (kept-says ws k (all-at (goodRecord ws) n g k h))) in
+      let r : areRecords ws n ≡ true = all-below (isRecord ws) n (λ k h. kept-record ws k (kept-says ws k (at-below (goodRecord ws) n k g h))) in
       rw (le-leb n channelLimit (z .few), r)
 
   channel-is : (k : ℕ) → k < n → getD (channelsOf (storedIn ws)) k (newChannel 0) ≡ recordIn ws k
@@ -184,8 +169,8 @@ module _ (ws : List ℕ) (b : ℕ) (z : Sized ws) where
           ≡ true = and-right (goodSizes n R b) (every (goodChannel R) chs && distinct (sendersIn ws)) e in
           let v : every (goodChannel R) chs ≡ true = and-left (every (goodChannel R) chs) (distinct (sendersIn ws)) q in
           and-true (goodRecords ws n) (distinct (sendersIn ws))
-          (all-by (goodRecord ws) n
-          (λ k h. channel-kept ws k (all-at (isRecord ws) n a k h)
+          (all-below (goodRecord ws) n
+          (λ k h. channel-kept ws k (at-below (isRecord ws) n k a h)
           (ap (goodChannel R) (sym (channel-is k h)) ∙ every-at (goodChannel R) (newChannel 0) chs k v (omega (arith, count-is)))))
           (and-right (every (goodChannel R) chs) (distinct (sendersIn ws)) q)
 
@@ -197,4 +182,4 @@ module _ (ws : List ℕ) (b : ℕ) (z : Sized ws) where
           rw (stored-joiner ws (well-joiner e)) (rw (s, v, d))
         where
           go : (k : ℕ) → k < n → goodRecords ws n ≡ true → goodChannel R (getD chs k (newChannel 0)) ≡ true
-          go k h g = ap (goodChannel R) (channel-is k h) ∙ kept-channel ws k (kept-says ws k (all-at (goodRecord ws) n g k h))
+          go k h g = ap (goodChannel R) (channel-is k h) ∙ kept-channel ws k (kept-says ws k (at-below (goodRecord ws) n k g h))

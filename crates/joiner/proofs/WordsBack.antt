@@ -10,7 +10,7 @@ use lib.ListN.{length}
 use Rattle.channel.specs.Record.{goodChannel}
 use Rattle.channel.specs.declared.Judged.{Judged}
 use Rattle.channel.specs.declared.Judged.the-variants.{Refusal, Move}
-use Rattle.channel.proofs.Cases.{channel-says}
+use Rattle.channel.proofs.Cases.{channel-says, step-sender}
 use Rattle.joiner.specs.Setup.{channelAt}
 use Rattle.joiner.specs.declared.Joiner.{Joiner}
 use Rattle.joiner.specs.Take.{judgedOf, takenBy, takenOf}
@@ -18,7 +18,7 @@ use Rattle.joiner.proofs.Judging.{Moved, good-says}
 use Rattle.joiner.specs.JoinerWords.{joinerWords, senderLimit, joinerIn}
 use Rattle.joiner.specs.Calls.{placeIn, wordsBy, takeWords}
 use Rattle.joiner.proofs.ReadBack.{record-back}
-use Rattle.joiner.proofs.Moving.{step-sender, some-joiner, counted, channels-length, moves, steps, words-moved}
+use Rattle.joiner.proofs.Moving.{some-joiner, counted, channels-length, moves, steps, words-moved}
 
 pub taken-back : (ws rooms d : List ℕ) → length ws ≡ joinerWords → joinerIn (takeWords ws rooms d) ≡ takenOf (joinerIn ws) rooms d .joiner
 unfolding takeWords takenOf takenBy
@@ -32,6 +32,6 @@ taken-back ws rooms d w = go (judgedOf (joinerIn ws) (length rooms) d) refl
         let m : Moved j (length rooms) d k s = moves ws (length rooms) d k s e in
         let g : goodChannel (j .room) (channelAt j k) ≡ true = good-says j (length rooms) (channels-length ws) (m .well) .each k (m .known) in
         let q : s .channel .sender < senderLimit = omega
-        (arith, step-sender (steps ws (length rooms) d k s e), channel-says (j .room) (channelAt j k) g .sender) in
+        (arith, step-sender _ _ _ _ (steps ws (length rooms) d k s e), channel-says (j .room) (channelAt j k) g .sender) in
         ap joinerIn (words-moved ws (length rooms) d k s e)
         ∙ record-back ws k (s .channel) w (some-joiner ws k (m .known)) (counted ws k (m .known)) q

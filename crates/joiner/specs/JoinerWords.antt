@@ -1,10 +1,11 @@
 -- A joiner in lent words of 32 bits: the channel count, the room size, and for channel k four words from 2 + 4 k on: sender
 -- ID, seen (0 or 1), last counter, bytes held.
 use Prim.Native.Nat.{ℕ, zero, suc, _+_, _-_, _*_}
-use mathlib.Core.Bool.{Bool, true, _&&_, cond}
+use mathlib.Core.Bool.{Bool, _&&_, cond}
 use mathlib.Core.List.{List, [], _∷_, _++_}
 use lib.Dec.{leb, ltb, eqb}
 use lib.ListN.{getD, replicate}
+use Rattle.wire.specs.All.{allBelow}
 use Rattle.channel.specs.Record.{channelLimit, newChannel}
 use Rattle.channel.specs.declared.Channel.{Channel}
 use Rattle.joiner.specs.Setup.{freshOf}
@@ -36,11 +37,6 @@ recordIn ws k =
 -- the sender ID is of 16 bits, and seen is 0 or 1
 abbrev pub isRecord : List ℕ → ℕ → Bool
 isRecord ws k = ltb (getD ws (recordAt k) 0) senderLimit && ltb (getD ws (recordAt k + 1) 0) seenLimit
-
--- all numbers below n pass
-abbrev pub allBelow : (ℕ → Bool) → ℕ → Bool
-allBelow f zero = true
-allBelow f (suc n) = allBelow f n && f n
 
 -- the first n records
 abbrev pub areRecords : List ℕ → ℕ → Bool

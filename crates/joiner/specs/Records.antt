@@ -5,13 +5,14 @@ use mathlib.Core.Bool.{Bool, _&&_, cond}
 use mathlib.Core.List.{List}
 use lib.Dec.{leb, ltb}
 use lib.ListN.{length, getD}
+use Rattle.wire.specs.All.{allBelow}
 use Rattle.binding.specs.Header.{senders, counters}
 use Rattle.channel.specs.Record.{channelLimit}
 use Rattle.joiner.specs.Setup.{sendersOf, distinct}
 use Rattle.joiner.specs.declared.Joiner.{Joiner}
 use Rattle.joiner.specs.declared.looking.Looked.{Looked}
 use Rattle.joiner.specs.declared.looking.Looked.the-variants.{Nobody, Somebody}
-use Rattle.joiner.specs.JoinerWords.{recordAt, joinerWords, seenLimit, allBelow, recordIn, channelsIn}
+use Rattle.joiner.specs.JoinerWords.{recordAt, joinerWords, seenLimit, recordIn, channelsIn}
 
 -- the words of a joiner, of no more channels than there can be
 pub record Sized (ws : List ℕ) : Type 0 where

@@ -17,7 +17,7 @@ use Rattle.wire.proofs.Numbers.{whole-in}
 use Rattle.wire.proofs.Runs.{over-none}
 use Rattle.table.specs.declared.Sections.{Sections}
 use Rattle.table.specs.declared.Entry.{Entry}
-use Rattle.table.specs.All.{allBelow}
+use Rattle.wire.specs.All.{allBelow}
 use Rattle.table.specs.Leaf.{Leaf, none, base, width, allowed}
 use Rattle.table.specs.Entries.{valueAt}
 use Rattle.table.proofs.Leaves.{no-base}

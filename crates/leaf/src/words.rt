@@ -7,7 +7,7 @@ ghost use mathlib.Core.Bool.{cond, not};
 ghost use Prim.Native.Nat.{_+_, _-_, _*_, _^_, _≤_, _<_};
 ghost use lib.Dec.{ltb};
 ghost use lib.ListN.{length};
-ghost use Rattle.table.specs.All.{allBelow};
+ghost use Rattle.wire.specs.All.{allBelow};
 ghost use Rattle.wire.specs.Bytes.{written};
 ghost use Rattle.leaf.specs.Forms.{truth, extended, wordAt, formOf};
 ghost use Rattle.leaf.specs.Choice.{other, otherAt, among, takes};

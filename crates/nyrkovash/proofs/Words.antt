@@ -2,14 +2,14 @@
 -- Assumes nothing.
 use Prim.Native.Nat.{ℕ, zero, suc, _≤_, _<_}
 use mathlib.Core.Path.{_≡_, refl, sym, ap, ap₂, _∙_}
-use mathlib.Core.Bool.{Bool, true, false, not, cond, _&&_, _||_, true≢false}
+use mathlib.Core.Bool.{Bool, true, false, not, cond, _&&_}
 use mathlib.Core.List.{List, [], _∷_}
 use native.Mathlib.Omega.{arith}
-use borrow.Author.Tests.{eq-eqb, eqb-true, eqb-false, ltb-false, leb-false, not-false}
+use borrow.Author.Tests.{eqb-true, eqb-false, ltb-false, leb-false, not-false}
 use lib.Dec.{eqb, leb, ltb}
 use lib.ListN.{length}
 use Rattle.wire.specs.Bytes.{number}
-use Rattle.wire.proofs.Cond.{yes-if, no-if, passed}
+use Rattle.wire.proofs.Cond.{yes-if, passed, neither}
 use Rattle.wire.proofs.Numbers.{past-end, number-drop}
 use Rattle.message.specs.Header.{headerLength, platformDomain, domainIn, senderIn, idIn, payloadSizeIn, sequenceIn, payloadIn}
 use Rattle.message.specs.Platform.{platformStatus, reservedID, payloadLength, reservedStates, statusOf, statusValue, platformMessage, messageOf}
@@ -20,10 +20,6 @@ use Rattle.message.specs.declared.Message.the-variants.{Operation}
 use Rattle.message.specs.declared.Reading.{Reading}
 use Rattle.message.proofs.Accepted.{readable}
 use Rattle.nyrkovash.specs.MessageCalls.{kindOf, valueOf, readLeft, readNumber, readAnswer}
-
-neither : (a b : Bool) → (a || b) ≡ false → (a ≡ false) × (b ≡ false)
-neither false b e = (refl, e)
-neither true b e = absurd (true≢false e)
 
 -- a state that is not reserved is 0 or 1
 state-is : (f : ℕ) → f < 2 → statusValue (statusOf f) ≡ f
@@ -51,7 +47,7 @@ module _ (i : ℕ) (p : List ℕ) (e : contentsRefusal platformDomain i p ≡ 0)
       let l = passed (not (eqb (length p) (payloadLength i))) 7 _ r .1 in
       passed (eqb i platformStatus && leb reservedStates (number 2 p 0)) 8 0 l .0
 
-  kind-is-id : (f : ℕ) → kindOf (platformMessage i f) ≡ i
+  pub kind-is-id : (f : ℕ) → kindOf (platformMessage i f) ≡ i
   kind-is-id f = go (eqb i 1) (eqb i 2) (eqb i 3) refl refl refl
     where
       go : (x y z : Bool) → eqb i 1 ≡ x → eqb i 2 ≡ y → eqb i 3 ≡ z → kindOf (platformMessage i f) ≡ i
@@ -64,7 +60,7 @@ module _ (i : ℕ) (p : List ℕ) (e : contentsRefusal platformDomain i p ≡ 0)
           let k4 = k .1 in
           rw (a, b, c) (omega (arith, eqb-false i 1 a, eqb-false i 2 b, eqb-false i 3 c, k0))
 
-  value-is-field : valueOf i (platformMessage i (number 2 p 0)) ≡ number 2 p 0
+  pub value-is-field : valueOf i (platformMessage i (number 2 p 0)) ≡ number 2 p 0
   value-is-field = go (eqb i 1) (eqb i 2) (eqb i 3) refl refl refl
     where
       go : (x y z : Bool) → eqb i 1 ≡ x → eqb i 2 ≡ y → eqb i 3 ≡ z → valueOf i (platformMessage i (number 2 p 0)) ≡ number 2 p 0

@@ -9,9 +9,10 @@ use borrow.Author.Count.{below-more}
 use borrow.Author.Tests.{lt-ltb, ltb-true, ltb-false, le-leb, ne-eqb}
 use mir.Syntax.{w64}
 use mir.Val.{Fits}
-use lib.Bits.{bitOr, or-add-and, and-le-l, and-le-r}
+use lib.Bits.{bitOr}
 use lib.Dec.{ltb}
 use lib.ListN.{length, getD}
+use Rattle.wire.proofs.Bits.{or-left, or-right}
 use Rattle.table.specs.Leaf.{base, inSigned, finite, isValue, allowed}
 use Rattle.table.proofs.Leaves.{all-signed, all-unsigned}
 use Rattle.pack.specs.Stored.{isThere}
@@ -74,12 +75,6 @@ pub limit-at : (n l : ℕ) → limitOf n ≡ l → (code : ℕ) → code ≡ n �
 limit-at n l h code e = rw (e, h) (omega arith)
 
 -- a run of words: what is known of the first k
-or-left : (a b : ℕ) → a ≤ bitOr a b
-or-left a b = omega (arith, or-add-and a b, and-le-r a b)
-
-or-right : (a b : ℕ) → b ≤ bitOr a b
-or-right a b = omega (arith, or-add-and a b, and-le-l a b)
-
 module _ (ws : List ℕ) (code from : ℕ) where
   abbrev pub Judged : ℕ → ℕ → Type 0
   Judged all k = all < limitOf code → AllThere ws code from k

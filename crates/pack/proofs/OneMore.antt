@@ -1,6 +1,6 @@
 -- The loops over base codes: one leaf more that is judged, and one more that is stored.
 -- Assumes nothing.
-use Prim.Native.Nat.{ℕ, suc, _+_, _-_, _*_, _^_, _≤_, _<_}
+use Prim.Native.Nat.{ℕ, suc, min, _+_, _-_, _*_, _^_, _≤_, _<_}
 use mathlib.Core.Path.{_≡_, refl, sym, ap, ap₂, _∙_}
 use mathlib.Core.Bool.{Bool, true, false}
 use mathlib.Core.Logic.{⊎-elim}
@@ -46,7 +46,7 @@ module _ (ws codes : List ℕ) (from : ℕ) where
   pub none-judged : So-far 0
   none-judged = ap (takenCount ws codes) (sym (add-zero from)) ∙ sym (zero-add (takenCount ws codes (from + 0)))
 
-  module _ (k n : ℕ) (below : k < n) (few : n ≤ length codes) (there : n ≤ length ws - from) (so-far : So-far k) (r : Bool)
+  module _ (k n : ℕ) (below : k < n) (least : n ≡ min (length codes) (length ws - from)) (so-far : So-far k) (r : Bool)
       (is : r ≡ allowed (getD codes k 0) (getD ws (from + k) 0)) where
     left : takenCount ws (drop k codes) (from + k) ≡ takenCount ws (getD codes k 0 ∷ drop (k + 1) codes) (from + k)
     left = ap (λ (cs : List ℕ). takenCount ws cs (from + k)) (next-code codes k (omega arith))
@@ -70,21 +70,23 @@ module _ (ws codes : List ℕ) (from : ℕ) where
         let q : takenCount ws (drop k codes) (from + k) ≡ 0 = left ∙ no-if (suc m) 0 (sym taken ∙ y) in
         omega arith
 
-  pub all-judged : (k n : ℕ) → n ≤ k → k ≤ n → n ≤ length ws - from → (n < length ws - from → n ≡ length codes) → So-far k → k ≡ takenCount ws codes from
+  pub all-judged : (k n : ℕ) → n ≤ k → k ≤ n → n ≡ min (length codes) (length ws - from) → So-far k → k ≡ takenCount ws codes from
   unfolding takenCount
-  all-judged k n a b there least so-far =
+  all-judged k n a b least so-far =
+      let there : n ≤ length ws - from = omega arith in
       ⊎-elim
       (λ (e : n ≡ length ws - from). omega (arith, count-words ws (drop k codes) (from + k)))
       (λ (l : n < length ws - from).
-      let o : length codes ≤ k = omega (arith, least l) in
+      let o : length codes ≤ k = omega arith in
       let d : takenCount ws (drop k codes) (from + k) ≡ 0 = ap (λ (cs : List ℕ). takenCount ws cs (from + k)) (drop-of-length-le codes o) in
       omega arith)
       (eq-or-lt-of-le there)
 
 -- their bytes
-module _ (codes : List ℕ) (k n : ℕ) (below : k < n) (few : n ≤ length codes) (b w : ℕ) (is : w ≡ width (getD codes k 0)) (end : b ≡ ends (take k codes) 0) where
-  pub more-fits : (m from : ℕ) → n ≤ m - from → m * 8 < 2 ^ 63 → Fits w64 (b + w)
-  more-fits m from h l =
+module _ (codes : List ℕ) (k n m from : ℕ) (below : k < n) (least : n ≡ min (length codes) (m - from))
+    (b w : ℕ) (is : w ≡ width (getD codes k 0)) (end : b ≡ ends (take k codes) 0) where
+  pub more-fits : m * 8 < 2 ^ 63 → Fits w64 (b + w)
+  more-fits l =
       let so : length (take k codes) ≡ k = length-take-le k codes (omega arith) in
       record { fits = omega (arith, ends-near (take k codes) 0, few-bytes (getD codes k 0)) }
 
@@ -114,7 +116,7 @@ module _ (ws codes : List ℕ) (p : Place) where
   pub leads-outside : (x : List ℕ) (k to : ℕ) (y : List ℕ) → length y ≤ to → Leads x k to y → y ≡ laid ws Kept p x
   leads-outside x k to y h l = sym (l ∙ laid-outside ws (drop k Kept) (record { from = p .from + k; to = to }) y h)
 
-  module _ (k n : ℕ) (few : n ≤ length codes) (there : n ≤ length ws - p .from) where
+  module _ (k n : ℕ) (least : n ≡ min (length codes) (length ws - p .from)) where
     pub leads-on : k < n → (x : List ℕ) (to : ℕ) (y : List ℕ) → Leads x k to y → (w : ℕ) → w ≡ width (getD codes k 0) → (z : List ℕ) → z
         ≡ written y to (formOf (getD codes k 0) (getD ws (p .from + k) 0)) → Leads x (k + 1) (to + w) z
     unfolding laid
@@ -129,14 +131,10 @@ module _ (ws codes : List ℕ) (p : Place) where
         (written y to (formOf (getD codes k 0) (getD ws (p .from + k) 0)))) e
         ∙ ap₂ (λ (m : ℕ) (u : List ℕ). laid ws (drop (k + 1) Kept) (record { from = p .from + (k + 1); to = to + m }) u) (sym is) (sym put)
 
-    pub leads-end : n ≤ k → (n < length ws - p .from → n ≡ length codes) → (x : List ℕ) (to : ℕ) (y : List ℕ) → Leads x k to y → y ≡ laid ws Kept p x
+    pub leads-end : n ≤ k → (x : List ℕ) (to : ℕ) (y : List ℕ) → Leads x k to y → y ≡ laid ws Kept p x
     unfolding laid
-    leads-end end least x to y l =
-        let o : length Kept ≤ k =
-        ⊎-elim
-        (λ (e : n ≡ length ws - p .from). omega (arith, length-take (length ws - p .from) codes))
-        (λ (b : n < length ws - p .from). omega (arith, least b, length-take (length ws - p .from) codes))
-        (eq-or-lt-of-le there) in
+    leads-end end x to y l =
+        let o : length Kept ≤ k = omega (arith, length-take (length ws - p .from) codes) in
         sym (l ∙ ap (λ (cs : List ℕ). laid ws cs (record { from = p .from + k; to = to }) y) (drop-of-length-le Kept o))
 
 -- the place behind a leaf that begins within the room

@@ -1,6 +1,6 @@
 -- A run of leaves of one base code: how many of them there is room for, and that their width is all that is stored by.
 -- Assumes nothing.
-use Prim.Native.Nat.{ℕ, zero, suc, _+_, _-_, _*_, _/_, _%_, _^_, _≤_, _<_}
+use Prim.Native.Nat.{ℕ, zero, suc, min, _+_, _-_, _*_, _/_, _%_, _^_, _≤_, _<_}
 use mathlib.Core.Path.{_≡_, refl, sym, ap, _∙_}
 use mathlib.Core.Logic.{⊎-elim}
 use mathlib.Core.Bool.{cond}
@@ -102,21 +102,24 @@ module _ (ws : List ℕ) (code : ℕ) (p : Place) (x : List ℕ) where
     div : ((length x - p .to) / width code * width code + (length x - p .to) % width code ≡ length x - p .to) × ((length x - p .to) % width code < width code)
     div = (div-add-mod' (length x - p .to) (width code), mod-lt (length x - p .to) (has-width code few))
 
-    pub fit-in : n ≤ room → p .to + n * width code ≤ length x
-    fit-in h =
+    pub fit-in : n ≡ min room count → p .to + n * width code ≤ length x
+    fit-in least =
+        let h : n ≤ room = omega arith in
         let q : room * width code
         ≡ (length x - p .to) / width code * width code = ap (λ (k : ℕ). k * width code) (whole ∙ ap (λ (k : ℕ). (length x - p .to) / k) is) in
         let u : n * width code ≤ room * width code = mul-le-mul-right (width code) h in
         omega (arith, div .0)
 
-    pub all-that-fit : {z : List ℕ} → n ≤ count → (n < count → n ≡ room) → z ≡ storedAll ws code p n x → z ≡ storedAll ws code p count x
-    all-that-fit h least e =
+    pub all-that-fit : {z : List ℕ} → n ≡ min room count → z ≡ storedAll ws code p n x → z ≡ storedAll ws code p count x
+    all-that-fit least e =
+        let h : n ≤ count = omega arith in
         e
         ∙ ⊎-elim
         (λ (s : n ≡ count). ap (λ (k : ℕ). storedAll ws code p k x) s)
         (λ (b : n < count).
+        let all : n ≡ room = omega arith in
         let q : n * width code ≡ (length x - p .to) / width code * width code = ap (λ (k : ℕ). k * width code)
-        (least b ∙ whole ∙ ap (λ (k : ℕ). (length x - p .to) / k) is) in
+        (all ∙ whole ∙ ap (λ (k : ℕ). (length x - p .to) / k) is) in
         sym (rest n count h (omega (arith, div .0, div .1))))
         (eq-or-lt-of-le h)
 

@@ -32,9 +32,3 @@ pub(crate) fn set(out: &mut [u8], at: usize, code: u16, word: u64)
         _ => {}
     }
 }
-
-pub(crate) fn least(a: usize, b: usize) -> usize
-    ensures { λ r. ⌜ (r ≤ a) × (r ≤ b) × (r < b → r ≡ a) ⌝ }
-{
-    if a < b { a } else { b }
-}

@@ -20,7 +20,7 @@ pub(crate) fn judge_codes(words: &[u64], codes: &[u8], from: usize) -> Passed
     if words.len() <= from {
         return Passed { count: 0, bytes: 0 };
     }
-    let n = bases::least(codes.len(), words.len() - from);
+    let n = wire::least(codes.len(), words.len() - from);
     let mut bytes: usize = 0;
     let mut k: usize = 0;
     while k < n {
@@ -44,7 +44,7 @@ pub(crate) fn store_codes(words: &[u64], out: &mut [u8], codes: &[u8], p: Place)
     if words.len() <= from {
         return;
     }
-    let n = bases::least(codes.len(), words.len() - from);
+    let n = wire::least(codes.len(), words.len() - from);
     let mut to = p.to;
     let mut k: usize = 0;
     while k < n {

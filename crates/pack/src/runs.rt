@@ -46,7 +46,7 @@ fn store(words: &[u64], out: &mut [u8], code: u16, count: usize, p: Place)
 {
     if p.to < out.len() {
         let room = (out.len() - p.to) / leaf::width(code);
-        store_each(words, out, code, bases::least(room, count), p);
+        store_each(words, out, code, wire::least(room, count), p);
     }
 }
 

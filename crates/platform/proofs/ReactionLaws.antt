@@ -9,10 +9,10 @@ use Rattle.table.specs.declared.Sections.{Sections}
 use Rattle.table.specs.declared.Operation.{Operation}
 use Rattle.table.specs.declared.Found.{Found}
 use Rattle.table.specs.declared.Found.the-variants as found
-use Rattle.table.specs.All.{allBelow}
+use Rattle.wire.specs.All.{allBelow}
 use Rattle.table.specs.Entries.{operationAt}
 use Rattle.table.specs.Search.{lookedUp}
-use Rattle.table.proofs.AllBelow.{none-below, next-below, stop-below, done-below}
+use Rattle.wire.proofs.AllBelow.{none-below, next-below, stop-below, done-below}
 use Rattle.message.specs.declared.Header.{Header}
 use Rattle.message.specs.declared.Status.{Status}
 use Rattle.message.specs.declared.Status.the-variants.{Down, Up}

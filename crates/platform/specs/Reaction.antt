@@ -7,7 +7,7 @@ use lib.Dec.{eqb, ltb}
 use Rattle.table.specs.declared.Sections.{Sections}
 use Rattle.table.specs.declared.Found.{Found}
 use Rattle.table.specs.declared.Found.the-variants as found
-use Rattle.table.specs.All.{allBelow}
+use Rattle.wire.specs.All.{allBelow}
 use Rattle.table.specs.Entries.{dataKind, operationAt}
 use Rattle.table.specs.Search.{lookedUp}
 use Rattle.message.specs.declared.Header.{Header}

@@ -20,7 +20,7 @@ use Rattle.binding.specs.Header.{senders, counters, largestPiece, headerOf, hea
 use Rattle.binding.specs.declared.BindingHeader.{BindingHeader}
 use Rattle.binding.specs.Cutting.{pieceCount, pieceAt, partOfPiece, counterOf, headerOfPiece, datagramOf}
 use Rattle.binding.proofs.Headers.{Headed, heard-headed, header-octets}
-use Rattle.binding.proofs.Cutting.{Cuttable, cuttable, covered, count-some, one-piece, piece-some, piece-most, counter-lt, datagram-heard}
+use Rattle.binding.proofs.Cutting.{Cuttable, covered, count-some, one-piece, piece-some, piece-most, counter-lt, datagram-heard}
 use Rattle.promises.specs.Senders.{Piece, Message, Sender, markOf, sentFrom, after, arriving, arrives, lossesWithin}
 use Rattle.promises.specs.Senders.{together, allArrived, goodPieces, goodMessage}
 use Rattle.promises.specs.Traffic.{Datagram, isOf, ofChannel, AreBytes, none, more}
@@ -147,7 +147,7 @@ or-room n l R h = rw (le-leb l R h) (go (eqb n 1))
 
 pub cut-and-joined : CutAndJoined
 cut-and-joined ids R rooms k msg s first g =
-    let w : Cuttable (length msg) s = cuttable (length msg) s (g .cut) in
+    let w : Cuttable (length msg) s = record { some = g .some; most = g .most; size = g .size; piece = g .piece } in
     let n : ℕ = pieceCount (length msg) s in
     let some : 1 ≤ n = count-some (length msg) s (w .size) (w .some) in
     let e : suc (n - 1) ≡ n = omega arith in

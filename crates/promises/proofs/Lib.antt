@@ -7,6 +7,7 @@ pub mod Demand1
 pub mod Headers
 pub mod CutAndJoined
 pub mod Payloads
+pub mod OneCodec
 mod Lookups
 mod Reacting
 mod Replying
@@ -25,6 +26,8 @@ pub mod WrongPlatforms
 pub mod NotRuledOut
 pub mod WrongTurns
 pub mod Starred
+pub mod EachNumber
+pub mod AtLimits
 pub mod Unique
 pub mod UniqueCalls
 pub mod ExportsKeep

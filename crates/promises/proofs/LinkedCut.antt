@@ -114,7 +114,10 @@ cut-then-taken ids R rooms k msg s first g was n count p cuts r = (count-number 
           (record {
             set-up = set-ups ids R (length rooms) (g .set-up);
             known = g .known;
-            cut = can-cut (length msg) s w;
+            some = g .some;
+            most = g .most;
+            size = g .size;
+            piece = g .piece;
             counter = g .counter;
             room = g .room;
             bytes = g .bytes;

@@ -2,22 +2,20 @@
 -- Assumes nothing.
 use Prim.Native.Nat.{ℕ, zero, suc, _+_, _-_, _^_, _≤_, _<_}
 use mathlib.Core.Path.{_≡_, refl, sym, ap, ap₂, _∙_}
-use mathlib.Core.Bool.{Bool, true, false, not, cond, _&&_, _||_, true≢false}
+use mathlib.Core.Bool.{Bool, true, false, cond, _&&_}
 use mathlib.Core.List.{List, [], _∷_}
 use native.Mathlib.Omega.{arith}
 use native.Mathlib.Nat.{suc-ne-zero}
-use borrow.Author.Tests.{eqb-true, eqb-false, ne-eqb, ltb-false, leb-false, not-false}
+use borrow.Author.Tests.{ne-eqb}
 use lib.Dec.{eqb, leb, ltb}
 use lib.ListN.{length, take, drop}
 use lib.Seq.{drop-at}
 use denote.Ref.{now}
 use Rattle.wire.specs.Bytes.{Octets, number, bytes, over}
-use Rattle.wire.proofs.Cond.{yes-if, passed}
-use Rattle.wire.proofs.Numbers.{past-end}
 use Rattle.message.specs.declared.Reading.{Reading}
 use Rattle.message.specs.declared.Writing.the-variants as writing
 use Rattle.message.specs.Header.{headerLength, domainIn, senderIn, idIn, payloadSizeIn, sequenceIn, headerIn}
-use Rattle.message.specs.Platform.{reservedID, payloadLength, statusOf, statusValue, platformMessage, messageOf}
+use Rattle.message.specs.Platform.{messageOf}
 use Rattle.message.specs.Refusal.{contentsRefusal, readRefusal, writeRefusal}
 use Rattle.message.specs.Reading.{readOut, readOf, payloadOf}
 use Rattle.message.specs.Reading as reads
@@ -32,6 +30,7 @@ use Rattle.binding.specs.declared.cutter.Made.the-variants as made
 use Rattle.binding.proofs.Cutting.{can-cut, pieces-made, made-front, made-rest}
 use Rattle.nyrkovash.specs.MessageCalls.{kindOf, valueOf, readLeft, writeLeft}
 use Rattle.nyrkovash.specs.PieceCalls.{countLeft, madeLeft}
+use Rattle.nyrkovash.proofs.Words.{kind-is-id, value-is-field}
 use Rattle.promises.specs.Traffic.{Datagram, deliveredOn, fresh}
 use Rattle.promises.specs.Headers.{ReadsAs}
 use Rattle.promises.specs.CutAndJoined.{datagramsFrom}
@@ -40,57 +39,10 @@ use Rattle.promises.specs.LinkedMessages.{IsCut, AreCut, CutsEach, CanJo
 use Rattle.promises.proofs.Headers.{was-read, written-then-read, read-then-written}
 use Rattle.promises.proofs.CutAndJoined.{cut-and-joined}
 
--- a state that is not reserved is 0 or 1
-state-is : (f : ℕ) → f < 2 → statusValue (statusOf f) ≡ f
-state-is zero h = refl
-state-is (suc zero) h = refl
-state-is (suc (suc f)) h = absurd (omega arith)
-
-neither : (a b : Bool) → (a || b) ≡ false → (a ≡ false) × (b ≡ false)
-neither false b e = (refl, e)
-neither true b e = absurd (true≢false e)
-
--- a platform message that nothing refuses: its kind is its ID, and its value the field of its payload
-module _ (i : ℕ) (p : List ℕ) (e : contentsRefusal 0 i p ≡ 0) where
-  ids-known : (i ≡ 0 → ⊥) × (i ≤ 4)
-  ids-known =
-      let n = neither (eqb i 0) (ltb 4 i) (passed (reservedID i) 6 _ e .0) in
-      (eqb-false i 0 (n .0), ltb-false 4 i (n .1))
-
-  length-known : length p ≡ payloadLength i
-  length-known =
-      let r = passed (reservedID i) 6 _ e .1 in
-      eqb-true (length p) (payloadLength i) (not-false _ (passed (not (eqb (length p) (payloadLength i))) 7 _ r .0))
-
-  state-known : (eqb i 1 && leb 2 (number 2 p 0)) ≡ false
-  state-known =
-      let r = passed (reservedID i) 6 _ e .1 in
-      let l = passed (not (eqb (length p) (payloadLength i))) 7 _ r .1 in
-      passed (eqb i 1 && leb 2 (number 2 p 0)) 8 0 l .0
-
-  abbrev f : ℕ
-  f = number 2 p 0
-
-  platform-words : (kindOf (platformMessage i f) ≡ i) × (valueOf i (platformMessage i f) ≡ f)
-  platform-words = go (eqb i 1) (eqb i 2) (eqb i 3) refl refl refl
-    where
-      go : (x y z : Bool) → eqb i 1 ≡ x → eqb i 2 ≡ y → eqb i 3 ≡ z → (kindOf (platformMessage i f) ≡ i) × (valueOf i (platformMessage i f) ≡ f)
-      go true y z a b c =
-          let s : leb 2 f ≡ false = rw a at state-known in
-          rw a (sym (eqb-true i 1 a), state-is f (leb-false 2 f s))
-      go false true z a b c =
-          let l : length p ≡ 0 = length-known ∙ yes-if 0 4 b in
-          rw (a, b) (sym (eqb-true i 2 b), sym (past-end 2 p 0 (omega arith)))
-      go false false true a b c = rw (a, b, c) (sym (eqb-true i 3 c), refl)
-      go false false false a b c =
-          let k0 = ids-known .0 in
-          let k4 = ids-known .1 in
-          rw (a, b, c) (omega (arith, eqb-false i 1 a, eqb-false i 2 b, eqb-false i 3 c, k0, k4), refl)
-
 -- the words that tell a message
 told-words : (d i : ℕ) (p : List ℕ) → d < 2 → contentsRefusal d i p ≡ 0
     → (kindOf (messageOf d i (number 2 p 0)) ≡ kindSent d i) × (valueOf i (messageOf d i (number 2 p 0)) ≡ valueSent d i p)
-told-words zero i p h e = platform-words i p e
+told-words zero i p h e = (kind-is-id i p e (number 2 p 0), value-is-field i p e)
 told-words (suc zero) i p h e = (refl, refl)
 told-words (suc (suc d)) i p h e = absurd (omega arith)
 
@@ -314,7 +266,17 @@ module _ (msg : List ℕ) (s sender first : ℕ) (g : CanBeCut msg s sender firs
       (are-cut msg s sender first 0 ds r
       ∙ ap₂ (λ (x n : ℕ). datagramsFrom msg s x first 0 n) (sym (j .its-id)) l)
       ∙ cut-and-joined ids R rooms c msg s first
-      (record { set-up = j .set-up; known = j .known; cut = cuts; counter = g .counter-fits; room = j .room; bytes = j .bytes })
+      (record {
+        set-up = j .set-up;
+        known = j .known;
+        some = g .some;
+        most = g .most;
+        size = g .size;
+        piece = g .largest;
+        counter = g .counter-fits;
+        room = j .room;
+        bytes = j .bytes;
+      })
 
 cut-then-joined : CutThenJoined
 cut-then-joined msg s sender first g k a n e p em es =

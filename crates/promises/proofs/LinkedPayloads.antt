@@ -32,9 +32,10 @@ use Rattle.nyrkovash.specs.PayloadCalls.{refusalIn, givenLeft}
 use Rattle.promises.specs.Checks.{Keeps}
 use Rattle.promises.specs.PayloadOrder.{numberOf}
 use Rattle.promises.specs.Payloads.{Known, PackGivesBy, UnpackGivesBy, PacksExactlyBy, UnpacksExactlyBy, RoundTripsBy, PackGives, UnpackGives}
-use Rattle.promises.specs.Payloads.{PacksExactly, UnpacksExactly, RoundTrips}
+use Rattle.promises.specs.Payloads.{PacksExactly, UnpacksExactly}
 use Rattle.promises.specs.WrongCodecs.{KeepsBy}
 use Rattle.promises.specs.LinkedPayloads.{givenBack, toldOf, linkedCoding, PacksAs, UnpacksAs, PackedBack, UnpackedBack, LinkedPayloads}
+use Rattle.promises.proofs.OneCodec.{trips-follow}
 use Rattle.promises.proofs.Payloads.{payloads}
 use Rattle.promises.proofs.Demand1.{demand-1}
 use Rattle.promises.proofs.Numbered.{Numbered, TableNumbered, table-numbered, bytes-numbered}
@@ -83,6 +84,7 @@ module _ (t : List ℕ) (s : Sections) (i : ℕ) (h : Known t s i) where
         only = λ ws out k e.
             let p = ours .only ws out k (told-gave (packed t i ws (length out)) k (pack-numbered t i ws (length out)) e) in
             (p .0, p .1, pack-told ws out (p .0) (p .2));
+        fits = λ ws out k e. ours .fits ws out k (told-gave (packed t i ws (length out)) k (pack-numbered t i ws (length out)) e);
       }
 
   unpacks-exactly : UnpacksExactlyBy linkedCoding t s i
@@ -93,20 +95,11 @@ module _ (t : List ℕ) (s : Sections) (i : ℕ) (h : Known t s i) where
         only = λ b words k o e.
             let p = ours .only b words k o (told-gave (unpacked t i b (length words)) k (unpack-numbered t i b (length words)) e) in
             (p .0, p .1, unpack-told b words (p .0) (p .2));
+        fits = λ b words k o e. ours .fits b words k o (told-gave (unpacked t i b (length words)) k (unpack-numbered t i b (length words)) e);
       }
 
   round-trips : RoundTripsBy linkedCoding t s i
-  round-trips =
-      let ours : RoundTrips t s i = payloads .calls t s i h .2 in
-      record {
-        pack-then-unpack = λ ws out words k e l.
-            let a : packed t i ws (length out) ≡ Gave k = told-gave (packed t i ws (length out)) k (pack-numbered t i ws (length out)) e in
-            unpack-told (take k (bytesAfter t i ws out)) words ws (ours .pack-then-unpack ws out words k a l);
-        unpack-then-pack = λ b words out k o e l.
-            let a : unpacked t i b (length words) ≡ Gave k = told-gave (unpacked t i b (length words)) k (unpack-numbered t i b (length words)) e in
-            let p = ours .unpack-then-pack b words out k o a l in
-            (p .0, p .1, p .2, pack-told (take k (wordsAfter t i b words)) out (p .0) (p .3));
-      }
+  round-trips = trips-follow linkedCoding t s i packs-exactly unpacks-exactly
 
 keeps-told : {before after : List ℕ} (a : Answer) → Numbered a → Keeps (numberOf a) before after → Keeps (numberOf (toldOf a)) before after
 keeps-told a h k z = k (λ e. z (told-number a h ∙ e))

@@ -9,6 +9,7 @@ use borrow.Author.Tests.{leb-true, ltb-true, eqb-true, eqb-false}
 use lib.Dec.{leb, ltb, eqb}
 use lib.ListN.{length, getD}
 use Rattle.wire.proofs.Cond.{and-left, and-right}
+use Rattle.wire.proofs.AllBelow.{at-below}
 use Rattle.wire.proofs.Runs.{length-written}
 use Rattle.binding.specs.Header.{theVersion, smallestDatagram, largestDatagram, versionIn, heardIn, pieceIn}
 use Rattle.binding.specs.declared.BindingHeader.{BindingHeader}
@@ -33,7 +34,7 @@ use Rattle.joiner.specs.JoinerWords.{recordAt, senderLimit, recordIn, isRecord,
 use Rattle.joiner.specs.Calls.{outcomeWords, unlessRefused, withRecord, placeIn, takeNumber, takeWords, takeRooms, takeAnswer}
 use Rattle.joiner.specs.Records.{storedIn}
 use Rattle.joiner.specs.View.{View, viewOf}
-use Rattle.joiner.proofs.Stored.{stored-at, all-at, stored-joiner, is-joiner}
+use Rattle.joiner.proofs.Stored.{stored-at, stored-joiner, is-joiner}
 use Rattle.joiner.proofs.Standing.{standing-good}
 use Rattle.joiner.proofs.Lookups.{senders-length}
 use Rattle.promises.specs.Traffic.{Datagram, handedBack}
@@ -175,7 +176,7 @@ lying-is ids R k ws rooms h u =
     let m : joinerIn ws .count ≡ length ids =
     sym (senders-length (joinerIn ws) (standing-good (u .stands) .sizes .few) (u .stands .width)) ∙ ap length (u .senders) in
     let l : k < n = omega arith in
-    let r : isRecord ws k ≡ true = all-at (isRecord ws) n (and-right (leb n channelLimit) (areRecords ws n) i) k l in
+    let r : isRecord ws k ≡ true = at-below (isRecord ws) n k (and-right (leb n channelLimit) (areRecords ws n) i) l in
     let w : getD ws (2 + 4 * k + 1) 0 < 2 =
     ltb-true (getD ws (recordAt k + 1) 0) 2 (and-right (ltb (getD ws (recordAt k) 0) senderLimit) (ltb (getD ws (recordAt k + 1) 0) 2) r) in
     let e : channelAt (joinerIn ws) k ≡ recordIn ws k = ap (λ (j : Joiner). channelAt j k) s ∙ stored-at ws few k l in

@@ -10,6 +10,7 @@ use borrow.Author.Tests.{ltb-true, ltb-false}
 use lib.Dec.{eqb, leb, ltb}
 use lib.ListN.{length}
 use Rattle.wire.specs.Bytes.{number}
+use Rattle.wire.proofs.Cond.{clash}
 use Rattle.message.specs.declared.Reading.{Reading}
 use Rattle.message.specs.declared.Reading.the-variants as reading
 use Rattle.message.specs.declared.Writing.{Writing}
@@ -132,9 +133,6 @@ above-decides m n = flip-decides (leb m n) (le-decides m n) (λ l. omega arith) 
 cut-decides : (m s : ℕ) → Decides (not (canCut m s)) (Outside 1 65560 m ⊎ Outside 1 65503 s)
 cut-decides m s = flip-decides (canCut m s) (record { yes-is = cuttable m s; no-is = λ e w. clash e (can-cut m s w) }) there back
   where
-    clash : canCut m s ≡ false → canCut m s ≡ true → ⊥
-    clash e f = let z : _≡_ {A = ℕ} 0 1 = cc in omega arith
-
     there : ¬ (Cuttable m s) → Outside 1 65560 m ⊎ Outside 1 65503 s
     there n =
         ⊎-elim (λ o. inl o)

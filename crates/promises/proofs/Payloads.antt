@@ -1,22 +1,23 @@
 -- Payloads, on table bytes that `check` accepts.
 -- Assumes nothing.
 use Prim.Native.Nat.{ℕ, _≤_}
-use mathlib.Core.Path.{_≡_, sym, ap, subst, _∙_}
+use mathlib.Core.Path.{_≡_, sym, ap, _∙_}
 use mathlib.Core.List.{List}
+use native.Mathlib.Omega.{arith}
 use borrow.Author.Tests.{lt-ltb}
-use lib.ListN.{length, take}
+use lib.ListN.{length}
 use Rattle.wire.specs.Bytes.{Octets, over}
 use Rattle.table.specs.declared.Sections.{Sections}
 use Rattle.types.proofs.Accepted.{accepted, is-within}
 use Rattle.payload.specs.declared.Answer.the-variants.{Gave}
-use Rattle.values.specs.Values.{Value, Spoken, BooleansAsOne, exact}
+use Rattle.values.specs.Values.{Value, Spoken, exact}
 use Rattle.unpack.specs.Reading.{reader}
 use Rattle.pack.specs.Writing.{writer}
 use Rattle.payload.specs.Calls.{unpackedIn, wordsIn, packedIn, bytesIn, unpacked, wordsAfter, packed, bytesAfter}
 use Rattle.values.proofs.Exactly.{Callable, Calls, packs-values, values-pack, Unpacks, unpacks-forms, forms-unpack}
-use Rattle.values.proofs.RoundTrip.{pack-then-unpack, PacksAgain, unpack-then-pack}
 use Rattle.values.proofs.Checked.{same-answer, same-left}
-use Rattle.promises.specs.Payloads.{Known, PackGives, UnpackGives, PacksExactly, UnpacksExactly, RoundTrips, OnSections, Payloads}
+use Rattle.promises.specs.Payloads.{Known, ourCoding, PackGives, UnpackGives, PacksExactly, UnpacksExactly, RoundTrips, OnSections, Payloads}
+use Rattle.promises.proofs.OneCodec.{trips-follow}
 
 module _ (t : List ℕ) (s : Sections) (i : ℕ) (h : Known t s i) where
   callable : Callable t s i
@@ -45,7 +46,7 @@ module _ (t : List ℕ) (s : Sections) (i : ℕ) (h : Known t s i) where
 
   packs-exactly : PacksExactly t s i
   unfolding Value
-  packs-exactly = record { values = values; only = only }
+  packs-exactly = record { values = values; only = only; fits = fits }
     where
       values : (ws bs out : List ℕ) → Value t s i ws bs → length bs ≤ length out → PackGives t i ws out bs
       values ws bs out v l = let p = values-pack t s i ws bs out callable v l in pack-gives ws out bs (p .0) (p .1)
@@ -56,8 +57,13 @@ module _ (t : List ℕ) (s : Sections) (i : ℕ) (h : Known t s i) where
           let c : Calls exact (writer ws) t s i ws out k = packs-values t s i ws out k a in
           (c .ys, c .belong, pack-gives ws out (c .ys) (a ∙ ap Gave (c .as-many)) (c .given))
 
+      fits : (ws out : List ℕ) (k : ℕ) → packed t i ws (length out) ≡ Gave k → k ≤ length out
+      fits ws out k e =
+          let c : Calls exact (writer ws) t s i ws out k = packs-values t s i ws out k (sym (pack-same ws (length out)) ∙ e) in
+          omega (arith, c .as-many, c .fit)
+
   unpacks-exactly : UnpacksExactly t s i
-  unpacks-exactly = record { forms = forms; only = only }
+  unpacks-exactly = record { forms = forms; only = only; fits = fits }
     where
       forms : (ws b words : List ℕ) → Spoken t s i ws b → length ws ≤ length words → UnpackGives t i b words ws
       forms ws b words v l = let p = forms-unpack t s i ws b words callable v l in unpack-gives b words ws (p .0) (p .1)
@@ -68,25 +74,13 @@ module _ (t : List ℕ) (s : Sections) (i : ℕ) (h : Known t s i) where
           let c : Unpacks t s i b words k = unpacks-forms t s i b words k o a in
           (c .ws, c .belong, unpack-gives b words (c .ws) (a ∙ ap Gave (c .as-many)) (c .given))
 
-  round-trips : RoundTrips t s i
-  round-trips = record { pack-then-unpack = packed-back; unpack-then-pack = unpacked-back }
-    where
-      packed-back : (ws out words : List ℕ) (k : ℕ) → packed t i ws (length out) ≡ Gave k → length ws ≤ length words
-          → UnpackGives t i (take k (bytesAfter t i ws out)) words ws
-      packed-back ws out words k e l =
-          let a : packedIn t s i ws (length out) ≡ Gave k = sym (pack-same ws (length out)) ∙ e in
-          let p = pack-then-unpack t s i ws out words k a l in
-          subst (λ (b : List ℕ). UnpackGives t i (take k b) words ws) (sym (bytes-same ws out))
-          (unpack-gives (take k (bytesIn t s i ws out)) words ws (p .0) (p .1))
+      fits : (b words : List ℕ) (k : ℕ) → Octets b → unpacked t i b (length words) ≡ Gave k → k ≤ length words
+      fits b words k o e =
+          let c : Unpacks t s i b words k = unpacks-forms t s i b words k o (sym (unpack-same b (length words)) ∙ e) in
+          omega (arith, c .as-many, c .fit)
 
-      unpacked-back : (b words out : List ℕ) (k : ℕ) → Octets b → unpacked t i b (length words) ≡ Gave k → length b ≤ length out
-          → (cs : List ℕ) × BooleansAsOne t s i b cs × (length cs ≡ length b) × PackGives t i (take k (wordsAfter t i b words)) out cs
-      unpacked-back b words out k o e l =
-          let a : unpackedIn t s i b (length words) ≡ Gave k = sym (unpack-same b (length words)) ∙ e in
-          let ws : List ℕ = take k (wordsIn t s i b words) in
-          let p : PacksAgain t s i b ws out = unpack-then-pack t s i b words out k o a l in
-          let g : PackGives t i ws out (p .cs) = pack-gives ws out (p .cs) (p .answers ∙ ap Gave (sym (p .as-long))) (p .given) in
-          (p .cs, p .settled-is, p .as-long, subst (λ (u : List ℕ). PackGives t i (take k u) out (p .cs)) (sym (words-same b words)) g)
+  round-trips : RoundTrips t s i
+  round-trips = trips-follow ourCoding t s i packs-exactly unpacks-exactly
 
   on-sections : OnSections t s i
   on-sections =

@@ -4,7 +4,7 @@ use mathlib.Core.Path.{refl}
 use mathlib.Core.List.{[]}
 use Rattle.table.specs.declared.Section.{Section}
 use Rattle.table.specs.declared.Found.the-variants as found
-use Rattle.table.specs.All.{allBelow}
+use Rattle.wire.specs.All.{allBelow}
 use Rattle.states.specs.States.{wordOf, withWord, bitOf, isUp, turned, withOwn}
 use Rattle.platform.specs.Replies.{replyBytes}
 use Rattle.platform.specs.Reaction.{noData, cameUp, onState, onStatus, onPullAll, onPull, reactionTo}

@@ -1,25 +1,23 @@
 -- What is reported of a message of each kind.
 -- Assumes nothing.
-use Prim.Native.Nat.{ℕ, zero, suc, _-_, _≤_, _<_}
+use Prim.Native.Nat.{ℕ, _-_, _≤_, _<_}
 use mathlib.Core.Path.{_≡_, refl, sym, ap, ap₂, subst, _∙_}
-use mathlib.Core.Bool.{Bool, true, false, not, cond}
-use mathlib.Core.Logic.{⊎-elim}
+use mathlib.Core.Bool.{Bool, true, false}
 use mathlib.Core.List.{List}
-use native.Mathlib.Nat.{eq-or-lt-of-le}
 use native.Mathlib.Omega.{arith}
-use borrow.Author.Tests.{eqb-true, eqb-false, ltb-true, ltb-false}
-use lib.Dec.{eqb, ltb}
+use borrow.Author.Tests.{eqb-true, eqb-false, not-true, not-false}
+use lib.Dec.{eqb}
 use lib.ListN.{length, drop, length-drop}
 use lib.Seq.{take-all}
 use Rattle.wire.proofs.Runs.{part-in}
 use Rattle.table.specs.declared.Sections.{Sections}
 use Rattle.table.specs.declared.Found.{Found}
 use Rattle.table.specs.declared.Found.the-variants as found
-use Rattle.table.specs.Entries.{idAt, operationAt}
-use Rattle.table.specs.Operations.{idsRise, orElse, firstBelow, operationOf}
+use Rattle.table.specs.Entries.{operationAt}
+use Rattle.table.specs.Operations.{idsRise, operationOf}
 use Rattle.table.specs.Search.{lookedUp}
-use Rattle.table.proofs.AllBelow.{at-below}
-use Rattle.table.proofs.Rising.{rising-apart}
+use Rattle.wire.proofs.AllBelow.{at-below}
+use Rattle.table.proofs.WhereIDsRise.{Bears, scanned, same-id}
 use Rattle.message.specs.declared.Header.{Header}
 use Rattle.message.specs.declared.Status.the-variants.{Down, Up}
 use Rattle.message.specs.declared.Message.{Message}
@@ -33,14 +31,6 @@ use Rattle.platform.specs.Receiving.{payloadHeard}
 use Rattle.promises.specs.Reports.{HasID, IsVersioned, Pulled, Operated, Reports, all, none-of-all, one, not-versioned, in-table, not-in-table}
 use Rattle.promises.proofs.Rules32.{some-below}
 use Rattle.promises.proofs.Reacting.{X, status-heard}
-
-not-true : (b : Bool) → not b ≡ true → b ≡ false
-not-true true e = let z : _≡_ {A = ℕ} 0 1 = cc in absurd (omega arith)
-not-true false e = refl
-
-not-false : (b : Bool) → not b ≡ false → b ≡ true
-not-false true e = refl
-not-false false e = let z : _≡_ {A = ℕ} 0 1 = cc in absurd (omega arith)
 
 module _ (t : List ℕ) (s : Sections) where
   -- versioned data
@@ -64,46 +54,22 @@ module _ (t : List ℕ) (s : Sections) where
 
   -- the operation of an ID: an entry that has it, or none does
   module _ (id : ℕ) where
-    abbrev Bears : ℕ → Found → Type 0
-    Bears n (found.At i) = (i < n) × (idAt t s i ≡ id)
-    Bears n found.Nothing = (k : ℕ) → k < n → ¬ (idAt t s k ≡ id)
-
-    scanned : (n : ℕ) → Bears n (firstBelow t s id n)
-    unfolding firstBelow
-    scanned zero = λ k h. absurd (omega arith)
-    scanned (suc n) = go (firstBelow t s id n) (scanned n) (eqb (idAt t s n) id) refl
-      where
-        go : (x : Found) → Bears n x → (b : Bool) → eqb (idAt t s n) id ≡ b → Bears (suc n) (orElse x (cond b (found.At n) found.Nothing))
-        go (found.At i) h b p = (omega arith, h .1)
-        go found.Nothing h true p = (omega arith, eqb-true (idAt t s n) id p)
-        go found.Nothing h false p = λ k l q.
-            let m : k ≤ n = omega arith in
-            ⊎-elim (λ (e : k ≡ n). eqb-false (idAt t s n) id p (subst (λ (j : ℕ). idAt t s j ≡ id) e q)) (λ (g : k < n). h k g q) (eq-or-lt-of-le m)
-
-    bears : Bears (s .operations .count) (operationOf t s id)
+    bears : Bears t s id (s .operations .count) (operationOf t s id)
     unfolding operationOf
-    bears = scanned (s .operations .count)
+    bears = scanned t s id (s .operations .count)
 
     has : (i : ℕ) → operationOf t s id ≡ found.At i → HasID t s id i
     unfolding operationAt
-    has i e = subst (Bears (s .operations .count)) e bears
+    has i e = subst (Bears t s id (s .operations .count)) e bears
 
     has-not : operationOf t s id ≡ found.Nothing → (i : ℕ) → ¬ (HasID t s id i)
     unfolding operationAt
-    has-not e i h = subst (Bears (s .operations .count)) e bears i (h .0) (h .1)
+    has-not e i h = subst (Bears t s id (s .operations .count)) e bears i (h .0) (h .1)
 
   module _ (rise : idsRise t s ≡ true) where
     same : (id i j : ℕ) → HasID t s id i → HasID t s id j → i ≡ j
-    unfolding idsRise operationAt
-    same id i j hi hj = go (ltb i j) refl (ltb j i) refl
-      where
-        apart : (m n : ℕ) → m < n → n < s .operations .count → idAt t s m < idAt t s n
-        apart m n l h = rising-apart (idAt t s) (s .operations .count) rise m n l h
-
-        go : (a : Bool) → ltb i j ≡ a → (b : Bool) → ltb j i ≡ b → i ≡ j
-        go true p b r = absurd (omega (arith, apart i j (ltb-true i j p) (hj .0), hi .1, hj .1))
-        go false p true r = absurd (omega (arith, apart j i (ltb-true j i r) (hi .0), hi .1, hj .1))
-        go false p false r = omega (arith, ltb-false i j p, ltb-false j i r)
+    unfolding operationAt
+    same id i j hi hj = same-id t s id rise i j (hi .0) (hj .0) (hi .1 ∙ sym (hj .1))
 
     module _ (own : ℕ) (p : Standing) (h : Header) (start len : ℕ) (m : List ℕ) (long : 20 ≤ length m) (at : start ≡ 20) (rest : len ≡ length m - 20)
         (scan : (id : ℕ) → lookedUp t s id ≡ operationOf t s id) where

@@ -11,11 +11,12 @@ use borrow.Author.Tests.{ne-eqb, leb-true, leb-false}
 use lib.Dec.{eqb, leb, ltb}
 use Rattle.table.specs.declared.Sections.{Sections}
 use Rattle.table.specs.declared.Entry.{Entry}
-use Rattle.table.specs.All.{allBelow, above}
+use Rattle.wire.specs.All.{allBelow, above}
 use Rattle.table.specs.Entries.{typeAt, memberAt, valueAt, idAt, operationAt}
 use Rattle.table.specs.Leaf.{isEnumBase, base, inSigned, isValue, allowed}
 use Rattle.table.specs.Fields.{fieldsOk}
-use Rattle.table.proofs.AllBelow.{at-below}
+use Rattle.wire.proofs.AllBelow.{at-below}
+use Rattle.wire.proofs.Cond.{clash}
 use Rattle.types.specs.Values.{valueOk, unlike, unlikeBefore, distinct, valuesOk}
 use Rattle.types.specs.Rules.{memberOk, membersOk, pointedOk, typeOk}
 use Rattle.types.specs.Operations as ops
@@ -23,9 +24,6 @@ use Rattle.promises.specs.Rules32.{kindOf, ofOf, firstOf, countOf, membe
 use Rattle.promises.specs.Rules32.{BaseRule, Signed, AllowedIn, EnumRule, RecordRule, ArrayRule, TypeRule, TypeKeeps}
 use Rattle.promises.specs.Rules32.{Carries, its-type, none, OperationKeeps, Rules32}
 use Rattle.promises.proofs.Checks.{Decides, lt-decides, le-decides, eq-decides, not-decides, or-decides, and-decides, decides-same}
-
-clash : {b : Bool} → b ≡ false → b ≡ true → ⊥
-clash e f = let z : _≡_ {A = ℕ} 0 1 = cc in omega arith
 
 -- some entry fails where not all pass
 pub some-below : (f : ℕ → Bool) (n : ℕ) → allBelow f n ≡ false → (i : ℕ) × (i < n) × (f i ≡ false)

@@ -14,7 +14,7 @@ use Rattle.binding.proofs.Cutting.{Cuttable, piece-length, datagram-heard, data
 use Rattle.channel.specs.Channel.{missedOf, keeping, notedOf, begunOf, followedOf, placedOf, steppedOf}
 use Rattle.joiner.specs.Setup.{goodSizes, good, freshOf, setupOf}
 use Rattle.joiner.specs.Take.{sentTo, heardBy, judgedOf, takenBy, takenOf, putBy, roomsBy, roomsAfter, messageOf}
-use Rattle.table.specs.All.{allBelow, above}
+use Rattle.wire.specs.All.{allBelow, above}
 use Rattle.table.specs.Layout.{sectionAt, after, ended, afterValues, afterMembers, afterTypes, sectionsOf, liesIn, within}
 use Rattle.table.specs.Entries.{typeAt, memberAt, valueAt, idAt, operationAt}
 use Rattle.table.specs.Leaf.{base, bytesOf, inSigned, finite, isValue, width, allowed}

@@ -13,7 +13,7 @@ use Rattle.table.specs.declared.Section.{Section}
 use Rattle.table.specs.declared.Sections.{Sections}
 use Rattle.table.specs.declared.Checked.{Checked}
 use Rattle.table.specs.declared.Checked.the-variants.{Refused, Table}
-use Rattle.table.specs.All.{allBelow}
+use Rattle.wire.specs.All.{allBelow}
 use Rattle.table.specs.Layout.{typeWidth, memberWidth, valueWidth, operationWidth, mostTypes, mostMembers, mostValues}
 use Rattle.table.specs.Layout.{mostOperations, sectionEnd, counted, sectionAt, after, ended, afterValues, afterMembers}
 use Rattle.table.specs.Layout.{afterTypes, sectionsOf}
@@ -21,7 +21,7 @@ use Rattle.types.specs.Rules.{typeOk}
 use Rattle.types.specs.Operations.{operationOk}
 use Rattle.types.specs.Sizes.{mostBytes, largest, sizeFits}
 use Rattle.types.specs.Table.{entriesOk, sizesOk, judged, judging, checked}
-use Rattle.table.proofs.AllBelow.{at-below}
+use Rattle.wire.proofs.AllBelow.{at-below}
 use Rattle.promises.specs.Checks.{Check, _when_, Answers, Outside, none, below, above}
 use Rattle.promises.specs.TableOrder.{sectionsIn, sectionChecks, BreaksARule, IsTooLarge, an-operation, tableChecks, TableInOrder}
 use Rattle.promises.proofs.Checks.{Decides, lt-decides, eq-decides, not-decides, or-decides, decides-same, by, unless, then}

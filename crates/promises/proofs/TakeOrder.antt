@@ -8,6 +8,7 @@ use native.Mathlib.Omega.{arith}
 use borrow.Author.Tests.{leb-true, ltb-true, ltb-false, le-leb}
 use lib.Dec.{eqb, leb, ltb}
 use lib.ListN.{length, getD}
+use Rattle.wire.proofs.Cond.{clash}
 use Rattle.binding.specs.Header.{senderIn, versionIn}
 use Rattle.channel.specs.Record.{channelLimit}
 use Rattle.channel.proofs.Cases.{channel-says, sound-good}
@@ -24,9 +25,6 @@ use Rattle.promises.specs.Checks.{_when_, Answers, none}
 use Rattle.promises.specs.Order.{CanSetUp, Sound, takeChecks, itsChannel, moved, keptWith, fresh, notSetUp}
 use Rattle.promises.proofs.Checks.{Decides, not-decides, decides-same, unless, unless-then}
 use Rattle.promises.proofs.Order.{inside, version-decides}
-
-clash : {b : Bool} → b ≡ false → b ≡ true → ⊥
-clash e f = let z : _≡_ {A = ℕ} 0 1 = cc in omega arith
 
 -- a set-up
 acceptable-decides : (ids : List ℕ) (R buffer : ℕ) → Decides (leb (length ids) channelLimit && good (freshOf ids R) buffer) (Acceptable ids R buffer)

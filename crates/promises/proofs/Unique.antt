@@ -21,6 +21,7 @@ wire =
       put-run-s = λ k a z z′ e e′ p q. p ∙ sym q;
       part = λ k a z z′ e e′ p q. p ∙ sym q;
       has-room = λ k a z z′ e e′ p q. p ∙ sym q;
+      least = λ k a z z′ e e′ p q. p ∙ sym q;
       whole-u16 = λ k a z z′ e e′ p q. p ∙ sym q;
       whole-u32 = λ k a z z′ e e′ p q. p ∙ sym q;
       whole-u64 = λ k a z z′ e e′ p q. p ∙ sym q;

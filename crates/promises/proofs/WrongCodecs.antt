@@ -1,15 +1,16 @@
 -- No wrong packing meets demand 2: the uint16 258, whose bytes are 01 02.
 -- Assumes nothing.
-use Prim.Native.Nat.{ℕ, _<_}
+use Prim.Native.Nat.{ℕ, _≤_, _<_}
 use mathlib.Core.Path.{_≡_, refl, sym, ap, _∙_}
 use mathlib.Core.Bool.{true}
 use mathlib.Core.List.{List, [], _∷_}
 use native.Mathlib.Omega.{arith}
-use lib.ListN.{length, getD}
+use borrow.Author.Tests.{ltb-true}
+use lib.ListN.{getD}
 use Rattle.wire.specs.Bytes.{bytes}
 use Rattle.table.specs.declared.Sections.{Sections}
 use Rattle.table.specs.declared.Checked.the-variants.{Table}
-use Rattle.table.specs.All.{allBelow, above}
+use Rattle.wire.specs.All.{allBelow, above}
 use Rattle.table.specs.Layout.{sectionAt, after, ended, afterValues, afterMembers, afterTypes, sectionsOf, liesIn, within}
 use Rattle.table.specs.Entries.{typeAt, memberAt, valueAt, idAt, operationAt}
 use Rattle.table.specs.Leaf.{base, bytesOf, inSigned, finite, isValue, width, allowed}
@@ -27,10 +28,11 @@ use Rattle.pack.specs.Writing.{writer}
 use Rattle.payload.specs.Calls.{answered, answeredType, answeredIn, leftBy, leftIn, answeredIf, leftIf, unpacked}
 use Rattle.payload.specs.declared.Answer.{Answer}
 use Rattle.payload.specs.declared.Answer.the-variants.{Refused, Stopped, Gave}
-use Rattle.values.specs.Values.{Value, Spoken, Over, One, Some}
-use Rattle.promises.specs.Cases.{table, uint16, uint8, lent}
+use Rattle.values.specs.Values.{Value, Spoken, Over, Row}
+use Rattle.promises.specs.Cases.{table, uint16, uint8, boolean8, upToThree, lent}
 use Rattle.promises.specs.Payloads.{Known, Coding, ourCoding, PackGivesBy, UnpackGivesBy, PayloadsBy}
-use Rattle.promises.specs.WrongCodecs.{PacksNothing, UnpacksNothing, PacksAlike, plainCopy, KeepsBy, storesAtOnce, NoWrongCodec}
+use Rattle.promises.specs.WrongCodecs.{PacksNothing, UnpacksNothing, PacksAlike, plainCopy, arraysRefused, onlyOneIsTrue}
+use Rattle.promises.specs.WrongCodecs.{wideBytes, roomNotSeen, KeepsBy, storesAtOnce, NoWrongCodec}
 use Rattle.promises.specs.PayloadOrder.{numberOf}
 use Rattle.promises.proofs.Demand1.{demand-1}
 
@@ -97,6 +99,58 @@ packs-alike C a s p =
 pub plain-copy : PayloadsBy plainCopy → ⊥
 plain-copy p = let e : _≡_ {A = ℕ} 1 2 = ap given (packing plainCopy p .0) in absurd (omega (arith, e))
 
+-- an array of no elements; a true boolean as 2
+empty : Value table sections upToThree (0 ∷ []) (0 ∷ 0 ∷ 0 ∷ 0 ∷ [])
+unfolding Value Over Row tree trees treeOf look byKind elementsOf fieldsOk typeAt base bytesOf isValue width allowed choice form formOf
+empty =
+    record {
+      it = 0;
+      is = record {
+        xs₁ = 0 ∷ [];
+        xs₂ = [];
+        ys₁ = 0 ∷ 0 ∷ 0 ∷ 0 ∷ [];
+        ys₂ = [];
+        is-xs = refl;
+        is-ys = refl;
+        first = record { in-range = refl; taken = refl; says = (refl, refl) };
+        second = (refl, refl);
+      };
+    }
+
+true-as-2 : Spoken table sections boolean8 (1 ∷ []) (2 ∷ [])
+unfolding Spoken Over tree trees treeOf look byKind elementsOf fieldsOk typeAt base bytesOf isValue width allowed choice form formOf Says truth
+true-as-2 =
+    record { it = 1; is = record { in-range = refl; taken = refl; says = (refl, record { byte = 2; octet = omega arith; is = refl; says = refl }) } }
+
+pub arrays-refused : PayloadsBy arraysRefused → ⊥
+arrays-refused p =
+    let g : PackGivesBy arraysRefused table upToThree (0 ∷ []) (lent 4) (0 ∷ 0 ∷ 0 ∷ 0 ∷ []) =
+    p table sections upToThree (known upToThree (omega arith)) .0 .values (0 ∷ []) (0 ∷ 0 ∷ 0 ∷ 0 ∷ []) (lent 4) empty (omega arith) in
+    let e : _≡_ {A = ℕ} 0 4 = ap given (g .0) in
+    absurd (omega (arith, e))
+
+pub only-one-is-true : PayloadsBy onlyOneIsTrue → ⊥
+only-one-is-true p =
+    let g : UnpackGivesBy onlyOneIsTrue table boolean8 (2 ∷ []) (lent 1) (1 ∷ []) =
+    p table sections boolean8 (known boolean8 (omega arith)) .1 .forms (1 ∷ []) (2 ∷ []) (lent 1) true-as-2 (omega arith) in
+    let e : _≡_ {A = ℕ} 0 1 = ap given (g .0) in
+    absurd (omega (arith, e))
+
+-- 300 is no value of uint8
+too-wide : (bs : List ℕ) → Value table sections uint8 (300 ∷ []) bs → ⊥
+unfolding Value Over tree trees treeOf look byKind elementsOf fieldsOk typeAt base bytesOf isValue width allowed choice
+too-wide bs v =
+    let e : _≡_ {A = ℕ} 300 (v .it) = ap (λ (x : List ℕ). getD x 0 0) (v .is .says .0) in
+    omega (arith, e, ltb-true (v .it) 256 (v .is .in-range))
+
+pub wide-bytes : PayloadsBy wideBytes → ⊥
+wide-bytes p = let o = p table sections uint8 (known uint8 (omega arith)) .0 .only (300 ∷ []) (lent 1) 1 refl in too-wide (o .0) (o .1)
+
+pub room-not-seen : PayloadsBy roomNotSeen → ⊥
+room-not-seen p =
+    let l : 1 ≤ 0 = p table sections uint8 (known uint8 (omega arith)) .0 .fits (7 ∷ []) [] 1 refl in
+    omega (arith, l)
+
 ours-keeps : KeepsBy ourCoding
 ours-keeps = record { unpack-words = demand-1 .changes-nothing .unpack-words; pack-output = demand-1 .changes-nothing .pack-output }
 
@@ -133,6 +187,10 @@ no-wrong-codec = record {
   unpacks-nothing = unpacks-nothing;
   packs-alike = packs-alike;
   plain-copy = plain-copy;
+  arrays-refused = arrays-refused;
+  only-one-is-true = only-one-is-true;
+  wide-bytes = wide-bytes;
+  room-not-seen = room-not-seen;
   ours-keeps = ours-keeps;
   stores-at-once = stores-at-once;
 }

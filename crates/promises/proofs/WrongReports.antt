@@ -7,7 +7,7 @@ use native.Mathlib.Omega.{arith}
 use lib.ListN.{length}
 use Rattle.table.specs.declared.Sections.{Sections}
 use Rattle.table.specs.declared.Checked.the-variants.{Table}
-use Rattle.table.specs.All.{allBelow, above}
+use Rattle.wire.specs.All.{allBelow, above}
 use Rattle.table.specs.Layout.{sectionAt, after, ended, afterValues, afterMembers, afterTypes, sectionsOf}
 use Rattle.table.specs.Entries.{typeAt, memberAt, valueAt, idAt, operationAt}
 use Rattle.table.specs.Leaf.{base, bytesOf, width}

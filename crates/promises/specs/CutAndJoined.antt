@@ -1,13 +1,11 @@
 -- Demand 2: a message that is cut at any piece size and taken from fresh in order is delivered once, whole.
 use Prim.Native.Nat.{ℕ, zero, suc, _≤_, _<_}
 use mathlib.Core.Path.{_≡_}
-use mathlib.Core.Bool.{true}
 use mathlib.Core.List.{List, [], _∷_}
 use mathlib.Core.Logic.{_⊎_}
 use lib.ListN.{length, getD}
 use Rattle.wire.specs.Bytes.{Octets}
-use Rattle.binding.specs.Header.{counters}
-use Rattle.binding.specs.Cutting.{canCut, pieceCount, datagramOf}
+use Rattle.binding.specs.Cutting.{pieceCount, datagramOf}
 use Rattle.joiner.specs.declared.setups.Verdict.the-variants.{Accepted}
 use Rattle.joiner.specs.Setup.{setupOf}
 use Rattle.promises.specs.Traffic.{Datagram, deliveredOn}
@@ -26,8 +24,11 @@ pub record Cut (ids : List ℕ) (R : ℕ) (rooms : List ℕ) (k : ℕ) (msg : Li
   pub set-up : setupOf ids R (length rooms) .answer ≡ Accepted
   pub known : k < length ids
   -- what `cut` takes: a message of 1 to 65,560 bytes, a piece size of 1 to 65,503, a counter below M
-  pub cut : canCut (length msg) s ≡ true
-  pub counter : first < counters
+  pub some : 1 ≤ length msg
+  pub most : length msg ≤ 65560
+  pub size : 1 ≤ s
+  pub piece : s ≤ 65503
+  pub counter : first < 65536
   -- one piece, or a message that its room can hold
   pub room : (length msg ≤ s) ⊎ (length msg ≤ R)
   pub bytes : Octets msg

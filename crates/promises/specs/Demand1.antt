@@ -10,7 +10,6 @@ use Rattle.table.specs.declared.Sections.{Sections}
 use Rattle.message.specs.declared.Message.{Message}
 use Rattle.message.specs.Header.{domainIn, idIn, payloadSizeIn, payloadIn, headerIn}
 use Rattle.message.specs.Platform.{messageOf}
-use Rattle.message.specs.Refusal.{platforms}
 use Rattle.message.specs.Writing.{writeOf, outputAfter, numberGiven as writeNumber}
 use Rattle.binding.specs.Cutting.{madeOf, cutInto, cutRefusal}
 use Rattle.channel.specs.Outcomes.{refusalIn}
@@ -63,7 +62,7 @@ receiveChecks own t p m room =
 
 abbrev pub ReceiveInOrder : Type 1
 ReceiveInOrder =
-    (own : ℕ) (t : List ℕ) (p : Standing) (m : List ℕ) (room : ℕ) → own < platforms → p .next < 2 ^ 32 → Octets m
+    (own : ℕ) (t : List ℕ) (p : Standing) (m : List ℕ) (room : ℕ) → own < 256 → p .next < 2 ^ 32 → Octets m
     → Answers (λ n. n) 0 (receiveChecks own t p m room) (receiveNumber (receivedOf own t p m room .answer))
 
 -- how many bytes of replies are owed, with the operation that is found for the message

@@ -12,17 +12,16 @@ use Rattle.message.specs.declared.Message.{Message}
 use Rattle.message.specs.declared.Message.the-variants.{PlatformStatus, PlatformStatusRequest, UnknownOperation, VersionedDataPull, Operation}
 use Rattle.message.specs.declared.Reading.the-variants.{Read}
 use Rattle.message.specs.declared.Writing.the-variants.{Written}
-use Rattle.message.specs.Header.{headerLength}
-use Rattle.message.specs.Platform.{platformStatus, platformStatusRequest, unknownOperation, versionedDataPull, statusValue, messageOf}
+use Rattle.message.specs.Platform.{statusValue, messageOf}
 use Rattle.message.specs.Reading.{readOf, payloadOf}
 use Rattle.message.specs.Writing.{headerFor, writeOf, outputAfter}
 use Rattle.binding.specs.declared.BindingHeader.{BindingHeader}
 use Rattle.binding.specs.declared.Heard.the-variants.{Piece}
-use Rattle.binding.specs.Header.{senders, counters, largestPiece, heardIn, pieceIn, headerBytes}
+use Rattle.binding.specs.Header.{heardIn, pieceIn, headerBytes}
 
 -- at this platform the bytes read as a message with this header, of this kind and with this payload
 pub record ReadsAs (reader : ℕ) (s : List ℕ) (header : Header) (kind : Message) (its-payload : List ℕ) : Type 0 where
-  pub answer : readOf reader s ≡ Read header kind headerLength (length its-payload)
+  pub answer : readOf reader s ≡ Read header kind 20 (length its-payload)
   pub payload : payloadOf s (readOf reader s) ≡ its-payload
 
 -- the numbers of a message are as wide as their fields, and the reader is not its sender
@@ -50,22 +49,22 @@ ReadThenWritten =
 -- a message of this domain, ID and payload is written wherever there is room, and reads back as this kind
 abbrev pub IsSentAs : ℕ → ℕ → List ℕ → Message → Type 0
 IsSentAs domain id payload kind =
-    (own reader seq : ℕ) (out : List ℕ) → Addressed own reader id seq → headerLength + length payload ≤ length out
-    → (writeOf domain id payload (length out) ≡ Written (headerLength + length payload))
-    × ReadsAs reader (take (headerLength + length payload) (outputAfter own domain id seq payload out)) (headerFor own domain id seq payload) kind payload
+    (own reader seq : ℕ) (out : List ℕ) → Addressed own reader id seq → 20 + length payload ≤ length out
+    → (writeOf domain id payload (length out) ≡ Written (20 + length payload))
+    × ReadsAs reader (take (20 + length payload) (outputAfter own domain id seq payload out)) (headerFor own domain id seq payload) kind payload
 
--- 000, Tables 3 and 4: each platform message; and an operation, whose payload is any
+-- 000, Tables 3 and 4: each platform message, by its ID; and an operation, whose payload is any
 pub record EachMessage : Type 0 where
-  pub status : (x : Status) → IsSentAs 0 platformStatus (bytes 2 (statusValue x)) (PlatformStatus x)
-  pub request : IsSentAs 0 platformStatusRequest [] PlatformStatusRequest
-  pub unknown : (id : ℕ) → id < 2 ^ 32 → IsSentAs 0 unknownOperation (bytes 2 id) (UnknownOperation id)
-  pub pull : (id : ℕ) → id < 2 ^ 32 → IsSentAs 0 versionedDataPull (bytes 2 id) (VersionedDataPull id)
+  pub status : (x : Status) → IsSentAs 0 1 (bytes 2 (statusValue x)) (PlatformStatus x)
+  pub request : IsSentAs 0 2 [] PlatformStatusRequest
+  pub unknown : (id : ℕ) → id < 2 ^ 32 → IsSentAs 0 3 (bytes 2 id) (UnknownOperation id)
+  pub pull : (id : ℕ) → id < 2 ^ 32 → IsSentAs 0 4 (bytes 2 id) (VersionedDataPull id)
   pub operation : (id : ℕ) (payload : List ℕ) → length payload < 2 ^ 32 → IsSentAs 1 id payload Operation
 
 -- 000, Table 9: the binding header before a piece of 1 to 65,503 bytes
 abbrev pub HeaderThenRead : Type 0
 HeaderThenRead =
-    (h : BindingHeader) (piece : List ℕ) → h .sender < senders → h .counter < counters → 1 ≤ length piece → length piece ≤ largestPiece
+    (h : BindingHeader) (piece : List ℕ) → h .sender < 4096 → h .counter < 65536 → 1 ≤ length piece → length piece ≤ 65503
     → (heardIn (headerBytes h ++ piece) ≡ Piece h) × (pieceIn (headerBytes h ++ piece) ≡ piece)
 
 abbrev pub HeaderReadThenWritten : Type 0

@@ -6,6 +6,7 @@ pub mod Demand1
 pub mod Headers
 pub mod CutAndJoined
 pub mod Payloads
+pub mod OneCodec
 pub mod Platforms
 pub mod Demand2
 pub mod Senders
@@ -18,6 +19,8 @@ pub mod WrongPlatforms
 pub mod NotRuledOut
 pub mod WrongTurns
 pub mod Starred
+pub mod EachNumber
+pub mod AtLimits
 pub mod Unique
 pub mod UniqueCalls
 pub mod ExportsKeep

@@ -1,6 +1,6 @@
 -- Demand 2: "What we pack unpacks to the same values. What unpacks packs again to the same bytes, except that a true boolean
 -- always goes out as 1." Which words are a value of a type, and what its bytes are, is said apart from any reading and writing
--- in payload/specs/Values: `Value` (words and bytes), `Spoken` (a true boolean may be any byte but 0), `BooleansAsOne`.
+-- in values/specs/Values: `Value` (words and bytes), `Spoken` (a true boolean may be any byte but 0), `BooleansAsOne`.
 use Prim.Native.Nat.{ℕ, _≤_, _<_}
 use mathlib.Core.Path.{_≡_}
 use mathlib.Core.List.{List}
@@ -43,12 +43,14 @@ module _ (C : Coding) where
     pub values : (ws bs out : List ℕ) → Value t s i ws bs → length bs ≤ length out → PackGivesBy t i ws out bs
     pub only : (ws out : List ℕ) (k : ℕ) → C .packs t i ws (length out) ≡ Gave k →
         (bs : List ℕ) × Value t s i ws bs × PackGivesBy t i ws out bs
+    pub fits : (ws out : List ℕ) (k : ℕ) → C .packs t i ws (length out) ≡ Gave k → k ≤ length out
 
   -- unpacking accepts the byte forms of values, wherever there is room, and nothing else; and gives their words
   pub record UnpacksExactlyBy (t : List ℕ) (s : Sections) (i : ℕ) : Type 0 where
     pub forms : (ws b words : List ℕ) → Spoken t s i ws b → length ws ≤ length words → UnpackGivesBy t i b words ws
     pub only : (b words : List ℕ) (k : ℕ) → Octets b → C .unpacks t i b (length words) ≡ Gave k →
         (ws : List ℕ) × Spoken t s i ws b × UnpackGivesBy t i b words ws
+    pub fits : (b words : List ℕ) (k : ℕ) → Octets b → C .unpacks t i b (length words) ≡ Gave k → k ≤ length words
 
   pub record RoundTripsBy (t : List ℕ) (s : Sections) (i : ℕ) : Type 0 where
     pub pack-then-unpack : (ws out words : List ℕ) (k : ℕ) → C .packs t i ws (length out) ≡ Gave k → length ws ≤ length words →

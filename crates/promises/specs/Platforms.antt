@@ -1,7 +1,7 @@
 -- 01, "Platform states and replies", and demand 2 for replies. This platform is UP and the others start DOWN; a call that reads a
 -- message notes what it says and writes the owed replies, each of which its receiver reads as what is meant; and two platforms
 -- fall silent. The theorems are in proofs/Platforms.antt.
-use Prim.Native.Nat.{ℕ, _*_, _^_, _≤_, _<_}
+use Prim.Native.Nat.{ℕ, _+_, _*_, _%_, _^_, _≤_, _<_}
 use mathlib.Core.Path.{_≡_}
 use mathlib.Core.Bool.{Bool, true, false, not, cond, _||_}
 use mathlib.Core.List.{List, [], _∷_}
@@ -19,7 +19,6 @@ use Rattle.message.specs.declared.Status.the-variants.{Down, Up}
 use Rattle.message.specs.declared.Message.{Message}
 use Rattle.message.specs.declared.Message.the-variants as message
 use Rattle.message.specs.declared.Reading.the-variants.{Read}
-use Rattle.message.specs.Refusal.{platforms, noRoom}
 use Rattle.message.specs.Reading.{readOf}
 use Rattle.states.specs.declared.States.{States}
 use Rattle.platform.specs.declared.reactions.Standing.{Standing}
@@ -27,43 +26,47 @@ use Rattle.platform.specs.declared.reactions.Heard.{Heard}
 use Rattle.platform.specs.declared.Answer.the-variants.{Refused, Noted}
 use Rattle.platform.specs.declared.Outcome.{Outcome}
 use Rattle.states.specs.States.{isUp, howManyUp, countBelow, Words}
-use Rattle.platform.specs.Replies.{allData, drawn}
 use Rattle.platform.specs.Reaction.{noData, foundData}
 use Rattle.platform.specs.Receiving.{freshStanding, receivedOf, leftOf}
-use Rattle.platform.specs.Exchange.{Pair, Exchange, started, longestExchange}
+use Rattle.platform.specs.Exchange.{Pair, Exchange, started}
 use Rattle.promises.specs.Reports.{Reports}
 
 -- "the states can be asked for one by one, or as how many of the 256 are UP, this one counted"
 pub record StatesAre : Type 0 where
   pub own-is-up : (own : ℕ) (s : States) → isUp own s own ≡ true
-  pub others-start-down : (own k : ℕ) → own < platforms → k < platforms → (k ≡ own → ⊥) → isUp own (freshStanding own .states) k ≡ false
-  pub none-above-255 : (own : ℕ) (s : States) (k : ℕ) → own < platforms → platforms ≤ k → isUp own s k ≡ false
+  pub others-start-down : (own k : ℕ) → own < 256 → k < 256 → (k ≡ own → ⊥) → isUp own (freshStanding own .states) k ≡ false
+  pub none-above-255 : (own : ℕ) (s : States) (k : ℕ) → own < 256 → 256 ≤ k → isUp own s k ≡ false
   pub numbers-start-at-0 : (own : ℕ) → freshStanding own .next ≡ 0
-  pub counted : (own : ℕ) (s : States) → own < platforms → Words s → howManyUp own s ≡ countBelow (isUp own s) platforms
+  pub counted : (own : ℕ) (s : States) → own < 256 → Words s → howManyUp own s ≡ countBelow (isUp own s) 256
 
 -- a reply: its sequence number, and what it means
 pub record Owed : Type 0 where
   pub number : ℕ
   pub means : Message
 
--- the ID is versioned data here; all of it, where there is any
+-- the ID is versioned data here; 0xFFFFFFFF is all of it, where there is any (000, Table 4)
 abbrev pub versionedHere : List ℕ → Sections → ℕ → Bool
-versionedHere t s id = cond (eqb id allData) (not (noData t s)) (foundData t s (operationOf t s id))
+versionedHere t s id = cond (eqb id 0xFFFFFFFF) (not (noData t s)) (foundData t s (operationOf t s id))
 
 abbrev pub isThere : Found → Bool
 isThere (found.At i) = true
 isThere found.Nothing = false
 
+-- "after 0xFFFFFFFF comes 0"
+abbrev pub numberAfter : ℕ → ℕ
+numberAfter n = (n + 1) % 2 ^ 32
+
 -- UP from a platform that is UP already, or above 255, where no state is kept, changes nothing
 abbrev pub noNews : ℕ → Standing → Header → Bool
-noNews own p h = isUp own (p .states) (h .platform) || leb platforms (h .platform)
+noNews own p h = isUp own (p .states) (h .platform) || leb 256 (h .platform)
 
 -- what is owed for a message of each kind: "The pair at DOWN to UP take the platform's next two own numbers", and "a reply to a
 -- request, a pull or an operation repeats its sequence number"
 abbrev pub owedFor : ℕ → List ℕ → Sections → Standing → Header → Message → List Owed
 owedFor own t s p h (message.PlatformStatus Up) =
     cond (noNews own p h) []
-    (record { number = p .next; means = message.PlatformStatus Up } ∷ record { number = drawn (p .next); means = message.VersionedDataPull allData } ∷ [])
+    (record { number = p .next; means = message.PlatformStatus Up }
+    ∷ record { number = numberAfter (p .next); means = message.VersionedDataPull 0xFFFFFFFF } ∷ [])
 owedFor own t s p h (message.PlatformStatus Down) = []
 owedFor own t s p h message.PlatformStatusRequest = record { number = h .sequence; means = message.PlatformStatus Up } ∷ []
 owedFor own t s p h (message.UnknownOperation id) = []
@@ -82,7 +85,7 @@ stateAfter own p h (message.VersionedDataPull id) k = isUp own (p .states) k
 stateAfter own p h message.Operation k = isUp own (p .states) k
 
 abbrev pub nextAfter : ℕ → Standing → Header → Message → ℕ
-nextAfter own p h (message.PlatformStatus Up) = cond (noNews own p h) (p .next) (drawn (drawn (p .next)))
+nextAfter own p h (message.PlatformStatus Up) = cond (noNews own p h) (p .next) (numberAfter (numberAfter (p .next)))
 nextAfter own p h (message.PlatformStatus Down) = p .next
 nextAfter own p h message.PlatformStatusRequest = p .next
 nextAfter own p h (message.UnknownOperation id) = p .next
@@ -106,7 +109,7 @@ AreReplies reader own b (o ∷ os) = HeardAs reader own (take replyLength b) o �
 
 -- a call that reads a message with this header and of this kind
 pub record Receives (own : ℕ) (t : List ℕ) (s : Sections) (p : Standing) (m : List ℕ) (h : Header) (kind : Message) : Type 0 where
-  pub platform : own < platforms
+  pub platform : own < 256
   pub next : p .next < 2 ^ 32
   pub bytes : Octets m
   pub table : checked t ≡ Table s
@@ -132,7 +135,7 @@ pub record NotesBy (X : Receiving) (own : ℕ) (t : List ℕ) (s : Sections) (p 
   pub written : AreReplies (h .platform) own (take n (X .left own t p m out)) (owedFor own t s p h kind)
   pub rest : drop n (X .left own t p m out) ≡ drop n out
   pub next : X .outcome own t p m (length out) .standing .next ≡ nextAfter own p h kind
-  pub states : (k : ℕ) → k < platforms → isUp own (X .outcome own t p m (length out) .standing .states) k ≡ stateAfter own p h kind k
+  pub states : (k : ℕ) → k < 256 → isUp own (X .outcome own t p m (length out) .standing .states) k ≡ stateAfter own p h kind k
 
 abbrev pub Notes : ℕ → List ℕ → Sections → Standing → List ℕ → List ℕ → Header → Message → ℕ → Type 0
 Notes own t s p m out h kind n = NotesBy ourReceiving own t s p m out h kind n
@@ -144,7 +147,7 @@ pub record RepliesBy (X : Receiving) : Type 0 where
       NotesBy X own t s p m out h kind (replyLength * length (owedFor own t s p h kind))
   pub do-not-fit : (own : ℕ) (t : List ℕ) (s : Sections) (p : Standing) (m out : List ℕ) (h : Header) (kind : Message) →
       Receives own t s p m h kind → length out < replyLength * length (owedFor own t s p h kind) →
-      X .outcome own t p m (length out) .answer ≡ Refused noRoom
+      X .outcome own t p m (length out) .answer ≡ Refused 10
 
 abbrev pub Replies : Type 0
 Replies = RepliesBy ourReceiving
@@ -152,8 +155,8 @@ Replies = RepliesBy ourReceiving
 -- "two platforms would answer for ever": they do not. From any two states, whatever their tables and outputs, in whatever order
 -- messages arrive and whichever are lost, an exchange that one status starts ends after at most seven, with none under way
 pub record Starts (a b : ℕ) (p q : Standing) (number : ℕ) : Type 0 where
-  pub one : a < platforms
-  pub other : b < platforms
+  pub one : a < 256
+  pub other : b < 256
   pub two : a ≡ b → ⊥
   pub next-of-one : p .next < 2 ^ 32
   pub next-of-other : q .next < 2 ^ 32
@@ -161,8 +164,8 @@ pub record Starts (a b : ℕ) (p q : Standing) (number : ℕ) : Type 0 where
 
 pub record FallSilent : Type 0 where
   pub at-most : (a b : ℕ) (p q : Standing) (number : ℕ) → Starts a b p q number →
-      (n : ℕ) (z : Pair) → Exchange a b n (started p q number) z → n ≤ longestExchange
+      (n : ℕ) (z : Pair) → Exchange a b n (started p q number) z → n ≤ 7
   pub then-none : (a b : ℕ) (p q : Standing) (number : ℕ) → Starts a b p q number →
-      (z : Pair) → Exchange a b longestExchange (started p q number) z → (z .toA ≡ []) × (z .toB ≡ [])
+      (z : Pair) → Exchange a b 7 (started p q number) z → (z .toA ≡ []) × (z .toB ≡ [])
   -- and seven are reached: two that start, neither of which provides versioned data
-  pub reached : (z : Pair) × Exchange 1 2 longestExchange (started (freshStanding 1) (freshStanding 2) 0) z
+  pub reached : (z : Pair) × Exchange 1 2 7 (started (freshStanding 1) (freshStanding 2) 0) z

@@ -7,7 +7,7 @@ use lib.Dec.{leb, ltb, eqb}
 use lib.ListN.{length, replicate}
 use Rattle.binding.specs.declared.MessagePart.{MessagePart}
 use Rattle.binding.specs.declared.MessagePart.the-variants.{Begin, Middle, End, Whole}
-use Rattle.binding.specs.Header.{counters, largestPiece, headerOf, headerBytes}
+use Rattle.binding.specs.Header.{headerOf, headerBytes}
 
 -- a piece of a message: its bytes, and how often it arrives. 0: the network loses it; 2 and more: the network repeats it,
 -- before the next of its channel arrives
@@ -45,9 +45,9 @@ abbrev pub sentBy : List Message → List Sent
 sentBy [] = []
 sentBy (m ∷ ms) = sentFrom true m ++ sentBy ms
 
--- "number its datagrams in turn, round a counter of M steps"
+-- "number its datagrams in turn, round a counter of M steps": M is 65,536
 abbrev pub after : ℕ → ℕ
-after c = (c + 1) % counters
+after c = (c + 1) % 65536
 
 -- the datagrams that arrive, each as often as it does, in the order in which they were sent
 abbrev pub arriving : ℕ → ℕ → List Sent → List (List ℕ)
@@ -59,7 +59,7 @@ arrives id s = arriving id (s .first) (sentBy (s .messages))
 
 -- "lose datagrams, but never more than M-2 between two that arrive on one channel"
 abbrev pub mostLost : ℕ
-mostLost = counters - 2
+mostLost = 65536 - 2
 
 abbrev pub arrived : Piece → Bool
 arrived p = ltb 0 (p .copies)
@@ -88,7 +88,7 @@ completeOf (m ∷ ms) = cond (allArrived m) (together m ∷ []) [] ++ completeOf
 -- two or more is longer than its room"
 abbrev pub goodPieces : Message → Bool
 goodPieces [] = true
-goodPieces (p ∷ ps) = (leb 1 (length (p .bytes)) && leb (length (p .bytes)) largestPiece) && goodPieces ps
+goodPieces (p ∷ ps) = (leb 1 (length (p .bytes)) && leb (length (p .bytes)) 65503) && goodPieces ps
 
 abbrev pub goodMessage : ℕ → Message → Bool
 goodMessage R m = (leb 1 (length m) && goodPieces m) && (eqb (length m) 1 || leb (length (together m)) R)
@@ -99,6 +99,6 @@ goodMessages R (m ∷ ms) = goodMessage R m && goodMessages R ms
 
 -- a sender whose traffic is genuine. From a fresh start any number may be lost before the first that arrives
 pub record Genuine (R : ℕ) (s : Sender) : Type 0 where
-  pub counter : s .first < counters
+  pub counter : s .first < 65536
   pub messages : goodMessages R (s .messages) ≡ true
   pub losses : lossesWithin false 0 (sentBy (s .messages)) ≡ true

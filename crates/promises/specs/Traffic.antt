@@ -5,7 +5,7 @@ use mathlib.Core.List.{List, [], _∷_, _++_}
 use lib.Dec.{leb, ltb, eqb}
 use lib.ListN.{length, getD}
 use Rattle.wire.specs.Bytes.{Octets}
-use Rattle.binding.specs.Header.{theVersion, smallestDatagram, largestDatagram, versionIn, senderIn}
+use Rattle.binding.specs.Header.{versionIn, senderIn}
 use Rattle.channel.specs.declared.Outcome.{Outcome}
 use Rattle.channel.specs.declared.Outcome.the-variants.{Refused, Repeated, Delivered, Held, Stray, TooLong}
 use Rattle.joiner.specs.declared.Joiner.{Joiner}
@@ -17,12 +17,12 @@ use Rattle.joiner.specs.View.{View, viewOf}
 abbrev pub Datagram : Type 0
 Datagram = List ℕ
 
--- channel k's own: neither too short nor too long, of Table 9's version, and with the sender ID that channel k was set up with.
+-- channel k's own: of 5 to 65,507 bytes, of Table 9's version, 0, and with the sender ID that channel k was set up with.
 -- A datagram that is no channel's is foreign, and `take` refuses exactly those
 abbrev pub isOf : List ℕ → ℕ → Datagram → Bool
 isOf ids k d =
-    (leb smallestDatagram (length d) && leb (length d) largestDatagram)
-    && (eqb (versionIn d) theVersion && (ltb k (length ids) && eqb (getD ids k 0) (senderIn d)))
+    (leb 5 (length d) && leb (length d) 65507)
+    && (eqb (versionIn d) 0 && (ltb k (length ids) && eqb (getD ids k 0) (senderIn d)))
 
 -- the datagrams of channel k in a traffic, in their order
 abbrev pub ofChannel : List ℕ → ℕ → List Datagram → List Datagram

@@ -26,6 +26,7 @@ use Rattle.wire.proofs.put_u64.Reads.{Post as wire-put-u64}
 use Rattle.wire.proofs.put_run.Reads.{Post as wire-put-run}
 use Rattle.wire.proofs.part.Reads.{Post as wire-part}
 use Rattle.wire.proofs.has_room.Reads.{Post as wire-has-room}
+use Rattle.wire.proofs.least.Reads.{Post as wire-least}
 use Rattle.wire.proofs.whole_u16.Reads.{Post as wire-whole-u16}
 use Rattle.wire.proofs.whole_u32.Reads.{Post as wire-whole-u32}
 use Rattle.wire.proofs.whole_u64.Reads.{Post as wire-whole-u64}
@@ -129,6 +130,7 @@ pub record WireUnique : Type 0 where
   pub put-run-s : Lent wire-put-run (λ k e. now (e .0))
   pub part : Same wire-part (λ k z e. now z)
   pub has-room : Answer wire-has-room
+  pub least : Answer wire-least
   pub whole-u16 : Answer wire-whole-u16
   pub whole-u32 : Answer wire-whole-u32
   pub whole-u64 : Answer wire-whole-u64

@@ -7,7 +7,7 @@ use mathlib.Core.List.{List}
 use lib.Dec.{eqb}
 use Rattle.table.specs.declared.Checked.{Checked}
 use Rattle.table.specs.declared.Checked.the-variants.{Refused, Table}
-use Rattle.table.specs.All.{allBelow}
+use Rattle.wire.specs.All.{allBelow}
 use Rattle.table.specs.Layout.{sectionsOf}
 use Rattle.types.specs.Table.{checked}
 use Rattle.promises.specs.TableOrder.{TableInOrderBy, TableInOrder}

@@ -2,21 +2,23 @@
 -- meets demand 2. The theorems are in proofs/WrongCodecs.antt.
 use Prim.Native.Nat.{ℕ}
 use mathlib.Core.Path.{_≡_}
-use mathlib.Core.Bool.{cond}
+use mathlib.Core.Bool.{Bool, cond, _&&_}
 use mathlib.Core.List.{List}
-use lib.Dec.{leb}
-use lib.ListN.{length}
-use Rattle.wire.specs.Bytes.{written}
+use lib.Dec.{eqb, leb, ltb}
+use lib.ListN.{length, getD}
+use Rattle.wire.specs.Bytes.{over, written}
 use Rattle.payload.specs.declared.Answer.{Answer}
-use Rattle.payload.specs.declared.Answer.the-variants.{Refused, Gave}
+use Rattle.payload.specs.declared.Answer.the-variants.{Refused, Stopped, Gave}
 use Rattle.table.specs.declared.Checked.{Checked}
 use Rattle.table.specs.declared.Checked.the-variants as check
 use Rattle.types.specs.Table.{checked}
 use Rattle.walk.specs.Walk.{Codec, start, left, typeWalk}
 use Rattle.unpack.specs.Reading.{reader}
 use Rattle.pack.specs.Writing.{writer}
-use Rattle.payload.specs.Calls.{outputTooShort, packed, unpacked}
+use Rattle.payload.specs.Calls.{packed, bytesAfter, unpacked, wordsAfter}
 use Rattle.promises.specs.Checks.{Keeps}
+use Rattle.promises.specs.TableOrder.{sectionsIn}
+use Rattle.promises.specs.Rules32.{kindOf, ofOf}
 use Rattle.promises.specs.PayloadOrder.{numberOf}
 use Rattle.promises.specs.Payloads.{Coding, ourCoding, PayloadsBy}
 
@@ -33,7 +35,7 @@ PacksAlike C a = (t : List ℕ) (i : ℕ) (ws : List ℕ) (room : ℕ) → C .pa
 
 -- what is given goes out as it is, where there is room
 abbrev pub copied : ℕ → ℕ → Answer
-copied n room = cond (leb n room) (Gave n) (Refused outputTooShort)
+copied n room = cond (leb n room) (Gave n) (Refused 45)
 
 abbrev pub plainCopy : Coding
 plainCopy =
@@ -42,6 +44,50 @@ plainCopy =
       bytes-left = λ t i ws out. written out 0 ws;
       unpacks = λ t i b room. copied (length b) room;
       words-left = λ t i b words. written words 0 b;
+    }
+
+-- wrong for one kind of type or payload alone: as ours, but that type i of the table is of this kind and code, and what is asked for is so
+abbrev pub isBase : ℕ → List ℕ → ℕ → Bool
+isBase code t i = eqb (kindOf t (sectionsIn t) i) 0 && eqb (ofOf t (sectionsIn t) i) code
+
+-- arrays, types of kind 4, are refused
+abbrev pub arraysRefused : Coding
+arraysRefused =
+    record {
+      packs = λ t i ws room. cond (eqb (kindOf t (sectionsIn t) i) 4) (Stopped 42) (packed t i ws room);
+      bytes-left = bytesAfter;
+      unpacks = λ t i b room. cond (eqb (kindOf t (sectionsIn t) i) 4) (Stopped 42) (unpacked t i b room);
+      words-left = wordsAfter;
+    }
+
+-- a true boolean (code 0) that came in as another byte than 1 is refused
+abbrev pub onlyOneIsTrue : Coding
+onlyOneIsTrue =
+    record {
+      packs = packed;
+      bytes-left = bytesAfter;
+      unpacks = λ t i b room. cond (isBase 0 t i && ltb 1 (getD b 0 0)) (Stopped 42) (unpacked t i b room);
+      words-left = wordsAfter;
+    }
+
+-- a uint8 (code 6) of any word is packed as it is
+abbrev pub wideBytes : Coding
+wideBytes =
+    record {
+      packs = λ t i ws room. cond (isBase 6 t i) (copied (length ws) room) (packed t i ws room);
+      bytes-left = λ t i ws out. cond (isBase 6 t i) (written out 0 ws) (bytesAfter t i ws out);
+      unpacks = unpacked;
+      words-left = wordsAfter;
+    }
+
+-- the room is not looked at
+abbrev pub roomNotSeen : Coding
+roomNotSeen =
+    record {
+      packs = λ t i ws room. cond (isBase 6 t i) (Gave (length ws)) (packed t i ws room);
+      bytes-left = λ t i ws out. cond (isBase 6 t i) (over out 0 ws) (bytesAfter t i ws out);
+      unpacks = unpacked;
+      words-left = wordsAfter;
     }
 
 -- demand 1 of packing and unpacking: a refusal changes no output byte or word
@@ -68,5 +114,9 @@ pub record NoWrongCodec : Type 0 where
   pub unpacks-nothing : (C : Coding) → UnpacksNothing C → PayloadsBy C → ⊥
   pub packs-alike : (C : Coding) (a : Answer) → PacksAlike C a → PayloadsBy C → ⊥
   pub plain-copy : PayloadsBy plainCopy → ⊥
+  pub arrays-refused : PayloadsBy arraysRefused → ⊥
+  pub only-one-is-true : PayloadsBy onlyOneIsTrue → ⊥
+  pub wide-bytes : PayloadsBy wideBytes → ⊥
+  pub room-not-seen : PayloadsBy roomNotSeen → ⊥
   pub ours-keeps : KeepsBy ourCoding
   pub stores-at-once : KeepsBy storesAtOnce → ⊥

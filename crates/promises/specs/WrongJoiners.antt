@@ -2,7 +2,7 @@
 -- theorems are in proofs/WrongJoiners.antt.
 use Prim.Native.Nat.{ℕ, _≤_}
 use mathlib.Core.Path.{_≡_}
-use mathlib.Core.Bool.{Bool, true, false, cond, _&&_, _||_}
+use mathlib.Core.Bool.{Bool, true, false, cond, _&&_}
 use mathlib.Core.List.{List}
 use lib.Dec.{leb, ltb, eqb}
 use lib.ListN.{length}
@@ -12,7 +12,6 @@ use Rattle.binding.specs.declared.Heard.{Heard}
 use Rattle.binding.specs.declared.Heard.the-variants as heard
 use Rattle.binding.specs.declared.MessagePart.{MessagePart}
 use Rattle.binding.specs.declared.MessagePart.the-variants.{Begin, Middle, End, Whole}
-use Rattle.channel.specs.Record.{badSetup}
 use Rattle.channel.specs.declared.Channel.{Channel}
 use Rattle.channel.specs.declared.Room.{Room}
 use Rattle.channel.specs.declared.Step.{Step}
@@ -25,7 +24,7 @@ use Rattle.channel.specs.declared.Judged.the-variants.{Refusal, Move}
 use Rattle.channel.specs.Channel.{roomOf, repeated, missedOf, notedOf, holding, tooLong, placedOf, steppedOf}
 use Rattle.joiner.specs.Setup.{channelAt, sendersOf, placeOf, good}
 use Rattle.joiner.specs.declared.Joiner.{Joiner}
-use Rattle.joiner.specs.Take.{notSetUp, takenBy, roomsBy}
+use Rattle.joiner.specs.Take.{takenBy, roomsBy}
 use Rattle.promises.specs.Traffic.{Datagram, Took, Joining, deliveredBy, fresh, ourJoining}
 use Rattle.promises.specs.Demand3.{Demand3For}
 
@@ -101,14 +100,14 @@ Stepping = Room → Channel → MessagePart → ℕ → ℕ → Step
 abbrev pub sentWith : Stepping → Joiner → List ℕ → BindingHeader → Judged
 sentWith step j d h =
     let k = placeOf (sendersOf j) (h .sender) in
-    cond (ltb k (j .count)) (Move k (step (roomOf (j .room) k) (channelAt j k) (h .part) (h .counter) (length (pieceIn d)))) (Refusal notSetUp)
+    cond (ltb k (j .count)) (Move k (step (roomOf (j .room) k) (channelAt j k) (h .part) (h .counter) (length (pieceIn d)))) (Refusal 23)
 
 abbrev pub heardWith : Stepping → Joiner → List ℕ → Heard → Judged
 heardWith step j d (heard.Refused n) = Refusal n
 heardWith step j d (heard.Piece h) = sentWith step j d h
 
 abbrev pub judgedWith : Stepping → Joiner → ℕ → List ℕ → Judged
-judgedWith step j b d = cond (good j b) (heardWith step j d (heardIn d)) (Refusal badSetup)
+judgedWith step j b d = cond (good j b) (heardWith step j d (heardIn d)) (Refusal 20)
 
 abbrev pub tookBy : Joiner → List ℕ → Datagram → Judged → Took Joiner
 tookBy j rooms d x = record { outcome = takenBy j x .outcome; state = takenBy j x .joiner; rooms = roomsBy rooms d x }

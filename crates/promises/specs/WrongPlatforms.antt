@@ -22,7 +22,7 @@ use Rattle.platform.specs.declared.reactions.Reaction.{Reaction}
 use Rattle.platform.specs.Replies.{drawn, replyBytes}
 use Rattle.platform.specs.Reaction.{reactionTo}
 use Rattle.platform.specs.Receiving.{answered}
-use Rattle.platform.specs.Exchange.{written, Setting, keeps, sends, Pair, started, longestExchange}
+use Rattle.platform.specs.Exchange.{written, Setting, keeps, sends, Pair, started}
 use Rattle.promises.specs.Platforms.{Starts}
 
 -- a platform, ours or any other: what `own` keeps of a message of `other`, and what it sends back
@@ -52,7 +52,7 @@ pub data ExchangeBy (X : Answering) (a b : ℕ) : ℕ → Pair → Pair → Type
 
 abbrev pub FallSilentBy : Answering → Type 0
 FallSilentBy X =
-    (a b : ℕ) (p q : Standing) (number : ℕ) → Starts a b p q number → (n : ℕ) (z : Pair) → ExchangeBy X a b n (started p q number) z → n ≤ longestExchange
+    (a b : ℕ) (p q : Standing) (number : ℕ) → Starts a b p q number → (n : ℕ) (z : Pair) → ExchangeBy X a b n (started p q number) z → n ≤ 7
 
 -- ourAnswering with another reaction to a message
 abbrev pub Reacting : Type 0

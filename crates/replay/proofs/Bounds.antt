@@ -1,17 +1,18 @@
 -- That every part of a buffer that the program lends lies in the buffer.
 -- Assumes nothing.
-use Prim.Native.Nat.{ℕ, suc, _+_, _-_, _≤_, _<_}
-use mathlib.Core.Path.{_≡_, refl, sym, _∙_, subst}
-use mathlib.Core.Bool.{Bool, true, false, true≢false}
+use Prim.Native.Nat.{ℕ, _+_, _-_, _≤_, _<_}
+use mathlib.Core.Path.{_≡_, refl, sym, subst}
+use mathlib.Core.Bool.{Bool, true, false}
 use mathlib.Core.List.{List}
 use native.Mathlib.Omega.{arith}
-use borrow.Author.Tests.{leb-true, leb-false}
 use mir.Syntax.{w8, w64}
 use mir.Val.{Fits}
 use lib.Dec.{leb}
-use lib.ListN.{length, getD, take, drop, length-take, List·getD-eq-default}
-use lib.Seq.{length-take-le, getD-take}
-use Rattle.wire.specs.Bytes.{part, Octets}
+use lib.ListN.{length, getD, take, drop, length-take}
+use lib.Seq.{length-take-le}
+use Rattle.wire.specs.Bytes.{part}
+use Rattle.wire.proofs.Cond.{clash}
+use Rattle.wire.proofs.Numbers.{octets-take}
 use Rattle.channel.specs.Record.{badSetup}
 use Rattle.recording.specs.Datagrams.{nextIn}
 use Rattle.recording.specs.Opening.{openedIn}
@@ -29,16 +30,6 @@ use Rattle.recording.specs.declared.lines.Ending.{Ending}
 use Rattle.replay.specs.Endings.{Says20, RefusalIs20, NextWithin}
 use Rattle.replay.specs.declared.player.Next.{Next}
 use Rattle.replay.specs.declared.player.Next.the-variants.{Write, Filled, End}
-
-octets-take : (n : ℕ) (s : List ℕ) → Octets s → Octets (take n s)
-octets-take n s o i = go (leb (suc i) n) refl
-  where
-    go : (t : Bool) → leb (suc i) n ≡ t → getD (take n s) i 0 < 256
-    go true e = let h : i < n = leb-true (suc i) n e in rw (getD-take n s i 0 h) (o i)
-    go false e =
-        let h : n < suc i = leb-false (suc i) n e in
-        let l : length (take n s) ≤ i = omega (arith, length-take n s) in
-        rw (List·getD-eq-default (take n s) 0 l) (omega arith)
 
 -- a part is no longer than was asked for
 length-part : (s : List ℕ) (p n : ℕ) → length (part s p n) ≤ n
@@ -101,4 +92,4 @@ module _ {next : Next} (h : NextWithin next) where
 
 -- no line is owed, and anything may be next
 pub not-owed : {owed : Bool} (next : Next) → owed ≡ false → owed ≡ true → next ≡ Write
-not-owed next e f = absurd (true≢false (sym f ∙ e))
+not-owed next e f = absurd (clash e f)

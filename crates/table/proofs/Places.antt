@@ -12,6 +12,7 @@ use lib.ListN.{length}
 use mir.Syntax.{w16, w32, w64}
 use mir.Val.{Fits}
 use Rattle.wire.specs.Bytes.{number}
+use Rattle.wire.proofs.Cond.{neither}
 use Rattle.table.specs.declared.Section.{Section}
 use Rattle.table.specs.declared.Sections.{Sections}
 use Rattle.table.specs.declared.Checked.{Checked}
@@ -84,10 +85,6 @@ passed : (b : Bool) (n : ℕ) (y : Part) (s : Section) → cond b (Missing n) y 
 passed true n y s e = absurd (let z : _≡_ {A = ℕ} 0 1 = cc in omega arith)
 passed false n y s e = (refl, e)
 
-or-right : (a b : Bool) → (a || b) ≡ false → b ≡ false
-or-right true b e = absurd (let z : _≡_ {A = ℕ} 0 1 = cc in omega arith)
-or-right false b e = e
-
 pub holds : (w least most : ℕ) (t : List ℕ) (p : ℕ) (s : Section) → sectionAt w least most t p ≡ Found s → Holds w most t p s
 unfolding sectionAt
 holds w least most t p s f =
@@ -101,7 +98,7 @@ holds w least most t p s f =
     let q : x ≡ s = cc in
     record {
       starts = ap (λ (y : Section). y .at) (sym q);
-      few = subst (λ (y : Section). y .count ≤ most) q (ltb-false most n (or-right (ltb n least) (ltb most n) (b .0)));
+      few = subst (λ (y : Section). y .count ≤ most) q (ltb-false most n (neither (ltb n least) (ltb most n) (b .0) .1));
       ends = subst (λ (y : Section). sectionEnd w y ≤ length t) q (ltb-false (length t) (p + 2 + w * n) (d .0));
     }
 

@@ -2,7 +2,7 @@
 -- words of sections read back as those sections.
 -- Assumes nothing.
 use Prim.Native.Nat.{ℕ, _+_, _<_}
-use mathlib.Core.Path.{_≡_, refl, sym, ap, _∙_}
+use mathlib.Core.Path.{_≡_, refl, sym, _∙_}
 use mathlib.Core.Bool.{Bool, true, false, _&&_}
 use mathlib.Core.List.{List, _++_}
 use native.Mathlib.Omega.{arith}
@@ -11,18 +11,11 @@ use mir.Syntax.{w16}
 use mir.Val.{Fits}
 use lib.Dec.{ltb}
 use lib.ListN.{getD}
+use Rattle.wire.proofs.Cond.{and-left, and-right}
 use Rattle.table.specs.declared.Section.{Section}
 use Rattle.table.specs.declared.Sections.{Sections}
 use Rattle.table.specs.Layout.{within, liesIn}
 use Rattle.table.specs.Words.{wordLimit, isSection, sectionIn, areSections, outside, sectionsIn, wordsOf}
-
-both-left : (a b : Bool) → (a && b) ≡ true → a ≡ true
-both-left true b e = refl
-both-left false b e = e
-
-both-right : (a b : Bool) → (a && b) ≡ true → b ≡ true
-both-right true b e = e
-both-right false b e = let z : _≡_ {A = ℕ} 0 1 = cc in absurd (omega arith)
 
 -- one section
 module _ (ws : List ℕ) (k : ℕ) where
@@ -31,13 +24,13 @@ module _ (ws : List ℕ) (k : ℕ) where
 
   pub first-fits : {a : ℕ} → isSection ws k ≡ true → a ≡ getD ws k 0 → Fits w16 a
   first-fits t e =
-      let h : getD ws k 0 < wordLimit = ltb-true (getD ws k 0) wordLimit (both-left (ltb (getD ws k 0) wordLimit) (ltb (getD ws (k + 1) 0) wordLimit) t) in
+      let h : getD ws k 0 < wordLimit = ltb-true (getD ws k 0) wordLimit (and-left (ltb (getD ws k 0) wordLimit) (ltb (getD ws (k + 1) 0) wordLimit) t) in
       record { fits = omega arith }
 
   pub count-fits : {a : ℕ} → isSection ws k ≡ true → a ≡ getD ws (k + 1) 0 → Fits w16 a
   count-fits t e =
       let h : getD ws (k + 1) 0 < wordLimit = ltb-true (getD ws (k + 1) 0) wordLimit
-      (both-right (ltb (getD ws k 0) wordLimit) (ltb (getD ws (k + 1) 0) wordLimit) t) in
+      (and-right (ltb (getD ws k 0) wordLimit) (ltb (getD ws (k + 1) 0) wordLimit) t) in
       record { fits = omega arith }
 
   pub section-in : {a b : ℕ} → a ≡ getD ws k 0 → b ≡ getD ws (k + 1) 0 → record { at = a; count = b } ≡ sectionIn ws k
@@ -59,19 +52,19 @@ module _ (ws : List ℕ) where
       all = sym e ∙ f
 
       pub types-there : isSection ws 0 ≡ true
-      types-there = both-left (isSection ws 0) (isSection ws 2 && (isSection ws 4 && isSection ws 6)) all
+      types-there = and-left (isSection ws 0) (isSection ws 2 && (isSection ws 4 && isSection ws 6)) all
 
       behind : (isSection ws 2 && (isSection ws 4 && isSection ws 6)) ≡ true
-      behind = both-right (isSection ws 0) (isSection ws 2 && (isSection ws 4 && isSection ws 6)) all
+      behind = and-right (isSection ws 0) (isSection ws 2 && (isSection ws 4 && isSection ws 6)) all
 
       pub members-there : isSection ws 2 ≡ true
-      members-there = both-left (isSection ws 2) (isSection ws 4 && isSection ws 6) behind
+      members-there = and-left (isSection ws 2) (isSection ws 4 && isSection ws 6) behind
 
       pub values-there : isSection ws 4 ≡ true
-      values-there = both-left (isSection ws 4) (isSection ws 6) (both-right (isSection ws 2) (isSection ws 4 && isSection ws 6) behind)
+      values-there = and-left (isSection ws 4) (isSection ws 6) (and-right (isSection ws 2) (isSection ws 4 && isSection ws 6) behind)
 
       pub operations-there : isSection ws 6 ≡ true
-      operations-there = both-right (isSection ws 4) (isSection ws 6) (both-right (isSection ws 2) (isSection ws 4 && isSection ws 6) behind)
+      operations-there = and-right (isSection ws 4) (isSection ws 6) (and-right (isSection ws 2) (isSection ws 4 && isSection ws 6) behind)
 
       pub sections-in : {a b c d : Section} → a ≡ sectionIn ws 0 → b ≡ sectionIn ws 2 → c ≡ sectionIn ws 4 → d ≡ sectionIn ws 6
           → record { types = a; members = b; values = c; operations = d } ≡ sectionsIn ws

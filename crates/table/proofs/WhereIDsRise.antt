@@ -1,6 +1,6 @@
 -- Where the IDs rise, what the search finds is the operation of that ID: the first that a plain scan meets, or none.
 -- Assumes nothing.
-use Prim.Native.Nat.{ℕ, zero, suc, _+_, _/_, _≤_, _<_}
+use Prim.Native.Nat.{ℕ, zero, suc, _+_, _≤_, _<_}
 use mathlib.Core.Path.{_≡_, refl, sym, ap, subst, _∙_}
 use mathlib.Core.Bool.{Bool, true, false, cond}
 use mathlib.Core.Logic.{⊎-elim}
@@ -14,17 +14,17 @@ use Rattle.table.specs.declared.Found.{Found}
 use Rattle.table.specs.declared.Found.the-variants.{At, Nothing}
 use Rattle.table.specs.Entries.{idAt}
 use Rattle.table.specs.Operations.{idsRise, orElse, firstBelow, operationOf}
-use Rattle.table.proofs.Rising.{rising-apart, rising-up-to}
+use Rattle.wire.proofs.Rising.{rising-apart, rising-up-to}
 use Rattle.table.specs.Search.{middle, halved, mostLooks, lookedUp}
 use Rattle.table.proofs.Halving.{reach, none-left, bears-it, above-it, below-it}
 
 module _ (t : List ℕ) (s : Sections) (id : ℕ) where
   -- an entry below n that bears the ID, or none of them does
-  abbrev Bears : ℕ → Found → Type 0
+  abbrev pub Bears : ℕ → Found → Type 0
   Bears n (At i) = (i < n) × (idAt t s i ≡ id)
   Bears n Nothing = (k : ℕ) → k < n → idAt t s k ≡ id → ⊥
 
-  scanned : (n : ℕ) → Bears n (firstBelow t s id n)
+  pub scanned : (n : ℕ) → Bears n (firstBelow t s id n)
   unfolding firstBelow
   scanned zero = λ k h. absurd (omega arith)
   scanned (suc n) = go (firstBelow t s id n) (scanned n) (eqb (idAt t s n) id) refl
@@ -44,7 +44,7 @@ module _ (t : List ℕ) (s : Sections) (id : ℕ) where
     unfolding idsRise
     up-to j k l h = rising-up-to (idAt t s) count rise j k l h
 
-    same-id : (i j : ℕ) → i < count → j < count → idAt t s i ≡ idAt t s j → i ≡ j
+    pub same-id : (i j : ℕ) → i < count → j < count → idAt t s i ≡ idAt t s j → i ≡ j
     unfolding idsRise
     same-id i j hi hj q = go (ltb i j) refl (ltb j i) refl
       where

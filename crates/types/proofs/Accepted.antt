@@ -14,7 +14,7 @@ use Rattle.table.specs.declared.Operation.{Operation}
 use Rattle.table.specs.declared.Checked.{Checked}
 use Rattle.table.specs.declared.Checked.the-variants.{Refused, Table}
 use Rattle.types.specs.declared.Largest.the-variants.{Bytes}
-use Rattle.table.specs.All.{allBelow, above}
+use Rattle.wire.specs.All.{allBelow, above}
 use Rattle.table.specs.Leaf.{isBase, isEnumBase, allowed}
 use Rattle.table.specs.Layout.{mostTypes, sectionsOf, within}
 use Rattle.table.specs.Entries.{noId, noType, typeAt, memberAt, valueAt, idAt, operationAt}
@@ -25,8 +25,8 @@ use Rattle.table.specs.Operations.{idsRise}
 use Rattle.types.specs.Operations.{fieldsOk as operationFields, operationOk}
 use Rattle.types.specs.Sizes.{mostBytes, largest, sizeFits, bytesUpTo, largestBelow, largestOf}
 use Rattle.types.specs.Table.{ruleBroken, tooLarge, entriesOk, sizesOk, judged, judging, checked}
-use Rattle.wire.proofs.Cond.{and-left, and-right}
-use Rattle.table.proofs.AllBelow.{at-below, all-below}
+use Rattle.wire.proofs.Cond.{and-left, and-right, either}
+use Rattle.wire.proofs.AllBelow.{at-below, all-below}
 use Rattle.table.proofs.Fields.{three, base-entry, enum-entry, record-entry, fixed-entry, array-entry, no-entry}
 use Rattle.types.proofs.TypeRules.{points-to-values, points-to-members}
 use Rattle.table.proofs.Chain.{Chain, chain, finished, chain-within}
@@ -74,10 +74,6 @@ pub record IsArray (i : ℕ) (e : Entry) : Type 0 where
 pub record IsOperation (s : Sections) (o : Operation) : Type 0 where
   pub id-below : o .id < noId
   pub carried : ((o .kind ≤ 1) × (o .carries < s .types .count)) ⊎ ((o .kind ≡ 0) × (o .carries ≡ noType))
-
-or-cases : (b c : Bool) → (b || c) ≡ true → (b ≡ true) ⊎ (c ≡ true)
-or-cases true c h = inl refl
-or-cases false c h = inr h
 
 module _ (t : List ℕ) (s : Sections) (a : Accepted t s) where
   pub is-within : within t s ≡ true
@@ -196,7 +192,7 @@ module _ (t : List ℕ) (s : Sections) (a : Accepted t s) where
               ⊎-elim
               (λ (p : (b && c) ≡ true). inl (leb-true (o .kind) 1 (and-left b c p), ltb-true (o .carries) (s .types .count) (and-right b c p)))
               (λ (p : (d && f) ≡ true). inr (eqb-true (o .kind) 0 (and-left d f p), eqb-true (o .carries) noType (and-right d f p)))
-              (or-cases (b && c) (d && f) (and-right (ltb (o .id) noId) ((b && c) || (d && f)) g));
+              (either (b && c) (d && f) (and-right (ltb (o .id) noId) ((b && c) || (d && f)) g));
         }
 
   pub ids-rise : idsRise t s ≡ true

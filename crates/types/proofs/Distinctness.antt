@@ -14,12 +14,12 @@ use lib.ListN.{length, getD, set}
 use lib.Seq.{getD-set-same, getD-set-other}
 use Rattle.table.specs.declared.Sections.{Sections}
 use Rattle.table.specs.declared.Entry.{Entry}
-use Rattle.table.specs.All.{allBelow}
+use Rattle.wire.specs.All.{allBelow}
 use Rattle.table.specs.Layout.{mostValues}
 use Rattle.table.specs.Entries.{typeAt, valueAt}
 use Rattle.types.specs.Values.{valueOf, unlike, unlikeBefore, distinct}
 use Rattle.types.specs.Alike.{lastEqual, lastAlike, Alikes, unlikeIn, valuesApart, enumApart, allApart}
-use Rattle.table.proofs.AllBelow.{next-below, stop-below}
+use Rattle.wire.proofs.AllBelow.{next-below, stop-below}
 
 -- looking for the last one alike from behind
 module _ (t : List ℕ) (s : Sections) (k word : ℕ) (is : word ≡ valueAt t s k) where

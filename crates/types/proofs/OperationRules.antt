@@ -9,11 +9,11 @@ use borrow.Author.Tests.{lt-ltb, le-ltb, leb-false, ne-eqb}
 use lib.Dec.{ltb, leb, eqb}
 use Rattle.table.specs.declared.Sections.{Sections}
 use Rattle.table.specs.declared.Operation.{Operation}
-use Rattle.table.specs.All.{allBelow}
+use Rattle.wire.specs.All.{allBelow}
 use Rattle.table.specs.Entries.{noId, noType, idAt, operationAt}
 use Rattle.types.specs.Operations.{fieldsOk, operationOk}
-use Rattle.table.proofs.AllBelow.{next-below, stop-below}
-use Rattle.table.proofs.Rising.{Carried, carried-next, carried-test}
+use Rattle.wire.proofs.AllBelow.{next-below, stop-below}
+use Rattle.wire.proofs.Rising.{Carried, carried-next, carried-test}
 
 -- the fields, where a type is carried and where none can be
 module _ (s : Sections) (o : Operation) where

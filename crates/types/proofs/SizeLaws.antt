@@ -18,13 +18,13 @@ use Rattle.table.specs.declared.Sections.{Sections}
 use Rattle.table.specs.declared.Entry.{Entry}
 use Rattle.types.specs.declared.Largest.{Largest}
 use Rattle.types.specs.declared.Largest.the-variants.{Bytes, Unknown}
-use Rattle.table.specs.All.{allBelow}
+use Rattle.wire.specs.All.{allBelow}
 use Rattle.table.specs.Leaf.{width}
 use Rattle.table.specs.Entries.{typeAt, memberAt, isType}
 use Rattle.types.specs.Lawful.{Smaller}
 use Rattle.types.specs.Sizes.{mostBytes, sumOf, sumFrom, sizeOf, sizes, largest, sizeFits, bytesUpTo, largestBelow, largestOf}
 use Rattle.wire.proofs.Cond.{and-right}
-use Rattle.table.proofs.AllBelow.{next-below, stop-below}
+use Rattle.wire.proofs.AllBelow.{next-below, stop-below}
 
 -- where nothing is known nothing is asked
 pub unknown : (A : Type 0) → false ≡ true → A

@@ -13,7 +13,7 @@ use mir.Val.{Fits}
 use Rattle.wire.specs.Bytes.{Octets}
 use Rattle.table.specs.declared.Sections.{Sections}
 use Rattle.table.specs.declared.Entry.{Entry}
-use Rattle.table.specs.All.{allBelow}
+use Rattle.wire.specs.All.{allBelow}
 use Rattle.table.specs.Layout.{mostValues}
 use Rattle.table.specs.Entries.{typeAt, memberAt}
 use Rattle.types.specs.Values.{valueOk, distinct, valuesOk}
@@ -27,7 +27,7 @@ use Rattle.types.specs.Operations.{operationOk}
 use Rattle.types.specs.Table.{entriesOk}
 use Rattle.types.specs.Passes.{inOrder, quickOk, enumOk, looseOk, enumDistinct}
 use Rattle.wire.proofs.Cond.{and-left, and-right}
-use Rattle.table.proofs.AllBelow.{at-below, next-below, stop-below, done-below}
+use Rattle.wire.proofs.AllBelow.{at-below, next-below, stop-below, done-below}
 use Rattle.types.proofs.ValueRules.{order-ok}
 use Rattle.table.proofs.Fields.{enum-code, enum-inside, record-inside}
 use Rattle.types.proofs.TypeRules.{points-to-members}

@@ -8,11 +8,11 @@ use borrow.Author.Tests.{eq-eqb, lt-ltb, le-ltb}
 use lib.Dec.{ltb, eqb}
 use Rattle.table.specs.declared.Sections.{Sections}
 use Rattle.table.specs.declared.Entry.{Entry}
-use Rattle.table.specs.All.{allBelow}
+use Rattle.wire.specs.All.{allBelow}
 use Rattle.table.specs.Entries.{memberAt}
 use Rattle.types.specs.Values.{valuesOk}
 use Rattle.types.specs.Rules.{memberOk, membersOk, pointedOk}
-use Rattle.table.proofs.AllBelow.{next-below, stop-below}
+use Rattle.wire.proofs.AllBelow.{next-below, stop-below}
 
 -- what an entry points to
 module _ (t : List ℕ) (s : Sections) (i : ℕ) (e : Entry) where

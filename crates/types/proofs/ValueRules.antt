@@ -9,7 +9,7 @@ use borrow.Author.Tests.{lt-ltb, le-leb, lt-leb, leb-true, ltb-false, ne-eqb}
 use lib.Dec.{ltb, leb, eqb}
 use Rattle.table.specs.declared.Sections.{Sections}
 use Rattle.table.specs.declared.Entry.{Entry}
-use Rattle.table.specs.All.{allBelow, above}
+use Rattle.wire.specs.All.{allBelow, above}
 use Rattle.table.specs.Leaf.{isEnumBase, base, inSigned, isValue, allowed}
 use Rattle.wire.specs.Bytes.{Octets}
 use Rattle.table.specs.Layout.{valuePlace}
@@ -18,8 +18,8 @@ use Rattle.types.specs.Values.{valueOf, valueOk, unlike, unlikeBefore, d
 use Rattle.types.specs.Passes.{offset, top, rank, next, inOrder}
 use Rattle.wire.proofs.Cond.{and-left, and-right}
 use Rattle.wire.proofs.Numbers.{number-lt}
-use Rattle.table.proofs.AllBelow.{all-below, at-below, next-below, stop-below, done-below}
-use Rattle.table.proofs.Rising.{Carried, carried-next, carried-test, rising-apart}
+use Rattle.wire.proofs.AllBelow.{all-below, at-below, next-below, stop-below, done-below}
+use Rattle.wire.proofs.Rising.{Carried, carried-next, carried-test, rising-apart}
 
 -- one value after the other, the last of them carried along
 module _ (t : List ℕ) (s : Sections) (e : Entry) (k last v n z m : ℕ) (carried : Carried (rank t s e) k last)

@@ -4,7 +4,7 @@ use mathlib.Core.Path.{_≡_}
 use mathlib.Core.Bool.{true}
 use mathlib.Core.List.{List}
 use Rattle.table.specs.declared.Sections.{Sections}
-use Rattle.table.specs.All.{allBelow}
+use Rattle.wire.specs.All.{allBelow}
 use Rattle.table.specs.Entries.{memberAt}
 use Rattle.types.specs.Inside.{Lying}
 use Rattle.types.specs.Rules.{typeOk}

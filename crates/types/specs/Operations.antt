@@ -5,7 +5,7 @@ use mathlib.Core.List.{List}
 use lib.Dec.{ltb, leb, eqb}
 use Rattle.table.specs.declared.Sections.{Sections}
 use Rattle.table.specs.declared.Operation.{Operation}
-use Rattle.table.specs.All.{above}
+use Rattle.wire.specs.All.{above}
 use Rattle.table.specs.Entries.{eventKind, dataKind, noType, noId, idAt, operationAt, isType}
 
 -- an ID below 0xFFFFFFFF; kind 0 event or 1 versioned data with a type, or an event with none

@@ -6,7 +6,7 @@ use mathlib.Core.List.{List}
 use lib.Dec.{leb, eqb}
 use Rattle.table.specs.declared.Sections.{Sections}
 use Rattle.table.specs.declared.Entry.{Entry}
-use Rattle.table.specs.All.{allBelow, above}
+use Rattle.wire.specs.All.{allBelow, above}
 use Rattle.table.specs.Entries.{enumKind, recordKind, typeAt}
 use Rattle.types.specs.Values.{valueOf, valueOk, distinct}
 use Rattle.table.specs.Fields.{fieldsOk}

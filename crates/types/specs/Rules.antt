@@ -5,7 +5,7 @@ use mathlib.Core.List.{List}
 use lib.Dec.{ltb, eqb}
 use Rattle.table.specs.declared.Sections.{Sections}
 use Rattle.table.specs.declared.Entry.{Entry}
-use Rattle.table.specs.All.{allBelow}
+use Rattle.wire.specs.All.{allBelow}
 use Rattle.table.specs.Entries.{enumKind, recordKind, typeAt, memberAt}
 use Rattle.table.specs.Fields.{fieldsOk}
 use Rattle.types.specs.Values.{valuesOk}

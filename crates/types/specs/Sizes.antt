@@ -8,7 +8,7 @@ use Rattle.table.specs.declared.Sections.{Sections}
 use Rattle.table.specs.declared.Entry.{Entry}
 use Rattle.types.specs.declared.Largest.{Largest}
 use Rattle.types.specs.declared.Largest.the-variants.{Bytes, Unknown}
-use Rattle.table.specs.All.{allBelow}
+use Rattle.wire.specs.All.{allBelow}
 use Rattle.table.specs.Leaf.{width}
 use Rattle.table.specs.Layout.{mostTypes}
 use Rattle.table.specs.Entries.{enumKind, recordKind, fixedKind, arrayKind, typeAt, memberAt, isType}

@@ -5,7 +5,7 @@ use mathlib.Core.List.{List}
 use Rattle.table.specs.declared.Sections.{Sections}
 use Rattle.table.specs.declared.Checked.{Checked}
 use Rattle.table.specs.declared.Checked.the-variants.{Refused, Table}
-use Rattle.table.specs.All.{allBelow}
+use Rattle.wire.specs.All.{allBelow}
 use Rattle.table.specs.Layout.{sectionsOf}
 use Rattle.types.specs.Rules.{typeOk}
 use Rattle.types.specs.Operations.{operationOk}

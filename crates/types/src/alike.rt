@@ -6,7 +6,7 @@ use table::entries;
 ghost use mathlib.Core.Path.{_≡_};
 ghost use Prim.Native.Nat.{_+_, _≤_};
 ghost use lib.ListN.{length};
-ghost use Rattle.table.specs.All.{allBelow};
+ghost use Rattle.wire.specs.All.{allBelow};
 ghost use Rattle.table.specs.Layout.{mostValues};
 ghost use Rattle.types.specs.Alike.{lastAlike, Alikes, unlikeIn, enumApart, allApart};
 

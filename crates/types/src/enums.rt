@@ -4,7 +4,7 @@ use table::Entry;
 use table::Sections;
 use table::entries;
 ghost use mathlib.Core.Path.{_≡_};
-ghost use Rattle.table.specs.All.{allBelow};
+ghost use Rattle.wire.specs.All.{allBelow};
 ghost use Rattle.types.specs.Values.{valueOf, valueOk};
 
 // Each value of an enum is allowed in its base.

@@ -3,7 +3,7 @@ use crate::inside;
 use table::Operation;
 use table::Sections;
 ghost use mathlib.Core.Path.{_≡_};
-ghost use Rattle.table.specs.All.{allBelow};
+ghost use Rattle.wire.specs.All.{allBelow};
 ghost use Rattle.types.specs.Inside.{Lying};
 ghost use Rattle.types.specs.Operations.{operationOk, fieldsOk};
 

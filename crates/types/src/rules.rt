@@ -6,7 +6,7 @@ use table::Entry;
 use table::Sections;
 ghost use mathlib.Core.Path.{_≡_};
 ghost use Prim.Native.Nat.{_+_, _≤_, _<_};
-ghost use Rattle.table.specs.All.{allBelow};
+ghost use Rattle.wire.specs.All.{allBelow};
 ghost use Rattle.types.specs.Inside.{Lying};
 ghost use Rattle.types.specs.Rules.{typeOk, membersOk};
 ghost use Rattle.types.specs.Passes.{quickOk, enumOk};

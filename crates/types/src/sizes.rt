@@ -8,7 +8,7 @@ ghost use mathlib.Core.Path.{_≡_};
 ghost use mathlib.Core.Bool.{true};
 ghost use Prim.Native.Nat.{_+_, _*_, _^_, _≤_, _<_};
 ghost use lib.ListN.{length, getD, take};
-ghost use Rattle.table.specs.All.{allBelow};
+ghost use Rattle.wire.specs.All.{allBelow};
 ghost use Rattle.table.specs.Layout.{mostTypes};
 ghost use Rattle.table.specs.Entries.{typeAt, memberAt};
 ghost use Rattle.types.specs.Inside.{Lying};

@@ -1,6 +1,6 @@
 -- The loops over a list of base codes: what is left to judge or to store leads to the whole.
 -- Assumes nothing.
-use Prim.Native.Nat.{ℕ, suc, _+_, _-_, _*_, _^_, _≤_, _<_}
+use Prim.Native.Nat.{ℕ, suc, min, _+_, _-_, _*_, _^_, _≤_, _<_}
 use mathlib.Core.Path.{_≡_, refl, sym, ap, _∙_}
 use mathlib.Core.Bool.{Bool, true, false, cond}
 use mathlib.Core.List.{List, [], _∷_}
@@ -11,8 +11,8 @@ use borrow.Author.Tests.{le-leb, lt-leb}
 use mir.Syntax.{w64}
 use mir.Val.{Fits}
 use lib.Dec.{leb}
-use lib.ListN.{length, getD, set, take, drop, drop-of-length-le}
-use lib.Seq.{length-take-le, take-suc, drop-cons}
+use lib.ListN.{length, getD, set, take, drop, length-take, drop-of-length-le}
+use lib.Seq.{take-suc, drop-cons}
 use Rattle.wire.proofs.Cond.{yes-if, no-if}
 use Rattle.table.specs.Leaf.{width}
 use Rattle.leaf.specs.Forms.{wordAt}
@@ -39,12 +39,12 @@ module _ (b codes : List ℕ) (p : Place) (x : List ℕ) where
   pub no-room : length x ≤ p .to → x ≡ laid b (take (wholeCount b codes (p .from)) codes) p x
   no-room h = sym (laid-out b (take (wholeCount b codes (p .from)) codes) p x h)
 
-  pub room-in : (n : ℕ) → p .to < length x → n ≤ length codes → n ≤ length x - p .to → p .to + length (take n codes) ≤ length x
-  room-in n h l g = omega (arith, length-take-le n codes l)
+  pub room-in : (n : ℕ) → p .to < length x → n ≡ min (length codes) (length x - p .to) → p .to + length (take n codes) ≤ length x
+  room-in n h e = omega (arith, length-take n codes)
 
-  pub room-stored : (n : ℕ) (y : List ℕ) → (n < length codes → length x - p .to ≤ n) → y
+  pub room-stored : (n : ℕ) (y : List ℕ) → n ≡ min (length codes) (length x - p .to) → y
       ≡ laid b (take (wholeCount b (take n codes) (p .from)) (take n codes)) p x → y ≡ laid b (take (wholeCount b codes (p .from)) codes) p x
-  room-stored n y h e = e ∙ laid-cut b codes n p x (λ l. omega (arith, h l))
+  room-stored n y h e = e ∙ laid-cut b codes n p x (λ l. omega arith)
 
 -- judging
 module _ (b codes : List ℕ) (first : ℕ) where

@@ -1,6 +1,6 @@
 -- Leaves of one base code, one behind another: where they stand, that they are judged by counting, and what they come to.
 -- Assumes nothing.
-use Prim.Native.Nat.{ℕ, zero, suc, _+_, _-_, _*_, _^_, _≤_, _<_}
+use Prim.Native.Nat.{ℕ, zero, suc, min, _+_, _-_, _*_, _^_, _≤_, _<_}
 use mathlib.Core.Path.{_≡_, refl, sym, ap, _∙_}
 use mathlib.Core.Bool.{Bool, true, false, _&&_, cond}
 use mathlib.Core.List.{List, [], _∷_}
@@ -16,9 +16,9 @@ use lib.ListN.{length, set}
 use Rattle.wire.specs.Bytes.{written, Octets}
 use Rattle.wire.proofs.Cond.{yes-if, no-if}
 use Rattle.wire.proofs.Runs.{length-written, written-out}
-use Rattle.table.specs.All.{allBelow}
+use Rattle.wire.specs.All.{allBelow}
 use Rattle.table.specs.Leaf.{width, allowed}
-use Rattle.table.proofs.AllBelow.{all-below}
+use Rattle.wire.proofs.AllBelow.{all-below}
 use Rattle.leaf.specs.Forms.{wordAt}
 use Rattle.walk.specs.declared.Place.{Place}
 use Rattle.walk.specs.Walk.{Step, on, through}
@@ -45,8 +45,8 @@ module _ (l from n w code k : ℕ) (is : w ≡ width code) (room : from + n * wi
     place-fits = rw is (record { fits = omega (arith, leaf-in) })
 
 -- fewer leaves are there too
-pub fewer-in : (l from m n code : ℕ) → from + n * width code ≤ l → m ≤ n → from + m * width code ≤ l
-fewer-in l from m n code h g = omega (arith, mul-le-mul-right (width code) g)
+pub fewer-in : (l from m n room code : ℕ) → from + n * width code ≤ l → m ≡ min n room → from + m * width code ≤ l
+fewer-in l from m n room code h e = let g : m ≤ n = omega arith in omega (arith, mul-le-mul-right (width code) g)
 
 -- judging: what a leaf adds to the number of those refused
 pub taken-one : (code w : ℕ) (a : Bool) → a ≡ allowed code w → a ≡ true → _≡_ {A = ℕ} 0 (cond (allowed code w) 0 1)
@@ -127,12 +127,13 @@ module _ (b : List ℕ) (code : ℕ) (p : Place) (x : List ℕ) where
   unfolding filled
   no-room-left n h = past n 0 (omega arith) (omega arith)
 
-  pub room-filled : (n m : ℕ) (y : List ℕ) → p .to < length x → m ≤ n → (m < n → length x - p .to ≤ m) → y ≡ filled b code p m x → y ≡ filled b code p n x
-  room-filled n m y h l g e =
+  pub room-filled : (n m : ℕ) (y : List ℕ) → p .to < length x → m ≡ min n (length x - p .to) → y ≡ filled b code p m x → y ≡ filled b code p n x
+  room-filled n m y h s e =
+      let l : m ≤ n = omega arith in
       e
       ∙ ⊎-elim
       (λ (i : m ≡ n). ap (λ (j : ℕ). filled b code p j x) i)
-      (λ (i : m < n). past n m (omega (arith, g i)) l)
+      (λ (i : m < n). past n m (omega arith) l)
       (eq-or-lt-of-le l)
 
 -- a run that is there and allowed is walked over

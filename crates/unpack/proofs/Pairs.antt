@@ -1,6 +1,6 @@
 -- Leaves whose word is the number of four bytes itself, two at a time: a number of eight bytes has both.
 -- Assumes nothing.
-use Prim.Native.Nat.{ℕ, _+_, _-_, _*_, _/_, _%_, _≤_, _<_}
+use Prim.Native.Nat.{ℕ, min, _+_, _-_, _*_, _/_, _%_, _≤_, _<_}
 use mathlib.Core.Path.{_≡_, refl, sym, ap, subst, _∙_}
 use mathlib.Core.Bool.{Bool, true, false, _||_}
 use mathlib.Core.List.{List}
@@ -37,8 +37,9 @@ unfolding wordAt base wordOf
 word-four code b p is = either (λ (n : ℕ). wordAt n b p ≡ number 2 b p) code refl refl is
 
 -- where they stand
-pub fours-in : (l from m n code : ℕ) (r : Bool) → r ≡ (eqb code 9 || eqb code 11) → r ≡ true → from + n * width code ≤ l → m ≤ n → from + m * 4 ≤ l
-fours-in l from m n code r e t h g = rw (← width-four code (sym e ∙ t)) (fewer-in l from m n code h g)
+pub fours-in : (l from m n room code : ℕ) (r : Bool) → r ≡ (eqb code 9 || eqb code 11) → r ≡ true → from + n * width code ≤ l → m ≡ min n room
+    → from + m * 4 ≤ l
+fours-in l from m n room code r e t h g = rw (← width-four code (sym e ∙ t)) (fewer-in l from m n room code h g)
 
 pub last-room : (l from n code : ℕ) → (eqb code 9 || eqb code 11) ≡ true → from + n * 4 ≤ l → 2 * (n / 2) < n → from + n / 2 * 8 + width code ≤ l
 last-room l from n code is h g = rw (width-four code is) (omega arith)

@@ -14,7 +14,7 @@ use lib.Seq.{length-take-le}
 use Rattle.wire.proofs.Cond.{both}
 use Rattle.table.specs.declared.Sections.{Sections}
 use Rattle.table.specs.Leaf.{width, allowed}
-use Rattle.table.proofs.AllBelow.{at-below}
+use Rattle.wire.proofs.AllBelow.{at-below}
 use Rattle.leaf.specs.Forms.{wordAt}
 use Rattle.walk.specs.declared.Place.{Place}
 use Rattle.walk.specs.Tree.{child, baseAt}

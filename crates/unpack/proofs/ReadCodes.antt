@@ -1,7 +1,7 @@
 -- The codes of a record's members, read at once: that they are there, and that what reads leaves of these codes reads members.
 -- Assumes nothing.
-use Prim.Native.Nat.{ℕ, _+_, _-_, _≤_, _<_}
-use mathlib.Core.Path.{_≡_, refl, sym, _∙_}
+use Prim.Native.Nat.{ℕ, _+_, _≤_, _<_}
+use mathlib.Core.Path.{_≡_}
 use mathlib.Core.List.{List}
 use native.Mathlib.Omega.{arith}
 use lib.ListN.{length, getD, take}
@@ -11,7 +11,7 @@ use Rattle.table.specs.declared.Sections.{Sections}
 use Rattle.table.specs.declared.Entry.{Entry}
 use Rattle.table.specs.Entries.{memberAt}
 use Rattle.walk.specs.Codes.{codeCount, codesOf}
-use Rattle.walk.proofs.Codes.{few-codes, smaller-right, codes-fit, codes-as-long, code-is}
+use Rattle.walk.proofs.Codes.{few-codes, codes-fit, codes-as-long, code-is}
 use Rattle.unpack.specs.Steps.{ReadsCodes}
 use Rattle.unpack.specs.Reading.{memberRead}
 use Rattle.unpack.proofs.ReadBases.{base-reads}
@@ -25,7 +25,7 @@ module _ (t : List ℕ) (s : Sections) (i : ℕ) (e : Entry) (m r : ℕ) (u v : 
   as-given = length-take-le r v codes-in
 
   members-in : m ≤ e .count → m + length (take r v) ≤ e .count
-  members-in h = omega (arith, as-given, few-codes t s i e m (length u), smaller-right (length u) (e .count - m))
+  members-in h = omega (arith, as-given, few-codes t s i e m (length u))
 
   pub members-few : m ≤ e .count → e .count < 65536 → m + length (take r v) ≤ 65535
   members-few h l = omega (arith, members-in h)

@@ -12,9 +12,9 @@ use mir.Val.{Fits}
 use lib.Dec.{leb, eqb}
 use lib.ListN.{length}
 use Rattle.wire.proofs.Cond.{yes-if, no-if, and-left, and-right}
-use Rattle.table.specs.All.{allBelow}
+use Rattle.wire.specs.All.{allBelow}
 use Rattle.table.specs.Leaf.{Leaf, none, base, isValue, width, allowed}
-use Rattle.table.proofs.AllBelow.{at-below}
+use Rattle.wire.proofs.AllBelow.{at-below}
 use Rattle.table.proofs.Leaves.{no-base}
 use Rattle.leaf.specs.Forms.{wordAt}
 use Rattle.walk.specs.declared.Place.{Place}

@@ -59,7 +59,7 @@ pub(crate) fn store_codes(payload: &[u8], words: &mut [u64], codes: &[u8], p: Pl
     if words.len() <= p.to {
         return;
     }
-    let room = runs::least(codes.len(), words.len() - p.to);
+    let room = wire::least(codes.len(), words.len() - p.to);
     store_within(payload, words, &codes[..room], p);
 }
 

@@ -8,7 +8,7 @@ ghost use Prim.Native.Nat.{_+_, _*_, _/_, _%_, _≤_, _<_};
 ghost use lib.Dec.{leb, eqb};
 ghost use lib.ListN.{length};
 ghost use Rattle.wire.specs.Bytes.{number};
-ghost use Rattle.table.specs.All.{allBelow};
+ghost use Rattle.wire.specs.All.{allBelow};
 ghost use Rattle.table.specs.Leaf.{width, allowed};
 ghost use Rattle.unpack.specs.OneCode.{isGood, filled, runThere};
 
@@ -111,7 +111,7 @@ fn put_run(payload: &[u8], words: &mut [u64], code: u16, count: usize, p: Place)
     ensures { λ _. ⌜ now (words .exit) ≡ filled (now (payload .entry)) code p count (now (words .entry)) ⌝ }
 {
     if p.to < words.len() {
-        let room = least(count, words.len() - p.to);
+        let room = wire::least(count, words.len() - p.to);
         if is_whole4(code) {
             store_pairs(payload, words, code, room, p);
         } else {
@@ -166,10 +166,4 @@ fn is_whole4(code: u16) -> bool
     ensures { λ r. ⌜ r ≡ (eqb code 9 || eqb code 11) ⌝ }
 {
     (code == 9) | (code == 11)
-}
-
-pub(crate) fn least(a: usize, b: usize) -> usize
-    ensures { λ r. ⌜ (r ≤ a) × (r ≤ b) × (r < a → b ≤ r) ⌝ }
-{
-    if a < b { a } else { b }
 }

@@ -1,6 +1,6 @@
 -- Demand 2 for payloads, over all types at once: both round trips.
 -- Assumes nothing.
-use Prim.Native.Nat.{ℕ, zero, suc, _+_, _-_, _≤_}
+use Prim.Native.Nat.{ℕ, zero, suc, _+_, _≤_}
 use mathlib.Core.Path.{_≡_, refl, sym, ap, subst, _∙_}
 use mathlib.Core.Bool.{Bool, true}
 use mathlib.Core.List.{List, [], _∷_, _++_}
@@ -18,28 +18,19 @@ use Rattle.payload.specs.declared.Answer.the-variants.{Gave}
 use Rattle.walk.specs.Tree.{Tree, leaf, row, array, broken, tree}
 use Rattle.walk.specs.Walk.{countCode}
 use Rattle.unpack.specs.Reading.{reader}
-use Rattle.pack.specs.Writing.{writer}
 use Rattle.payload.specs.Calls.{unpackedIn, wordsIn, packedIn, bytesIn}
 use Rattle.values.specs.Values.{Behind, Row, One, Some, Over, exact, loose, settled, Value, Spoken, Settled, BooleansAsOne}
 use Rattle.values.proofs.Belonging.{over-map}
-use Rattle.values.proofs.Exactly.{Callable, callable, Calls, packs-values, values-pack, Unpacks, unpacks-forms, forms-unpack}
+use Rattle.values.proofs.Exactly.{Callable, callable, values-pack, Unpacks, unpacks-forms}
 
--- pack, then unpack: the same words
+-- pack, then unpack: a value's bytes are a byte form of it
 pub take-front : (x ys : List ℕ) (k : ℕ) → k ≡ length ys → take k (over x 0 ys) ≡ ys
 take-front x ys k h = take-at ys (drop (0 + length ys) x) k (sym h)
 
-pub pack-then-unpack : (t : List ℕ) (s : Sections) (i : ℕ) (ws out words : List ℕ) (k : ℕ) → packedIn t s i ws (length out) ≡ Gave k
-    → length ws ≤ length words → (unpackedIn t s i (take k (bytesIn t s i ws out)) (length words) ≡ Gave (length ws))
-    × (wordsIn t s i (take k (bytesIn t s i ws out)) words ≡ over words 0 ws)
-unfolding Spoken allowed formOf
-pack-then-unpack t s i ws out words k h l =
-    let m : Calls exact (writer ws) t s i ws out k = packs-values t s i ws out k h in
-    let e : take k (bytesIn t s i ws out) ≡ m .ys = ap (take k) (m .given) ∙ take-front out (m .ys) k (m .as-many) in
-    let v : Spoken t s i ws (m .ys) =
-    over-map exact loose (λ code w xs ys a d. (d .0, subst (Says (base code) w) (sym (d .1)) (form-says (base code) w a))) (tree t s i) ws
-    (m .ys) (m .belong) in
-    subst (λ (b : List ℕ). (unpackedIn t s i b (length words) ≡ Gave (length ws)) × (wordsIn t s i b words ≡ over words 0 ws)) (sym e)
-    (forms-unpack t s i ws (m .ys) words (callable (writer ws) (length ws) t s i (length out) k h) v l)
+pub value-spoken : (t : List ℕ) (s : Sections) (i : ℕ) (ws bs : List ℕ) → Value t s i ws bs → Spoken t s i ws bs
+unfolding Value Spoken allowed formOf
+value-spoken t s i ws bs v =
+    over-map exact loose (λ code w xs ys a d. (d .0, subst (Says (base code) w) (sym (d .1)) (form-says (base code) w a))) (tree t s i) ws bs v
 
 -- unpack, then pack: the same bytes, with each true boolean as 1
 pub record Also (M N : List ℕ → List ℕ → Type 0) (xs ys : List ℕ) : Type 0 where
@@ -135,6 +126,12 @@ leaf-settles code w ws bs a o =
       as-long = length-form (base code) w ∙ sym (length-said (base code) w bs (o .1));
     }
 
+-- a byte form of a value, and the bytes of that value: each true boolean as 1
+pub spoken-settles : (t : List ℕ) (s : Sections) (i : ℕ) (ws b : List ℕ) → Spoken t s i ws b
+    → Also (λ us vs. Value t s i us vs) (λ us vs. BooleansAsOne t s i us vs) ws b
+unfolding Spoken Value BooleansAsOne
+spoken-settles t s i ws b v = over-also loose exact settled leaf-settles (tree t s i) ws b v
+
 pub record PacksAgain (t : List ℕ) (s : Sections) (i : ℕ) (b ws out : List ℕ) : Type 0 where
   pub cs : List ℕ
   pub settled-is : BooleansAsOne t s i b cs
@@ -144,13 +141,12 @@ pub record PacksAgain (t : List ℕ) (s : Sections) (i : ℕ) (b ws out : List �
 
 pub unpack-then-pack : (t : List ℕ) (s : Sections) (i : ℕ) (b words out : List ℕ) (k : ℕ) → Octets b → unpackedIn t s i b (length words)
     ≡ Gave k → length b ≤ length out → PacksAgain t s i b (take k (wordsIn t s i b words)) out
-unfolding Spoken Value BooleansAsOne
 unpack-then-pack t s i b words out k o h l = go (unpacks-forms t s i b words k o h)
   where
     call : Callable t s i
     call = callable (reader b) (length b) t s i (length words) k h
 
-    packs : (ws : List ℕ) → Also (λ us vs. Over exact (tree t s i) us vs) (λ us vs. Over settled (tree t s i) us vs) ws b → PacksAgain t s i b ws out
+    packs : (ws : List ℕ) → Also (λ us vs. Value t s i us vs) (λ us vs. BooleansAsOne t s i us vs) ws b → PacksAgain t s i b ws out
     packs ws a =
         let d : (packedIn t s i ws (length out) ≡ Gave (length (a .zs)))
         × (bytesIn t s i ws out ≡ over out 0 (a .zs)) = values-pack t s i ws (a .zs) out call (a .one) (omega (arith, a .as-long)) in
@@ -159,4 +155,4 @@ unpack-then-pack t s i b words out k o h l = go (unpacks-forms t s i b words k o
     go : Unpacks t s i b words k → PacksAgain t s i b (take k (wordsIn t s i b words)) out
     go m =
         subst (λ (u : List ℕ). PacksAgain t s i b u out) (sym (ap (take k) (m .given) ∙ take-front words (m .ws) k (m .as-many)))
-        (packs (m .ws) (over-also loose exact settled leaf-settles (tree t s i) (m .ws) b (m .belong)))
+        (packs (m .ws) (spoken-settles t s i (m .ws) b (m .belong)))

@@ -1,6 +1,6 @@
 -- Laws of the base codes that are read at once: how many lead, what they are, and what a caller knows of each.
 -- Assumes nothing.
-use Prim.Native.Nat.{ℕ, zero, suc, _+_, _-_, _≤_, _<_}
+use Prim.Native.Nat.{ℕ, zero, suc, _+_, _≤_, _<_}
 use mathlib.Core.Path.{_≡_, refl, sym, ap, _∙_}
 use mathlib.Core.Bool.{Bool, true, false}
 use mathlib.Core.Logic.{⊎-elim}
@@ -8,21 +8,21 @@ use mathlib.Core.List.{List, [], _∷_, _++_}
 use native.Mathlib.Nat.{eq-or-lt-of-le}
 use native.Mathlib.Numerals.{add-one}
 use native.Mathlib.Omega.{arith}
-use borrow.Author.Tests.{ltb-true, lt-ltb, le-ltb, leb-true, leb-false}
-use lib.Dec.{ltb, leb}
+use borrow.Author.Tests.{ltb-true, lt-ltb, le-ltb}
+use lib.Dec.{ltb}
 use lib.ListN.{length, getD, set, drop, length-append, List·getD-append}
 use lib.Seq.{getD-at}
 use Rattle.wire.specs.Bytes.{over}
-use Rattle.wire.proofs.Cond.{yes-if, no-if, yes-le, no-le}
+use Rattle.wire.proofs.Cond.{yes-if, no-if}
 use Rattle.wire.proofs.Runs.{set-over, over-over, length-over}
 use Rattle.table.specs.declared.Sections.{Sections}
 use Rattle.table.specs.declared.Entry.{Entry}
-use Rattle.table.specs.All.{allBelow}
-use Rattle.table.proofs.AllBelow.{none-below, next-below, at-below, stop-below}
+use Rattle.wire.specs.All.{allBelow}
+use Rattle.wire.proofs.AllBelow.{none-below, next-below, at-below, stop-below}
 use Rattle.table.specs.Layout.{typePlace, memberPlace}
 use Rattle.table.specs.Entries.{memberAt}
 use Rattle.walk.specs.Tree.{noBase, baseAt}
-use Rattle.walk.specs.Codes.{allBases, leading, firsts, codeAt, areThere, smaller, mostCodes, codeCount, codesOf}
+use Rattle.walk.specs.Codes.{allBases, leading, firsts, codeAt, areThere, mostCodes, codeCount, codesOf}
 
 module _ (f : ℕ → ℕ) where
   -- what leads: all of k that are bases, up to one that is none
@@ -127,27 +127,6 @@ module _ (f : ℕ → ℕ) (s : List ℕ) where
   pub so-many : {u : List ℕ} (k n : ℕ) → u ≡ over s 0 (firsts f k) → k ≡ leading f n → u ≡ over s 0 (firsts f (leading f n))
   so-many k n e g = e ∙ ap (λ (j : ℕ). over s 0 (firsts f j)) g
 
--- the smaller of two
-pub is-left : (a b : ℕ) → a ≤ b → a ≡ smaller a b
-is-left a b h = sym (yes-le a b a b h)
-
-pub is-right : (a b : ℕ) → b < a → b ≡ smaller a b
-is-right a b h = sym (no-le a b a b h)
-
-pub smaller-left : (a b : ℕ) → smaller a b ≤ a
-smaller-left a b = go (leb a b) refl
-  where
-    go : (t : Bool) → leb a b ≡ t → smaller a b ≤ a
-    go true h = omega (arith, yes-if a b h)
-    go false h = omega (arith, no-if a b h, leb-false a b h)
-
-pub smaller-right : (a b : ℕ) → smaller a b ≤ b
-smaller-right a b = go (leb a b) refl
-  where
-    go : (t : Bool) → leb a b ≡ t → smaller a b ≤ b
-    go true h = omega (arith, yes-if a b h, leb-true a b h)
-    go false h = omega (arith, no-if a b h)
-
 -- what a caller knows of the codes that were stored
 module _ (t : List ℕ) (s : Sections) (i : ℕ) (e : Entry) (m room : ℕ) where
   pub few-codes : codeCount t s i e m room ≤ mostCodes e m room
@@ -177,11 +156,11 @@ module _ (t : List ℕ) (s : Sections) (i : ℕ) (e : Entry) (m room : ℕ) wher
 
 module _ (t : List ℕ) (s : Sections) (i : ℕ) (e : Entry) (m r : ℕ) (u : List ℕ) (counts : r ≡ codeCount t s i e m (length u)) where
   pub codes-fit : r ≤ length u
-  codes-fit = omega (arith, few-codes t s i e m (length u), smaller-left (length u) (e .count - m))
+  codes-fit = omega (arith, few-codes t s i e m (length u))
 
   -- each is of a member
   pub code-member : (j : ℕ) → j < r → m + j < e .count
-  code-member j h = omega (arith, few-codes t s i e m (length u), smaller-right (length u) (e .count - m))
+  code-member j h = omega (arith, few-codes t s i e m (length u))
 
   module _ (v : List ℕ) (stored : v ≡ over u 0 (codesOf t s i e m (length u))) where
     pub codes-as-long : length v ≡ length u

@@ -1,6 +1,6 @@
 -- Laws of the base codes that are read from parts of a table: an entry as one number, and a part for the whole.
 -- Assumes nothing.
-use Prim.Native.Nat.{ℕ, _+_, _-_, _*_, _/_, _%_, _^_, _≤_, _<_}
+use Prim.Native.Nat.{ℕ, min, _+_, _-_, _*_, _/_, _%_, _^_, _≤_, _<_}
 use mathlib.Core.Path.{_≡_, refl, sym, ap, subst, _∙_}
 use mathlib.Core.Bool.{Bool, true, false, _&&_, cond}
 use mathlib.Core.List.{List}
@@ -21,10 +21,10 @@ use Rattle.table.specs.declared.Entry.{Entry}
 use Rattle.table.specs.Layout.{typePlace, memberPlace}
 use Rattle.table.specs.Entries.{typeAt, memberAt}
 use Rattle.walk.specs.Tree.{noBase, baseOf, baseAt}
-use Rattle.walk.specs.Codes.{Parts, allBases, leading, firsts, codeAt, areThere, smaller, codeCount, codesOf, turned}
+use Rattle.walk.specs.Codes.{Parts, allBases, leading, firsts, codeAt, areThere, codeCount, codesOf, turned}
 use Rattle.walk.specs.Codes.{placed, placedCode, placedCount, placedCodes, alone, partCode}
 use Rattle.walk.proofs.Bases.{Plain, Fields, fields, a-base, no-base, base-met, no-base-met}
-use Rattle.walk.proofs.Codes.{up-to, leading-most, leading-same, firsts-same, none-stored, smaller-right, few-codes}
+use Rattle.walk.proofs.Codes.{up-to, leading-most, leading-same, firsts-same, none-stored, few-codes}
 
 record Narrow (e : Entry) : Type 0 where
   kind : e .kind < 65536
@@ -234,7 +234,7 @@ module _ (t : List ℕ) (a b i n : ℕ) where
 
 -- the places of a table's sections
 module _ (t : List ℕ) (s : Sections) (i : ℕ) (e : Entry) (m n a b room : ℕ) (types-at : a ≡ typePlace s 0)
-    (members-at : b ≡ memberPlace s (e .first + m)) (most : n ≡ smaller room (e .count - m)) where
+    (members-at : b ≡ memberPlace s (e .first + m)) (most : n ≡ min room (e .count - m)) where
   type-placed : (c : ℕ) → typeAt t (placed a b) c ≡ typeAt t s c
   unfolding typeAt
   type-placed c =
@@ -267,7 +267,7 @@ module _ (t : List ℕ) (s : Sections) (i : ℕ) (e : Entry) (m n a b room : ℕ
 -- no member is left
 module _ (t : List ℕ) (s : Sections) (i : ℕ) (e : Entry) (m room : ℕ) (end : e .count ≤ m) where
   pub none-left : 0 ≡ codeCount t s i e m room
-  none-left = omega (arith, few-codes t s i e m room, smaller-right room (e .count - m))
+  none-left = omega (arith, few-codes t s i e m room)
 
   pub none-kept : (u : List ℕ) → u ≡ over u 0 (codesOf t s i e m room)
   unfolding codesOf

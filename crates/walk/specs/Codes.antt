@@ -1,5 +1,5 @@
 -- The base codes of a record's members, as many as come one behind another from a member on.
-use Prim.Native.Nat.{ℕ, zero, suc, _+_, _-_, _*_, _/_, _%_, _≤_}
+use Prim.Native.Nat.{ℕ, zero, suc, min, _+_, _-_, _*_, _/_, _%_, _≤_}
 use mathlib.Core.Path.{_≡_}
 use mathlib.Core.Bool.{Bool, _&&_, cond}
 use mathlib.Core.List.{List, [], _∷_, _++_}
@@ -8,7 +8,7 @@ use lib.ListN.{length}
 use Rattle.wire.specs.Bytes.{span}
 use Rattle.table.specs.declared.Sections.{Sections}
 use Rattle.table.specs.declared.Entry.{Entry}
-use Rattle.table.specs.All.{allBelow}
+use Rattle.wire.specs.All.{allBelow}
 use Rattle.table.specs.Layout.{typeWidth, memberWidth, typePlace, memberPlace}
 use Rattle.table.specs.Entries.{memberAt}
 use Rattle.walk.specs.Tree.{noBase, baseAt}
@@ -34,12 +34,9 @@ codeAt t s i e m k = baseAt t s i (memberAt t s (e .first + (m + k)))
 unfoldable pub areThere : ℕ → ℕ → ℕ → ℕ → ℕ → Bool
 areThere len a b i n = leb (a + typeWidth * i) len && leb (b + memberWidth * n) len
 
-abbrev pub smaller : ℕ → ℕ → ℕ
-smaller a b = cond (leb a b) a b
-
 -- how many members there are to look at, with room for so many codes
 abbrev pub mostCodes : Entry → ℕ → ℕ → ℕ
-mostCodes e m room = smaller room (e .count - m)
+mostCodes e m room = min room (e .count - m)
 
 unfoldable pub codeCount : List ℕ → Sections → ℕ → Entry → ℕ → ℕ → ℕ
 codeCount t s i e m room =

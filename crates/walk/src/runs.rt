@@ -7,7 +7,7 @@ ghost use mathlib.Core.Path.{_≡_};
 ghost use Prim.Native.Nat.{_≤_};
 ghost use lib.ListN.{length};
 ghost use Rattle.wire.specs.Bytes.{over};
-ghost use Rattle.walk.specs.Codes.{Places, Parts, areThere, leading, firsts, partCode, smaller, turned, codeCount, codesOf, placedCount, placedCodes};
+ghost use Rattle.walk.specs.Codes.{Places, Parts, areThere, leading, firsts, partCode, turned, codeCount, codesOf, placedCount, placedCodes};
 
 // The bytes of a type's entry and of a member's.
 const TYPE_BYTES: usize = table::layout::TYPE_WIDTH as usize;
@@ -26,7 +26,7 @@ pub fn base_codes(table: &[u8], s: Sections, i: u16, e: Entry, from: u32, codes:
     if e.count as u32 <= from {
         return 0;
     }
-    let n = smaller(codes.len(), (e.count as u32 - from) as usize);
+    let n = wire::least(codes.len(), (e.count as u32 - from) as usize);
     let types = table::layout::type_place(s, 0);
     let members = table::layout::member_place(s, e.first as u32 + from);
     codes_at(table, types, members, i, n, codes)
@@ -92,12 +92,4 @@ fn turned(entry: u64) -> u64
     ensures { λ r. ⌜ r ≡ turned entry ⌝ }
 {
     entry % HALF * HALF + entry / HALF
-}
-
-fn smaller(a: usize, b: usize) -> usize
-    ensures value { λ r. ⌜ r ≡ smaller a b ⌝ }
-    ensures first { λ r. ⌜ r ≤ a ⌝ }
-    ensures second { λ r. ⌜ r ≤ b ⌝ }
-{
-    if a <= b { a } else { b }
 }

@@ -1,10 +1,11 @@
--- `cond` by what its test says, a definition that goes by tests, at the case that the code has met; and a conjunction by its
--- two parts.
+-- `cond` by what its test says, a definition that goes by tests, at the case that the code has met; and two tests taken
+-- together, by each.
 -- Assumes nothing.
 use Prim.Native.Nat.{ℕ, suc, _≤_, _<_}
-use mathlib.Core.Path.{_≡_, refl, sym, ap}
+use mathlib.Core.Path.{_≡_, refl, sym, ap, _∙_}
 use native.Mathlib.Nat.{suc-ne-zero}
-use mathlib.Core.Bool.{Bool, true, false, not, cond, _&&_, true≢false}
+use mathlib.Core.Bool.{Bool, true, false, not, cond, _&&_, _||_, true≢false}
+use mathlib.Core.Logic.{_⊎_, inl, inr}
 use borrow.Author.Tests.{lt-ltb, le-ltb, le-leb, lt-leb, eq-eqb, ne-eqb}
 use lib.Dec.{eqb, leb, ltb}
 
@@ -56,3 +57,14 @@ and-left a b e = both a b e .0
 
 pub and-right : (a b : Bool) → (a && b) ≡ true → b ≡ true
 and-right a b e = both a b e .1
+
+pub either : (a b : Bool) → (a || b) ≡ true → (a ≡ true) ⊎ (b ≡ true)
+either true b e = inl refl
+either false b e = inr e
+
+pub neither : (a b : Bool) → (a || b) ≡ false → (a ≡ false) × (b ≡ false)
+neither false b e = (refl, e)
+neither true b e = absurd (true≢false e)
+
+pub clash : {b : Bool} → b ≡ false → b ≡ true → ⊥
+clash e f = true≢false (sym f ∙ e)

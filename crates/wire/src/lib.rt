@@ -1,7 +1,7 @@
 // Big-endian numbers and runs of bytes in lent slices. Every call is total: a byte past the end reads as 0, and a write
 // or a copy that does not fit changes nothing.
 ghost use mathlib.Core.Path.{_≡_};
-ghost use Prim.Native.Nat.{_+_, _≤_};
+ghost use Prim.Native.Nat.{min, _+_, _≤_};
 ghost use lib.Dec.{leb};
 ghost use lib.ListN.{length};
 ghost use Rattle.wire.specs.Bytes.{number, whole, bytes, over, written, part};
@@ -139,6 +139,13 @@ pub fn has_room(len: usize, at: usize, count: usize) -> bool
     } else {
         false
     }
+}
+
+// The smaller of two.
+pub fn least(a: usize, b: usize) -> usize
+    ensures { λ r. ⌜ r ≡ min a b ⌝ }
+{
+    if a <= b { a } else { b }
 }
 
 // A number that may end past the end: by halves, each of which is there, or not, or in part.

@@ -5,4 +5,4 @@ use Rattle.files.proofs.room_behind.Statement.{statement}
 use Rattle.files.proofs.room_behind.Tie as tie
 
 pub room-behind-spec : {M : Type 1} → statement M
-room-behind-spec = tie.close (tie.spec (λ c. search needs) (λ c. search needs) (λ c. search needs) (λ c. search needs) (λ c. search needs))
+room-behind-spec = tie.close (tie.spec (λ c. search needs) (λ c. search needs) (λ c κs. search needs) (λ c. search needs))

@@ -3,10 +3,11 @@
 use Prim.Native.Nat.{_-_, _≤_}
 use mathlib.Core.Path.{_≡_}
 use mathlib.Core.Bool.{true}
+use native.Mathlib.Omega.{arith}
 use borrow.Author.Needs.{needs}
 use lib.ListN.{getD}
 use Rattle.joiner.specs.Records.{Sized, goodRecords}
-use Rattle.joiner.proofs.Looks.{one-more, one-bad, all-good}
+use Rattle.wire.proofs.AllBelow.{none-below, next-below, stop-below, done-below}
 use Rattle.joiner.proofs.records.each_is_good.Statement.{statement}
 use Rattle.joiner.proofs.records.each_is_good.Tie as tie
 
@@ -24,10 +25,10 @@ each-is-good-spec =
     μ-loop
     (λ c. search needs)
     (λ c. search needs)
-    (λ c. search needs)
+    (λ c. (search needs, search needs, search needs, search none-below))
     (λ c κs. search needs)
     (λ c. search needs)
     (λ c. search needs)
-    (λ c. (search needs, search needs, search needs, search one-more))
-    (λ c. search one-bad)
-    (λ c. search all-good))
+    (λ c. (search needs, search needs, search needs, search next-below))
+    (λ c. stop-below _ _ (c .before .before .before .loop .i) _ (c .before .is-good .ensures) (c .if1 .left) (omega arith))
+    (λ c. done-below _ _ (c .before .loop .i) (c .before .loop .inv .3) (omega arith) (omega arith)))

@@ -4,8 +4,8 @@ use borrow.Author.Needs.{needs}
 use Prim.Native.Nat.{_-_, _≤_}
 use mathlib.Core.Path.{_≡_}
 use mathlib.Core.Bool.{true}
-use Rattle.table.specs.All.{allBelow}
-use Rattle.table.proofs.AllBelow.{none-below, next-below, stop-below, done-below}
+use Rattle.wire.specs.All.{allBelow}
+use Rattle.wire.proofs.AllBelow.{none-below, next-below, stop-below, done-below}
 use Rattle.leaf.specs.Choice.{other}
 use Rattle.leaf.proofs.Returns.{found, not-found}
 use Rattle.leaf.proofs.words.among_cut.Statement.{statement}

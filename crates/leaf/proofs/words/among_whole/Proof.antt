@@ -5,8 +5,8 @@ use Prim.Native.Nat.{_-_, _≤_}
 use mathlib.Core.Path.{_≡_}
 use mathlib.Core.Bool.{true}
 use native.Mathlib.Omega.{arith}
-use Rattle.table.specs.All.{allBelow}
-use Rattle.table.proofs.AllBelow.{none-below, next-below, stop-below, done-below}
+use Rattle.wire.specs.All.{allBelow}
+use Rattle.wire.proofs.AllBelow.{none-below, next-below, stop-below, done-below}
 use Rattle.leaf.specs.Choice.{otherAt}
 use Rattle.leaf.proofs.Returns.{hit, missed}
 use Rattle.leaf.proofs.words.among_whole.Statement.{statement}

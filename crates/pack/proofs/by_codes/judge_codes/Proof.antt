@@ -40,8 +40,8 @@ judge-codes-spec =
     let l = c .before .before .before .before .before .before .before .least .ensures in
     let i = c .before .before .before .before .before .before .loop .inv in
     let below = c .before .before .before .before .before .loop-test .taken in (
-      more-judged _ _ _ _ _ below (l .0) (l .1) (i .0) _ (c .before .before .allowed .ensures) (c .before .if2 .taken),
-      more-ends _ _ _ below (l .0) _ _ (c .width .ensures) (i .1),
+      more-judged _ _ _ _ _ below l (i .0) _ (c .before .before .allowed .ensures) (c .before .if2 .taken),
+      more-ends _ _ _ _ _ below l _ _ (c .width .ensures) (i .1),
       search needs,
     ))
     (λ c.
@@ -50,10 +50,10 @@ judge-codes-spec =
     let at-least = turn .before in
     let l = at-least .least .ensures in
     let i = turn .loop .inv in
-    let here = one-refused _ _ _ _ _ (at-loop-test .loop-test .taken) (l .0) (l .1) (i .0) _ (c .before .allowed .ensures) (c .if2 .left) in
+    let here = one-refused _ _ _ _ _ (at-loop-test .loop-test .taken) l (i .0) _ (c .before .allowed .ensures) (c .if2 .left) in
     (here, end-at _ _ _ _ (i .1) here))
     (λ c.
     let l = c .before .before .least .ensures in
     let i = c .before .loop .inv in
-    let all = all-judged _ _ _ _ _ (c .loop-test .left) (i .2) (l .1) (l .2) (i .0) in
+    let all = all-judged _ _ _ _ _ (c .loop-test .left) (i .2) l (i .0) in
     (all, end-at _ _ _ _ (i .1) all)))

@@ -44,7 +44,7 @@ store-codes-spec =
     (λ c.
     let n = c .before .before .before .before .before .before .before .before .before .before .least .ensures in
     let l = c .before .before .before .before .before .before .before .before .before .loop in (
-      leads-on _ _ _ (l .k) _ (n .0) (n .1) (c .before .before .before .before .before .before .before .before .loop-test .taken) _ (l .to) _
+      leads-on _ _ _ (l .k) _ n (c .before .before .before .before .before .before .before .before .loop-test .taken) _ (l .to) _
           (l .inv .0) _ (c .width .ensures) _ (c .before .before .before .put-base .ensures),
       search as-many,
       search needs,
@@ -52,5 +52,5 @@ store-codes-spec =
     (λ c. search needs)
     (λ c.
     let at-least = c .before .before in
-    let l = at-least .least .ensures in leads-end _ _ _ (c .before .loop .k) _ (l .0) (l .1) (c .loop-test .left) (l .2) _
+    let l = at-least .least .ensures in leads-end _ _ _ (c .before .loop .k) _ l (c .loop-test .left) _
     (c .before .loop .to) _ (c .before .loop .inv .0)))

@@ -23,6 +23,6 @@ store-spec =
     let at-width = at-least .before .before in
     let at-if1 = at-width .before .before in
     let at-pre = at-if1 .before .before .before .before in
-    all-that-fit _ _ _ _ (at-pre .pre .0) _ _ _ _ (at-width .width .ensures) (at-if1 .if1 .taken) refl (at-least .least .ensures .1)
-    (at-least .least .ensures .2) (at-store-each .store-each .ensures))
+    all-that-fit _ _ _ _ (at-pre .pre .0) _ _ _ _ (at-width .width .ensures) (at-if1 .if1 .taken) refl (at-least .least .ensures)
+    (at-store-each .store-each .ensures))
     (λ c. search none-fits))

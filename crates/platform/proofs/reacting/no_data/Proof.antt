@@ -4,7 +4,7 @@ use borrow.Author.Needs.{needs}
 use Prim.Native.Nat.{_-_, _≤_}
 use mathlib.Core.Path.{_≡_}
 use mathlib.Core.Bool.{true}
-use Rattle.table.specs.All.{allBelow}
+use Rattle.wire.specs.All.{allBelow}
 use Rattle.platform.specs.Reaction.{notData}
 use Rattle.platform.proofs.ReactionLaws.{nothing-yet, not-yet, some-data, never-data}
 use Rattle.platform.proofs.reacting.no_data.Statement.{statement}

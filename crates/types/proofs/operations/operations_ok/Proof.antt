@@ -4,11 +4,11 @@ use borrow.Author.Needs.{needs}
 use Prim.Native.Nat.{_-_, _≤_}
 use mathlib.Core.Path.{_≡_}
 use mathlib.Core.Bool.{true}
-use Rattle.table.specs.All.{allBelow}
+use Rattle.wire.specs.All.{allBelow}
 use Rattle.table.specs.Entries.{idAt}
 use Rattle.types.specs.Operations.{operationOk}
-use Rattle.table.proofs.AllBelow.{none-below, done-below}
-use Rattle.table.proofs.Rising.{Carried, carried-none}
+use Rattle.wire.proofs.AllBelow.{none-below, done-below}
+use Rattle.wire.proofs.Rising.{Carried, carried-none}
 use Rattle.types.proofs.OperationRules.{operation-next, id-next, bad-operation, falls}
 use Rattle.types.proofs.operations.operations_ok.Statement.{statement}
 use Rattle.types.proofs.operations.operations_ok.Tie as tie

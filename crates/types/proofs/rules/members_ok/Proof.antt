@@ -4,9 +4,9 @@ use borrow.Author.Needs.{needs}
 use Prim.Native.Nat.{_-_, _≤_}
 use mathlib.Core.Path.{_≡_}
 use mathlib.Core.Bool.{true}
-use Rattle.table.specs.All.{allBelow}
+use Rattle.wire.specs.All.{allBelow}
 use Rattle.types.specs.Rules.{memberOk, membersOk}
-use Rattle.table.proofs.AllBelow.{none-below, done-below}
+use Rattle.wire.proofs.AllBelow.{none-below, done-below}
 use Rattle.types.proofs.TypeRules.{member-next, member-ends}
 use Rattle.types.proofs.rules.members_ok.Statement.{statement}
 use Rattle.types.proofs.rules.members_ok.Tie as tie

@@ -4,10 +4,10 @@ use borrow.Author.Needs.{needs}
 use Prim.Native.Nat.{_-_, _≤_}
 use mathlib.Core.Path.{_≡_}
 use mathlib.Core.Bool.{true}
-use Rattle.table.specs.All.{allBelow}
+use Rattle.wire.specs.All.{allBelow}
 use Rattle.types.specs.Rules.{typeOk}
 use Rattle.types.specs.Passes.{looseOk}
-use Rattle.table.proofs.AllBelow.{none-below}
+use Rattle.wire.proofs.AllBelow.{none-below}
 use Rattle.types.proofs.TypePasses.{quick-loose, quick-next, loose-next, not-risen, types-end, types-rise, types-compared}
 use Rattle.types.proofs.rules.types_ok.Statement.{statement}
 use Rattle.types.proofs.rules.types_ok.Tie as tie

@@ -7,9 +7,9 @@ use mathlib.Core.Bool.{true, false}
 use native.Mathlib.Omega.{arith}
 use lib.ListN.{length, take, length-set}
 use lib.Seq.{length-take-le}
-use Rattle.table.specs.All.{allBelow}
+use Rattle.wire.specs.All.{allBelow}
 use Rattle.types.specs.Sizes.{sizes, sizeFits}
-use Rattle.table.proofs.AllBelow.{none-below, done-below}
+use Rattle.wire.proofs.AllBelow.{none-below, done-below}
 use Rattle.types.proofs.SizeLaws.{fill-none, fill-more, fits-more, fits-no-more, filled}
 use Rattle.types.proofs.TypePasses.{kept-record}
 use Rattle.types.proofs.sizes.fill.Statement.{statement}

@@ -4,10 +4,10 @@ use borrow.Author.Needs.{needs}
 use Prim.Native.Nat.{_-_, _≤_}
 use mathlib.Core.Path.{_≡_}
 use mathlib.Core.Bool.{true}
-use Rattle.table.specs.All.{allBelow}
+use Rattle.wire.specs.All.{allBelow}
 use Rattle.types.specs.Passes.{rank, next}
-use Rattle.table.proofs.AllBelow.{none-below}
-use Rattle.table.proofs.Rising.{Carried, carried-none}
+use Rattle.wire.proofs.AllBelow.{none-below}
+use Rattle.wire.proofs.Rising.{Carried, carried-none}
 use Rattle.types.proofs.ValueRules.{order-next, order-carried, order-ends, order-done}
 use Rattle.types.proofs.values.in_order.Statement.{statement}
 use Rattle.types.proofs.values.in_order.Tie as tie

@@ -1,5 +1,6 @@
 -- `unpack::store_codes` meets its contract: what there is no room for changes no word.
 -- Assumes nothing.
+use native.Mathlib.Omega.{arith}
 use borrow.Author.Needs.{needs}
 use mathlib.Core.Path.{sym}
 use lib.Seq.{length-take-le}
@@ -15,7 +16,7 @@ store-codes-spec =
     (λ c. search no-room)
     (λ c. search needs)
     (λ c κs. search needs)
-    (λ c. sym (length-take-le _ _ (c .before .before .least .ensures .0)))
+    (λ c. sym (length-take-le _ _ (omega (arith, c .before .before .least .ensures))))
     (λ c κs. (search needs, search room-in))
     (λ c. search needs)
     (λ c. search room-stored))

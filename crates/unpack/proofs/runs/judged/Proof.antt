@@ -5,7 +5,7 @@ use Prim.Native.Nat.{_-_, _≤_}
 use mathlib.Core.Path.{_≡_}
 use native.Mathlib.Omega.{arith}
 use lib.Dec.{eqb}
-use Rattle.table.specs.All.{allBelow}
+use Rattle.wire.specs.All.{allBelow}
 use Rattle.unpack.specs.OneCode.{isGood}
 use Rattle.unpack.proofs.OneCode.{leaf-room, product-fits, place-fits, all-good, judged-none, judged-more, judged-all}
 use Rattle.unpack.proofs.runs.judged.Statement.{statement}

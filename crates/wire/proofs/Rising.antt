@@ -8,8 +8,8 @@ use native.Mathlib.Nat.{eq-or-lt-of-le, lt-trans, le-of-eq, le-of-lt}
 use native.Mathlib.Omega.{arith}
 use borrow.Author.Tests.{ne-eqb, eqb-false, ltb-true}
 use lib.Dec.{ltb, eqb}
-use Rattle.table.specs.All.{allBelow, above}
-use Rattle.table.proofs.AllBelow.{at-below, next-below, stop-below}
+use Rattle.wire.specs.All.{allBelow, above}
+use Rattle.wire.proofs.AllBelow.{at-below, next-below, stop-below}
 
 -- the test of one entry, with what it is compared with carried along
 abbrev pub Carried : (ℕ → ℕ) → ℕ → ℕ → Type 0

@@ -1,0 +1,178 @@
+-- Demand 1: no line of the lists of checks (specs/Order, TableOrder, PayloadOrder, Demand1) can go. A list says what is answered to
+-- every input, so that without a line it says something else of the inputs for which that line is the first that applies; here is one
+-- for each, which breaks that rule alone, and the number that it gets. The theorem is in proofs/EachNumber.antt.
+use Prim.{Unit}
+use Prim.Native.Nat.{ℕ, _+_, _^_}
+use mathlib.Core.Path.{_≡_}
+use mathlib.Core.Bool.{true}
+use mathlib.Core.List.{List, [], _∷_, _++_}
+use lib.ListN.{length, replicate}
+use Rattle.wire.specs.Bytes.{bytes}
+use Rattle.message.specs.declared.Reading.the-variants as reading
+use Rattle.message.specs.declared.Writing.the-variants as writing
+use Rattle.message.specs.Reading.{readOf}
+use Rattle.message.specs.Writing.{writeOf}
+use Rattle.binding.specs.declared.Heard.the-variants as heard
+use Rattle.binding.specs.declared.cutter.Counted.the-variants as counted
+use Rattle.binding.specs.declared.cutter.Made.the-variants as made
+use Rattle.binding.specs.Header.{heardIn}
+use Rattle.binding.specs.Cutting.{countedOf, madeOf}
+use Rattle.channel.specs.declared.Outcome.the-variants as outcome
+use Rattle.joiner.specs.declared.Joiner.{Joiner}
+use Rattle.joiner.specs.declared.setups.Verdict.the-variants as verdict
+use Rattle.joiner.specs.Setup.{freshOf, setupOf}
+use Rattle.joiner.specs.Take.{changed, takenOf}
+use Rattle.table.specs.declared.Sections.{Sections}
+use Rattle.table.specs.declared.Checked.the-variants as check
+use Rattle.types.specs.Table.{checked}
+use Rattle.platform.specs.Receiving.{freshStanding, receivedOf, sectionsOutcome, numberGiven}
+use Rattle.payload.specs.Calls.{unpackedIn, packedIn, unpacked, packed}
+use Rattle.promises.specs.TableOrder.{sectionsIn}
+use Rattle.promises.specs.PayloadOrder.{numberOf}
+use Rattle.promises.specs.Numbers.{wholeTable, status}
+use Rattle.promises.specs.Cases.{table, uint16, uint8, float32, upToThree}
+
+-- inputs, each with the number that it gets
+pub record Given (I : Type 0) : Type 0 where
+  pub number : ℕ
+  pub input : I
+
+infix 68 _for_
+abbrev pub _for_ : {I : Type 0} → ℕ → I → Given I
+_for_ n x = record { number = n; input = x }
+
+abbrev pub Each : {I A : Type 0} → (ℕ → A) → (I → A) → List (Given I) → Type 0
+Each refused f [] = Unit {0}
+Each refused f (c ∷ cs) = (f (c .input) ≡ refused (c .number)) × Each refused f cs
+
+-- a message by the fields of 000, Table 2
+abbrev pub message : ℕ → ℕ → ℕ → ℕ → ℕ → ℕ → List ℕ → List ℕ
+message mark version domain platform id size payload =
+    bytes 1 mark ++ (bytes 0 version ++ (bytes 0 domain ++ (bytes 2 platform ++ (bytes 2 id ++ (bytes 2 size ++ (bytes 2 7 ++ payload))))))
+
+-- a table by its four sections: a uint16, no members, no values, no operations
+abbrev pub types : List ℕ
+types = 0 ∷ 1 ∷ 0 ∷ 0 ∷ 0 ∷ 8 ∷ 0 ∷ 0 ∷ 0 ∷ 0 ∷ []
+
+abbrev pub noEntry : List ℕ
+noEntry = 0 ∷ 0 ∷ []
+
+-- a joiner of one channel, with its record; and a whole message on channel 5
+abbrev pub joinerOf : ℕ → ℕ → ℕ → ℕ → Joiner
+joinerOf R sender last held = changed (freshOf (5 ∷ []) R) 0 (record { sender = sender; seen = true; last = last; held = held })
+
+abbrev pub datagram : List ℕ
+datagram = 0x30 ∷ 5 ∷ 0 ∷ 0 ∷ 1 ∷ []
+
+-- 33 sender IDs
+abbrev pub tooMany : List ℕ
+tooMany =
+    0 ∷ 1 ∷ 2 ∷ 3 ∷ 4 ∷ 5 ∷ 6 ∷ 7 ∷ 8 ∷ 9 ∷ 10 ∷ 11 ∷ 12 ∷ 13 ∷ 14 ∷ 15 ∷ 16
+    ∷ 17 ∷ 18 ∷ 19 ∷ 20 ∷ 21 ∷ 22 ∷ 23 ∷ 24 ∷ 25 ∷ 26 ∷ 27 ∷ 28 ∷ 29 ∷ 30 ∷ 31 ∷ 32 ∷ []
+
+-- base code 13
+abbrev pub brokenTable : List ℕ
+brokenTable = 0 ∷ 1 ∷ 0 ∷ 0 ∷ 0 ∷ 13 ∷ 0 ∷ 0 ∷ 0 ∷ 0 ∷ 0 ∷ 0 ∷ 0 ∷ 0 ∷ 0 ∷ 0 ∷ []
+
+pub record EachNumber : Type 0 where
+  -- 1 to 9, read at platform 1
+  pub read : Each reading.Refused (readOf 1)
+      (1 for []
+      ∷ 2 for message 0xEC0B 2 0 3 2 0 []
+      ∷ 3 for message 0xEC0A 1 0 3 2 0 []
+      ∷ 4 for message 0xEC0A 2 2 3 2 0 []
+      ∷ 5 for message 0xEC0A 2 0 3 2 1 []
+      ∷ 6 for message 0xEC0A 2 0 1 2 0 []
+      ∷ 7 for message 0xEC0A 2 0 3 5 0 []
+      ∷ 8 for message 0xEC0A 2 0 3 2 4 (bytes 2 0)
+      ∷ 9 for message 0xEC0A 2 0 3 1 4 (bytes 2 2)
+      ∷ [])
+  -- in writing: domain, ID, payload and room
+  pub write-4 : writeOf 2 2 [] 20 ≡ writing.Refused 4
+  pub write-5 : (payload : List ℕ) → length payload ≡ 2 ^ 32 → writeOf 1 0 payload (20 + 2 ^ 32) ≡ writing.Refused 5
+  pub write-7 : writeOf 0 0 [] 20 ≡ writing.Refused 7
+  pub write-8 : writeOf 0 2 (bytes 2 0) 24 ≡ writing.Refused 8
+  pub write-9 : writeOf 0 1 (bytes 2 2) 24 ≡ writing.Refused 9
+  pub write-10 : writeOf 0 2 [] 19 ≡ writing.Refused 10
+  -- a datagram's header; and one that is too long
+  pub header : Each heard.Refused heardIn (21 for replicate 4 0 ∷ 22 for (0x40 ∷ 5 ∷ 0 ∷ 0 ∷ 1 ∷ []) ∷ [])
+  pub header-long : (d : List ℕ) → length d ≡ 65508 → heardIn d ≡ heard.Refused 21
+  -- a set-up: each line of what 20 asks
+  pub setup : Each verdict.Refused (λ (x : List ℕ × ℕ × ℕ). setupOf (x .0) (x .1) (x .2) .answer)
+      (20 for ([], 24, 0)
+      ∷ 20 for (tooMany, 24, 792)
+      ∷ 20 for (5 ∷ [], 23, 23)
+      ∷ 20 for (5 ∷ [], 65561, 65561)
+      ∷ 20 for (5 ∷ [], 24, 25)
+      ∷ 20 for (4096 ∷ [], 24, 24)
+      ∷ 20 for (5 ∷ 6 ∷ 5 ∷ [], 24, 72)
+      ∷ [])
+  -- a datagram taken: a joiner, its rooms and the datagram; each line of what 20 asks of a joiner
+  pub take : Each outcome.Refused (λ (x : Joiner × ℕ × List ℕ). takenOf (x .0) (replicate (x .1) 0) (x .2) .outcome)
+      (20 for (freshOf [] 24, 0, datagram)
+      ∷ 20 for (freshOf tooMany 24, 792, datagram)
+      ∷ 20 for (joinerOf 23 5 0 0, 23, datagram)
+      ∷ 20 for (joinerOf 24 5 0 0, 25, datagram)
+      ∷ 20 for (joinerOf 24 4096 0 0, 24, datagram)
+      ∷ 20 for (joinerOf 24 5 65536 0, 24, datagram)
+      ∷ 20 for (joinerOf 24 5 0 25, 24, datagram)
+      ∷ 20 for (freshOf (5 ∷ 6 ∷ 5 ∷ []) 24, 72, datagram)
+      ∷ 21 for (joinerOf 24 5 0 0, 24, replicate 4 0)
+      ∷ 22 for (joinerOf 24 5 0 0, 24, 0x40 ∷ 5 ∷ 0 ∷ 0 ∷ 1 ∷ [])
+      ∷ 23 for (joinerOf 24 5 0 0, 24, 0x30 ∷ 6 ∷ 0 ∷ 0 ∷ 1 ∷ [])
+      ∷ [])
+  pub take-wide : (rooms : List ℕ) → length rooms ≡ 65561 → takenOf (joinerOf 65561 5 0 0) rooms datagram .outcome ≡ outcome.Refused 20
+  -- cutting: sizes of message and piece; sender and counter; piece and room
+  pub pieces : Each counted.Refused (λ (x : ℕ × ℕ). countedOf (x .0) (x .1))
+      (50 for (0, 1) ∷ 50 for (65561, 1) ∷ 50 for (1, 0) ∷ 50 for (1, 65504) ∷ [])
+  pub cut : Each made.Refused (λ (x : ℕ × ℕ × ℕ × ℕ). madeOf (9 ∷ []) 1 (x .0) (x .1) (x .2) (x .3))
+      (50 for (4096, 0, 0, 5) ∷ 50 for (0, 65536, 0, 5) ∷ 51 for (0, 0, 1, 5) ∷ 52 for (0, 0, 0, 4) ∷ [])
+  -- a table: each section's count cut off, outside its limit, and its entries cut off; bytes after the end; a rule; a size
+  pub table-checks : Each check.Refused checked
+      (30 for (0 ∷ [])
+      ∷ 31 for (0 ∷ 0 ∷ [])
+      ∷ 31 for (1 ∷ 1 ∷ [])
+      ∷ 30 for (0 ∷ 1 ∷ 0 ∷ 0 ∷ [])
+      ∷ 30 for (types ++ (0 ∷ []))
+      ∷ 31 for (types ++ (4 ∷ 1 ∷ []))
+      ∷ 30 for (types ++ (0 ∷ 1 ∷ 0 ∷ []))
+      ∷ 30 for (types ++ (noEntry ++ (0 ∷ [])))
+      ∷ 31 for (types ++ (noEntry ++ (4 ∷ 1 ∷ [])))
+      ∷ 30 for (types ++ (noEntry ++ (0 ∷ 1 ∷ 0 ∷ [])))
+      ∷ 30 for (types ++ (noEntry ++ (noEntry ++ (0 ∷ []))))
+      ∷ 31 for (types ++ (noEntry ++ (noEntry ++ (4 ∷ 1 ∷ []))))
+      ∷ 30 for (types ++ (noEntry ++ (noEntry ++ (0 ∷ 1 ∷ 0 ∷ []))))
+      ∷ 30 for (types ++ (noEntry ++ (noEntry ++ (noEntry ++ (0 ∷ [])))))
+      -- a type; an operation of kind 2; 65,535 double64
+      ∷ 32 for brokenTable
+      ∷ 32 for (types ++ (noEntry ++ (noEntry ++ (0 ∷ 1 ∷ 0 ∷ 0 ∷ 0 ∷ 1 ∷ 0 ∷ 2 ∷ 0 ∷ 0 ∷ []))))
+      ∷ 33 for
+      (0 ∷ 2 ∷ 0 ∷ 0 ∷ 0 ∷ 12 ∷ 0 ∷ 0 ∷ 0 ∷ 0 ∷ 0 ∷ 3 ∷ 0 ∷ 0 ∷ 0 ∷ 0 ∷ 0xFF ∷ 0xFF ∷ noEntry ++ (noEntry ++ noEntry))
+      ∷ [])
+  -- a payload of the table of specs/Cases: type, payload and room
+  pub unpack : Each (λ n. n) (λ (x : ℕ × List ℕ × ℕ). numberOf (unpacked table (x .0) (x .1) (x .2)))
+      (44 for (7, [], 9)
+      ∷ 40 for (uint16, 1 ∷ [], 9)
+      ∷ 42 for (float32, 0x7F ∷ 0x80 ∷ 0 ∷ 0 ∷ [], 9)
+      ∷ 43 for (upToThree, 0 ∷ 0 ∷ 0 ∷ 4 ∷ 1 ∷ 2 ∷ 3 ∷ 4 ∷ [], 9)
+      ∷ 41 for (uint8, 1 ∷ 2 ∷ [], 9)
+      ∷ 45 for (uint16, 1 ∷ 2 ∷ [], 0)
+      ∷ [])
+  pub pack : Each (λ n. n) (λ (x : ℕ × List ℕ × ℕ). numberOf (packed table (x .0) (x .1) (x .2)))
+      (44 for (7, [], 9)
+      ∷ 40 for (uint16, [], 9)
+      ∷ 42 for (uint8, 256 ∷ [], 9)
+      ∷ 43 for (upToThree, 4 ∷ 1 ∷ 2 ∷ 3 ∷ 4 ∷ [], 9)
+      ∷ 41 for (uint8, 1 ∷ 2 ∷ [], 9)
+      ∷ 45 for (uint16, 258 ∷ [], 1)
+      ∷ [])
+  -- on sections: which do not lie in the bytes; and an entry that breaks a rule, where it is met
+  pub on-sections : Each (λ n. n) (λ (x : List ℕ × Sections). numberOf (unpackedIn (x .0) (x .1) 0 (1 ∷ 2 ∷ []) 9))
+      (30 for ([], sectionsIn types) ∷ 32 for (brokenTable, sectionsIn brokenTable) ∷ [])
+  pub packing-on-sections : Each (λ n. n) (λ (x : List ℕ × Sections). numberOf (packedIn (x .0) (x .1) 0 (258 ∷ []) 9))
+      (30 for ([], sectionsIn types) ∷ 32 for (brokenTable, sectionsIn brokenTable) ∷ [])
+  -- one call for one message: two replies of 24 bytes are owed to an UP
+  pub receive-10 : numberGiven (receivedOf 1 wholeTable (freshStanding 1) status 47 .answer) ≡ 10
+  pub receive-on-sections : Each (λ n. n) (λ (x : List ℕ × ℕ).
+      numberGiven (sectionsOutcome 1 (x .0) (sectionsIn wholeTable) (freshStanding 1) status (x .1) .answer))
+      (30 for ([], 48) ∷ 10 for (wholeTable, 47) ∷ [])
