@@ -1,2 +1,4 @@
 pub mod Looking
 pub mod Returns
+pub mod Counts
+pub mod Drawing

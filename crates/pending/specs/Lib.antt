@@ -1,3 +1,4 @@
 pub mod Places
 pub mod Free
 pub mod Answers
+pub mod Counted

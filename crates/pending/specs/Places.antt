@@ -1,5 +1,5 @@
 -- 02, request 1: the list of the requests that are pending, 64 places in 128 words. Word k is the number and the ID of place k,
--- word 64 + k its target. Any words are a list (docs/DECISIONS.md, 59): a place is free where its number is 0; as `getD` and `set`
+-- word 64 + k its target. Any words are a list (docs/DECISIONS.md, requests): a place is free where its number is 0; as `getD` and `set`
 -- have it, a word that is not there reads as 0, and a write outside does nothing.
 use Prim.Native.Nat.{ℕ, zero, suc, _+_, _*_, _/_, _%_, _^_}
 use mathlib.Core.Bool.{cond}
@@ -30,7 +30,7 @@ bearing l n (suc m) k = cond (eqb (numberAt l k) n) (At k) (bearing l n m (k + 1
 abbrev pub firstBearing : List ℕ → ℕ → Slot
 firstBearing l n = bearing l n places 0
 
--- where a request's number stands: the first place that bears it (docs/DECISIONS.md, 60); 0 is not a request's
+-- where a request's number stands: the first place that bears it; 0 is not a request's
 abbrev pub placeOf : List ℕ → ℕ → Slot
 placeOf l n = cond (eqb n 0) Nowhere (firstBearing l n)
 
