@@ -2,3 +2,5 @@ pub mod Looking
 pub mod Returns
 pub mod Counts
 pub mod Drawing
+pub mod Placing
+pub mod AsMap

@@ -2,3 +2,4 @@ pub mod Places
 pub mod Free
 pub mod Answers
 pub mod Counted
+pub mod PlainMap
