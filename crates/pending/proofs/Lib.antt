@@ -4,3 +4,5 @@ pub mod Counts
 pub mod Drawing
 pub mod Placing
 pub mod AsMap
+pub mod Turning
+pub mod OneMap

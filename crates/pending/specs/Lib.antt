@@ -3,3 +3,4 @@ pub mod Free
 pub mod Answers
 pub mod Counted
 pub mod PlainMap
+pub mod Turns
