@@ -15,9 +15,9 @@ use Rattle.pending.specs.declared.Asked.{Asked}
 use Rattle.pending.specs.declared.Asked.the-variants.{Of, Nothing}
 use Rattle.pending.specs.Places.{numberAt, pendingIdAt, targetAt, placeOf, freePlace, entered, cleared}
 use Rattle.pending.specs.Free.{isAt, isPending}
-use Rattle.pending.specs.Answers.{askedAt, awaitedOf, clearedAt, cancelled}
+use Rattle.pending.specs.Answers.{askedAt, awaitedOf, clearedAt, cancelled, bearsAt, isResponse}
 use Rattle.pending.specs.Counted.{howMany}
-use Rattle.pending.specs.PlainMap.{Map, isAsked, taken, emptyMap, inserted, deleted, freshList, used, Once, LikeMap}
+use Rattle.pending.specs.PlainMap.{Map, isAsked, asks, taken, emptyMap, inserted, deleted, freshList, used, Once, LikeMap}
 use Rattle.pending.proofs.Looking.{IsFirst, is-first, its-place, no-place, number-not-zero, none-bears-it}
 use Rattle.pending.proofs.Placing.{placed-length, word-here, target-here, word-elsewhere, target-elsewhere, number-in, id-in}
 use Rattle.pending.proofs.Counts.{one-more, count-all, count-none, count-most, not-all}
@@ -48,6 +48,14 @@ module _ (l : List ℕ) (n : ℕ) where
       go : (s : Slot) → placeOf l n ≡ s → placeOf l n ≡ Nowhere
       go (At i) p = absurd (true≢false (sym (ap isAt p) ∙ e))
       go Nowhere p = p
+
+  -- a message is the response by what is pending under its number
+  pub response-by : (id sender : ℕ) → isResponse l n id sender ≡ asks (awaitedOf l n) id sender
+  response-by id sender = go (placeOf l n) refl
+    where
+      go : (s : Slot) → placeOf l n ≡ s → isResponse l n id sender ≡ asks (awaitedOf l n) id sender
+      go (At k) p = ap (λ (s : Slot). bearsAt l s id sender) p ∙ sym (ap (λ (s : Slot). asks (askedAt l s) id sender) p)
+      go Nowhere p = ap (λ (s : Slot). bearsAt l s id sender) p ∙ sym (ap (λ (s : Slot). asks (askedAt l s) id sender) p)
 
 -- lists that differ at place k alone, and numbers that stand there in neither
 module _ (l r : List ℕ) (k : ℕ) (words : (j : ℕ) → (j ≡ k → ⊥) → j < 64 → getD r j 0 ≡ getD l j 0)

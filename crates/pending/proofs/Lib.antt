@@ -6,3 +6,4 @@ pub mod Placing
 pub mod AsMap
 pub mod Turning
 pub mod OneMap
+pub mod Once

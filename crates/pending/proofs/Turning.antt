@@ -10,15 +10,15 @@ use Rattle.wire.proofs.Cond.{yes-if, no-if}
 use Rattle.pending.specs.declared.Slot.{Slot}
 use Rattle.pending.specs.declared.Slot.the-variants.{At, Nowhere}
 use Rattle.pending.specs.declared.Asked.{Asked}
-use Rattle.pending.specs.Places.{placeOf, freePlace, entered}
+use Rattle.pending.specs.Places.{placeOf, freePlace, enteredAt}
 use Rattle.pending.specs.Free.{isPending, nextFree, onFrom, IsNextFree}
 use Rattle.pending.specs.Answers.{askedAt, awaitedOf, cancelled, bearsAt, isResponse, responded}
 use Rattle.pending.specs.PlainMap.{Map, isAsked, taken, asks, emptyMap, inserted, deleted, freshList, LikeMap}
-use Rattle.pending.specs.Turns.{Turn, request, giveUp, arrival, ask, Narrow, Told, full, numbered, whether, what, enteredAt, numberedAt}
+use Rattle.pending.specs.Turns.{Turn, request, giveUp, arrival, ask, Narrow, Told, full, numbered, whether, what, numberedAt}
 use Rattle.pending.specs.Turns.{listAfter, listTells, MapTurn, refuses, enters, forgets, delivers, passes, looks}
 use Rattle.pending.specs.Turns.{AllNarrow, listTellsAll, MapRun, ended, then}
 use Rattle.pending.proofs.Drawing.{next-is-free, one-is-next}
-use Rattle.pending.proofs.AsMap.{fresh-like, full-counts, room-counts, same-taken, entered-like, cancelled-like}
+use Rattle.pending.proofs.AsMap.{response-by, fresh-like, full-counts, room-counts, same-taken, entered-like, cancelled-like}
 
 -- the same numbers are taken: the next one free is the same
 pub next-by : (f g : ℕ → Bool) (n x : ℕ) → ((k : ℕ) → f k ≡ g k) → IsNextFree f n x → IsNextFree g n x
@@ -65,11 +65,7 @@ module _ (l : List ℕ) (m : Map) (same : LikeMap l m) where
           }
 
   same-asked : (n id sender : ℕ) → isResponse l n id sender ≡ asks (m .under n) id sender
-  same-asked n id sender = go (placeOf l n) refl ∙ ap (λ (x : Asked). asks x id sender) (same .looked n)
-    where
-      go : (s : Slot) → placeOf l n ≡ s → isResponse l n id sender ≡ asks (awaitedOf l n) id sender
-      go (At k) p = ap (λ (s : Slot). bearsAt l s id sender) p ∙ sym (ap (λ (s : Slot). asks (askedAt l s) id sender) p)
-      go Nowhere p = ap (λ (s : Slot). bearsAt l s id sender) p ∙ sym (ap (λ (s : Slot). asks (askedAt l s) id sender) p)
+  same-asked n id sender = response-by l n id sender ∙ ap (λ (x : Asked). asks x id sender) (same .looked n)
 
   arrivals-along : (n id sender : ℕ) → Along l m (arrival n id sender)
   arrivals-along n id sender = go (isResponse l n id sender) refl

@@ -44,5 +44,10 @@ placed l k word target = cond (ltb k places) (set (set l k word) (places + k) ta
 abbrev pub entered : List ℕ → ℕ → ℕ → ℕ → ℕ → List ℕ
 entered l k n id target = placed l k (n * 2 ^ 32 + id) target
 
+-- at the place that was found, if any
+abbrev pub enteredAt : List ℕ → Slot → ℕ → ℕ → ℕ → List ℕ
+enteredAt l (At k) n id target = entered l k n id target
+enteredAt l Nowhere n id target = l
+
 abbrev pub cleared : List ℕ → ℕ → List ℕ
 cleared l k = placed l k 0 0

@@ -8,7 +8,7 @@ use mathlib.Core.List.{List, [], _∷_}
 use Rattle.pending.specs.declared.Slot.{Slot}
 use Rattle.pending.specs.declared.Slot.the-variants.{At, Nowhere}
 use Rattle.pending.specs.declared.Asked.{Asked}
-use Rattle.pending.specs.Places.{freePlace, entered}
+use Rattle.pending.specs.Places.{freePlace, enteredAt}
 use Rattle.pending.specs.Free.{isPending, nextFree, IsNextFree}
 use Rattle.pending.specs.Answers.{awaitedOf, cancelled, isResponse, responded}
 use Rattle.pending.specs.PlainMap.{Map, taken, asks, emptyMap, inserted, deleted, freshList}
@@ -34,10 +34,6 @@ pub data Told : Type 0 where
   what : Asked → Told
 
 -- the list
-abbrev pub enteredAt : List ℕ → Slot → ℕ → ℕ → ℕ → List ℕ
-enteredAt l (At k) n id target = entered l k n id target
-enteredAt l Nowhere n id target = l
-
 abbrev pub numberedAt : Slot → ℕ → Told
 numberedAt (At k) n = numbered n
 numberedAt Nowhere n = full
