@@ -27,6 +27,8 @@ pub mod WrongTurns
 pub mod Starred
 pub mod Unique
 pub mod UniqueCalls
+pub mod UniqueRequests
+pub mod Requests
 pub mod ExportsKeep
 mod LinkedRuns
 pub mod Linked

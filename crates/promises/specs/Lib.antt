@@ -20,6 +20,8 @@ pub mod WrongTurns
 pub mod Starred
 pub mod Unique
 pub mod UniqueCalls
+pub mod UniqueRequests
+pub mod Requests
 pub mod ExportsKeep
 pub mod InNumbers
 pub mod Linked
