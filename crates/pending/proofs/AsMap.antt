@@ -1,26 +1,25 @@
 -- A list is like its map: from fresh, when a request is entered at the free place under a free number, and when a place is freed.
 -- Assumes nothing.
-use Prim.Native.Nat.{ℕ, _+_, _*_, _-_, _/_, _%_, _^_, _≤_, _<_}
+use Prim.Native.Nat.{ℕ, _+_, _*_, _-_, _/_, _%_, _^_, _<_}
 use mathlib.Core.Path.{_≡_, refl, sym, ap, ap₂, subst, _∙_}
 use mathlib.Core.Bool.{Bool, true, false, not, cond, true≢false}
 use mathlib.Core.List.{List}
 use native.Mathlib.Omega.{arith}
 use borrow.Author.Tests.{eqb-true, eqb-false, eq-eqb, ne-eqb}
 use lib.Dec.{eqb}
-use lib.ListN.{length, getD, replicate, length-replicate, getD-replicate}
+use lib.ListN.{getD, length-replicate, getD-replicate}
 use Rattle.wire.proofs.Cond.{yes-if, no-if}
 use Rattle.pending.specs.declared.Slot.{Slot}
 use Rattle.pending.specs.declared.Slot.the-variants.{At, Nowhere}
-use Rattle.pending.specs.declared.Asked.{Asked}
 use Rattle.pending.specs.declared.Asked.the-variants.{Of, Nothing}
-use Rattle.pending.specs.Places.{numberAt, pendingIdAt, targetAt, placeOf, freePlace, entered, cleared}
+use Rattle.pending.specs.Places.{numberAt, targetAt, placeOf, freePlace, entered, cleared}
 use Rattle.pending.specs.Free.{isAt, isPending}
 use Rattle.pending.specs.Answers.{askedAt, awaitedOf, clearedAt, cancelled, bearsAt, isResponse}
 use Rattle.pending.specs.Counted.{howMany}
 use Rattle.pending.specs.PlainMap.{Map, isAsked, asks, taken, emptyMap, inserted, deleted, freshList, used, Once, LikeMap}
 use Rattle.pending.proofs.Looking.{IsFirst, is-first, its-place, no-place, number-not-zero, none-bears-it}
 use Rattle.pending.proofs.Placing.{placed-length, word-here, target-here, word-elsewhere, target-elsewhere, number-in, id-in}
-use Rattle.pending.proofs.Counts.{one-more, count-all, count-none, count-most, not-all}
+use Rattle.pending.proofs.Counts.{one-more, count-all, not-all}
 
 -- where a number stands
 module _ (l : List ℕ) (n : ℕ) where
@@ -91,12 +90,13 @@ module _ (l r : List ℕ) (k : ℕ) (words : (j : ℕ) → (j ≡ k → ⊥) →
 
 -- nothing was asked yet
 pub fresh-like : LikeMap freshList emptyMap
+unfolding howMany
 fresh-like =
     record {
       whole = length-replicate {A = ℕ} 128 0;
       once = λ j k h i d e. absurd (d (blank j h));
       looked = λ n. ap (askedAt freshList) (absent freshList n (λ j h e. sym e ∙ blank j h));
-      counted = count-none (used freshList) 64 (λ k h. ap not (eq-eqb (numberAt freshList k) 0 (blank k h)));
+      counted = refl;
     }
   where
     blank : (j : ℕ) → j < 64 → numberAt freshList j ≡ 0

@@ -96,14 +96,6 @@ count-all f (suc m) h =
     let o : one (f m) ≡ 1 = ap one (h m (omega arith)) in
     omega arith
 
-pub count-none : (f : ℕ → Bool) (m : ℕ) → ((k : ℕ) → k < m → f k ≡ false) → howMany f m ≡ 0
-unfolding howMany
-count-none f zero h = refl
-count-none f (suc m) h =
-    let r : howMany f m ≡ 0 = count-none f m (λ k b. h k (omega arith)) in
-    let o : one (f m) ≡ 0 = ap one (h m (omega arith)) in
-    omega arith
-
 pub not-all : (f : ℕ → Bool) (m j : ℕ) → j < m → f j ≡ false → howMany f m < m
 not-all f m j b p =
     let a : howMany (λ k. true) m ≡ m = count-all (λ k. true) m (λ k d. refl) in

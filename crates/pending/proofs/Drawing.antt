@@ -2,18 +2,17 @@
 -- that block and that lie d draws or more behind the next own number: a number d draws behind it that is blocked makes them fewer,
 -- and where there are none it is free.
 -- Assumes nothing.
-use Prim.Native.Nat.{ℕ, zero, suc, _+_, _*_, _-_, _%_, _^_, _≤_, _<_}
+use Prim.Native.Nat.{ℕ, zero, suc, _+_, _-_, _%_, _^_, _≤_, _<_}
 use mathlib.Core.Path.{_≡_, refl, sym, ap, subst, _∙_}
 use mathlib.Core.Bool.{Bool, true, false, cond, _||_, true≢false}
 use mathlib.Core.List.{List}
-use native.Mathlib.Nat.{mod-lt, mod-eq-of-lt}
 use native.Mathlib.Omega.{arith}
-use borrow.Author.Tests.{eqb-true, eqb-false, eq-eqb, ne-eqb, leb-true, leb-false, le-leb, lt-leb}
+use borrow.Author.Tests.{eqb-true, eqb-false, ne-eqb, leb-true, leb-false, le-leb, lt-leb}
 use lib.Dec.{eqb, leb}
 use Rattle.wire.proofs.Cond.{yes-if, no-if}
 use Rattle.pending.specs.declared.Slot.{Slot}
 use Rattle.pending.specs.declared.Slot.the-variants.{At, Nowhere}
-use Rattle.pending.specs.Places.{places, numberAt, placeOf}
+use Rattle.pending.specs.Places.{numberAt, placeOf}
 use Rattle.pending.specs.Free.{drawn, isAt, isPending, blocked, freeWithin, nextFree, onFrom, IsNextFree}
 use Rattle.pending.specs.Counted.{howMany}
 use Rattle.pending.proofs.Looking.{its-place}
@@ -137,7 +136,8 @@ module _ (l : List ℕ) (n : ℕ) (n-small : n < 2 ^ 32) where
   unfolding freeWithin
   draw m d rest before = go (blocked l (onFrom n d)) refl
     where
-      go : (b : Bool) → blocked l (onFrom n d) ≡ b → IsNextFree (isPending l) n (cond (blocked l (onFrom n d)) (freeWithin l m (drawn (onFrom n d))) (onFrom n d))
+      go : (b : Bool) → blocked l (onFrom n d) ≡ b
+          → IsNextFree (isPending l) n (cond (blocked l (onFrom n d)) (freeWithin l m (drawn (onFrom n d))) (onFrom n d))
       go true e =
           let q : cond (blocked l (onFrom n d)) (freeWithin l m (drawn (onFrom n d))) (onFrom n d) ≡ freeWithin l m (onFrom n (d + 1)) =
           yes-if (freeWithin l m (drawn (onFrom n d))) (onFrom n d) e ∙ ap (freeWithin l m) (drawn-on-from n d) in

@@ -1,16 +1,15 @@
 -- On any whole list without a number twice: a request that is given up, or answered, is pending no more, and every other one is as
 -- it was. The map that such a list is like is the one that the list itself tells.
 -- Assumes nothing.
-use Prim.Native.Nat.{ℕ, _<_}
-use mathlib.Core.Path.{_≡_, refl, sym, ap, _∙_}
-use mathlib.Core.Bool.{Bool, true, false, cond}
+use Prim.Native.Nat.{ℕ}
+use mathlib.Core.Path.{_≡_, refl, ap, _∙_}
+use mathlib.Core.Bool.{true, false, cond}
 use mathlib.Core.List.{List}
-use borrow.Author.Tests.{eq-eqb, ne-eqb}
 use lib.Dec.{eqb}
 use lib.ListN.{length}
 use Rattle.wire.proofs.Cond.{yes-eq, no-eq, yes-if}
 use Rattle.pending.specs.declared.Asked.{Asked}
-use Rattle.pending.specs.declared.Asked.the-variants.{Of, Nothing}
+use Rattle.pending.specs.declared.Asked.the-variants.{Nothing}
 use Rattle.pending.specs.Answers.{awaitedOf, cancelled, isResponse, responded}
 use Rattle.pending.specs.Counted.{howMany}
 use Rattle.pending.specs.PlainMap.{Map, asks, used, Once, LikeMap}

@@ -1,17 +1,16 @@
 -- The plain map tells one thing only of each turn, and so over any turns: two maps that have the same under every number, and count
 -- the same, go on so.
 -- Assumes nothing.
-use Prim.Native.Nat.{ℕ, _+_, _-_, _<_}
-use mathlib.Core.Path.{_≡_, refl, sym, ap, ap₂, subst, _∙_}
-use mathlib.Core.Bool.{Bool, true, false, cond, true≢false}
-use mathlib.Core.List.{List, [], _∷_}
+use Prim.Native.Nat.{ℕ, _+_, _-_}
+use mathlib.Core.Path.{_≡_, refl, sym, ap, ap₂, _∙_}
+use mathlib.Core.Bool.{true, false, cond, true≢false}
+use mathlib.Core.List.{List, _∷_}
 use native.Mathlib.Omega.{arith}
 use lib.Dec.{eqb}
 use Rattle.pending.specs.declared.Asked.{Asked}
 use Rattle.pending.specs.declared.Asked.the-variants.{Of, Nothing}
-use Rattle.pending.specs.Free.{IsNextFree}
 use Rattle.pending.specs.PlainMap.{Map, isAsked, taken, asks, emptyMap, inserted, deleted, freshList}
-use Rattle.pending.specs.Turns.{Turn, request, giveUp, arrival, ask, Told, full, numbered, whether, what}
+use Rattle.pending.specs.Turns.{Turn, request, giveUp, arrival, ask, Told, numbered, whether, what}
 use Rattle.pending.specs.Turns.{MapTurn, refuses, enters, forgets, delivers, passes, looks, AllNarrow, listTellsAll, MapRun, ended, then}
 use Rattle.pending.proofs.Drawing.{one-is-next}
 use Rattle.pending.proofs.Turning.{next-by, as-a-map}

@@ -1,15 +1,13 @@
 -- The words of a list after both words of a place are written.
 -- Assumes nothing.
-use Prim.Native.Nat.{ℕ, _+_, _*_, _/_, _%_, _^_, _≤_, _<_}
-use mathlib.Core.Path.{_≡_, refl, sym, ap, _∙_}
-use mathlib.Core.Bool.{cond}
+use Prim.Native.Nat.{ℕ, _+_, _*_, _/_, _%_, _^_, _<_}
+use mathlib.Core.Path.{_≡_, ap, _∙_}
 use mathlib.Core.List.{List}
 use native.Mathlib.Omega.{arith}
-use lib.Dec.{ltb}
 use lib.ListN.{length, getD, set, length-set}
 use lib.Seq.{getD-set-same, getD-set-other}
 use Rattle.wire.proofs.Cond.{yes-lt}
-use Rattle.pending.specs.Places.{numberAt, pendingIdAt, targetAt, placed, entered}
+use Rattle.pending.specs.Places.{targetAt, placed}
 
 module _ (l : List ℕ) (k w t : ℕ) (in-list : k < 64) where
   both : List ℕ

@@ -1,21 +1,20 @@
 -- What the functions of `pending` come to at their returns.
 -- Assumes nothing.
-use Prim.Native.Nat.{ℕ, zero, suc, _+_, _*_, _-_, _^_, _≤_, _<_}
+use Prim.Native.Nat.{ℕ, suc, _+_, _-_, _≤_, _<_}
 use mathlib.Core.Path.{_≡_, refl, sym, ap, ap₂, _∙_}
-use mathlib.Core.Bool.{Bool, true, false, cond, _&&_, _||_}
+use mathlib.Core.Bool.{Bool, true, false, cond, _&&_}
 use mathlib.Core.List.{List}
 use native.Mathlib.Omega.{arith}
 use borrow.Author.Tests.{eq-eqb, ne-eqb}
-use lib.Dec.{eqb, ltb}
+use lib.Dec.{eqb}
 use lib.ListN.{length, set}
 use lib.Seq.{set-out}
 use Rattle.wire.proofs.Cond.{yes-lt, no-lt, yes-eq, no-eq, yes-if, no-if}
 use Rattle.pending.proofs.Looking.{its-place}
 use Rattle.pending.specs.declared.Slot.{Slot}
 use Rattle.pending.specs.declared.Slot.the-variants.{At, Nowhere}
-use Rattle.pending.specs.declared.Asked.{Asked}
 use Rattle.pending.specs.declared.Asked.the-variants.{Of, Nothing}
-use Rattle.pending.specs.Places.{places, numberAt, pendingIdAt, targetAt, bearing, firstBearing, placeOf, placed, entered, cleared}
+use Rattle.pending.specs.Places.{numberAt, pendingIdAt, targetAt, bearing, firstBearing, placeOf, placed, cleared}
 use Rattle.pending.specs.Free.{drawn, isAt, isPending, blocked, freeWithin, nextFree}
 use Rattle.pending.specs.Answers.{askedAt, awaitedOf, clearedAt, cancelled, bears, bearsAt, isResponse, responded}
 

@@ -1,23 +1,27 @@
 -- A list tells over any turns what the plain map does, and the map tells one thing only.
 -- Assumes nothing.
-use Prim.Native.Nat.{ℕ, _+_, _-_, _^_, _<_}
-use mathlib.Core.Path.{_≡_, refl, sym, ap, ap₂, subst, _∙_}
-use mathlib.Core.Bool.{Bool, true, false, cond, true≢false}
+use Prim.Native.Nat.{ℕ, _+_, _*_, _-_, _^_, _<_}
+use mathlib.Core.Path.{_≡_, refl, sym, ap, subst, _∙_}
+use mathlib.Core.Bool.{Bool, true, false}
 use mathlib.Core.List.{List, [], _∷_}
 use native.Mathlib.Omega.{arith}
+use borrow.Author.Tests.{eqb-true, eqb-false}
 use lib.Dec.{eqb}
+use lib.ListN.{length, getD-replicate}
 use Rattle.wire.proofs.Cond.{yes-if, no-if}
 use Rattle.pending.specs.declared.Slot.{Slot}
 use Rattle.pending.specs.declared.Slot.the-variants.{At, Nowhere}
 use Rattle.pending.specs.declared.Asked.{Asked}
-use Rattle.pending.specs.Places.{placeOf, freePlace, enteredAt}
+use Rattle.pending.specs.Places.{targetAt, placeOf, freePlace, placed, enteredAt}
 use Rattle.pending.specs.Free.{isPending, nextFree, onFrom, IsNextFree}
-use Rattle.pending.specs.Answers.{askedAt, awaitedOf, cancelled, bearsAt, isResponse, responded}
-use Rattle.pending.specs.PlainMap.{Map, isAsked, taken, asks, emptyMap, inserted, deleted, freshList, LikeMap}
-use Rattle.pending.specs.Turns.{Turn, request, giveUp, arrival, ask, Narrow, Told, full, numbered, whether, what, numberedAt}
+use Rattle.pending.specs.Answers.{clearedAt, cancelled, isResponse, responded}
+use Rattle.pending.specs.PlainMap.{Map, taken, asks, emptyMap, inserted, deleted, freshList, LikeMap}
+use Rattle.pending.specs.Turns.{Turn, request, giveUp, arrival, ask, Narrow, whether, what, numberedAt}
 use Rattle.pending.specs.Turns.{listAfter, listTells, MapTurn, refuses, enters, forgets, delivers, passes, looks}
-use Rattle.pending.specs.Turns.{AllNarrow, listTellsAll, MapRun, ended, then}
-use Rattle.pending.proofs.Drawing.{next-is-free, one-is-next}
+use Rattle.pending.specs.Turns.{AllNarrow, listTellsAll, listAfterAll, Kempt, MapRun, ended, then}
+use Rattle.pending.proofs.Looking.{is-first, its-place}
+use Rattle.pending.proofs.Placing.{target-here, target-elsewhere}
+use Rattle.pending.proofs.Drawing.{next-is-free}
 use Rattle.pending.proofs.AsMap.{response-by, fresh-like, full-counts, room-counts, same-taken, entered-like, cancelled-like}
 
 -- the same numbers are taken: the next one free is the same
@@ -88,7 +92,7 @@ module _ (l : List ℕ) (m : Map) (same : LikeMap l m) where
 
   -- one turn
   pub along : (t : Turn) → Narrow t → Along l m t
-  along (request next id target) h = requests-along next id target (h .0) (h .1)
+  along (request next id target) h = requests-along next id target (h .0) (h .1 .0)
   along (giveUp n) h =
       record {
         after = deleted m n;
@@ -112,3 +116,58 @@ runs-along l m (t ∷ ts) same h =
 -- "Over any calls the list answers as a plain map does"
 pub as-a-map : (ts : List Turn) → AllNarrow ts → MapRun emptyMap ts (listTellsAll freshList ts)
 as-a-map ts h = runs-along freshList emptyMap ts fresh-like h
+
+-- targets stay narrow, turn by turn
+module _ (l : List ℕ) (whole : length l ≡ 128) (narrow : (k : ℕ) → k < 64 → targetAt l k < 2 ^ 32) where
+  placed-narrow : (k w t : ℕ) → k < 64 → t < 2 ^ 32 → (j : ℕ) → j < 64 → targetAt (placed l k w t) j < 2 ^ 32
+  placed-narrow k w t h small j b = go (eqb j k) refl
+    where
+      go : (s : Bool) → eqb j k ≡ s → targetAt (placed l k w t) j < 2 ^ 32
+      go true s =
+          let e : targetAt (placed l k w t) j ≡ t = ap (targetAt (placed l k w t)) (eqb-true j k s) ∙ target-here l k w t h whole in
+          omega arith
+      go false s =
+          let e : targetAt (placed l k w t) j ≡ targetAt l j = target-elsewhere l k w t h j (eqb-false j k s) b in
+          omega (arith, narrow j b)
+
+  cancelled-narrow : (n j : ℕ) → j < 64 → targetAt (cancelled l n) j < 2 ^ 32
+  cancelled-narrow n j b = go (placeOf l n) refl
+    where
+      go : (s : Slot) → placeOf l n ≡ s → targetAt (clearedAt l (placeOf l n)) j < 2 ^ 32
+      go (At k) p =
+          subst (λ (s : Slot). targetAt (clearedAt l s) j < 2 ^ 32) (sym p) (placed-narrow k 0 0 (its-place l n k p .below) (omega arith) j b)
+      go Nowhere p = subst (λ (s : Slot). targetAt (clearedAt l s) j < 2 ^ 32) (sym p) (narrow j b)
+
+  after-narrow : (t : Turn) → Narrow t → (j : ℕ) → j < 64 → targetAt (listAfter l t) j < 2 ^ 32
+  after-narrow (request next id target) h j b = go (freePlace l) refl
+    where
+      n : ℕ
+      n = nextFree l next
+
+      go : (s : Slot) → freePlace l ≡ s → targetAt (enteredAt l (freePlace l) n id target) j < 2 ^ 32
+      go (At k) p =
+          subst (λ (s : Slot). targetAt (enteredAt l s n id target) j < 2 ^ 32) (sym p)
+          (placed-narrow k (n * 2 ^ 32 + id) target (is-first l 0 64 0 k p .below) (h .1 .1) j b)
+      go Nowhere p = subst (λ (s : Slot). targetAt (enteredAt l s n id target) j < 2 ^ 32) (sym p) (narrow j b)
+  after-narrow (giveUp n) h j b = cancelled-narrow n j b
+  after-narrow (arrival n id sender) h j b = go (isResponse l n id sender) refl
+    where
+      go : (s : Bool) → isResponse l n id sender ≡ s → targetAt (responded l n id sender) j < 2 ^ 32
+      go true e = subst (λ (r : List ℕ). targetAt r j < 2 ^ 32) (sym (yes-if (cancelled l n) l e)) (cancelled-narrow n j b)
+      go false e = subst (λ (r : List ℕ). targetAt r j < 2 ^ 32) (sym (no-if (cancelled l n) l e)) (narrow j b)
+  after-narrow (ask n) h j b = narrow j b
+
+stays-kempt : (l : List ℕ) (m : Map) (ts : List Turn) → LikeMap l m → ((k : ℕ) → k < 64 → targetAt l k < 2 ^ 32) → AllNarrow ts
+    → Kempt (listAfterAll l ts)
+stays-kempt l m [] same narrow h = record { whole = same .whole; once = same .once; targets = narrow }
+stays-kempt l m (t ∷ ts) same narrow h =
+    let a : Along l m t = along l m same t (h .0) in
+    stays-kempt (listAfter l t) (a .after) ts (a .like) (after-narrow l (same .whole) narrow t (h .0)) (h .1)
+
+pub kempt : (ts : List Turn) → AllNarrow ts → Kempt (listAfterAll freshList ts)
+kempt ts h = stays-kempt freshList emptyMap ts fresh-like blank h
+  where
+    blank : (k : ℕ) → k < 64 → targetAt freshList k < 2 ^ 32
+    blank k b =
+        let e : targetAt freshList k ≡ 0 = getD-replicate 128 (64 + k) 0 0 (omega arith) in
+        omega arith

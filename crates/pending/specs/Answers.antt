@@ -1,6 +1,6 @@
 -- 02, request 1: what is pending under a number; a request given up; a message that is the response, or is not.
 use Prim.Native.Nat.{ℕ}
-use mathlib.Core.Bool.{Bool, true, false, cond, _&&_}
+use mathlib.Core.Bool.{Bool, false, cond, _&&_}
 use mathlib.Core.List.{List}
 use lib.Dec.{eqb}
 use Rattle.pending.specs.declared.Slot.{Slot}

@@ -1,19 +1,16 @@
 -- 02, request 1: "Over any calls the list answers as a plain map does." The map has no places: it tells what was asked under each
 -- number, and how many numbers there are. `LikeMap` is what a list and its map have in common; proofs/AsMap shows that a fresh list
 -- has it with the empty map, and that every call keeps it and answers as the map does.
-use Prim.Native.Nat.{ℕ, _+_, _-_, _^_, _<_}
+use Prim.Native.Nat.{ℕ, _+_, _-_, _<_}
 use mathlib.Core.Path.{_≡_}
 use mathlib.Core.Bool.{Bool, true, false, not, cond, _&&_}
-use mathlib.Core.List.{List, [], _∷_}
+use mathlib.Core.List.{List}
 use lib.Dec.{eqb}
 use lib.ListN.{length, replicate}
-use Rattle.pending.specs.declared.Slot.{Slot}
-use Rattle.pending.specs.declared.Slot.the-variants.{At, Nowhere}
 use Rattle.pending.specs.declared.Asked.{Asked}
 use Rattle.pending.specs.declared.Asked.the-variants.{Of, Nothing}
-use Rattle.pending.specs.Places.{numberAt, placeOf, freePlace, entered}
-use Rattle.pending.specs.Free.{isPending, nextFree, IsNextFree}
-use Rattle.pending.specs.Answers.{awaitedOf, cancelled, isResponse, responded}
+use Rattle.pending.specs.Places.{numberAt}
+use Rattle.pending.specs.Answers.{awaitedOf}
 use Rattle.pending.specs.Counted.{howMany}
 
 pub record Map : Type 0 where

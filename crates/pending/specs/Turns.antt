@@ -5,13 +5,14 @@ use Prim.{Unit}
 use mathlib.Core.Path.{_≡_}
 use mathlib.Core.Bool.{Bool, true, false}
 use mathlib.Core.List.{List, [], _∷_}
+use lib.ListN.{length}
 use Rattle.pending.specs.declared.Slot.{Slot}
 use Rattle.pending.specs.declared.Slot.the-variants.{At, Nowhere}
 use Rattle.pending.specs.declared.Asked.{Asked}
-use Rattle.pending.specs.Places.{freePlace, enteredAt}
+use Rattle.pending.specs.Places.{targetAt, freePlace, enteredAt}
 use Rattle.pending.specs.Free.{isPending, nextFree, IsNextFree}
 use Rattle.pending.specs.Answers.{awaitedOf, cancelled, isResponse, responded}
-use Rattle.pending.specs.PlainMap.{Map, taken, asks, emptyMap, inserted, deleted, freshList}
+use Rattle.pending.specs.PlainMap.{Map, taken, asks, inserted, deleted, Once}
 
 -- a request is made, where `next` is the next own number; given up; a message arrives that may be its response; it is asked for
 pub data Turn : Type 0 where
@@ -20,9 +21,9 @@ pub data Turn : Type 0 where
   arrival : (n id sender : ℕ) → Turn
   ask : (n : ℕ) → Turn
 
--- next own number and ID have 32 bits
+-- next own number, ID and target have 32 bits
 abbrev pub Narrow : Turn → Type 0
-Narrow (request next id target) = (next < 2 ^ 32) × (id < 2 ^ 32)
+Narrow (request next id target) = (next < 2 ^ 32) × ((id < 2 ^ 32) × (target < 2 ^ 32))
 Narrow (giveUp n) = Unit {0}
 Narrow (arrival n id sender) = Unit {0}
 Narrow (ask n) = Unit {0}
@@ -68,6 +69,16 @@ AllNarrow (t ∷ ts) = Narrow t × AllNarrow ts
 abbrev pub listTellsAll : List ℕ → List Turn → List Told
 listTellsAll l [] = []
 listTellsAll l (t ∷ ts) = listTells l t ∷ listTellsAll (listAfter l t) ts
+
+abbrev pub listAfterAll : List ℕ → List Turn → List ℕ
+listAfterAll l [] = l
+listAfterAll l (t ∷ ts) = listAfterAll (listAfter l t) ts
+
+-- what no turns from fresh undo: no number stands twice, and every target is a platform's number
+pub record Kempt (l : List ℕ) : Type 0 where
+  pub whole : length l ≡ 128
+  pub once : Once l
+  pub targets : (k : ℕ) → k < 64 → targetAt l k < 2 ^ 32
 
 pub data MapRun : Map → List Turn → List Told → Type 0 where
   ended : {m : Map} → MapRun m [] []

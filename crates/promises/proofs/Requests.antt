@@ -1,41 +1,37 @@
 -- What is promised of the list of pending requests and of sending.
 -- Assumes nothing.
-use Prim.Native.Nat.{ℕ, zero, suc, _+_, _%_, _^_, _≤_, _<_}
+use Prim.Native.Nat.{ℕ, _+_, _%_, _^_, _≤_, _<_}
 use mathlib.Core.Path.{_≡_, refl, sym, ap, ap₂, subst, _∙_}
-use mathlib.Core.Bool.{Bool, true, false, not, cond, _&&_, true≢false}
+use mathlib.Core.Bool.{Bool, true, false, not, cond, _&&_}
 use mathlib.Core.List.{List, [], _∷_, _++_}
-use native.Mathlib.Nat.{mod-lt}
 use native.Mathlib.Omega.{arith}
 use borrow.Author.Tests.{eqb-true, eq-eqb}
 use lib.Dec.{eqb, leb, ltb}
-use lib.ListN.{length, take, drop, length-append}
+use lib.ListN.{length, take, drop}
 use lib.Seq.{take-at, drop-at}
-use Rattle.wire.specs.Bytes.{over}
 use Rattle.wire.proofs.Cond.{both, no-if}
-use Rattle.message.specs.Header.{headerLength}
 use Rattle.message.specs.Refusal.{writeRefusal}
 use Rattle.message.specs.Writing.{messageBytes}
-use Rattle.message.proofs.Accepted.{Writable, writable}
 use Rattle.message.proofs.RoundTrip.{reads-back, payload-back}
 use Rattle.pending.specs.declared.Slot.{Slot}
 use Rattle.pending.specs.declared.Slot.the-variants.{At, Nowhere}
 use Rattle.pending.specs.declared.Asked.{Asked}
 use Rattle.pending.specs.declared.Asked.the-variants.{Of, Nothing}
-use Rattle.pending.specs.Places.{numberAt, placeOf, freePlace}
+use Rattle.pending.specs.Places.{numberAt, freePlace}
 use Rattle.pending.specs.Free.{isPending, nextFree, IsNextFree}
-use Rattle.pending.specs.Answers.{awaitedOf, clearedAt, cancelled, isResponse, responded}
+use Rattle.pending.specs.Answers.{awaitedOf, clearedAt, cancelled, isResponse}
 use Rattle.pending.specs.PlainMap.{asks}
 use Rattle.pending.proofs.Looking.{is-first, none-bears-it}
 use Rattle.pending.proofs.Drawing.{next-is-free, one-is-next}
 use Rattle.pending.proofs.AsMap.{response-by, not-standing}
 use Rattle.pending.proofs.Once.{answered-gone, answered-others, not-again}
-use Rattle.pending.proofs.Turning.{as-a-map}
+use Rattle.pending.proofs.Turning.{as-a-map, kempt}
 use Rattle.pending.proofs.OneMap.{told-by-map}
 use Rattle.requests.specs.declared.Sending.{Sending}
 use Rattle.requests.specs.Sending.{unlessFull, sendRefusal, answeredBy, sentOf, outputSent, numberGiven}
 use Rattle.requests.proofs.Sends.{Sendable, sendable, given-is, next-kept, list-kept, output-kept, written-so}
-use Rattle.promises.specs.Checks.{Check, _when_, Answers, none, this, next}
-use Rattle.promises.specs.Requests.{sendChecks, notSent, sentAs, Arrives, AnsweredOnce, Requests}
+use Rattle.promises.specs.Checks.{_when_, Answers, none, this, next}
+use Rattle.promises.specs.Requests.{sendChecks, notSent, sentAs, Arrives, Requests}
 use Rattle.promises.proofs.Checks.{lt-decides, le-decides, eq-decides, not-decides, by-number}
 
 -- 62, then 60, then 01's writing numbers
@@ -152,4 +148,5 @@ requests =
       not-cancelled = λ l n e. ap (clearedAt l) (not-standing l n e);
       as-map = told-by-map;
       map-runs = as-a-map;
+      kempt = kempt;
     }

@@ -14,7 +14,7 @@ use Rattle.pending.specs.Places.{numberAt}
 use Rattle.pending.specs.Free.{isPending, nextFree, IsNextFree}
 use Rattle.pending.specs.Answers.{awaitedOf, cancelled, isResponse, responded}
 use Rattle.pending.specs.PlainMap.{emptyMap, freshList, Once}
-use Rattle.pending.specs.Turns.{Turn, Told, AllNarrow, listTellsAll, MapRun}
+use Rattle.pending.specs.Turns.{Turn, Told, AllNarrow, listTellsAll, listAfterAll, Kempt, MapRun}
 use Rattle.requests.specs.declared.Sending.{Sending}
 use Rattle.requests.specs.declared.Sent.the-variants.{Refused, Under}
 use Rattle.requests.specs.Sending.{sentOf, listSent, outputSent, numberGiven}
@@ -79,3 +79,5 @@ pub record Requests : Type 1 where
   -- "Over any calls the list answers as a plain map does"
   pub as-map : (ts : List Turn) (told : List Told) → AllNarrow ts → MapRun emptyMap ts told → listTellsAll freshList ts ≡ told
   pub map-runs : (ts : List Turn) → AllNarrow ts → MapRun emptyMap ts (listTellsAll freshList ts)
+  -- from fresh no turns make a list with a number twice, or with a target that is no platform's number
+  pub kempt : (ts : List Turn) → AllNarrow ts → Kempt (listAfterAll freshList ts)

@@ -2,10 +2,8 @@
 -- Assumes nothing.
 use Prim.Native.Nat.{ℕ, zero, suc, _+_}
 use mathlib.Core.Path.{_≡_, refl, sym, ap, ap₂, _∙_}
-use mathlib.Core.Bool.{Bool, true, false, not, cond}
 use mathlib.Core.List.{List}
 use native.Mathlib.Omega.{arith}
-use lib.Dec.{eqb}
 use lib.ListN.{length}
 use Rattle.wire.specs.Bytes.{over}
 use Rattle.wire.proofs.Cond.{yes-ne, no-ne}
@@ -19,7 +17,6 @@ use Rattle.pending.specs.declared.Slot.the-variants.{At, Nowhere}
 use Rattle.pending.specs.Places.{freePlace, entered, enteredAt}
 use Rattle.pending.specs.Free.{drawn, nextFree}
 use Rattle.requests.specs.declared.Sending.{Sending}
-use Rattle.requests.specs.declared.Sent.{Sent}
 use Rattle.requests.specs.declared.Sent.the-variants.{Refused, Under}
 use Rattle.requests.specs.Sending.{operationDomain, noRequest, unlessFull, sendRefusal, refusedWith, answeredBy, sentOf, listSent, outputSent}
 use Rattle.requests.specs.Sending.{writtenOf, listWritten, outputWritten}

@@ -1,11 +1,10 @@
 -- What is known of a request that nothing refuses, and what a refusal leaves.
 -- Assumes nothing.
-use Prim.Native.Nat.{ℕ, zero, suc, _+_, _^_, _<_}
-use mathlib.Core.Path.{_≡_, refl, sym, ap, ap₂, _∙_}
-use mathlib.Core.Bool.{Bool, true, false, not, cond}
+use Prim.Native.Nat.{ℕ, zero, suc, _+_}
+use mathlib.Core.Path.{_≡_, refl, sym, ap, _∙_}
+use mathlib.Core.Bool.{false, not}
 use mathlib.Core.List.{List}
 use native.Mathlib.Nat.{suc-ne-zero}
-use native.Mathlib.Omega.{arith}
 use borrow.Author.Tests.{eqb-true, not-false}
 use lib.Dec.{eqb}
 use lib.ListN.{length}
@@ -16,10 +15,9 @@ use Rattle.message.specs.Refusal.{writeRefusal}
 use Rattle.message.specs.Writing.{messageBytes, unlessRefused}
 use Rattle.pending.specs.declared.Slot.{Slot}
 use Rattle.pending.specs.declared.Slot.the-variants.{At, Nowhere}
-use Rattle.pending.specs.Places.{freePlace, entered, enteredAt}
+use Rattle.pending.specs.Places.{freePlace, enteredAt}
 use Rattle.pending.specs.Free.{drawn, nextFree}
-use Rattle.requests.specs.declared.Sending.{Sending}
-use Rattle.requests.specs.declared.Sent.the-variants.{Refused, Under}
+use Rattle.requests.specs.declared.Sent.the-variants.{Under}
 use Rattle.requests.specs.Sending.{operationDomain, unlessFull, sendRefusal, answeredBy, sentOf, listSent, outputSent, numberGiven}
 
 pub record Sendable (l : List ℕ) (kind id : ℕ) (payload : List ℕ) (room : ℕ) : Type 0 where
