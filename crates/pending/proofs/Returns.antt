@@ -2,7 +2,7 @@
 -- Assumes nothing.
 use Prim.Native.Nat.{ℕ, suc, _+_, _-_, _≤_, _<_}
 use mathlib.Core.Path.{_≡_, refl, sym, ap, ap₂, _∙_}
-use mathlib.Core.Bool.{Bool, true, false, cond, _&&_}
+use mathlib.Core.Bool.{Bool, true, false, cond, _&&_, _||_}
 use mathlib.Core.List.{List}
 use native.Mathlib.Omega.{arith}
 use borrow.Author.Tests.{eq-eqb, ne-eqb}
@@ -51,6 +51,30 @@ module _ (l : List ℕ) where
       let e : 64 - k ≡ 0 = omega arith in
       sym (ap (λ (m : ℕ). bearing l n m k) e) ∙ left
 
+  -- the same where only whether one bears it is asked
+  or-at : (k : ℕ) (s : Slot) (a b : Bool) → ((a || b) || isAt s) ≡ (a || isAt (cond b (At k) s))
+  or-at k s true b = refl
+  or-at k s false true = refl
+  or-at k s false false = refl
+
+  pub borne-on : (n k x : ℕ) (f : Bool) → k < 64 → x ≡ numberAt l k → (f || isAt (bearing l n (64 - k) k)) ≡ isAt (firstBearing l n)
+      → ((f || eqb x n) || isAt (bearing l n (64 - (k + 1)) (k + 1))) ≡ isAt (firstBearing l n)
+  borne-on n k x f h p left =
+      ap (λ (y : ℕ). (f || eqb y n) || isAt (bearing l n (64 - (k + 1)) (k + 1))) p
+      ∙ or-at k (bearing l n (64 - (k + 1)) (k + 1)) f (eqb (numberAt l k) n)
+      ∙ sym (ap (λ (s : Slot). f || isAt s) (next-place n k h)) ∙ left
+
+  pub borne-all : (n k : ℕ) (f : Bool) → k ≤ 64 → 64 ≤ k → (f || isAt (bearing l n (64 - k) k)) ≡ isAt (firstBearing l n)
+      → f ≡ isAt (firstBearing l n)
+  unfolding bearing
+  borne-all n k f a b left =
+      let e : 64 - k ≡ 0 = omega arith in
+      sym (or-none f) ∙ sym (ap (λ (m : ℕ). f || isAt (bearing l n m k)) e) ∙ left
+    where
+      or-none : (b : Bool) → (b || false) ≡ b
+      or-none true = refl
+      or-none false = refl
+
   -- where a number stands, and whether it is one that a request may take
   module _ (n : ℕ) where
     pub no-number : n ≡ 0 → Nowhere ≡ placeOf l n
@@ -62,15 +86,8 @@ module _ (l : List ℕ) where
     pub zero-blocked : n ≡ 0 → true ≡ blocked l n
     zero-blocked e = rw (eq-eqb n 0 e)
 
-    module _ (r : Slot) (h : n ≡ 0 → ⊥) (p : r ≡ firstBearing l n) where
-      as-found : blocked l n ≡ isAt r
-      as-found = rw (ne-eqb n 0 h, p) refl
-
-      pub as-placed : (k : ℕ) → r ≡ At k → true ≡ blocked l n
-      as-placed k e = sym (as-found ∙ ap isAt e)
-
-      pub not-blocked : r ≡ Nowhere → false ≡ blocked l n
-      not-blocked e = sym (as-found ∙ ap isAt e)
+    pub as-borne : (b : Bool) → (n ≡ 0 → ⊥) → b ≡ isAt (firstBearing l n) → b ≡ blocked l n
+    as-borne b h p = rw (ne-eqb n 0 h, p) refl
 
   pub asked-this : (k id target i t : ℕ) → i ≡ pendingIdAt l k → t ≡ targetAt l k → (eqb i id && eqb t target) ≡ bears l k id target
   asked-this k id target i t p q = rw (p, q)

@@ -5,7 +5,7 @@ ghost use mathlib.Core.Path.{_≡_};
 ghost use Prim.Native.Nat.{_<_};
 ghost use lib.ListN.{set};
 ghost use Rattle.pending.specs.Places.{places, numberAt, pendingIdAt, targetAt, firstBearing, placeOf, freePlace, placed, entered, cleared};
-ghost use Rattle.pending.specs.Free.{drawn, isPending, blocked, nextFree};
+ghost use Rattle.pending.specs.Free.{drawn, isAt, isPending, blocked, nextFree};
 ghost use Rattle.pending.specs.Answers.{awaitedOf, cancelled, bears, isResponse, responded};
 
 // Which place of a list.
@@ -137,10 +137,21 @@ fn is_blocked(list: &[u64], number: u32) -> bool
     if number == 0 {
         return true;
     }
-    match first_bearing(list, number) {
-        Slot::At(_) => true,
-        Slot::Nowhere => false,
+    is_borne(list, number)
+}
+
+// Whether a place bears this number. Nearly always none does, and all are looked at: with no way out the compiler looks at
+// several at once.
+fn is_borne(list: &[u64], number: u32) -> bool
+    ensures { λ r. ⌜ r ≡ isAt (firstBearing (now (list .entry)) number) ⌝ }
+{
+    let mut found = false;
+    let mut k = 0;
+    while k < PLACES {
+        found = found | (number_at(list, k) == number);
+        k += 1;
     }
+    found
 }
 
 // The first place with this number, 0 too.
