@@ -30,6 +30,8 @@ pub mod EachNumber
 pub mod AtLimits
 pub mod Unique
 pub mod UniqueCalls
+pub mod UniqueRequests
+pub mod Requests
 pub mod ExportsKeep
 mod LinkedRuns
 pub mod Linked

@@ -23,6 +23,8 @@ pub mod EachNumber
 pub mod AtLimits
 pub mod Unique
 pub mod UniqueCalls
+pub mod UniqueRequests
+pub mod Requests
 pub mod ExportsKeep
 pub mod InNumbers
 pub mod Linked

@@ -1,0 +1,135 @@
+-- What `send` comes to at its returns.
+-- Assumes nothing.
+use Prim.Native.Nat.{ℕ, zero, suc, _+_}
+use mathlib.Core.Path.{_≡_, refl, sym, ap, ap₂, _∙_}
+use mathlib.Core.List.{List}
+use native.Mathlib.Omega.{arith}
+use lib.ListN.{length}
+use Rattle.wire.specs.Bytes.{over}
+use Rattle.wire.proofs.Cond.{yes-ne, no-ne}
+use Rattle.message.specs.declared.Writing.{Writing}
+use Rattle.message.specs.declared.Writing.the-variants as writing
+use Rattle.message.specs.Header.{headerLength}
+use Rattle.message.specs.Refusal.{writeRefusal}
+use Rattle.message.specs.Writing.{messageBytes, answered, writeOf, unlessRefused, outputAfter}
+use Rattle.pending.specs.declared.Slot.{Slot}
+use Rattle.pending.specs.declared.Slot.the-variants.{At, Nowhere}
+use Rattle.pending.specs.Places.{freePlace, entered, enteredAt}
+use Rattle.pending.specs.Free.{drawn, nextFree}
+use Rattle.requests.specs.declared.Sending.{Sending}
+use Rattle.requests.specs.declared.Sent.the-variants.{Refused, Under}
+use Rattle.requests.specs.Sending.{operationDomain, noRequest, unlessFull, sendRefusal, refusedWith, answeredBy, sentOf, listSent, outputSent}
+use Rattle.requests.specs.Sending.{writtenOf, listWritten, outputWritten}
+
+-- what an answer of `write` says of the number that refuses
+wrote : (r all n : ℕ) → answered r all ≡ writing.Written n → (r ≡ 0) × (n ≡ all)
+wrote zero all n e =
+    let h : all ≡ n = cc in
+    (refl, sym h)
+wrote (suc r) all n e =
+    let z : _≡_ {A = ℕ} 0 1 = cc in
+    absurd (omega arith)
+
+declined : (r all n : ℕ) → answered r all ≡ writing.Refused n → (next m : ℕ) → refusedWith next n ≡ answeredBy r next m all
+declined zero all n e next m =
+    let z : _≡_ {A = ℕ} 0 1 = cc in
+    absurd (omega arith)
+declined (suc r) all n e next m =
+    let h : suc r ≡ n = cc in
+    ap (refusedWith next) (sym h)
+
+stays : (r all n : ℕ) (a b : List ℕ) → answered r all ≡ writing.Refused n → b ≡ unlessRefused r a b
+stays zero all n a b e =
+    let z : _≡_ {A = ℕ} 0 1 = cc in
+    absurd (omega arith)
+stays (suc r) all n a b e = refl
+
+-- the message was written, or was not
+module _ (next id room : ℕ) (l payload : List ℕ) (w : Writing) (p : w ≡ writeOf operationDomain id payload room) (x : ℕ) (q : x ≡ nextFree l next) where
+  module _ (n : ℕ) (e : w ≡ writing.Written n) where
+    its : (writeRefusal operationDomain id payload room ≡ 0) × (n ≡ headerLength + length payload)
+    its = wrote (writeRefusal operationDomain id payload room) (headerLength + length payload) n (sym p ∙ e)
+
+    pub sent-answer : (d : ℕ) → d ≡ drawn x → _≡_ {A = Sending} (record { next = d; answer = Under x n }) (writtenOf next l id payload room)
+    sent-answer d f = rw (its .0, f, q, its .1) refl
+
+    pub sent-list : (k target : ℕ) (r : List ℕ) → r ≡ entered l k x id target → r ≡ listWritten next l k id target payload room
+    sent-list k target r f = rw (its .0, f, q) refl
+
+  module _ (n : ℕ) (e : w ≡ writing.Refused n) where
+    pub not-sent-answer : (s : Sending) → s ≡ refusedWith next n → s ≡ writtenOf next l id payload room
+    not-sent-answer s f =
+        f ∙ declined (writeRefusal operationDomain id payload room) (headerLength + length payload) n (sym p ∙ e) next (nextFree l next)
+
+    pub not-sent-list : (k target : ℕ) → l ≡ listWritten next l k id target payload room
+    not-sent-list k target =
+        stays (writeRefusal operationDomain id payload room) (headerLength + length payload) n (entered l k (nextFree l next) id target) l (sym p ∙ e)
+
+pub sent-output : (own next id : ℕ) (l payload out r : List ℕ) (x : ℕ) → x ≡ nextFree l next → r ≡ outputAfter own operationDomain id x payload out
+    → r ≡ outputWritten own next l id payload out
+sent-output own next id l payload out r x q e = e ∙ ap (λ (n : ℕ). outputAfter own operationDomain id n payload out) q
+
+-- the kind is right, and a place is free
+module _ (next kind id : ℕ) (l payload : List ℕ) (s : Slot) (p : s ≡ freePlace l) (right : kind ≡ 2) where
+  -- 62 is not given
+  asked : (room : ℕ) → sendRefusal l kind id payload room ≡ unlessFull s (writeRefusal operationDomain id payload room)
+  asked room =
+      no-ne noRequest (unlessFull (freePlace l) (writeRefusal operationDomain id payload room)) kind 2 right
+      ∙ ap (λ (x : Slot). unlessFull x (writeRefusal operationDomain id payload room)) (sym p)
+
+  module _ (k : ℕ) (e : s ≡ At k) where
+    as-written : (room : ℕ) → sendRefusal l kind id payload room ≡ writeRefusal operationDomain id payload room
+    as-written room = asked room ∙ ap (λ (x : Slot). unlessFull x (writeRefusal operationDomain id payload room)) e
+
+    pub tried-answer : (room : ℕ) (r : Sending) → r ≡ writtenOf next l id payload room → r ≡ sentOf next l kind id payload room
+    tried-answer room r f = f ∙ sym (ap (λ (n : ℕ). answeredBy n next (nextFree l next) (headerLength + length payload)) (as-written room))
+
+    pub tried-list : (room target : ℕ) (r : List ℕ) → r ≡ listWritten next l k id target payload room
+        → r ≡ listSent next l kind id target payload room
+    tried-list room target r f =
+        f ∙ sym (ap₂ (λ (n : ℕ) (x : Slot). unlessRefused n (enteredAt l x (nextFree l next) id target) l) (as-written room) (sym p ∙ e))
+
+    pub tried-output : (own : ℕ) (out r : List ℕ) → r ≡ outputWritten own next l id payload out → r ≡ outputSent own next l kind id payload out
+    tried-output own out r f =
+        f ∙ sym (ap (λ (n : ℕ). unlessRefused n (over out 0 (messageBytes own operationDomain id (nextFree l next) payload)) out) (as-written (length out)))
+
+  -- 60
+  pub full : s ≡ Nowhere → (room : ℕ) → sendRefusal l kind id payload room ≡ 60
+  full e room = asked room ∙ ap (λ (x : Slot). unlessFull x (writeRefusal operationDomain id payload room)) e
+
+-- 62
+pub no-request : (kind id : ℕ) (l payload : List ℕ) → (kind ≡ 2 → ⊥) → (room : ℕ) → sendRefusal l kind id payload room ≡ 62
+no-request kind id l payload h room = yes-ne noRequest (unlessFull (freePlace l) (writeRefusal operationDomain id payload room)) kind 2 h
+
+-- a number refuses: nothing changes
+module _ (next kind id room : ℕ) (l payload : List ℕ) (n : ℕ) (e : sendRefusal l kind id payload room ≡ suc n) where
+  pub refused-answer : (r : Sending) → r ≡ refusedWith next (suc n) → r ≡ sentOf next l kind id payload room
+  refused-answer r f = f ∙ sym (ap (λ (x : ℕ). answeredBy x next (nextFree l next) (headerLength + length payload)) e)
+
+  pub refused-list : (target : ℕ) → l ≡ listSent next l kind id target payload room
+  refused-list target = sym (ap (λ (x : ℕ). unlessRefused x (enteredAt l (freePlace l) (nextFree l next) id target) l) e)
+
+pub refused-output : (own next kind id : ℕ) (l payload out : List ℕ) (n : ℕ) → sendRefusal l kind id payload (length out) ≡ suc n
+    → out ≡ outputSent own next l kind id payload out
+refused-output own next kind id l payload out n e =
+    sym (ap (λ (x : ℕ). unlessRefused x (over out 0 (messageBytes own operationDomain id (nextFree l next) payload)) out) e)
+
+module _ (next kind id : ℕ) (l payload : List ℕ) (s : Slot) (p : s ≡ freePlace l) (right : kind ≡ 2) (e : s ≡ Nowhere) where
+  pub full-answer : (room : ℕ) (r : Sending) → r ≡ refusedWith next 60 → r ≡ sentOf next l kind id payload room
+  full-answer room = refused-answer next kind id room l payload 59 (full next kind id l payload s p right e room)
+
+  pub full-list : (room target : ℕ) → l ≡ listSent next l kind id target payload room
+  full-list room = refused-list next kind id room l payload 59 (full next kind id l payload s p right e room)
+
+  pub full-output : (own : ℕ) (out : List ℕ) → out ≡ outputSent own next l kind id payload out
+  full-output own out = refused-output own next kind id l payload out 59 (full next kind id l payload s p right e (length out))
+
+module _ (next kind id : ℕ) (l payload : List ℕ) (h : kind ≡ 2 → ⊥) where
+  pub kind-answer : (room : ℕ) (r : Sending) → r ≡ refusedWith next 62 → r ≡ sentOf next l kind id payload room
+  kind-answer room = refused-answer next kind id room l payload 61 (no-request kind id l payload h room)
+
+  pub kind-list : (room target : ℕ) → l ≡ listSent next l kind id target payload room
+  kind-list room = refused-list next kind id room l payload 61 (no-request kind id l payload h room)
+
+  pub kind-output : (own : ℕ) (out : List ℕ) → out ≡ outputSent own next l kind id payload out
+  kind-output own out = refused-output own next kind id l payload out 61 (no-request kind id l payload h (length out))

@@ -1,0 +1,76 @@
+-- 02, request 1: what sending a request answers, and what it leaves in the list and in the output.
+use Prim.Native.Nat.{ℕ, zero, suc, _+_}
+use mathlib.Core.Bool.{not, cond}
+use mathlib.Core.List.{List}
+use lib.Dec.{eqb}
+use lib.ListN.{length}
+use Rattle.wire.specs.Bytes.{over}
+use Rattle.message.specs.Header.{headerLength}
+use Rattle.message.specs.Refusal.{writeRefusal}
+use Rattle.message.specs.Writing.{messageBytes, unlessRefused, outputAfter}
+use Rattle.pending.specs.declared.Slot.{Slot}
+use Rattle.pending.specs.declared.Slot.the-variants.{At, Nowhere}
+use Rattle.pending.specs.Places.{freePlace, entered, enteredAt}
+use Rattle.pending.specs.Free.{drawn, nextFree}
+use Rattle.requests.specs.declared.Sending.{Sending}
+use Rattle.requests.specs.declared.Sent.{Sent}
+use Rattle.requests.specs.declared.Sent.the-variants.{Refused, Under}
+
+-- "kinds 2 (we send the request)"
+abbrev pub requestKind : ℕ
+requestKind = 2
+
+-- 000, Table 2: the domain of an operation's message
+abbrev pub operationDomain : ℕ
+operationDomain = 1
+
+abbrev pub listFull : ℕ
+listFull = 60
+
+abbrev pub noRequest : ℕ
+noRequest = 62
+
+abbrev pub unlessFull : Slot → ℕ → ℕ
+unlessFull (At k) n = n
+unlessFull Nowhere n = listFull
+
+-- "Sending under an ID that isn't kind 2 is 62, checked first, 60 next, then 01's writing numbers": the number that refuses, or 0
+abbrev pub sendRefusal : List ℕ → ℕ → ℕ → List ℕ → ℕ → ℕ
+sendRefusal l kind id payload room =
+    cond (not (eqb kind requestKind)) noRequest
+    (unlessFull (freePlace l) (writeRefusal operationDomain id payload room))
+
+abbrev pub refusedWith : ℕ → ℕ → Sending
+refusedWith next n = record { next = next; answer = Refused n }
+
+-- a request that is sent bears the next number that is free, and the next own number is the one behind it (docs/DECISIONS.md, 58)
+abbrev pub answeredBy : ℕ → ℕ → ℕ → ℕ → Sending
+answeredBy zero next n written = record { next = drawn n; answer = Under n written }
+answeredBy (suc r) next n written = refusedWith next (suc r)
+
+abbrev pub sentOf : ℕ → List ℕ → ℕ → ℕ → List ℕ → ℕ → Sending
+sentOf next l kind id payload room = answeredBy (sendRefusal l kind id payload room) next (nextFree l next) (headerLength + length payload)
+
+-- the list and the output afterwards: a refusal leaves them as they were
+abbrev pub listSent : ℕ → List ℕ → ℕ → ℕ → ℕ → List ℕ → ℕ → List ℕ
+listSent next l kind id target payload room =
+    unlessRefused (sendRefusal l kind id payload room) (enteredAt l (freePlace l) (nextFree l next) id target) l
+
+abbrev pub outputSent : ℕ → ℕ → List ℕ → ℕ → ℕ → List ℕ → List ℕ → List ℕ
+outputSent own next l kind id payload out =
+    unlessRefused (sendRefusal l kind id payload (length out)) (over out 0 (messageBytes own operationDomain id (nextFree l next) payload)) out
+
+-- by cases: the number that an answer gives back (0: the request was sent)
+abbrev pub numberGiven : Sent → ℕ
+numberGiven (Refused n) = n
+numberGiven (Under n written) = 0
+
+-- the same where the kind is right and place k is free; no contract of a public function says these
+abbrev pub writtenOf : ℕ → List ℕ → ℕ → List ℕ → ℕ → Sending
+writtenOf next l id payload room = answeredBy (writeRefusal operationDomain id payload room) next (nextFree l next) (headerLength + length payload)
+
+abbrev pub listWritten : ℕ → List ℕ → ℕ → ℕ → ℕ → List ℕ → ℕ → List ℕ
+listWritten next l k id target payload room = unlessRefused (writeRefusal operationDomain id payload room) (entered l k (nextFree l next) id target) l
+
+abbrev pub outputWritten : ℕ → ℕ → List ℕ → ℕ → List ℕ → List ℕ → List ℕ
+outputWritten own next l id payload out = outputAfter own operationDomain id (nextFree l next) payload out
