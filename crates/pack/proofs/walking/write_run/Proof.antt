@@ -22,8 +22,9 @@ write-run-spec =
     (a .args .words .now) (a .args .code) _ (a .args .p) _ (c .before .before .width .ensures) (search needs) (a .pre) (a .good .0 .1))
     (λ c. search needs)
     (λ c.
-    let judged = c .before .before .before .before .before .before .before .before in
+    let if2 = c .before .before .before .before .before .before .before in
+    let judged = if2 .before in
     let a = judged .before .before .before .before .before in
     run-going (a .args .words .now) (a .args .code) _ (a .args .p) _ (c .before .before .width .ensures) (search needs) (a .pre) _ _
-    (c .before .before .before .before .before .store-run .ensures) (judged .judged .ensures (c .before .before .before .before .before .before .before .if2 .taken)))
+    (c .before .before .before .before .before .store-run .ensures) (judged .judged .ensures (if2 .if2 .taken)))
     (λ c f writes. going-start (search needs) (c .before .before .before .before .before .before .pre)))
