@@ -21,7 +21,7 @@ use Rattle.unpack.specs.Reading.{reader}
 use Rattle.pack.specs.Writing.{writer}
 use Rattle.payload.specs.Calls.{unpackedIn, wordsIn, packedIn, bytesIn}
 use Rattle.values.specs.Values.{Behind, Row, One, Some, Over, exact, loose, settled, Value, Spoken, Settled, BooleansAsOne}
-use Rattle.values.proofs.Belonging.{over-map}
+use Rattle.values.proofs.Carried.{over-map}
 use Rattle.values.proofs.Exactly.{Callable, callable, Calls, packs-values, values-pack, Unpacks, unpacks-forms, forms-unpack}
 
 -- pack, then unpack: the same words
