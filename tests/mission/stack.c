@@ -1,9 +1,10 @@
 /* stack: runs each call on a stack of its own, filled with a pattern, on inputs that go deep, and sees that it takes no
- * more than the header says. */
+ * more than the header says. The calls that take most run once more on a thread that has just that stack. */
 #define _XOPEN_SOURCE 700
 #define _DEFAULT_SOURCE
 #include "nyrkovash.h"
 
+#include <pthread.h>
 #include <stdio.h>
 #include <string.h>
 #include <sys/mman.h>
@@ -11,6 +12,7 @@
 
 enum {
     STACK = 1 << 20,
+    FORBIDDEN = 1 << 16, /* a page at the least, on any machine */
     PATTERN = 0xA5,
     LARGEST_TABLE = 20488,
     TYPES = 256,
@@ -129,7 +131,7 @@ static void how_many_up(void)
 }
 
 /* The bounds of include/nyrkovash.h. */
-static const struct {
+static const struct bound {
     const char *name;
     void (*call)(void);
     size_t most;
@@ -170,29 +172,67 @@ static size_t used(void (*call)(void))
     return STACK - untouched;
 }
 
+static size_t bound_of(void (*call)(void))
+{
+    size_t b = 0;
+    while (bounds[b].call != call)
+        b++;
+    return b;
+}
+
+static void expect(size_t b, uint32_t expected)
+{
+    if (number != expected) {
+        printf("stack: %s answers %u and not %u\n", bounds[b].name, (unsigned)number, (unsigned)expected);
+        failed = 1;
+    }
+}
+
 /* Twice from the same state: the first time the functions of C that a call uses may have to be found. */
 static void measure(void (*call)(void), uint32_t expected)
 {
-    size_t around = used(nothing), bytes, b = 0;
+    size_t around = used(nothing), bytes, b = bound_of(call);
     nyr_joiner joiner_before = joiner;
     nyr_platform platform_before = platform;
-    while (bounds[b].call != call)
-        b++;
     used(call);
     joiner = joiner_before;
     platform = platform_before;
     bytes = used(call);
     bytes = bytes > around ? bytes - around : 0;
-    if (number != expected) {
-        printf("stack: %s answers %u and not %u\n", bounds[b].name, (unsigned)number, (unsigned)expected);
-        failed = 1;
-    }
+    expect(b, expected);
     if (bytes > bounds[b].most) {
         printf("stack: %s takes %zu bytes, and the header says %zu\n", bounds[b].name, bytes, bounds[b].most);
         failed = 1;
     }
     if (bytes > taken[b])
         taken[b] = bytes;
+}
+
+static void *on_thread(void *bound)
+{
+    ((const struct bound *)bound)->call();
+    return NULL;
+}
+
+/* On a thread whose stack is what the header says, with what the thread itself needs of it, and forbidden memory right below: a
+ * call that takes more ends the program. */
+static void confine(void (*call)(void), uint32_t expected)
+{
+    pthread_attr_t attributes;
+    pthread_t thread;
+    size_t b = bound_of(call), length = FORBIDDEN + bounds[b].most;
+    uint8_t *memory = mmap(NULL, length, PROT_READ | PROT_WRITE, MAP_PRIVATE | MAP_ANONYMOUS, -1, 0);
+    number = ~expected;
+    if (memory == MAP_FAILED || mprotect(memory, FORBIDDEN, PROT_NONE) != 0 || pthread_attr_init(&attributes) != 0 ||
+        pthread_attr_setstack(&attributes, memory + FORBIDDEN, bounds[b].most) != 0 ||
+        pthread_create(&thread, &attributes, on_thread, (void *)&bounds[b]) != 0 || pthread_join(thread, NULL) != 0) {
+        printf("stack: no thread for %s\n", bounds[b].name);
+        failed = 1;
+        return;
+    }
+    pthread_attr_destroy(&attributes);
+    munmap(memory, length);
+    expect(b, expected);
 }
 
 static void put(uint64_t value, int width)
@@ -280,6 +320,10 @@ static void payloads(void)
     measure(unpack_in, 0);
     measure(pack, 0);
     measure(pack_in, 0);
+    confine(unpack, 0);
+    confine(unpack_in, 0);
+    confine(pack, 0);
+    confine(pack_in, 0);
 }
 
 static void joining(void)

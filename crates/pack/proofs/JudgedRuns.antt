@@ -13,8 +13,9 @@ use lib.ListN.{length}
 use Rattle.wire.proofs.Cond.{yes-le}
 use Rattle.table.specs.Leaf.{width}
 use Rattle.walk.specs.declared.Place.{Place}
-use Rattle.walk.specs.Walk.{Step, on, next, through}
+use Rattle.walk.specs.Walk.{Step, on, next, through, Going}
 use Rattle.walk.proofs.Walks.{few-bytes}
+use Rattle.walk.proofs.Turns.{from-first}
 use Rattle.pack.specs.StoredRuns.{behindAll, storedAll}
 use Rattle.pack.proofs.StoredRuns.{as-long}
 use Rattle.pack.specs.Writing.{Writing, Writes}
@@ -59,3 +60,13 @@ module _ (ws : List ℕ) (code w : ℕ) (p : Place) (n : ℕ) (is : w ≡ width 
 
   pub run-end : length ws * 8 < 2 ^ 63 → Fits w64 (p .to + n * w)
   run-end l = record { fits = omega (arith, few, so-far .0) }
+
+pub run-going : (ws : List ℕ) (code w : ℕ) (p : Place) (n : ℕ) (is : w ≡ width code) (inside : p .from + n ≤ length ws) (so-far : Writing ws p)
+    (x y : List ℕ) → y ≡ cond (leb (p .from + n) (length ws)) (storedAll ws code p n x) x → AllThere ws code (p .from) n
+    → (f : ℕ → Place → List ℕ → Step) → Writes ws code f → Going (Writing ws) f n 0 p x n (record { from = p .from + n; to = p .to + n * w }) y
+run-going ws code w p n is inside so-far x y put there f writes =
+    from-first
+    (omega arith)
+    (writing-run ws code w p n is inside so-far)
+    (run-long ws code p x n y inside put)
+    (run-went ws code p x n y inside put w is there f writes)

@@ -5,7 +5,7 @@ use mathlib.Core.Path.{_≡_, refl, sym, ap, _∙_}
 use mathlib.Core.Bool.{true}
 use mathlib.Core.List.{List}
 use native.Mathlib.Omega.{arith}
-use mir.Syntax.{w64}
+use mir.Syntax.{w32, w64}
 use mir.Val.{Fits}
 use lib.Dec.{ltb}
 use lib.ListN.{length, getD, take}
@@ -18,7 +18,7 @@ use Rattle.table.specs.Entries.{memberAt}
 use Rattle.table.specs.Leaf.{allowed}
 use Rattle.walk.specs.declared.Place.{Place}
 use Rattle.walk.specs.Tree.{child, baseAt}
-use Rattle.walk.specs.Walk.{on, through, walk, Goes}
+use Rattle.walk.specs.Walk.{on, through, walk, Goes, Going}
 use Rattle.walk.specs.Codes.{codeCount, codesOf}
 use Rattle.walk.proofs.Bases.{base-on}
 use Rattle.walk.proofs.Codes.{codes-fit, codes-as-long, code-member, code-is}
@@ -75,11 +75,15 @@ module _ (ws t : List ℕ) (s : Sections) (i : ℕ) (e : Entry) (m r : ℕ) (u v
     pub taken-in : j ≤ length v
     taken-in = omega (arith, few .0, codes-in)
 
-    pub taken-end : m ≤ e .count → m + j ≤ e .count
+    taken-end : m ≤ e .count → m + j ≤ e .count
     taken-end h = omega (arith, few .0, codes-end h)
 
-    pub upto-fits : e .count < 2 ^ 16 → m ≤ e .count → Fits w64 (m + j)
-    upto-fits l h = record { fits = omega (arith, taken-end h) }
+    module _ (l : e .count < 2 ^ 16) (h : m ≤ e .count) where
+      pub count-fits : Fits w32 j
+      count-fits = record { fits = omega (arith, taken-end h) }
+
+      pub upto-fits : Fits w32 (m + j)
+      upto-fits = record { fits = omega (arith, taken-end h) }
 
     module _ (so-far : Writing ws p) where
       pub writing-taken : Writing ws (record { from = p .from + j; to = p .to + b })
@@ -93,7 +97,7 @@ module _ (ws t : List ℕ) (s : Sections) (i : ℕ) (e : Entry) (m r : ℕ) (u v
 
     -- and they were stored
     module _ (x y : List ℕ) (put : y ≡ laid ws (take (length ws - p .from) (take j v)) p x) where
-      pub taken-long : length y ≡ length x
+      taken-long : length y ≡ length x
       taken-long = ap length put ∙ laid-length ws (take (length ws - p .from) (take j v)) p x
 
       all-there : take (length ws - p .from) (take j v) ≡ taken
@@ -101,7 +105,7 @@ module _ (ws t : List ℕ) (s : Sections) (i : ℕ) (e : Entry) (m r : ℕ) (u v
           let a : take j v ≡ taken = ap (λ (n : ℕ). take n v) many ∙ sym (take-take count r v (omega (arith, many, few .0))) in
           ap (take (length ws - p .from)) a ∙ take-all (length ws - p .from) taken (omega (arith, as-many, many, count-words ws (take r v) (p .from)))
 
-      pub taken-written : Goes (memberWritten ws t s i e) m p x (m + j) (record { from = p .from + j; to = p .to + b }) y
+      taken-written : Goes (memberWritten ws t s i e) m p x (m + j) (record { from = p .from + j; to = p .to + b }) y
       taken-written p₀ x₀ h =
           let f = memberWritten ws t s i e in
           let w : through (m + length taken) f p₀ x₀
@@ -111,8 +115,10 @@ module _ (ws t : List ℕ) (s : Sections) (i : ℕ) (e : Entry) (m r : ℕ) (u v
           let q : laid ws taken p x ≡ y = sym (put ∙ ap (λ (cs : List ℕ). laid ws cs p x) all-there) in
           rw (as-many, o, q) at w
 
+      pub taken-going : m ≤ e .count → Writing ws p
+          → Going (Writing ws) (memberWritten ws t s i e) (e .count) m p x (m + j) (record { from = p .from + j; to = p .to + b }) y
+      taken-going h so-far =
+          record { onward = omega arith; most = taken-end h; here = writing-taken so-far; as-long = taken-long; goes = taken-written }
+
 pub element-writes : (ws t : List ℕ) (s : Sections) (i c code : ℕ) → code ≡ baseAt t s i c → Writes ws code (λ k q y. walk (writer ws) (child t s i c) q y)
 element-writes ws t s i c code is k q y there = base-writes ws t s i c code is q y there
-
-pub next-below : (n m : ℕ) → n ≤ m → (n ≡ m → ⊥) → n < m
-next-below n m h d = omega arith

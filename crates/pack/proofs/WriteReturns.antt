@@ -6,7 +6,7 @@ use mathlib.Core.Bool.{Bool, true, false, _&&_, cond}
 use mathlib.Core.List.{List, [], _∷_}
 use native.Mathlib.Omega.{arith}
 use borrow.Author.Tests.{le-leb, lt-leb, lt-ltb, le-ltb, ltb-true, leb-true}
-use mir.Syntax.{w64}
+use mir.Syntax.{w32, w64}
 use mir.Val.{Fits}
 use lib.Dec.{ltb, leb, eqb}
 use lib.ListN.{length, getD, List·getD-eq-default}
@@ -24,8 +24,9 @@ use Rattle.walk.specs.declared.Walked.the-variants.{Went, Stopped}
 use Rattle.walk.specs.Tree.{Tree}
 use Rattle.walk.specs.Walk.{Step, counted, countCode, walk, begun, times, leafWalk}
 use Rattle.pack.specs.Writing.{writer, Writing}
-use Rattle.walk.proofs.Walks.{Holds, walk-holds, begun-holds, few-bytes}
-use Rattle.walk.proofs.Returns.{Did, did-on, did-stop, item-short, item-bad, item-on, counts, kept-length, kept-on}
+use Rattle.walk.proofs.Walks.{few-bytes}
+use Rattle.walk.proofs.Returns.{Did, did-on, did-stop, item-short, item-bad, item-on, counts}
+use Rattle.walk.proofs.Turns.{Keeps, keeps}
 
 -- further bytes fit: there are at most 8 of them to a word
 pub next-from : (n p : ℕ) → p < n → n * 8 < 2 ^ 63 → Fits w64 (p + 1)
@@ -64,6 +65,9 @@ module _ (e : Entry) (ws : List ℕ) (p : Place) where
   unfolding times writer
   counted-times r k h = h ∙ sym (no-eq (e .count) (getD ws (p .from) 0) (e .kind) 3 k)
 
+  pub counted-fits : (r : ℕ) → (e .kind ≡ 3 → ⊥) → r ≡ getD ws (p .from) 0 → times (writer ws) e p ≤ e .count → e .count < 2 ^ 16 → Fits w32 r
+  counted-fits r k h few l = record { fits = omega (arith, counted-times r k h) }
+
   module _ (x : List ℕ) (k : e .kind ≡ 3 → ⊥) where
     pub count-short : length ws ≤ p .from → Did (begun (writer ws) e p x) (Stopped 40 p) x
     unfolding counted writer
@@ -95,31 +99,7 @@ module _ (e : Entry) (ws : List ℕ) (p : Place) where
           (q ∙ rw (← is) refl)
 
 -- writing never gives more than 8 bytes for each word read, nor reads past the end
-module _ (ws : List ℕ) (n : ℕ) where
-  abbrev Wrote : Place → List ℕ → Type 0
-  Wrote p x = Writing ws p × (length x ≡ n)
-
-  write-over : (code : ℕ) (p : Place) (x : List ℕ) → writer ws .there code p ≡ true → allowed code (writer ws .word code p) ≡ true
-      → Wrote p x → Wrote (writer ws .after code p) (written x (p .to) (writer ws .gives code (writer ws .word code p)))
-  unfolding writer
-  write-over code p x e a h = (
-    (omega (arith, few-bytes code, h .0 .0), omega (arith, ltb-true (p .from) (length ws) e)),
-    length-written x (p .to) (formOf code (getD ws (p .from) 0)) ∙ h .1,
-  )
-
-  pub write-holds : (tr : Tree) (p : Place) (x : List ℕ) → Wrote p x → Holds Wrote (walk (writer ws) tr p x)
-  write-holds = walk-holds Wrote (writer ws) write-over
-
-  pub write-begun : (e : Entry) (p : Place) (x : List ℕ) → Wrote p x → Holds Wrote (begun (writer ws) e p x)
-  write-begun = begun-holds Wrote (writer ws) write-over
-
-module _ (b : List ℕ) (p : Place) (x : List ℕ) (h : Writing b p) where
-  module _ (tr : Tree) (r : Walked) (y : List ℕ) (d : Did (walk (writer b) tr p x) r y) where
-    pub write-length : length y ≡ length x
-    write-length = kept-length (Writing b) (length x) (walk (writer b) tr p x) (write-holds b (length x) tr p x (h, refl)) r y d
-
-    pub write-on : (q : Place) → r ≡ Went q → Writing b q
-    write-on q g = kept-on (Writing b) (length x) (walk (writer b) tr p x) (write-holds b (length x) tr p x (h, refl)) r y d q g
-
-  pub begun-on : (e : Entry) (r : Walked) (y : List ℕ) → Did (begun (writer b) e p x) r y → (q : Place) → r ≡ Went q → Writing b q
-  begun-on e r y d q g = kept-on (Writing b) (length x) (begun (writer b) e p x) (write-begun b (length x) e p x (h, refl)) r y d q g
+pub writer-keeps : (ws : List ℕ) → Keeps (writer ws) (Writing ws)
+unfolding writer
+writer-keeps ws =
+    keeps (writer ws) (Writing ws) (λ code p e a h. (omega (arith, few-bytes code, h .0), omega (arith, ltb-true (p .from) (length ws) e)))

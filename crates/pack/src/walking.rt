@@ -8,10 +8,10 @@ use walk::Walked;
 ghost use mathlib.Core.Path.{_≡_};
 ghost use mathlib.Core.List.{List};
 ghost use Prim.Native.Nat.{ℕ, _≤_};
-ghost use lib.ListN.{length, getD};
+ghost use lib.ListN.{getD};
 ghost use Rattle.walk.specs.declared.Place.{Place};
 ghost use Rattle.walk.specs.declared.Met.the-variants.{Members, Elements};
-ghost use Rattle.walk.specs.Walk.{Step, on, through, start, answer, left, begun, times, leafWalk, metWalk, typeWalk, Goes};
+ghost use Rattle.walk.specs.Walk.{Step, start, answer, left, begun, times, leafWalk, metWalk, typeWalk, Going};
 ghost use Rattle.pack.specs.Writing.{writer, Writing, Writes, memberWritten};
 use crate::by_codes;
 use crate::limits;
@@ -19,12 +19,12 @@ use crate::runs;
 use walk::COUNT_BYTES;
 use walk::COUNT_WORDS;
 
-// How many members' codes are got at once.
-const CODES: usize = 64;
+// How many base codes of a record's members are got at once.
+const MOST_CODES: usize = 64;
 
 // How far a run of leaves was written: up to which member or element, and where it ends.
 struct Reached {
-    upto: u64,
+    upto: u32,
     at: Place,
 }
 
@@ -56,9 +56,9 @@ fn write_members(
     ensures { λ r. ⌜ r ≡ answer (metWalk (writer (now (words .entry))) (now (table .entry)) s i (Members e) p (now (out .entry))) ⌝ }
     ensures { λ _. ⌜ now (out .exit) ≡ left (metWalk (writer (now (words .entry))) (now (table .entry)) s i (Members e) p (now (out .entry))) ⌝ }
 {
-    let count = e.count as u64;
+    let count = e.count as u32;
     let mut at = p;
-    let mut k: u64 = 0;
+    let mut k: u32 = 0;
     while k < count {
         let run = write_bases(table, s, i, e, k, words, out, at);
         let next = run.upto;
@@ -66,7 +66,7 @@ fn write_members(
         if next == count {
             return Walked::Went(here);
         }
-        let child = table::entries::member_at(table, s, e.first as u32 + next as u32);
+        let child = table::entries::member_at(table, s, e.first as u32 + next);
         let step = match walk::meet(table, s, i, child) {
             Met::Leaf(c) => write_leaf(table, s, c, words, out, here),
             Met::Members(c) => write_members(table, s, child, c, words, out, here),
@@ -100,16 +100,17 @@ fn write_elements(
 {
     let child = e.of;
     let met = walk::meet(table, s, i, child);
-    let count = times(words, e, p);
     match begin(words, out, e, p) {
         Walked::Stopped(n, q) => Walked::Stopped(n, q),
         Walked::Went(q) => {
+            let count = times(words, e, p);
             let code = walk::base_at(table, s, i, child);
             let run = write_run(words, out, code, count, q);
             let mut at = run.at;
             let mut k = run.upto;
             while k < count {
-                let step = match met {
+                let here = met;
+                let step = match here {
                     Met::Leaf(c) => write_leaf(table, s, c, words, out, at),
                     Met::Members(c) => write_members(table, s, child, c, words, out, at),
                     Met::Elements(c) => write_elements(table, s, child, c, words, out, at),
@@ -128,14 +129,15 @@ fn write_elements(
     }
 }
 
-// How many elements there are: a fixed array's length, or the count that stands at the place.
-fn times(words: &[u64], e: Entry, p: Place) -> u64
+// How many elements there are: a fixed array's length, or the count that stands at the place, and that was judged.
+fn times(words: &[u64], e: Entry, p: Place) -> u32
+    requires { ⌜ times (writer (now words)) e p ≤ e .count ⌝ }
     ensures { λ r. ⌜ r ≡ times (writer (now (words .entry))) e p ⌝ }
 {
     if e.kind == table::FIXED {
-        e.count as u64
+        e.count as u32
     } else {
-        word_at(words, p.from)
+        word_at(words, p.from) as u32
     }
 }
 
@@ -208,23 +210,22 @@ fn write_bases(
     s: Sections,
     i: u16,
     e: Entry,
-    from: u64,
+    from: u32,
     words: &[u64],
     out: &mut [u8],
     p: Place,
 ) -> Reached
     requires { ⌜ Writing (now words) p × (from ≤ e .count) ⌝ }
-    ensures { λ r. ⌜ (from ≤ r .upto) × (r .upto ≤ e .count) × Writing (now (words .entry)) (r .at) ⌝ }
-    ensures { λ _. ⌜ length (now (out .exit)) ≡ length (now (out .entry)) ⌝ }
-    ensures { λ r. ⌜ Goes (memberWritten (now (words .entry)) (now (table .entry)) s i e) from p (now (out .entry)) (r .upto) (r .at) (now (out .exit)) ⌝ }
+    ensures { λ r. ⌜ Going (Writing (now (words .entry))) (memberWritten (now (words .entry)) (now (table .entry)) s i e) (e .count)
+        from p (now (out .entry)) (r .upto) (r .at) (now (out .exit)) ⌝ }
 {
-    let mut codes = [0u8; CODES];
-    let n = walk::runs::base_codes(table, s, i, e, from as u32, &mut codes);
+    let mut codes = [0u8; MOST_CODES];
+    let n = walk::runs::base_codes(table, s, i, e, from, &mut codes);
     let part = by_codes::judge_codes(words, &codes[..n], p.from);
     let count = part.count;
     by_codes::store_codes(words, out, &codes[..count], p);
     Reached {
-        upto: from + count as u64,
+        upto: from + count as u32,
         at: Place {
             from: p.from + count,
             to: p.to + part.bytes,
@@ -234,26 +235,24 @@ fn write_bases(
 
 // Writes the elements of an array of one base code, where all their words are there and taken, and else none: then it is for the
 // walk to say which is refused.
-fn write_run(words: &[u64], out: &mut [u8], code: u16, count: u64, p: Place) -> Reached
+fn write_run(words: &[u64], out: &mut [u8], code: u16, count: u32, p: Place) -> Reached
     requires { ⌜ Writing (now words) p ⌝ }
-    ensures { λ r. ⌜ (r .upto ≤ count) × Writing (now (words .entry)) (r .at) ⌝ }
-    ensures { λ _. ⌜ length (now (out .exit)) ≡ length (now (out .entry)) ⌝ }
-    ensures { λ r. ⌜ ((f : ℕ → Place → List ℕ → Step) → Writes (now (words .entry)) code f → through (r .upto) f p (now (out .entry))
-        ≡ on (r .at) (now (out .exit))) ⌝ }
+    ensures { λ r. ⌜ ((f : ℕ → Place → List ℕ → Step) → Writes (now (words .entry)) code f
+        → Going (Writing (now (words .entry))) f count 0 p (now (out .entry)) (r .upto) (r .at) (now (out .exit))) ⌝ }
 {
     let left = words.len() - p.from;
-    if (left as u64) < count {
+    let many = count as usize;
+    if left < many {
         return Reached { upto: 0, at: p };
     }
-    let whole = count as usize;
-    if limits::judged(words, p.from, code, whole) {
-        runs::store_run(words, out, code, whole, p);
+    if limits::judged(words, p.from, code, many) {
+        runs::store_run(words, out, code, many, p);
         let width = leaf::width(code);
         Reached {
             upto: count,
             at: Place {
-                from: p.from + whole,
-                to: p.to + whole * width,
+                from: p.from + many,
+                to: p.to + many * width,
             },
         }
     } else {

@@ -20,6 +20,7 @@ mod Apart
 mod Agrees
 mod Arrivals
 pub mod Demand3
+pub mod SmallTraffic
 pub mod WrongJoiners
 pub mod WrongCodecs
 pub mod WrongPlatforms
@@ -39,11 +40,13 @@ pub mod InNumbers
 pub mod WrongCalls
 mod Numbered
 pub mod LinkedPayloads
+pub mod LinkedPieces
 pub mod LinkedMessages
 pub mod LinkedReplies
 pub mod Numbers
 mod Reporting
 pub mod WrongReports
+mod EnumWords
 pub mod Rules32
 pub mod WrongChecks
 pub mod Sizes33

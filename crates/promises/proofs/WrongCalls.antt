@@ -19,7 +19,7 @@ use Rattle.promises.specs.Traffic.{Datagram, isOf}
 use Rattle.promises.specs.InNumbers.{Given}
 use Rattle.promises.specs.Linked.{TakeLeft, Call, InTurn, over, next, SetUpAndRun, messageIn, deliveredIn, DeliversFor}
 use Rattle.promises.proofs.InNumbers.{granted-back}
-use Rattle.promises.proofs.WrongJoiners.{granted, kept, total, firstByte, wraps, small-wraps, two, small-two, both-ids, senders, mix, granted-mix}
+use Rattle.promises.proofs.SmallTraffic.{granted, kept, total, firstByte, wraps, small-wraps, two, small-two, both-ids, senders, mix, granted-mix}
 use Rattle.promises.proofs.Linked.{as-a-joiner}
 
 other-slice : Meets (answering otherSlice) → ⊥

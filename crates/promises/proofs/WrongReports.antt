@@ -31,7 +31,7 @@ use Rattle.promises.specs.Reports.{HasID, Operated, in-table, not-in-tab
 use Rattle.promises.specs.WrongReports.{answering, reported, alwaysRequest, payloadFromStart, alwaysFirst, NoWrongReport}
 use Rattle.promises.proofs.Numbers.{numbers}
 use Rattle.promises.proofs.Platforms.{replies}
-use Rattle.promises.proofs.WrongJoiners.{octets-are}
+use Rattle.promises.proofs.SmallTraffic.{octets-are}
 
 -- one type, and two operations: event 7 with no type, and versioned data 0x0A0B0C0D, which the message `operation` is
 abbrev t : List ℕ

@@ -18,9 +18,10 @@ use Rattle.wire.proofs.AllBelow.{at-below}
 use Rattle.leaf.specs.Forms.{wordAt}
 use Rattle.walk.specs.declared.Place.{Place}
 use Rattle.walk.specs.Tree.{child, baseAt}
-use Rattle.walk.specs.Walk.{Step, on, through, walk, Goes}
+use Rattle.walk.specs.Walk.{Step, on, through, walk, Goes, Going}
 use Rattle.walk.proofs.Walks.{some-bytes}
 use Rattle.walk.proofs.Bases.{base-on}
+use Rattle.walk.proofs.Turns.{from-first}
 use Rattle.unpack.specs.Leaves.{isThere, behind, stored, ends, allThere, laid, thereCount, wholeCount}
 use Rattle.unpack.specs.OneCode.{along, isGood, filled, runThere}
 use Rattle.unpack.specs.Steps.{Reads, ReadsCodes}
@@ -41,9 +42,6 @@ module _ (b t : List ℕ) (s : Sections) (i c code : ℕ) (is : code ≡ baseAt 
 
 pub element-reads : (b t : List ℕ) (s : Sections) (i c code : ℕ) → code ≡ baseAt t s i c → Reads b code (λ k q y. walk (reader b) (child t s i c) q y)
 element-reads b t s i c code is k q y there = base-reads b t s i c code is q y there
-
-pub next-below : (n m : ℕ) → n ≤ m → (n ≡ m → ⊥) → n < m
-next-below n m h d = omega arith
 
 -- the leaves of a list of codes, as they were judged and stored
 module _ (b codes : List ℕ) (first c : ℕ) (counts : c ≡ thereCount b codes first) where
@@ -109,7 +107,7 @@ module _ (b : List ℕ) (code : ℕ) (p : Place) (r : Bool) (here : Reading b p)
       (omega (arith, here .0), run-room b code (p .from) (suc n) (sym judged ∙ found))
 
   module _ (n w : ℕ) (is : w ≡ width code) (judged : r ≡ runThere b code (p .from) n) (found : r ≡ true) where
-    pub run-reading : Reading b (record { from = p .from + n * w; to = p .to + n })
+    run-reading : Reading b (record { from = p .from + n * w; to = p .to + n })
     run-reading = rw is (along-reading n judged found)
 
     pub run-from-fits : length b * 1 < 2 ^ 63 → Fits w64 (p .from + n * w)
@@ -118,10 +116,6 @@ module _ (b : List ℕ) (code : ℕ) (p : Place) (r : Bool) (here : Reading b p)
     pub run-to-fits : length b * 1 < 2 ^ 63 → Fits w64 (p .to + n)
     run-to-fits few = record { fits = omega (arith, run-reading .0, run-reading .1) }
 
-    pub run-goes : (x y : List ℕ) → y ≡ cond (leb (p .from + n * width code) (length b)) (filled b code p n x) x
-        → (f : ℕ → Place → List ℕ → Step) → Reads b code f → through n f p x ≡ on (record { from = p .from + n * w; to = p .to + n }) y
-    run-goes x y put f reads = run-walked b code n p x y (sym judged ∙ found) put f reads ∙ rw is refl
-
 pub run-many : (b : List ℕ) (code n : ℕ) (p : Place) (x y : List ℕ) → y
     ≡ cond (leb (p .from + n * width code) (length b)) (filled b code p n x) x → length y ≡ length x
 run-many b code n p x y put = go (leb (p .from + n * width code) (length b)) put
@@ -129,3 +123,14 @@ run-many b code n p x y put = go (leb (p .from + n * width code) (length b)) put
     go : (t : Bool) → y ≡ cond t (filled b code p n x) x → length y ≡ length x
     go true e = same-many b code p x n y e
     go false e = ap length e
+
+pub run-going : (b : List ℕ) (code : ℕ) (p : Place) (r : Bool) (here : Reading b p) (n w : ℕ) (is : w ≡ width code)
+    (judged : r ≡ runThere b code (p .from) n) (found : r ≡ true) (x y : List ℕ)
+    → y ≡ cond (leb (p .from + n * width code) (length b)) (filled b code p n x) x → (f : ℕ → Place → List ℕ → Step) → Reads b code f
+    → Going (Reading b) f n 0 p x n (record { from = p .from + n * w; to = p .to + n }) y
+run-going b code p r here n w is judged found x y put f reads =
+    from-first
+    (omega arith)
+    (run-reading b code p r here n w is judged found)
+    (run-many b code n p x y put)
+    (run-walked b code n p x y (sym judged ∙ found) put f reads ∙ rw is refl)

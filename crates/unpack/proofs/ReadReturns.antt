@@ -24,8 +24,9 @@ use Rattle.walk.specs.declared.Walked.the-variants.{Went, Stopped}
 use Rattle.walk.specs.Tree.{Tree}
 use Rattle.walk.specs.Walk.{Step, counted, countCode, walk, begun, times, leafWalk}
 use Rattle.unpack.specs.Reading.{reader, Reading}
-use Rattle.walk.proofs.Walks.{Holds, walk-holds, begun-holds, some-bytes}
-use Rattle.walk.proofs.Returns.{Did, did-on, did-stop, item-short, item-bad, item-on, counts, kept-length, kept-on}
+use Rattle.walk.proofs.Walks.{some-bytes}
+use Rattle.walk.proofs.Returns.{Did, did-on, did-stop, item-short, item-bad, item-on, counts}
+use Rattle.walk.proofs.Turns.{Keeps, keeps}
 
 -- a further place fits, of bytes and of words: no item has more than 8
 module _ (n : ℕ) (p : Place) (k : ℕ) (r : (p .to ≤ p .from) × (p .from ≤ n)) (h : k ≤ 8) (l : n * 1 < 2 ^ 63) where
@@ -93,30 +94,10 @@ module _ (e : Entry) (b : List ℕ) (p : Place) where
           (q ∙ rw (← is) refl)
 
 -- so reading never gives more words than it has read bytes, nor reads past the end
-module _ (b : List ℕ) (n : ℕ) where
-  abbrev Read : Place → List ℕ → Type 0
-  Read p x = Reading b p × (length x ≡ n)
-
-  read-over : (code : ℕ) (p : Place) (x : List ℕ) → reader b .there code p ≡ true → allowed code (reader b .word code p) ≡ true → Read p x
-      → Read (reader b .after code p) (written x (p .to) (reader b .gives code (reader b .word code p)))
-  unfolding reader
-  read-over code p x e a h =
-      let w : ℕ = wordAt code b (p .from) in
-      ((omega (arith, some-bytes code w a, h .0 .0), leb-true (p .from + width code) (length b) e), length-written x (p .to) (w ∷ []) ∙ h .1)
-
-  pub read-holds : (tr : Tree) (p : Place) (x : List ℕ) → Read p x → Holds Read (walk (reader b) tr p x)
-  read-holds = walk-holds Read (reader b) read-over
-
-  pub read-begun : (e : Entry) (p : Place) (x : List ℕ) → Read p x → Holds Read (begun (reader b) e p x)
-  read-begun = begun-holds Read (reader b) read-over
-
-module _ (b : List ℕ) (p : Place) (x : List ℕ) (h : Reading b p) where
-  module _ (tr : Tree) (r : Walked) (y : List ℕ) (d : Did (walk (reader b) tr p x) r y) where
-    pub read-length : length y ≡ length x
-    read-length = kept-length (Reading b) (length x) (walk (reader b) tr p x) (read-holds b (length x) tr p x (h, refl)) r y d
-
-    pub read-on : (q : Place) → r ≡ Went q → Reading b q
-    read-on q g = kept-on (Reading b) (length x) (walk (reader b) tr p x) (read-holds b (length x) tr p x (h, refl)) r y d q g
-
-  pub begun-on : (e : Entry) (r : Walked) (y : List ℕ) → Did (begun (reader b) e p x) r y → (q : Place) → r ≡ Went q → Reading b q
-  begun-on e r y d q g = kept-on (Reading b) (length x) (begun (reader b) e p x) (read-begun b (length x) e p x (h, refl)) r y d q g
+pub reader-keeps : (b : List ℕ) → Keeps (reader b) (Reading b)
+unfolding reader
+reader-keeps b =
+    keeps (reader b) (Reading b) (λ code p e a h. (
+      omega (arith, some-bytes code (wordAt code b (p .from)) a, h .0),
+      leb-true (p .from + width code) (length b) e,
+    ))

@@ -12,7 +12,7 @@ ghost use Rattle.walk.specs.declared.Met.the-variants.{Members, Elements};
 ghost use Rattle.wire.specs.Bytes.{written};
 ghost use mathlib.Core.List.{List, [], _∷_};
 ghost use Rattle.walk.specs.declared.Place.{Place};
-ghost use Rattle.walk.specs.Walk.{Step, on, through, start, answer, left, begun, times, leafWalk, metWalk, typeWalk, Goes};
+ghost use Rattle.walk.specs.Walk.{Step, start, answer, left, begun, times, leafWalk, metWalk, typeWalk, Goes, Going};
 ghost use Rattle.unpack.specs.Steps.{Reads, ReadsCodes};
 ghost use Rattle.unpack.specs.Reading.{reader, Reading, memberRead};
 use crate::by_codes;
@@ -107,16 +107,17 @@ fn read_elements(
 {
     let child = e.of;
     let met = walk::meet(table, s, i, child);
-    let count = times(payload, e, p);
     match begin(payload, words, e, p) {
         Walked::Stopped(n, q) => Walked::Stopped(n, q),
         Walked::Went(q) => {
+            let count = times(payload, e, p);
             let code = walk::base_at(table, s, i, child);
             let run = read_run(payload, words, code, count, q);
             let mut at = run.at;
             let mut k = run.upto;
             while k < count {
-                let step = match met {
+                let here = met;
+                let step = match here {
                     Met::Leaf(c) => read_leaf(table, s, c, payload, words, at),
                     Met::Members(c) => read_members(table, s, child, c, payload, words, at),
                     Met::Elements(c) => read_elements(table, s, child, c, payload, words, at),
@@ -223,9 +224,8 @@ fn read_bases(
     p: Place,
 ) -> Reached
     requires { ⌜ Reading (now payload) p × (from ≤ e .count) ⌝ }
-    ensures { λ r. ⌜ (from ≤ r .upto) × (r .upto ≤ e .count) × Reading (now (payload .entry)) (r .at) ⌝ }
-    ensures { λ _. ⌜ length (now (words .exit)) ≡ length (now (words .entry)) ⌝ }
-    ensures { λ r. ⌜ Goes (memberRead (now (payload .entry)) (now (table .entry)) s i e) from p (now (words .entry)) (r .upto) (r .at) (now (words .exit)) ⌝ }
+    ensures { λ r. ⌜ Going (Reading (now (payload .entry))) (memberRead (now (payload .entry)) (now (table .entry)) s i e) (e .count)
+        from p (now (words .entry)) (r .upto) (r .at) (now (words .exit)) ⌝ }
 {
     let mut codes = [0u8; MOST_CODES];
     let n = walk::runs::base_codes(table, s, i, e, from, &mut codes);
@@ -254,10 +254,8 @@ fn read_codes(payload: &[u8], words: &mut [u64], codes: &[u8], from: u32, p: Pla
 // Reads elements of one base code: all of them, or none where one is not there or not allowed.
 fn read_run(payload: &[u8], words: &mut [u64], code: u16, count: u32, p: Place) -> Reached
     requires { ⌜ Reading (now payload) p ⌝ }
-    ensures { λ r. ⌜ (r .upto ≤ count) × Reading (now (payload .entry)) (r .at) ⌝ }
-    ensures { λ _. ⌜ length (now (words .exit)) ≡ length (now (words .entry)) ⌝ }
-    ensures { λ r. ⌜ ((f : ℕ → Place → List ℕ → Step) → Reads (now (payload .entry)) code f → through (r .upto) f p (now (words .entry))
-        ≡ on (r .at) (now (words .exit))) ⌝ }
+    ensures { λ r. ⌜ ((f : ℕ → Place → List ℕ → Step) → Reads (now (payload .entry)) code f
+        → Going (Reading (now (payload .entry))) f count 0 p (now (words .entry)) (r .upto) (r .at) (now (words .exit))) ⌝ }
 {
     if runs::judge_run(payload, p.from, code, count) {
         runs::store_run(payload, words, code, count, p);

@@ -27,7 +27,8 @@ use Rattle.pack.specs.Writing.{writer}
 use Rattle.payload.specs.Calls.{answered, answeredType, answeredIn, leftBy, leftIn, unpackedIn, wordsIn, packedIn, bytesIn}
 use Rattle.values.specs.Values.{Over, exact, loose, Value, Spoken}
 use Rattle.walk.proofs.Walks.{went, walk-same}
-use Rattle.values.proofs.Belonging.{Took, Goes, behind, Sound, Complete, walk-sound, walk-complete, over-flip}
+use Rattle.values.proofs.Belonging.{Took, Goes, behind, Sound, Complete, walk-sound, walk-complete}
+use Rattle.values.proofs.Carried.{over-flip}
 use Rattle.values.proofs.Codecs.{write-sound, write-complete, read-sound, read-complete, heard}
 
 -- a call that gives: its walk ended at the end of the input, and what it gives fits

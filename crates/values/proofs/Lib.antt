@@ -1,4 +1,5 @@
 pub mod Belonging
+pub mod Carried
 pub mod Codecs
 pub mod Exactly
 pub mod RoundTrip

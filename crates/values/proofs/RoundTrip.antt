@@ -20,7 +20,7 @@ use Rattle.walk.specs.Walk.{countCode}
 use Rattle.unpack.specs.Reading.{reader}
 use Rattle.payload.specs.Calls.{unpackedIn, wordsIn, packedIn, bytesIn}
 use Rattle.values.specs.Values.{Behind, Row, One, Some, Over, exact, loose, settled, Value, Spoken, Settled, BooleansAsOne}
-use Rattle.values.proofs.Belonging.{over-map}
+use Rattle.values.proofs.Carried.{over-map}
 use Rattle.values.proofs.Exactly.{Callable, callable, values-pack, Unpacks, unpacks-forms}
 
 -- pack, then unpack: a value's bytes are a byte form of it

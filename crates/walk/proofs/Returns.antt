@@ -127,10 +127,6 @@ memberStep w t s i e k q y = walk w (child t s i (memberAt t s (e .first + k))) 
 abbrev pub elementStep : Codec → List ℕ → Sections → ℕ → ℕ → ℕ → Place → List ℕ → Step
 elementStep w t s i c k q y = walk w (child t s i c) q y
 
-pub as-member : (w : Codec) (t : List ℕ) (s : Sections) (i : ℕ) (e : Entry) (k : ℕ) (q : Place) (y : List ℕ) (c : ℕ) (r : Walked)
-    (z : List ℕ) → c ≡ memberAt t s (e .first + k) → Did (walk w (child t s i c) q y) r z → Did (memberStep w t s i e k q y) r z
-as-member w t s i e k q y c r z h d = subst (λ (n : ℕ). Did (walk w (child t s i n) q y) r z) h d
-
 as-did : (a st : Step) (r : Walked) (y : List ℕ) → a ≡ st → Did st r y → Did a r y
 as-did a st r y h d = (d .0 ∙ ap answer (sym h), d .1 ∙ ap left (sym h))
 

@@ -152,7 +152,7 @@ module _ (t : List ℕ) (s : Sections) where
           List·getD-eq-default (trees t s i) broken (omega (arith, length-trees i, ltb-false c i e))
           ∙ ap (treeOf t s (trees t s c)) (sym (no-if (look t s c) Broken e))
 
-  -- a type that was met from type i has a smaller number
+  -- a type that was met from type i, whose number is n, has a smaller one
   met-smaller : (i c : ℕ) (m : Met) → m ≡ meet t s i c → (m ≡ Broken → ⊥) → c < i
   unfolding meet
   met-smaller i c m h d = go (ltb c i) refl
@@ -161,8 +161,9 @@ module _ (t : List ℕ) (s : Sections) where
       go true e = ltb-true c i e
       go false e = absurd (d (h ∙ no-if (look t s c) Broken e))
 
-  pub members-smaller : (i c : ℕ) (m : Met) (e : Entry) → m ≡ meet t s i c → m ≡ Members e → c < i
-  members-smaller i c m e h g = met-smaller i c m h (λ n. let z : _≡_ {A = ℕ} 0 1 = cc in omega arith)
+  module _ (i n c : ℕ) (is : i ≡ n) (m : Met) (e : Entry) (h : m ≡ meet t s i c) where
+    pub members-smaller : m ≡ Members e → c < n
+    members-smaller g = let l : c < i = met-smaller i c m h (λ b. let z : _≡_ {A = ℕ} 0 1 = cc in omega arith) in omega (arith, is)
 
-  pub elements-smaller : (i c : ℕ) (m : Met) (e : Entry) → m ≡ meet t s i c → m ≡ Elements e → c < i
-  elements-smaller i c m e h g = met-smaller i c m h (λ n. let z : _≡_ {A = ℕ} 0 1 = cc in omega arith)
+    pub elements-smaller : m ≡ Elements e → c < n
+    elements-smaller g = let l : c < i = met-smaller i c m h (λ b. let z : _≡_ {A = ℕ} 0 1 = cc in omega arith) in omega (arith, is)

@@ -1,10 +1,11 @@
 -- 01, "Payload and words": a walk over a type's tree, leaf by leaf from left to right. Reading and writing are one walk, given
 -- what a leaf is: an array's count is a leaf too, 32 bits on the wire. Places are absolute.
-use Prim.Native.Nat.{ℕ, zero, suc}
+use Prim.Native.Nat.{ℕ, zero, suc, _≤_}
 use mathlib.Core.Path.{_≡_}
 use mathlib.Core.Bool.{Bool, _&&_, cond}
 use mathlib.Core.List.{List}
 use lib.Dec.{leb, eqb}
+use lib.ListN.{length}
 use Rattle.wire.specs.Bytes.{written}
 use Rattle.table.specs.declared.Sections.{Sections}
 use Rattle.table.specs.declared.Entry.{Entry}
@@ -64,6 +65,15 @@ through (suc n) f p x = next (through n f p x) (f n)
 -- from the k-th step on a walk comes to the m-th
 abbrev pub Goes : (ℕ → Place → List ℕ → Step) → ℕ → Place → List ℕ → ℕ → Place → List ℕ → Type 0
 Goes f k p x m q y = (p₀ : Place) (x₀ : List ℕ) → through k f p₀ x₀ ≡ on p x → through m f p₀ x₀ ≡ on q y
+
+-- among n steps it comes so far, to a place that P says, and what it writes into is as long as before
+pub record Going (P : Place → Type 0) (f : ℕ → Place → List ℕ → Step) (n k : ℕ) (p : Place) (x : List ℕ) (m : ℕ) (q : Place)
+    (y : List ℕ) : Type 0 where
+  pub onward : k ≤ m
+  pub most : m ≤ n
+  pub here : P q
+  pub as-long : length y ≡ length x
+  pub goes : Goes f k p x m q y
 
 -- what a leaf of a base code is to a walk: its word, whether the input goes as far, the place behind it, and what is written for it
 pub record Codec : Type 0 where

@@ -1,9 +1,8 @@
 -- `pack::write_run` meets its contract: all leaves are written, or none.
 -- Assumes nothing.
 use borrow.Author.Needs.{needs}
-use mathlib.Core.Path.{refl}
-use Rattle.walk.proofs.Walks.{through-none}
-use Rattle.pack.proofs.JudgedRuns.{run-times, run-end, writing-run, run-long, run-went}
+use Rattle.walk.proofs.Turns.{going-start}
+use Rattle.pack.proofs.JudgedRuns.{run-times, run-end, run-long, run-going}
 use Rattle.pack.proofs.walking.write_run.Statement.{statement}
 use Rattle.pack.proofs.walking.write_run.Tie as tie
 
@@ -12,7 +11,7 @@ write-run-spec =
     tie.close
     (tie.spec
     (λ c. search needs)
-    (λ c. ((search needs, c .before .before .before .before .pre), (refl, λ f g. through-none f _ _)))
+    (λ c f writes. going-start (search needs) (c .before .before .before .before .pre))
     (λ c κs. search needs)
     (λ c κs. search needs)
     (λ c κs. search needs)
@@ -23,15 +22,9 @@ write-run-spec =
     (a .args .words .now) (a .args .code) _ (a .args .p) _ (c .before .before .width .ensures) (search needs) (a .pre) (a .good .0 .1))
     (λ c. search needs)
     (λ c.
-    let a = c .before .before .before .before .before .before .before .before .before .before .before .before .before in
-    let w = c .before .before .width .ensures in
-    let s = c .before .before .before .before .before .store-run .ensures in (
-      (search needs, writing-run (a .args .words .now) (a .args .code) _ (a .args .p) _ w (search needs) (a .pre)),
-      (
-        run-long (a .args .words .now) (a .args .code) (a .args .p) _ (a .args .count) _ (search needs) s,
-        run-went (a .args .words .now) (a .args .code) (a .args .p) _ (a .args .count) _ (search needs) s _ w
-            (c .before .before .before .before .before .before .before .before .judged .ensures
-            (c .before .before .before .before .before .before .before .if2 .taken)),
-      ),
-    ))
-    (λ c. ((search needs, c .before .before .before .before .before .before .pre), (refl, λ f g. through-none f _ _))))
+    let if2 = c .before .before .before .before .before .before .before in
+    let judged = if2 .before in
+    let a = judged .before .before .before .before .before in
+    run-going (a .args .words .now) (a .args .code) _ (a .args .p) _ (c .before .before .width .ensures) (search needs) (a .pre) _ _
+    (c .before .before .before .before .before .store-run .ensures) (judged .judged .ensures (if2 .if2 .taken)))
+    (λ c f writes. going-start (search needs) (c .before .before .before .before .before .before .pre)))

@@ -28,16 +28,13 @@ read-bases-spec =
     (λ c.
     let at-read-codes = c .before .before in
     let at-base-codes = at-read-codes .before .before .before .before in
-    let at-pre = at-base-codes .before .before .before .before .before in (
-      (
-        at-read-codes .read-codes .ensures .0 .0,
-        upto-in _ _ _ _ _ _ (replicate 64 0) _ (at-base-codes .base-codes .ensures .0) (at-base-codes .base-codes .ensures .1) _
-            (at-pre .pre .1) (at-read-codes .read-codes .ensures .0 .1),
-        at-read-codes .read-codes .ensures .0 .2,
-      ),
-      (
-        at-read-codes .read-codes .ensures .1 .0,
-        at-read-codes .read-codes .ensures .1 .1 _
-            (codes-read _ _ _ _ _ _ (replicate 64 0) _ (at-base-codes .base-codes .ensures .0) (at-base-codes .base-codes .ensures .1) _),
-      ),
-    )))
+    let at-pre = at-base-codes .before .before .before .before .before in
+    record {
+      onward = at-read-codes .read-codes .ensures .0 .0;
+      most = upto-in _ _ _ _ _ _ (replicate 64 0) _ (at-base-codes .base-codes .ensures .0) (at-base-codes .base-codes .ensures .1) _
+          (at-pre .pre .1) (at-read-codes .read-codes .ensures .0 .1);
+      here = at-read-codes .read-codes .ensures .0 .2;
+      as-long = at-read-codes .read-codes .ensures .1 .0;
+      goes = at-read-codes .read-codes .ensures .1 .1 _
+          (codes-read _ _ _ _ _ _ (replicate 64 0) _ (at-base-codes .base-codes .ensures .0) (at-base-codes .base-codes .ensures .1) _);
+    }))

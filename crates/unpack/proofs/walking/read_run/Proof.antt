@@ -1,10 +1,9 @@
 -- `unpack::read_run` meets its contract: all elements, or none of them.
 -- Assumes nothing.
 use borrow.Author.Needs.{needs}
-use mathlib.Core.Path.{refl}
-use Rattle.walk.proofs.Walks.{through-none}
+use Rattle.walk.proofs.Turns.{going-start}
 use Rattle.unpack.proofs.WholeRuns.{bytes-fit}
-use Rattle.unpack.proofs.ReadBases.{run-reading, run-from-fits, run-to-fits, run-many, run-goes}
+use Rattle.unpack.proofs.ReadBases.{run-from-fits, run-to-fits, run-many, run-going}
 use Rattle.unpack.proofs.walking.read_run.Statement.{statement}
 use Rattle.unpack.proofs.walking.read_run.Tie as tie
 
@@ -19,5 +18,5 @@ read-run-spec =
     (λ c. search run-from-fits)
     (λ c. search run-to-fits)
     (λ c. search run-many)
-    (λ c. ((search needs, search run-reading), (search run-many, λ f g. search run-goes)))
-    (λ c. ((search needs, search needs), (refl, λ f g. through-none f _ _))))
+    (λ c f reads. search run-going)
+    (λ c f reads. going-start (search needs) (search needs)))
