@@ -1,9 +1,0 @@
--- `leaf::in_range` meets its contract: the word is moved and tested as the definition says.
--- Assumes nothing.
-use borrow.Author.Needs.{needs}
-use Rattle.leaf.proofs.Limits.{moved}
-use Rattle.leaf.proofs.codes.in_range.Statement.{statement}
-use Rattle.leaf.proofs.codes.in_range.Tie as tie
-
-pub in-range-spec : {M : Type 1} → statement M
-in-range-spec = tie.close (tie.spec (λ c κs. search needs) (λ c κs. search needs) (λ c κs. search needs) (λ c. search moved))
