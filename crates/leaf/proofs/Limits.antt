@@ -3,11 +3,11 @@
 -- Assumes nothing.
 use Prim.Native.Nat.{ℕ, zero, suc, _+_, _-_, _*_, _/_, _%_, _^_, _≤_, _<_}
 use mathlib.Core.Path.{_≡_, refl, sym, ap, _∙_}
-use mathlib.Core.Bool.{Bool, true, false, _&&_, _||_, not, true≢false}
+use mathlib.Core.Bool.{Bool, true, false, _&&_, _||_, not, cond, true≢false}
 use mathlib.Core.List.{List}
 use native.Mathlib.Nat.{one-le-pow, zero-lt-suc}
 use native.Mathlib.Omega.{arith}
-use borrow.Author.Tests.{lt-ltb, le-ltb, le-leb, lt-leb, ltb-true, ltb-false, leb-true, leb-false, eqb-true, eqb-false}
+use borrow.Author.Tests.{lt-ltb, le-ltb, le-leb, lt-leb, ltb-true, ltb-false, leb-true, leb-false, eqb-true, eqb-false, ne-eqb}
 use mir.Syntax.{w64}
 use mir.Val.{Fits}
 use lib.Dec.{ltb, leb, eqb}
@@ -17,7 +17,7 @@ use Rattle.table.specs.Leaf.{Leaf, boolean, signed, unsigned, float, none, base
 use Rattle.table.proofs.Leaves.{no-base, Each, each, any, arm}
 use Rattle.leaf.specs.declared.codes.Range.{Range}
 use Rattle.leaf.specs.Forms.{truth, extended, wordOf, wordAt}
-use Rattle.leaf.specs.Limits.{rangeOf, moved, measure}
+use Rattle.leaf.specs.Limits.{range, isSigned, rangeOf, moved, measure}
 use Rattle.leaf.proofs.Leaves.{Real, real, Wide, wide, truth-small}
 
 -- two tests are one where each says what the other says
@@ -114,15 +114,6 @@ pub counted : (code w : ℕ) → code < 13 → w < 18446744073709551616 → allo
 unfolding allowed Counts
 counted code w h fits = each (λ n. Counts w fits (base n)) (counts w fits) code h
 
--- the test of a word that was measured
-pub in-range : (code w m : ℕ) (r : Range) → Fits w64 w → r ≡ rangeOf (base code) → m ≡ measure (base code) w → (leb code 12 && leb m (r .last)) ≡ allowed code w
-unfolding allowed isValue
-in-range code w m r fits e h = rw (e, h) (go (leb code 12) refl)
-  where
-    go : (b : Bool) → leb code 12 ≡ b → (leb code 12 && leb (measure (base code) w) (rangeOf (base code) .last)) ≡ allowed code w
-    go true p = rw p (sym (counted code w (omega (arith, leb-true code 12 p)) (omega arith)))
-    go false p = rw (p, no-base code (leb-false code 12 p)) refl
-
 -- the measures, arm by arm: the floats, and all that is counted
 pub measured : (n : ℕ) (w x : ℕ) {r : ℕ} → r ≡ measure (base n) w → x ≡ n → r ≡ measure (base x) w
 measured n w x e h = arm (λ l. measure l w) n x e h
@@ -155,6 +146,47 @@ counted-up code w h fits =
     counted code w (omega arith) fits
     ∙ ap (λ (m : ℕ). leb m (rangeOf (base code) .last))
     (sym (not-float code w (λ (e : code ≡ 11). omega arith) (λ (e : code ≡ 12). omega arith)))
+
+-- whether a word is allowed, arm by arm: an integer by its range, a float by its exponent, and no other number has a word
+pub in-range : (code w : ℕ) (g : Range) (r : Bool) → Fits w64 w → code < 11 → g ≡ rangeOf (base code) → r ≡ leb ((w + g .below) % 2 ^ 64) (g .last)
+    → r ≡ allowed code w
+in-range code w g r f h e t = t ∙ rw e (sym (counted-up code w h (omega arith)))
+
+pub tested : (m w below last : ℕ) → m ≡ (w + below) % 2 ^ 64 → leb m last ≡ leb ((w + below) % 2 ^ 64) last
+tested m w below last e = ap (λ (n : ℕ). leb n last) e
+
+pub at-code : (n w x : ℕ) (r : Bool) → r ≡ allowed n w → x ≡ n → r ≡ allowed x w
+at-code n w x r e h = rw h e
+
+pub at-double : (w x : ℕ) (r : Bool) → x ≡ 12 → Fits w64 w → r ≡ finite 11 52 w → r ≡ allowed x w
+unfolding allowed base isValue
+at-double w x r h l e = rw (h, lt-ltb w (2 ^ 64) (omega arith)) e
+
+pub no-code : (x w : ℕ) → 11 ≤ x → (x ≡ 11 → ⊥) → (x ≡ 12 → ⊥) → false ≡ allowed x w
+unfolding allowed isValue
+no-code x w h d e = sym (ap (λ (l : Leaf). isValue l w) (no-base x (omega arith)))
+
+-- the range of a code, from its last word and its sign
+pub signs : (x : ℕ) → (eqb x 1 || eqb x 3 || eqb x 4 || eqb x 5) ≡ isSigned (base x)
+unfolding base isSigned
+signs =
+    any (λ n. (eqb n 1 || eqb n 3 || eqb n 4 || eqb n 5) ≡ isSigned (base n))
+    (refl, refl, refl, refl, refl, refl, refl, refl, refl, refl, refl, refl, refl)
+    (λ n h. rw (no-base n h) (simp (ne-eqb n 1 (λ e. omega arith), ne-eqb n 3 (λ e. omega arith), ne-eqb n 4 (λ e. omega arith), ne-eqb n 5 (λ e. omega arith))))
+
+by-sign : (x : ℕ) → range (cond (isSigned (base x)) (rangeOf (base x) .last / 2 + 1) 0) (rangeOf (base x) .last) (ltb x 11) ≡ rangeOf (base x)
+unfolding base isSigned rangeOf
+by-sign =
+    any (λ n. range (cond (isSigned (base n)) (rangeOf (base n) .last / 2 + 1) 0) (rangeOf (base n) .last) (ltb n 11) ≡ rangeOf (base n))
+    (refl, refl, refl, refl, refl, refl, refl, refl, refl, refl, refl, refl, refl)
+    (λ n h. rw (no-base n h, le-ltb n 11 (omega arith)) refl)
+
+module _ (x l : ℕ) (s : Bool) (last : l ≡ rangeOf (base x) .last) (sign : s ≡ isSigned (base x)) where
+  pub both-signs : s ≡ true → range (l / 2 + 1) l (ltb x 11) ≡ rangeOf (base x)
+  both-signs h = rw last (ap (λ (b : Bool). range (cond b (rangeOf (base x) .last / 2 + 1) 0) (rangeOf (base x) .last) (ltb x 11)) (sym h ∙ sign) ∙ by-sign x)
+
+  pub no-signs : s ≡ false → range 0 l (ltb x 11) ≡ rangeOf (base x)
+  no-signs h = rw last (ap (λ (b : Bool). range (cond b (rangeOf (base x) .last / 2 + 1) 0) (rangeOf (base x) .last) (ltb x 11)) (sym h ∙ sign) ∙ by-sign x)
 
 -- a number of two's complement that is read is in its range
 sign-in : (half x : ℕ) → half ≤ 2 ^ 63 → x < 2 * half → inSigned half (extended half x) ≡ true

@@ -1,4 +1,4 @@
--- The range of a leaf, by its width: one test for all of them. 01, "Payload and words".
+-- The range of a leaf, by its width. 01, "Payload and words".
 use Prim.Native.Nat.{ℕ, _+_, _-_, _*_, _/_, _%_, _^_}
 use mathlib.Core.Bool.{Bool, true, false}
 use lib.Dec.{leb}
@@ -6,17 +6,24 @@ use Rattle.wire.specs.Bytes.{span}
 use Rattle.table.specs.Leaf.{Leaf, boolean, signed, unsigned, float, none}
 use Rattle.leaf.specs.declared.codes.Range.{Range}
 
-abbrev pub counted : ℕ → ℕ → Bool → Range
-counted below last every = record { below = below; last = last; every = every }
+abbrev pub range : ℕ → ℕ → Bool → Range
+range below last every = record { below = below; last = last; every = every }
 
 -- the words of a leaf, counted from the least as 0: how many are below 0, and the last; and whether every word that its bytes can
 -- be is one of them. Of a float the last of its measures
 unfoldable pub rangeOf : Leaf → Range
-rangeOf boolean = counted 0 1 true
-rangeOf (signed k) = counted (span k / 2) (span k - 1) true
-rangeOf (unsigned k n) = counted 0 (n - 1) (leb (span k) n)
-rangeOf (float k e f) = counted 0 (span k / 2 - 1) false
-rangeOf none = counted 0 0 false
+rangeOf boolean = range 0 1 true
+rangeOf (signed k) = range (span k / 2) (span k - 1) true
+rangeOf (unsigned k n) = range 0 (n - 1) (leb (span k) n)
+rangeOf (float k e f) = range 0 (span k / 2 - 1) false
+rangeOf none = range 0 0 false
+
+unfoldable pub isSigned : Leaf → Bool
+isSigned boolean = false
+isSigned (signed k) = true
+isSigned (unsigned k n) = false
+isSigned (float k e f) = false
+isSigned none = false
 
 -- a word's number in that count, in 64 bits
 abbrev pub moved : Leaf → ℕ → ℕ

@@ -1,10 +1,10 @@
 // The 13 base codes: how wide a leaf is on the wire and which 64-bit words it takes. Any other code is no leaf: it has no
 // bytes and no values.
 ghost use mathlib.Core.Path.{_≡_};
-ghost use mathlib.Core.Bool.{true, false};
-ghost use Prim.Native.Nat.{_+_, _/_};
+ghost use Prim.Native.Nat.{_+_, _%_, _^_};
+ghost use lib.Dec.{leb};
 ghost use Rattle.table.specs.Leaf.{base, width, allowed};
-ghost use Rattle.leaf.specs.Limits.{counted, rangeOf, measure};
+ghost use Rattle.leaf.specs.Limits.{isSigned, rangeOf, measure};
 
 // 01, "Base codes".
 pub const BOOLEAN8: u16 = 0;
@@ -33,7 +33,7 @@ pub const FLOAT32: u16 = 11;
 
 pub const DOUBLE64: u16 = 12;
 
-// The last of as many values as an integer of so many bits has, counted from 0; a boolean has two. The last of a float's
+// The last of as many values as an integer of so many bits has, counted from 0, a boolean having two; and the last of a float's
 // measures.
 const LAST_BOOLEAN: u64 = 1;
 
@@ -48,6 +48,8 @@ const LAST_OF_64: u64 = 18446744073709551615;
 const LAST_FLOAT32: u64 = 2147483647;
 
 const LAST_DOUBLE64: u64 = 9223372036854775807;
+
+const LAST_OF_NONE: u64 = 0;
 
 // The words of a leaf, counted from the least as 0: how many are below 0, and the last. And whether every word that its bytes can be
 // is one of them.
@@ -78,16 +80,30 @@ pub fn width(code: u16) -> usize
     }
 }
 
-// Whether the word is a value of the base code.
+// Whether the word is a value of the base code. The floats are tested by their exponents: of that the compiler makes shorter loops
+// than of their measures.
 pub fn allowed(code: u16, word: u64) -> bool
     ensures { λ r. ⌜ r ≡ allowed code word ⌝ }
 {
-    (code <= DOUBLE64) & (measure(code, word) <= range_of(code).last)
+    // The codes before the floats are integers.
+    if code < FLOAT32 {
+        return in_range(range_of(code), word);
+    }
+    match code {
+        FLOAT32 => (word < 4294967296) & (word / 8388608 % 256 != 255),
+        DOUBLE64 => word / 4503599627370496 % 2048 != 2047,
+        _ => false,
+    }
+}
+
+fn in_range(range: Range, word: u64) -> bool
+    ensures { λ r. ⌜ r ≡ leb ((word + range .below) % 2 ^ 64) (range .last) ⌝ }
+{
+    std::num::wrapping_add_u64(word, range.below) <= range.last
 }
 
 // A number that is not above the last of the code's range just where the code takes the word. A signed word is moved up by the
-// values below 0; of a float the sign goes, and an exponent of all ones carries into its place. An arm for each code would be a jump
-// that the processor has to guess at every leaf of a mixed record; of `range_of` the compiler makes lists of numbers.
+// values below 0; of a float the sign goes, and an exponent of all ones carries into its place.
 pub fn measure(code: u16, word: u64) -> u64
     ensures { λ r. ⌜ r ≡ measure (base code) word ⌝ }
 {
@@ -98,56 +114,52 @@ pub fn measure(code: u16, word: u64) -> u64
     }
 }
 
-// The one place that has the range of each code.
+// Of an integer that has both signs half of the values are below 0. Of the codes before the floats every word is allowed.
 pub fn range_of(code: u16) -> Range
     ensures { λ r. ⌜ r ≡ rangeOf (base code) ⌝ }
 {
+    let last = last(code);
+    let every = code < FLOAT32;
+    if is_signed(code) {
+        Range {
+            below: last / 2 + 1,
+            last,
+            every,
+        }
+    } else {
+        Range {
+            below: 0,
+            last,
+            every,
+        }
+    }
+}
+
+fn is_signed(code: u16) -> bool
+    ensures { λ r. ⌜ r ≡ isSigned (base code) ⌝ }
+{
+    (code == INT8) | (code == INT16) | (code == INT32) | (code == INT64)
+}
+
+// A `match` with an arm for the whole range of each code would be a jump that the processor has to guess at every leaf of a mixed
+// record; of this one the compiler makes a list of numbers.
+fn last(code: u16) -> u64
+    ensures { λ r. ⌜ r ≡ rangeOf (base code) .last ⌝ }
+{
     match code {
-        BOOLEAN8 => unsigned(LAST_BOOLEAN),
-        INT8 => signed(LAST_OF_8),
-        CHAR8 => unsigned(LAST_OF_8),
-        INT16 => signed(LAST_OF_16),
-        INT32 => signed(LAST_OF_32),
-        INT64 => signed(LAST_OF_64),
-        UINT8 => unsigned(LAST_OF_8),
-        BYTE => unsigned(LAST_OF_8),
-        UINT16 => unsigned(LAST_OF_16),
-        UINT32 => unsigned(LAST_OF_32),
-        UINT64 => unsigned(LAST_OF_64),
-        FLOAT32 => limited(LAST_FLOAT32),
-        DOUBLE64 => limited(LAST_DOUBLE64),
-        _ => limited(0),
-    }
-}
-
-// Half of the values are below 0.
-fn signed(last: u64) -> Range
-    ensures { λ r. ⌜ r ≡ counted (last / 2 + 1) last true ⌝ }
-{
-    Range {
-        below: last / 2 + 1,
-        last,
-        every: true,
-    }
-}
-
-fn unsigned(last: u64) -> Range
-    ensures { λ r. ⌜ r ≡ counted 0 last true ⌝ }
-{
-    Range {
-        below: 0,
-        last,
-        every: true,
-    }
-}
-
-// Not every word that the bytes can be is a value.
-fn limited(last: u64) -> Range
-    ensures { λ r. ⌜ r ≡ counted 0 last false ⌝ }
-{
-    Range {
-        below: 0,
-        last,
-        every: false,
+        BOOLEAN8 => LAST_BOOLEAN,
+        INT8 => LAST_OF_8,
+        CHAR8 => LAST_OF_8,
+        INT16 => LAST_OF_16,
+        INT32 => LAST_OF_32,
+        INT64 => LAST_OF_64,
+        UINT8 => LAST_OF_8,
+        BYTE => LAST_OF_8,
+        UINT16 => LAST_OF_16,
+        UINT32 => LAST_OF_32,
+        UINT64 => LAST_OF_64,
+        FLOAT32 => LAST_FLOAT32,
+        DOUBLE64 => LAST_DOUBLE64,
+        _ => LAST_OF_NONE,
     }
 }
