@@ -26,4 +26,3 @@ pub use words::signed16;
 pub use words::signed32;
 pub use words::takes;
 pub use words::truth;
-pub use words::word_at;
