@@ -172,7 +172,8 @@ unfolding base isSigned
 signs =
     any (λ n. (eqb n 1 || eqb n 3 || eqb n 4 || eqb n 5) ≡ isSigned (base n))
     (refl, refl, refl, refl, refl, refl, refl, refl, refl, refl, refl, refl, refl)
-    (λ n h. rw (no-base n h) (simp (ne-eqb n 1 (λ e. omega arith), ne-eqb n 3 (λ e. omega arith), ne-eqb n 4 (λ e. omega arith), ne-eqb n 5 (λ e. omega arith))))
+    (λ n h. rw (no-base n h)
+    (simp (ne-eqb n 1 (λ e. omega arith), ne-eqb n 3 (λ e. omega arith), ne-eqb n 4 (λ e. omega arith), ne-eqb n 5 (λ e. omega arith))))
 
 by-sign : (x : ℕ) → range (cond (isSigned (base x)) (rangeOf (base x) .last / 2 + 1) 0) (rangeOf (base x) .last) (ltb x 11) ≡ rangeOf (base x)
 unfolding base isSigned rangeOf
@@ -182,11 +183,14 @@ by-sign =
     (λ n h. rw (no-base n h, le-ltb n 11 (omega arith)) refl)
 
 module _ (x l : ℕ) (s : Bool) (last : l ≡ rangeOf (base x) .last) (sign : s ≡ isSigned (base x)) where
+  with-sign : (b : Bool) → s ≡ b → range (cond b (l / 2 + 1) 0) l (ltb x 11) ≡ rangeOf (base x)
+  with-sign b h = rw (← h, sign, last) (by-sign x)
+
   pub both-signs : s ≡ true → range (l / 2 + 1) l (ltb x 11) ≡ rangeOf (base x)
-  both-signs h = rw last (ap (λ (b : Bool). range (cond b (rangeOf (base x) .last / 2 + 1) 0) (rangeOf (base x) .last) (ltb x 11)) (sym h ∙ sign) ∙ by-sign x)
+  both-signs h = with-sign true h
 
   pub no-signs : s ≡ false → range 0 l (ltb x 11) ≡ rangeOf (base x)
-  no-signs h = rw last (ap (λ (b : Bool). range (cond b (rangeOf (base x) .last / 2 + 1) 0) (rangeOf (base x) .last) (ltb x 11)) (sym h ∙ sign) ∙ by-sign x)
+  no-signs h = with-sign false h
 
 -- a number of two's complement that is read is in its range
 sign-in : (half x : ℕ) → half ≤ 2 ^ 63 → x < 2 * half → inSigned half (extended half x) ≡ true

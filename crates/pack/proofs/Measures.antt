@@ -36,7 +36,9 @@ module _ (ws : List ℕ) (code from : ℕ) where
       ≡ measure (base code) (getD ws (from + k) 0) → Judged (bitOr all m) (k + 1)
   more-judged all k m b l f old e h =
       let w : ℕ = getD ws (from + k) 0 in
-      let g : allowed code w ≡ true = counted code w b (f (from + k)) ∙ le-leb (measure (base code) w) (rangeOf (base code) .last) (omega (arith, or-right all m)) in
+      let i : leb (measure (base code) w) (rangeOf (base code) .last) ≡ true = le-leb (measure (base code) w) (rangeOf (base code) .last)
+      (omega (arith, or-right all m)) in
+      let g : allowed code w ≡ true = counted code w b (f (from + k)) ∙ i in
       below-more (λ j. isThere ws code (from + j) ≡ true) k (old (omega (arith, or-left all m))) (sym (judged ws (from + k) code true l (sym g)))
 
   pub all-judged : (all k n : ℕ) (r : Range) → Judged all k → k ≤ n → n ≤ k → r ≡ rangeOf (base code) → leb all (r .last) ≡ true → AllThere ws code from n
