@@ -17,28 +17,20 @@ use Rattle.wire.specs.Bytes.{span, number, bytes, Octets}
 use Rattle.wire.proofs.Cond.{yes-lt, no-lt, yes-eq, no-eq, and-left, and-right}
 use Rattle.wire.proofs.Numbers.{number-lt, number-append, number-bytes, length-bytes, bytes-number}
 use Rattle.table.specs.Leaf.{Leaf, boolean, signed, unsigned, float, none, codes, base, bytesOf, inSigned, finite, isValue, width, allowed}
+use Rattle.table.proofs.Leaves.{no-base, any}
 use Rattle.leaf.specs.Forms.{truth, extended, wordOf, form, wordAt, formOf, Truth, Says}
 
--- no base code is wider than 8 bytes
+-- no base code is wider than 8 bytes, and none takes a number that its bytes do not hold
 abbrev pub Real : Leaf → Type 0
 Real boolean = 0 ≤ 3
 Real (signed k) = k ≤ 3
-Real (unsigned k) = k ≤ 3
+Real (unsigned k n) = (k ≤ 3) × (n ≤ span k)
 Real (float k e f) = k ≤ 3
 Real none = 0 ≤ 3
 
-abbrev all-real : (ls : List Leaf) → Type 0
-all-real [] = 0 ≤ 3
-all-real (l ∷ ls) = Real l × all-real ls
-
-real-at : (ls : List Leaf) → all-real ls → (i : ℕ) → Real (getD ls i none)
-real-at [] h i = omega arith
-real-at (l ∷ ls) h zero = h .0
-real-at (l ∷ ls) h (suc i) = real-at ls (h .1) i
-
 pub real : (code : ℕ) → Real (base code)
 unfolding base
-real code = real-at codes (search arith) code
+real code = any (λ n. Real (base n)) (search arith) (λ n h. rw (no-base n h) (omega arith)) code
 
 same-power : (j k : ℕ) → 2 ^ j ≡ 2 ^ k → j ≡ k
 same-power j k e = go (ltb j k) (ltb k j) refl refl
@@ -53,7 +45,7 @@ form-of : (k : ℕ) (l : Leaf) (w : ℕ) → bytesOf l ≡ 2 ^ k → form l w �
 unfolding bytesOf form
 form-of k boolean w e = ap (λ (j : ℕ). bytes j (w % span j)) (same-power 0 k e)
 form-of k (signed j) w e = ap (λ (i : ℕ). bytes i (w % span i)) (same-power j k e)
-form-of k (unsigned j) w e = ap (λ (i : ℕ). bytes i (w % span i)) (same-power j k e)
+form-of k (unsigned j n) w e = ap (λ (i : ℕ). bytes i (w % span i)) (same-power j k e)
 form-of k (float j a f) w e = ap (λ (i : ℕ). bytes i (w % span i)) (same-power j k e)
 form-of k none w e = absurd (omega (arith, one-le-pow k 2 (zero-lt-suc 1)))
 
@@ -76,7 +68,7 @@ no-leaf : (l : Leaf) (w : ℕ) → Real l → Other (bytesOf l) → form l w ≡
 unfolding bytesOf form
 no-leaf boolean w r o = absurd (power-known 0 r o)
 no-leaf (signed k) w r o = absurd (power-known k r o)
-no-leaf (unsigned k) w r o = absurd (power-known k r o)
+no-leaf (unsigned k n) w r o = absurd (power-known k (r .0) o)
 no-leaf (float k a f) w r o = absurd (power-known k r o)
 no-leaf none w r o = refl
 
@@ -88,17 +80,17 @@ pub length-form : (l : Leaf) (w : ℕ) → length (form l w) ≡ bytesOf l
 unfolding bytesOf form
 length-form boolean w = length-bytes 0 (w % span 0)
 length-form (signed k) w = length-bytes k (w % span k)
-length-form (unsigned k) w = length-bytes k (w % span k)
+length-form (unsigned k n) w = length-bytes k (w % span k)
 length-form (float k e f) w = length-bytes k (w % span k)
 length-form none w = refl
 
 -- 2 ^ 64 is so many times what 2 ^ k bytes hold, and once more
-record Wide (k : ℕ) : Type 0 where
-  times : ℕ
-  is : 2 ^ 64 ≡ times * span k + span k
-  even : 2 * (span k / 2) ≡ span k
+pub record Wide (k : ℕ) : Type 0 where
+  pub times : ℕ
+  pub is : 2 ^ 64 ≡ times * span k + span k
+  pub even : 2 * (span k / 2) ≡ span k
 
-wide : (k : ℕ) → k ≤ 3 → Wide k
+pub wide : (k : ℕ) → k ≤ 3 → Wide k
 wide zero h = record { times = 72057594037927935; is = refl; even = refl }
 wide (suc zero) h = record { times = 281474976710655; is = refl; even = refl }
 wide (suc (suc zero)) h = record { times = 4294967295; is = refl; even = refl }
@@ -158,8 +150,8 @@ read-form k w ys h = number-bytes k (w % span k) ys h
 low-lt : (k w : ℕ) → w % span k < span k
 low-lt k w = mod-lt w (one-le-pow (2 ^ k) 256 (zero-lt-suc 255))
 
-low-same : (k w : ℕ) → ltb w (span k) ≡ true → w % span k ≡ w
-low-same k w e = mod-eq-of-lt (ltb-true w (span k) e)
+low-same : (k n w : ℕ) → n ≤ span k → ltb w n ≡ true → w % span k ≡ w
+low-same k n w h e = mod-eq-of-lt (omega (arith, ltb-true w n e))
 
 pub truth-small : (b : ℕ) → truth b < 2
 unfolding truth
@@ -182,8 +174,8 @@ word-of-form boolean w ys r e =
     let h : w < 2 = ltb-true w 2 e in
     ap truth (mod-eq-of-lt (omega arith)) ∙ truth-self w h
 word-of-form (signed k) w ys r e = rw (read-form k w ys (low-lt k w)) (word-of-low k r w e)
-word-of-form (unsigned k) w ys r e = read-form k w ys (low-lt k w) ∙ low-same k w e
-word-of-form (float k a f) w ys r e = read-form k w ys (low-lt k w) ∙ low-same k w (and-left (ltb w (span k)) (finite a f w) e)
+word-of-form (unsigned k n) w ys r e = read-form k w ys (low-lt k w) ∙ low-same k n w (r .1) e
+word-of-form (float k a f) w ys r e = read-form k w ys (low-lt k w) ∙ low-same k (span k) w (omega arith) (and-left (ltb w (span k)) (finite a f w) e)
 word-of-form none w ys r e = absurd (let z : _≡_ {A = ℕ} 0 1 = cc in omega arith)
 
 -- and so does any byte form of it
@@ -191,7 +183,7 @@ pub word-said : (l : Leaf) (w : ℕ) (bs ys : List ℕ) → Real l → isValue l
 unfolding Says wordOf
 word-said boolean w bs ys r e h = ap (λ (u : List ℕ). truth (getD (u ++ ys) 0 0)) (h .is) ∙ sym (h .says)
 word-said (signed k) w bs ys r e h = rw h (word-of-form (signed k) w ys r e)
-word-said (unsigned k) w bs ys r e h = rw h (word-of-form (unsigned k) w ys r e)
+word-said (unsigned k n) w bs ys r e h = rw h (word-of-form (unsigned k n) w ys r e)
 word-said (float k a f) w bs ys r e h = rw h (word-of-form (float k a f) w ys r e)
 word-said none w bs ys r e h = word-of-form none w ys r e
 
@@ -202,7 +194,7 @@ said-there boolean s p r o h =
     record { byte = number 0 s p; octet = o p; is = sym (bytes-number 0 s p o h); says = refl }
 said-there (signed k) s p r o h =
     sym (ap (bytes k) (low-of-word k r (number k s p) (number-lt k s p o)) ∙ bytes-number k s p o h)
-said-there (unsigned k) s p r o h =
+said-there (unsigned k n) s p r o h =
     sym (ap (bytes k) (mod-eq-of-lt (number-lt k s p o)) ∙ bytes-number k s p o h)
 said-there (float k a f) s p r o h =
     sym (ap (bytes k) (mod-eq-of-lt (number-lt k s p o)) ∙ bytes-number k s p o h)
@@ -216,7 +208,7 @@ form-says boolean w e =
     let m : w % span 0 ≡ w = mod-eq-of-lt (omega arith) in
     record { byte = w % span 0; octet = omega arith; is = refl; says = sym (ap truth m ∙ truth-self w h) }
 form-says (signed k) w e = refl
-form-says (unsigned k) w e = refl
+form-says (unsigned k n) w e = refl
 form-says (float k a f) w e = refl
 form-says none w e = refl
 
@@ -224,7 +216,7 @@ pub length-said : (l : Leaf) (w : ℕ) (bs : List ℕ) → Says l w bs → lengt
 unfolding Says bytesOf form
 length-said boolean w bs h = ap length (h .is)
 length-said (signed k) w bs h = ap length h ∙ length-form (signed k) w
-length-said (unsigned k) w bs h = ap length h ∙ length-form (unsigned k) w
+length-said (unsigned k n) w bs h = ap length h ∙ length-form (unsigned k n) w
 length-said (float k a f) w bs h = ap length h ∙ length-form (float k a f) w
 length-said none w bs h = ap length h
 
@@ -236,6 +228,6 @@ pub word-append : (l : Leaf) (xs ys : List ℕ) → wordOf l (xs ++ ys) (length 
 unfolding wordOf
 word-append boolean xs ys = ap truth (at-zero 0 xs ys)
 word-append (signed k) xs ys = ap (extended (span k / 2)) (at-zero k xs ys)
-word-append (unsigned k) xs ys = at-zero k xs ys
+word-append (unsigned k n) xs ys = at-zero k xs ys
 word-append (float k a f) xs ys = at-zero k xs ys
 word-append none xs ys = refl

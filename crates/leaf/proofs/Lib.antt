@@ -1,3 +1,3 @@
-mod Limits
+pub mod Limits
 pub mod Leaves
 pub mod Returns

@@ -1,10 +1,10 @@
--- What the returns of reading and of writing a leaf come to: each arm is the rule of its code.
+-- What the returns of writing a leaf come to, and those of an enum's values.
 -- Assumes nothing.
 use Prim.Native.Nat.{ℕ, zero, suc, _+_, _-_, _*_, _%_, _^_, _≤_, _<_}
 use mathlib.Core.Path.{_≡_, refl, sym, ap, ap₂, subst, _∙_}
 use mathlib.Core.Bool.{Bool, true, false, _&&_, not, cond}
 use mathlib.Core.List.{List, [], _∷_}
-use native.Mathlib.Nat.{add-zero, mod-eq-of-lt}
+use native.Mathlib.Nat.{mod-eq-of-lt}
 use native.Mathlib.Omega.{arith}
 use borrow.Author.Tests.{eq-eqb, ne-eqb, leb-true}
 use mir.Syntax.{w64}
@@ -18,41 +18,11 @@ use Rattle.wire.proofs.Runs.{over-none}
 use Rattle.table.specs.declared.Sections.{Sections}
 use Rattle.table.specs.declared.Entry.{Entry}
 use Rattle.wire.specs.All.{allBelow}
-use Rattle.table.specs.Leaf.{Leaf, none, base, width, allowed}
+use Rattle.table.specs.Leaf.{width, allowed}
 use Rattle.table.specs.Entries.{valueAt}
-use Rattle.table.proofs.Leaves.{no-base}
-use Rattle.leaf.specs.Forms.{truth, extended, wordOf, wordAt, formOf}
+use Rattle.leaf.specs.Forms.{truth, extended, formOf}
 use Rattle.leaf.proofs.Leaves.{Other, form-is, no-bytes}
 use Rattle.leaf.specs.Choice.{other, otherAt, among, choice, takes}
-
--- reading: the arm of code n
-pub at-truth : (s : List ℕ) (p x r code : ℕ) → x ≡ number 0 s p → r ≡ truth x → code ≡ 0 → r ≡ wordAt code s p
-unfolding wordAt base wordOf
-at-truth s p x r code e h c = rw (c, ← e) h
-
-module _ (n k : ℕ) where
-  pub at-extended : (half : ℕ) → ((s : List ℕ) (p : ℕ) → extended half (number k s p) ≡ wordAt n s p) → (s : List ℕ) (p x r code : ℕ) → x
-      ≡ number k s p → r ≡ extended half x → code ≡ n → r ≡ wordAt code s p
-  at-extended half is s p x r code e h c = h ∙ ap (extended half) e ∙ is s p ∙ ap (λ (m : ℕ). wordAt m s p) (sym c)
-
-  pub at-number : ((s : List ℕ) (p : ℕ) → number k s p ≡ wordAt n s p) → (s : List ℕ) (p x code : ℕ) → x ≡ number k s p → code ≡ n → x ≡ wordAt code s p
-  at-number is s p x code e c = e ∙ is s p ∙ ap (λ (m : ℕ). wordAt m s p) (sym c)
-
-above : (n x : ℕ) → n ≤ x → (x ≡ n → ⊥) → n + 1 ≤ x
-above n x h d = omega arith
-
--- no base code at all
-module _ (x : ℕ) (d0 : x ≡ 0 → ⊥) (d1 : x ≡ 1 → ⊥) (d2 : x ≡ 2 → ⊥) (d3 : x ≡ 3 → ⊥) (d4 : x ≡ 4 → ⊥) (d5 : x ≡ 5 → ⊥) (d6 : x ≡ 6 → ⊥)
-    (d7 : x ≡ 7 → ⊥) (d8 : x ≡ 8 → ⊥) (d9 : x ≡ 9 → ⊥) (d10 : x ≡ 10 → ⊥) (d11 : x ≡ 11 → ⊥) (d12 : x ≡ 12 → ⊥) where
-  not-base : base x ≡ none
-  not-base =
-      let h4 : 4 ≤ x = above 3 x (above 2 x (above 1 x (above 0 x (omega arith) d0) d1) d2) d3 in
-      let h8 : 8 ≤ x = above 7 x (above 6 x (above 5 x (above 4 x h4 d4) d5) d6) d7 in
-      no-base x (above 12 x (above 11 x (above 10 x (above 9 x (above 8 x h8 d8) d9) d10) d11) d12)
-
-  pub no-word : (s : List ℕ) (p : ℕ) → 0 ≡ wordAt x s p
-  unfolding wordAt wordOf
-  no-word s p = sym (ap (λ (l : Leaf). wordOf l s p) not-base)
 
 -- nothing written changes nothing
 nothing : (s : List ℕ) (p : ℕ) → s ≡ written s p []
@@ -79,15 +49,6 @@ sign-clear x half h = sym (yes-lt x (x + (2 ^ 64 - 2 * half)) x half h)
 pub sign-set : (x half : ℕ) → half ≤ x → 1 ≤ half → half ≤ 2 ^ 63 → x + (18446744073709551615 - (half - 1) - half) ≡ extended half x
 unfolding extended
 sign-set x half h a b = ap (λ (n : ℕ). x + n) (omega arith) ∙ sym (no-lt x (x + (2 ^ 64 - 2 * half)) x half h)
-
--- of 64 bits nothing is left to carry
-pub all-bits : (x : ℕ) → x ≡ extended 9223372036854775808 x
-unfolding extended
-all-bits x = go (ltb x 9223372036854775808) refl
-  where
-    go : (b : Bool) → ltb x 9223372036854775808 ≡ b → x ≡ extended 9223372036854775808 x
-    go true e = rw e refl
-    go false e = rw e (sym (add-zero x))
 
 pub is-false : (x : ℕ) → x ≡ 0 → 0 ≡ truth x
 unfolding truth

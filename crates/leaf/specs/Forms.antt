@@ -20,7 +20,7 @@ extended half x = cond (ltb x half) x (x + (2 ^ 64 - 2 * half))
 unfoldable pub wordOf : Leaf → List ℕ → ℕ → ℕ
 wordOf boolean s p = truth (number 0 s p)
 wordOf (signed k) s p = extended (span k / 2) (number k s p)
-wordOf (unsigned k) s p = number k s p
+wordOf (unsigned k n) s p = number k s p
 wordOf (float k e f) s p = number k s p
 wordOf none s p = 0
 
@@ -28,7 +28,7 @@ wordOf none s p = 0
 unfoldable pub form : Leaf → ℕ → List ℕ
 form boolean w = bytes 0 (w % span 0)
 form (signed k) w = bytes k (w % span k)
-form (unsigned k) w = bytes k (w % span k)
+form (unsigned k n) w = bytes k (w % span k)
 form (float k e f) w = bytes k (w % span k)
 form none w = []
 
@@ -42,7 +42,7 @@ pub record Truth (w : ℕ) (bs : List ℕ) : Type 0 where
 unfoldable pub Says : Leaf → ℕ → List ℕ → Type 0
 Says boolean w bs = Truth w bs
 Says (signed k) w bs = bs ≡ form (signed k) w
-Says (unsigned k) w bs = bs ≡ form (unsigned k) w
+Says (unsigned k n) w bs = bs ≡ form (unsigned k n) w
 Says (float k e f) w bs = bs ≡ form (float k e f) w
 Says none w bs = bs ≡ form none w
 

@@ -1,10 +1,10 @@
 // The 13 base codes: how wide a leaf is on the wire and which 64-bit words it takes. Any other code is no leaf: it has no
 // bytes and no values.
 ghost use mathlib.Core.Path.{_≡_};
-ghost use mathlib.Core.Bool.{cond};
-ghost use Prim.Native.Nat.{_+_, _/_, _<_};
-ghost use Rattle.table.specs.Leaf.{width, allowed};
-ghost use Rattle.leaf.specs.Limits.{last, isSigned, inRange};
+ghost use Prim.Native.Nat.{_+_, _%_, _^_};
+ghost use lib.Dec.{leb};
+ghost use Rattle.table.specs.Leaf.{base, width, allowed};
+ghost use Rattle.leaf.specs.Limits.{isSigned, rangeOf, measure};
 
 // 01, "Base codes".
 pub const BOOLEAN8: u16 = 0;
@@ -33,7 +33,8 @@ pub const FLOAT32: u16 = 11;
 
 pub const DOUBLE64: u16 = 12;
 
-// The last of as many values as an integer of so many bits has, counted from 0; a boolean has two.
+// The last of as many values as an integer of so many bits has, counted from 0, a boolean having two; and the last of a float's
+// measures.
 const LAST_BOOLEAN: u64 = 1;
 
 const LAST_OF_8: u64 = 255;
@@ -44,7 +45,19 @@ const LAST_OF_32: u64 = 4294967295;
 
 const LAST_OF_64: u64 = 18446744073709551615;
 
+const LAST_FLOAT32: u64 = 2147483647;
+
+const LAST_DOUBLE64: u64 = 9223372036854775807;
+
 const LAST_OF_NONE: u64 = 0;
+
+// The words of a leaf, counted from the least as 0: how many are below 0, and the last. And whether every word that its bytes can be
+// is one of them.
+pub struct Range {
+    pub below: u64,
+    pub last: u64,
+    pub every: bool,
+}
 
 pub fn width(code: u16) -> usize
     ensures { λ r. ⌜ r ≡ width code ⌝ }
@@ -67,14 +80,14 @@ pub fn width(code: u16) -> usize
     }
 }
 
-// Whether the word is a value of the base code. A `match` with an arm for each code would be a jump that the processor has to
-// guess at every leaf of a mixed record; of `last` the compiler makes a list of numbers.
+// Whether the word is a value of the base code. The floats are tested by their exponents: of that the compiler makes shorter loops
+// than of their measures.
 pub fn allowed(code: u16, word: u64) -> bool
     ensures { λ r. ⌜ r ≡ allowed code word ⌝ }
 {
     // The codes before the floats are integers.
     if code < FLOAT32 {
-        return in_range(code, word);
+        return in_range(range_of(code), word);
     }
     match code {
         FLOAT32 => (word < 4294967296) & (word / 8388608 % 256 != 255),
@@ -83,30 +96,55 @@ pub fn allowed(code: u16, word: u64) -> bool
     }
 }
 
-fn in_range(code: u16, word: u64) -> bool
-    requires { ⌜ code < 11 ⌝ }
-    ensures { λ r. ⌜ r ≡ inRange code word ⌝ }
+fn in_range(range: Range, word: u64) -> bool
+    ensures { λ r. ⌜ r ≡ leb ((word + range .below) % 2 ^ 64) (range .last) ⌝ }
 {
-    let last = last(code);
-    std::num::wrapping_add_u64(word, below_zero(code, last)) <= last
+    std::num::wrapping_add_u64(word, range.below) <= range.last
 }
 
-// How many values of an integer are below 0: half of them, or none.
-fn below_zero(code: u16, last: u64) -> u64
-    ensures { λ r. ⌜ r ≡ cond (isSigned code) (last / 2 + 1) 0 ⌝ }
+// A number that is not above the last of the code's range just where the code takes the word. A signed word is moved up by the
+// values below 0; of a float the sign goes, and an exponent of all ones carries into its place.
+pub fn measure(code: u16, word: u64) -> u64
+    ensures { λ r. ⌜ r ≡ measure (base code) word ⌝ }
 {
-    if is_signed(code) { last / 2 + 1 } else { 0 }
+    match code {
+        FLOAT32 => word - word / 2147483648 % 2 * 2147483648 + 8388608,
+        DOUBLE64 => word - word / 9223372036854775808 % 2 * 9223372036854775808 + 4503599627370496,
+        _ => std::num::wrapping_add_u64(word, range_of(code).below),
+    }
+}
+
+// Of an integer that has both signs half of the values are below 0. Of the codes before the floats every word is allowed.
+pub fn range_of(code: u16) -> Range
+    ensures { λ r. ⌜ r ≡ rangeOf (base code) ⌝ }
+{
+    let last = last(code);
+    let every = code < FLOAT32;
+    if is_signed(code) {
+        Range {
+            below: last / 2 + 1,
+            last,
+            every,
+        }
+    } else {
+        Range {
+            below: 0,
+            last,
+            every,
+        }
+    }
 }
 
 fn is_signed(code: u16) -> bool
-    ensures { λ r. ⌜ r ≡ isSigned code ⌝ }
+    ensures { λ r. ⌜ r ≡ isSigned (base code) ⌝ }
 {
-    (code == 1) | (code == 3) | (code == 4) | (code == 5)
+    (code == INT8) | (code == INT16) | (code == INT32) | (code == INT64)
 }
 
-// One less than how many values an integer has.
+// A `match` with an arm for the whole range of each code would be a jump that the processor has to guess at every leaf of a mixed
+// record; of this one the compiler makes a list of numbers.
 fn last(code: u16) -> u64
-    ensures { λ r. ⌜ r ≡ last code ⌝ }
+    ensures { λ r. ⌜ r ≡ rangeOf (base code) .last ⌝ }
 {
     match code {
         BOOLEAN8 => LAST_BOOLEAN,
@@ -120,6 +158,8 @@ fn last(code: u16) -> u64
         UINT16 => LAST_OF_16,
         UINT32 => LAST_OF_32,
         UINT64 => LAST_OF_64,
+        FLOAT32 => LAST_FLOAT32,
+        DOUBLE64 => LAST_DOUBLE64,
         _ => LAST_OF_NONE,
     }
 }

@@ -1,4 +1,4 @@
-// A leaf on the wire and as a 64-bit word (01, "Payload and words"; 000, Table 6): the word that a leaf's bytes are, the
+// A leaf on the wire and as a 64-bit word (01, "Payload and words"; 000, Table 6): the word of a boolean and of a signed number, the
 // bytes that a word is, and whether an entry of the table takes a word. A code that is no base code has no bytes.
 use table::Entry;
 use table::Sections;
@@ -9,31 +9,9 @@ ghost use lib.Dec.{ltb};
 ghost use lib.ListN.{length};
 ghost use Rattle.wire.specs.All.{allBelow};
 ghost use Rattle.wire.specs.Bytes.{written};
-ghost use Rattle.leaf.specs.Forms.{truth, extended, wordAt, formOf};
+ghost use Rattle.leaf.specs.Forms.{truth, extended, formOf};
 ghost use Rattle.leaf.specs.Choice.{other, otherAt, among, takes};
 use crate::codes;
-
-// The word of the leaf that stands at `at`. A byte past the end reads as 0.
-pub fn word_at(s: &[u8], at: usize, code: u16) -> u64
-    ensures { λ r. ⌜ r ≡ wordAt code (now (s .entry)) at ⌝ }
-{
-    match code {
-        codes::BOOLEAN8 => truth(wire::u8_at(s, at)),
-        codes::INT8 => signed8(wire::u8_at(s, at)),
-        codes::CHAR8 => wire::u8_at(s, at) as u64,
-        codes::INT16 => signed16(wire::u16_at(s, at)),
-        codes::INT32 => signed32(wire::u32_at(s, at)),
-        codes::INT64 => wire::u64_at(s, at),
-        codes::UINT8 => wire::u8_at(s, at) as u64,
-        codes::BYTE => wire::u8_at(s, at) as u64,
-        codes::UINT16 => wire::u16_at(s, at) as u64,
-        codes::UINT32 => wire::u32_at(s, at) as u64,
-        codes::UINT64 => wire::u64_at(s, at),
-        codes::FLOAT32 => wire::u32_at(s, at) as u64,
-        codes::DOUBLE64 => wire::u64_at(s, at),
-        _ => 0,
-    }
-}
 
 // Writes the bytes of the leaf's word at `at`, where they fit.
 pub fn put(s: &mut [u8], at: usize, code: u16, word: u64)

@@ -15,7 +15,8 @@ use lib.ListN.{length, getD}
 use Rattle.wire.specs.Bytes.{written}
 use Rattle.wire.proofs.Cond.{yes-le, no-le}
 use Rattle.wire.proofs.Runs.{written-out, length-written}
-use Rattle.table.specs.Leaf.{Leaf, none, codes, base, bytesOf, width}
+use Rattle.table.specs.Leaf.{base, bytesOf, width}
+use Rattle.table.proofs.Leaves.{each}
 use Rattle.leaf.specs.Forms.{formOf}
 use Rattle.leaf.proofs.Leaves.{form-is}
 use Rattle.leaf.proofs.Returns.{no-form}
@@ -24,18 +25,9 @@ use Rattle.pack.specs.StoredRuns.{storedAll}
 use Rattle.pack.proofs.Laid.{length-of}
 
 -- a base code has a byte at least
-abbrev Wide : List Leaf → Type 0
-Wide [] = 0 ≤ 0
-Wide (l ∷ ls) = (1 ≤ bytesOf l) × Wide ls
-
-wide-at : (ls : List Leaf) → Wide ls → (i : ℕ) → i < length ls → 1 ≤ bytesOf (getD ls i none)
-wide-at [] h i l = absurd (omega arith)
-wide-at (a ∷ ls) h zero l = h .0
-wide-at (a ∷ ls) h (suc i) l = wide-at ls (h .1) i (omega arith)
-
 pub has-width : (code : ℕ) → code < 13 → 1 ≤ width code
 unfolding width base bytesOf
-has-width code h = wide-at codes (search arith) code h
+has-width code h = each (λ n. 1 ≤ width n) (search arith) code h
 
 -- so many leaves, and one more
 more : (w n : ℕ) → n * w + w ≡ suc n * w

@@ -9,17 +9,9 @@ ghost use lib.ListN.{length};
 ghost use Rattle.table.specs.Leaf.{width};
 ghost use Rattle.pack.specs.StoredRuns.{storedAll};
 
-// A code of each width: a leaf's bytes are the low ones of its word, whichever code of its width it has.
-const ONE_BYTE: u16 = 6;
-
-const TWO_BYTES: u16 = 8;
-
-const FOUR_BYTES: u16 = 9;
-
-const EIGHT_BYTES: u16 = 10;
-
 // Stores the words of so many leaves of one code, as many as there is room for; nothing where not all the words are there. A call
-// for each width, so that the compiler makes its own loop of each.
+// for each width, so that the compiler makes its own loop of each: a leaf's bytes are the low ones of its word, whichever code of its
+// width it has.
 pub(crate) fn store_run(words: &[u64], out: &mut [u8], code: u16, count: usize, p: Place)
     ensures { λ _. ⌜ now (out .exit)
         ≡ cond (leb (p .from + count) (length (now (words .entry)))) (storedAll (now (words .entry)) code p count (now (out .entry))) (now (out .entry)) ⌝ }
@@ -31,10 +23,10 @@ pub(crate) fn store_run(words: &[u64], out: &mut [u8], code: u16, count: usize, 
         return;
     }
     match leaf::width(code) {
-        1 => store(words, out, ONE_BYTE, count, p),
-        2 => store(words, out, TWO_BYTES, count, p),
-        4 => store(words, out, FOUR_BYTES, count, p),
-        8 => store(words, out, EIGHT_BYTES, count, p),
+        1 => store(words, out, leaf::UINT8, count, p),
+        2 => store(words, out, leaf::UINT16, count, p),
+        4 => store(words, out, leaf::UINT32, count, p),
+        8 => store(words, out, leaf::UINT64, count, p),
         _ => {}
     }
 }

@@ -98,7 +98,8 @@ leaf =
     record {
       width = λ k a z z′ e e′ p q. p ∙ sym q;
       allowed = λ k a z z′ e e′ p q. p ∙ sym q;
-      word-at = λ k a z z′ e e′ p q. p ∙ sym q;
+      range-of = λ k a z z′ e e′ p q. p ∙ sym q;
+      measure = λ k a z z′ e e′ p q. p ∙ sym q;
       put-s = λ k a z z′ e e′ p q. p ∙ sym q;
       takes = λ k a z z′ e e′ p q. p ∙ sym q;
       truth = λ k a z z′ e e′ p q. p ∙ sym q;

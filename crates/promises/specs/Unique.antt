@@ -66,7 +66,8 @@ use Rattle.table.proofs.layout.member_place.Reads.{Post as table-layout-member-
 use Rattle.table.proofs.sections_in.Reads.{Post as table-sections-in}
 use Rattle.leaf.proofs.width.Reads.{Post as leaf-width}
 use Rattle.leaf.proofs.allowed.Reads.{Post as leaf-allowed}
-use Rattle.leaf.proofs.word_at.Reads.{Post as leaf-word-at}
+use Rattle.leaf.proofs.range_of.Reads.{Post as leaf-range-of}
+use Rattle.leaf.proofs.measure.Reads.{Post as leaf-measure}
 use Rattle.leaf.proofs.put.Reads.{Post as leaf-put}
 use Rattle.leaf.proofs.takes.Reads.{Post as leaf-takes}
 use Rattle.leaf.proofs.truth.Reads.{Post as leaf-truth}
@@ -189,7 +190,8 @@ pub record TableUnique : Type 0 where
 pub record LeafUnique : Type 0 where
   pub width : Answer leaf-width
   pub allowed : Answer leaf-allowed
-  pub word-at : Answer leaf-word-at
+  pub range-of : Answer leaf-range-of
+  pub measure : Answer leaf-measure
   pub put-s : Lent leaf-put (λ k e. now (e .0))
   pub takes : Answer leaf-takes
   pub truth : Answer leaf-truth

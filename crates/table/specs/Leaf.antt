@@ -7,19 +7,19 @@ use lib.Dec.{ltb, leb, eqb}
 use lib.ListN.{getD}
 use Rattle.wire.specs.Bytes.{span}
 
--- a leaf of 2 ^ k bytes; a float has e bits of exponent and below them f bits of fraction
+-- a leaf of 2 ^ k bytes; an unsigned number is below n; a float has e bits of exponent and below them f bits of fraction
 pub data Leaf : Type 0 where
   boolean : Leaf
   signed : ℕ → Leaf
-  unsigned : ℕ → Leaf
+  unsigned : ℕ → ℕ → Leaf
   float : ℕ → ℕ → ℕ → Leaf
   none : Leaf
 
 -- 01, Base codes, from 0 on: boolean8, int8, char8, int16, int32, int64, uint8, byte, uint16, uint32, uint64, float32, double64
 abbrev pub codes : List Leaf
 codes =
-    boolean ∷ signed 0 ∷ unsigned 0 ∷ signed 1 ∷ signed 2 ∷ signed 3 ∷ unsigned 0 ∷ unsigned 0 ∷ unsigned 1 ∷ unsigned 2 ∷ unsigned 3
-    ∷ float 2 8 23 ∷ float 3 11 52 ∷ []
+    boolean ∷ signed 0 ∷ unsigned 0 256 ∷ signed 1 ∷ signed 2 ∷ signed 3 ∷ unsigned 0 256 ∷ unsigned 0 256 ∷ unsigned 1 65536
+    ∷ unsigned 2 4294967296 ∷ unsigned 3 18446744073709551616 ∷ float 2 8 23 ∷ float 3 11 52 ∷ []
 
 unfoldable pub base : ℕ → Leaf
 base code = getD codes code none
@@ -35,7 +35,7 @@ isEnumBase code = eqb code 1 || (leb 3 code && leb code 10)
 unfoldable pub bytesOf : Leaf → ℕ
 bytesOf boolean = 1
 bytesOf (signed k) = 2 ^ k
-bytesOf (unsigned k) = 2 ^ k
+bytesOf (unsigned k n) = 2 ^ k
 bytesOf (float k e f) = 2 ^ k
 bytesOf none = 0
 
@@ -51,7 +51,7 @@ finite e f w = not (eqb (w / 2 ^ f % 2 ^ e) (2 ^ e - 1))
 unfoldable pub isValue : Leaf → ℕ → Bool
 isValue boolean w = ltb w 2
 isValue (signed k) w = inSigned (span k / 2) w
-isValue (unsigned k) w = ltb w (span k)
+isValue (unsigned k n) w = ltb w n
 isValue (float k e f) w = ltb w (span k) && finite e f w
 isValue none w = false
 

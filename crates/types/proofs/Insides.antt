@@ -1,9 +1,12 @@
 -- What stands in the entries of sections that lie within the bytes, at the returns.
 -- Assumes nothing.
-use Prim.Native.Nat.{ℕ, _+_}
+use Prim.Native.Nat.{ℕ, _+_, _-_, _≤_, _<_}
 use mathlib.Core.Path.{_≡_, refl, sym, _∙_}
 use mathlib.Core.List.{List}
-use Rattle.wire.specs.Bytes.{number}
+use native.Mathlib.Omega.{arith}
+use lib.ListN.{length, take, drop}
+use Rattle.wire.specs.Bytes.{number, whole}
+use Rattle.wire.proofs.Numbers.{read-in}
 use Rattle.table.specs.declared.Sections.{Sections}
 use Rattle.table.specs.declared.Entry.{Entry}
 use Rattle.table.specs.declared.Operation.{Operation}
@@ -20,16 +23,20 @@ module _ (t : List ℕ) (s : Sections) (i : ℕ) where
       → n ≡ number 1 t (typePlace s i + 6) → _≡_ {A = Entry} (record { kind = k; of = o; first = f; count = n }) (typeAt t s i)
   type-inside {k} {o} {f} {n} a b c d = type-read t s i (typePlace s i) k o f n refl a b c d
 
-  pub operation-inside : {d k o : ℕ} → d ≡ number 2 t (operationPlace s i) → k ≡ number 1 t (operationPlace s i + 4) → o
+  pub operation-inside : {d k o : ℕ} → Lying t s → i < s .operations .count → d
+      ≡ whole 2 (take (operationPlace s i + 4 - operationPlace s i) (drop (operationPlace s i) t)) 0 → k ≡ number 1 t (operationPlace s i + 4) → o
       ≡ number 1 t (operationPlace s i + 6) → _≡_ {A = Operation} (record { id = d; kind = k; carries = o }) (operationAt t s i)
-  operation-inside {d} {k} {o} a b c = operation-read t s i (operationPlace s i) d k o refl a b c
+  operation-inside {d} {k} {o} lie l a b c =
+      let h : operationPlace s i + 4 ≤ length t = omega (arith, lie .operations) in
+      operation-read t s i (operationPlace s i) d k o refl (read-in 2 t (operationPlace s i) d h a) b c
 
   pub member-inside : {r : ℕ} → r ≡ number 1 t (memberPlace s i) → r ≡ memberAt t s i
   member-inside {r} a = member-read t s i (memberPlace s i) r refl a
 
-  pub value-inside : {r : ℕ} → r ≡ number 3 t (valuePlace s i) → r ≡ valueAt t s i
+  pub value-inside : {r : ℕ} → Lying t s → i < s .values .count → r
+      ≡ whole 3 (take (valuePlace s i + 8 - valuePlace s i) (drop (valuePlace s i) t)) 0 → r ≡ valueAt t s i
   unfolding valueAt
-  value-inside a = a
+  value-inside {r} lie l a = let h : valuePlace s i + 8 ≤ length t = omega (arith, lie .values) in read-in 3 t (valuePlace s i) r h a
 
 -- sections that were found lie within the bytes
 pub found-lie : (t : List ℕ) (s : Sections) (r : Checked) → r ≡ sectionsOf t → r ≡ Table s → Lying t s

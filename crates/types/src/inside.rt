@@ -1,5 +1,5 @@
-// What stands in the entries of sections that lie within the bytes: no byte is tested, so that each number is one load.
-// `table::entries` answers for any sections.
+// What stands in the entries of sections that lie within the bytes: in a part of just a number's length the compiler sees that its
+// bytes are there, and makes one load of each. `table::entries` answers for any sections.
 use table::Entry;
 use table::Operation;
 use table::Sections;
@@ -37,7 +37,7 @@ pub(crate) fn value_in(table: &[u8], s: Sections, i: u32) -> u64
     ensures { λ r. ⌜ r ≡ valueAt (now (table .entry)) s i ⌝ }
 {
     let at = s.values.at as usize + (layout::VALUE_WIDTH as usize) * (i as usize);
-    u64_in(table, at)
+    wire::whole_u64(&table[at..at + 8], 0)
 }
 
 pub(crate) fn operation_in(table: &[u8], s: Sections, i: u16) -> Operation
@@ -46,30 +46,15 @@ pub(crate) fn operation_in(table: &[u8], s: Sections, i: u16) -> Operation
 {
     let at = s.operations.at as usize + (layout::OPERATION_WIDTH as usize) * (i as usize);
     Operation {
-        id: u32_in(table, at),
+        id: wire::whole_u32(&table[at..at + 4], 0),
         kind: u16_in(table, at + 4),
         carries: u16_in(table, at + 6),
     }
 }
 
-// Numbers that are there: in a part of just their length the compiler sees that they are, and makes one load of each.
 fn u16_in(table: &[u8], at: usize) -> u16
     requires { ⌜ at + 2 ≤ length (now table) ⌝ }
     ensures { λ r. ⌜ r ≡ number 1 (now (table .entry)) at ⌝ }
 {
     wire::whole_u16(&table[at..at + 2], 0)
-}
-
-fn u32_in(table: &[u8], at: usize) -> u32
-    requires { ⌜ at + 4 ≤ length (now table) ⌝ }
-    ensures { λ r. ⌜ r ≡ number 2 (now (table .entry)) at ⌝ }
-{
-    wire::whole_u32(&table[at..at + 4], 0)
-}
-
-fn u64_in(table: &[u8], at: usize) -> u64
-    requires { ⌜ at + 8 ≤ length (now table) ⌝ }
-    ensures { λ r. ⌜ r ≡ number 3 (now (table .entry)) at ⌝ }
-{
-    wire::whole_u64(&table[at..at + 8], 0)
 }

@@ -17,9 +17,12 @@ use Rattle.wire.specs.Bytes.{written, Octets}
 use Rattle.wire.proofs.Cond.{yes-if, no-if}
 use Rattle.wire.proofs.Runs.{length-written, written-out}
 use Rattle.wire.specs.All.{allBelow}
-use Rattle.table.specs.Leaf.{width, allowed}
+use Rattle.table.specs.Leaf.{base, width, allowed}
 use Rattle.wire.proofs.AllBelow.{all-below}
+use Rattle.leaf.specs.declared.codes.Range.{Range}
+use Rattle.leaf.specs.Limits.{rangeOf}
 use Rattle.leaf.specs.Forms.{wordAt}
+use Rattle.leaf.proofs.Limits.{every-word}
 use Rattle.walk.specs.declared.Place.{Place}
 use Rattle.walk.specs.Walk.{Step, on, through}
 use Rattle.walk.proofs.Walks.{through-none, through-more}
@@ -27,7 +30,6 @@ use Rattle.walk.proofs.Returns.{stored as put-in}
 use Rattle.unpack.specs.Leaves.{isThere}
 use Rattle.unpack.specs.OneCode.{along, isGood, filled}
 use Rattle.unpack.specs.Steps.{Reads}
-use Rattle.unpack.proofs.OneLeaf.{value-there}
 
 -- the k-th of n leaves stands within them
 module _ (l from n w code k : ℕ) (is : w ≡ width code) (room : from + n * width code ≤ l) (less : k < n) where
@@ -72,8 +74,8 @@ counted-more f k n r h e = go (f k) refl
     go false g = rw (add-one k, g, none (allBelow f k), e, g) (ne-eqb (n + 1) 0 (λ (z : n + 1 ≡ 0). omega arith))
 
 module _ (b : List ℕ) (code from : ℕ) where
-  pub all-good : (n : ℕ) → Octets b → code < 11 → true ≡ allBelow (isGood b code from) n
-  all-good n o h = sym (all-below (isGood b code from) n (λ k l. value-there b (from + k * width code) o code h))
+  pub all-good : (n : ℕ) → Octets b → (g : Range) → g ≡ rangeOf (base code) → g .every ≡ true → true ≡ allBelow (isGood b code from) n
+  all-good n o g e h = sym (all-below (isGood b code from) n (λ k l. every-word b (from + k * width code) o code g e h))
 
   pub judged-none : eqb 0 0 ≡ allBelow (isGood b code from) 0
   unfolding allBelow

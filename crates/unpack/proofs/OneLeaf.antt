@@ -1,19 +1,22 @@
--- A leaf of a base code that is there: that its word is allowed.
+-- A leaf of a base code that is there: its word, each arm being the rule of its code, and that the word is allowed.
 -- Assumes nothing.
-use Prim.Native.Nat.{ℕ, zero, suc, _+_, _-_, _*_, _^_, _≤_, _<_}
+use Prim.Native.Nat.{ℕ, _+_, _-_, _*_, _^_, _≤_, _<_}
 use mathlib.Core.Path.{_≡_, refl, sym, ap, _∙_}
 use mathlib.Core.Bool.{Bool, true, false}
 use mathlib.Core.List.{List, [], _∷_}
+use native.Mathlib.Nat.{add-zero}
 use native.Mathlib.Omega.{arith}
-use borrow.Author.Tests.{le-leb, lt-leb, lt-ltb, le-ltb, ltb-false, leb-true}
+use borrow.Author.Tests.{le-leb, lt-leb, leb-true}
 use lib.Dec.{ltb, leb}
 use lib.ListN.{length, set}
-use Rattle.wire.specs.Bytes.{span, number, written, Octets}
-use Rattle.wire.proofs.Numbers.{number-lt}
+use Rattle.wire.specs.Bytes.{number, written, Octets}
 use Rattle.wire.proofs.Cond.{and-left, and-right}
-use Rattle.table.specs.Leaf.{unsigned, base, inSigned, isValue, width, allowed}
+use Rattle.table.specs.Leaf.{Leaf, base, width, allowed}
+use Rattle.table.proofs.Leaves.{none-of}
+use Rattle.leaf.specs.declared.codes.Range.{Range}
+use Rattle.leaf.specs.Limits.{rangeOf}
 use Rattle.leaf.specs.Forms.{truth, extended, wordOf, wordAt}
-use Rattle.leaf.proofs.Leaves.{truth-small}
+use Rattle.leaf.proofs.Limits.{every-word}
 use Rattle.walk.proofs.Walks.{some-bytes}
 use Rattle.walk.proofs.Returns.{stored as put-in}
 use Rattle.unpack.specs.Leaves.{isThere}
@@ -22,43 +25,43 @@ use Rattle.unpack.specs.Leaves.{isThere}
 pub room-of : (n w : ℕ) → w ≡ width n → (p l code : ℕ) → code ≡ n → p + width code ≤ l → p + w ≤ l
 room-of n w e p l code h r = rw (e, ← h) r
 
+-- the room that a test of the bytes showed
+pub room-there : (l from n code : ℕ) (r : Bool) → n ≡ width code → r ≡ leb (from + n) l → r ≡ true → from + width code ≤ l
+room-there l from n code r e h t = rw (← e) (leb-true (from + n) l (sym h ∙ t))
+
+-- reading: the arm of code n
+pub at-truth : (s : List ℕ) (p x r code : ℕ) → x ≡ number 0 s p → r ≡ truth x → code ≡ 0 → r ≡ wordAt code s p
+unfolding wordAt base wordOf
+at-truth s p x r code e h c = rw (c, ← e) h
+
+module _ (n k : ℕ) where
+  pub at-extended : (half : ℕ) → ((s : List ℕ) (p : ℕ) → extended half (number k s p) ≡ wordAt n s p) → (s : List ℕ) (p x r code : ℕ) → x
+      ≡ number k s p → r ≡ extended half x → code ≡ n → r ≡ wordAt code s p
+  at-extended half is s p x r code e h c = h ∙ ap (extended half) e ∙ is s p ∙ ap (λ (m : ℕ). wordAt m s p) (sym c)
+
+  pub at-number : ((s : List ℕ) (p : ℕ) → number k s p ≡ wordAt n s p) → (s : List ℕ) (p x code : ℕ) → x ≡ number k s p → code ≡ n → x ≡ wordAt code s p
+  at-number is s p x code e c = e ∙ is s p ∙ ap (λ (m : ℕ). wordAt m s p) (sym c)
+
+-- of 64 bits nothing is left to carry
+pub all-bits : (x : ℕ) → x ≡ extended 9223372036854775808 x
+unfolding extended
+all-bits x = go (ltb x 9223372036854775808) refl
+  where
+    go : (b : Bool) → ltb x 9223372036854775808 ≡ b → x ≡ extended 9223372036854775808 x
+    go true e = rw e refl
+    go false e = rw e (sym (add-zero x))
+
+-- no base code at all
+pub no-word : (x : ℕ) → (x ≡ 0 → ⊥) → (x ≡ 1 → ⊥) → (x ≡ 2 → ⊥) → (x ≡ 3 → ⊥) → (x ≡ 4 → ⊥) → (x ≡ 5 → ⊥) → (x ≡ 6 → ⊥) → (x ≡ 7 → ⊥)
+    → (x ≡ 8 → ⊥) → (x ≡ 9 → ⊥) → (x ≡ 10 → ⊥) → (x ≡ 11 → ⊥) → (x ≡ 12 → ⊥) → (s : List ℕ) (p : ℕ) → 0 ≡ wordAt x s p
+unfolding wordAt wordOf
+no-word x d0 d1 d2 d3 d4 d5 d6 d7 d8 d9 d10 d11 d12 s p =
+    sym (ap (λ (l : Leaf). wordOf l s p) (none-of x d0 d1 d2 d3 d4 d5 d6 d7 d8 d9 d10 d11 d12))
+
 -- a store of the word that was read
 pub stored-word : (x : List ℕ) (p w : ℕ) (b : List ℕ) (from code : ℕ) → p < length x → w ≡ wordAt code b from → set x p w
     ≡ written x p (wordAt code b from ∷ [])
 stored-word x p w b from code h e = put-in x p w h ∙ ap (λ (v : ℕ). written x p (v ∷ [])) e
-
--- every word of an integer that is read is allowed
-sign-in : (half x : ℕ) → half ≤ 2 ^ 63 → x < 2 * half → inSigned half (extended half x) ≡ true
-unfolding inSigned extended
-sign-in half x h l = go (ltb x half) refl
-  where
-    go : (t : Bool) → ltb x half ≡ t → inSigned half (extended half x) ≡ true
-    go true e = rw (e, e) refl
-    go false e =
-        let a : half ≤ x = ltb-false x half e in
-        let v : ℕ = x + (2 ^ 64 - 2 * half) in
-        rw (e, le-ltb v half (omega arith), le-leb (2 ^ 64 - half) v (omega arith), lt-ltb v (2 ^ 64) (omega arith)) refl
-
-module _ (s : List ℕ) (p : ℕ) (o : Octets s) where
-  all-unsigned : (k : ℕ) → isValue (unsigned k) (number k s p) ≡ true
-  unfolding isValue
-  all-unsigned k = lt-ltb (number k s p) (span k) (number-lt k s p o)
-
-  -- code by code, up to the floats
-  pub value-there : (code : ℕ) → code < 11 → allowed code (wordAt code s p) ≡ true
-  unfolding allowed wordAt base wordOf isValue
-  value-there zero l = lt-ltb (truth (number 0 s p)) 2 (truth-small (number 0 s p))
-  value-there (suc zero) l = sign-in 128 (number 0 s p) (omega arith) (o p)
-  value-there (suc (suc zero)) l = all-unsigned 0
-  value-there (suc (suc (suc zero))) l = sign-in 32768 (number 1 s p) (omega arith) (number-lt 1 s p o)
-  value-there (suc (suc (suc (suc zero)))) l = sign-in 2147483648 (number 2 s p) (omega arith) (number-lt 2 s p o)
-  value-there (suc (suc (suc (suc (suc zero))))) l = sign-in 9223372036854775808 (number 3 s p) (omega arith) (number-lt 3 s p o)
-  value-there (suc (suc (suc (suc (suc (suc zero)))))) l = all-unsigned 0
-  value-there (suc (suc (suc (suc (suc (suc (suc zero))))))) l = all-unsigned 0
-  value-there (suc (suc (suc (suc (suc (suc (suc (suc zero)))))))) l = all-unsigned 1
-  value-there (suc (suc (suc (suc (suc (suc (suc (suc (suc zero))))))))) l = all-unsigned 2
-  value-there (suc (suc (suc (suc (suc (suc (suc (suc (suc (suc zero)))))))))) l = all-unsigned 3
-  value-there (suc (suc (suc (suc (suc (suc (suc (suc (suc (suc (suc n))))))))))) l = absurd (omega arith)
 
 module _ (b : List ℕ) (from code n : ℕ) (in-payload : from ≤ length b) (is : n ≡ width code) where
   pub cut-off : length b - from < n → false ≡ isThere b code from
@@ -69,9 +72,9 @@ module _ (b : List ℕ) (from code n : ℕ) (in-payload : from ≤ length b) (is
     pub all-there : from + width code ≤ length b
     all-there = omega (arith, is)
 
-    pub surely : Octets b → code < 11 → true ≡ isThere b code from
+    pub surely : Octets b → (g : Range) → g ≡ rangeOf (base code) → g .every ≡ true → true ≡ isThere b code from
     unfolding isThere
-    surely o l = rw (le-leb (from + width code) (length b) all-there, value-there b from o code l) refl
+    surely o g e h = rw (le-leb (from + width code) (length b) all-there, every-word b from o code g e h) refl
 
     pub judged : (w : ℕ) (r : Bool) → w ≡ wordAt code b from → r ≡ allowed code w → r ≡ isThere b code from
     unfolding isThere

@@ -14,34 +14,34 @@ use Rattle.wire.proofs.Numbers.{number-lt, read-in}
 use Rattle.table.specs.Leaf.{width, base, bytesOf}
 use Rattle.leaf.specs.Forms.{wordOf, wordAt}
 use Rattle.walk.specs.declared.Place.{Place}
-use Rattle.unpack.specs.OneCode.{filled}
+use Rattle.unpack.specs.OneCode.{filled, isWhole4}
 use Rattle.unpack.proofs.OneCode.{fewer-in, filled-more, filled-all}
 
 -- the two codes
-pub is-four : (code : ℕ) (r : Bool) → r ≡ (eqb code 9 || eqb code 11) → r ≡ true → (eqb code 9 || eqb code 11) ≡ true
+pub is-four : (code : ℕ) (r : Bool) → r ≡ isWhole4 code → r ≡ true → isWhole4 code ≡ true
 is-four code r e t = sym e ∙ t
 
-either : (P : ℕ → Type 0) (code : ℕ) → P 9 → P 11 → (eqb code 9 || eqb code 11) ≡ true → P code
+either : (P : ℕ → Type 0) (code : ℕ) → P 9 → P 11 → isWhole4 code ≡ true → P code
 either P code a b = go (eqb code 9) refl
   where
     go : (t : Bool) → eqb code 9 ≡ t → (t || eqb code 11) ≡ true → P code
     go true e h = subst P (sym (eqb-true code 9 e)) a
     go false e h = subst P (sym (eqb-true code 11 h)) b
 
-width-four : (code : ℕ) → (eqb code 9 || eqb code 11) ≡ true → width code ≡ 4
+width-four : (code : ℕ) → isWhole4 code ≡ true → width code ≡ 4
 unfolding width base bytesOf
 width-four code is = either (λ (n : ℕ). width n ≡ 4) code refl refl is
 
-word-four : (code : ℕ) (b : List ℕ) (p : ℕ) → (eqb code 9 || eqb code 11) ≡ true → wordAt code b p ≡ number 2 b p
+word-four : (code : ℕ) (b : List ℕ) (p : ℕ) → isWhole4 code ≡ true → wordAt code b p ≡ number 2 b p
 unfolding wordAt base wordOf
 word-four code b p is = either (λ (n : ℕ). wordAt n b p ≡ number 2 b p) code refl refl is
 
 -- where they stand
-pub fours-in : (l from m n room code : ℕ) (r : Bool) → r ≡ (eqb code 9 || eqb code 11) → r ≡ true → from + n * width code ≤ l → m ≡ min n room
+pub fours-in : (l from m n room code : ℕ) (r : Bool) → r ≡ isWhole4 code → r ≡ true → from + n * width code ≤ l → m ≡ min n room
     → from + m * 4 ≤ l
 fours-in l from m n room code r e t h g = rw (← width-four code (sym e ∙ t)) (fewer-in l from m n room code h g)
 
-pub last-room : (l from n code : ℕ) → (eqb code 9 || eqb code 11) ≡ true → from + n * 4 ≤ l → 2 * (n / 2) < n → from + n / 2 * 8 + width code ≤ l
+pub last-room : (l from n code : ℕ) → isWhole4 code ≡ true → from + n * 4 ≤ l → 2 * (n / 2) < n → from + n / 2 * 8 + width code ≤ l
 last-room l from n code is h g = rw (width-four code is) (omega arith)
 
 pub second-in : (x y : List ℕ) (to n k v : ℕ) → length y ≡ length x → to + n ≤ length x → k < n / 2 → to + 2 * k + 1 < length (set y (to + 2 * k) v)
@@ -56,7 +56,7 @@ module _ (s : List ℕ) (p r : ℕ) (o : Octets s) (h : p + 8 ≤ length s) (e :
   second-of-two = rw (read-in 3 s p r h e) (digits-mod (number 2 s p) (number-lt 2 s (p + 4) o))
 
 -- storing
-module _ (b : List ℕ) (code : ℕ) (p : Place) (x : List ℕ) (n : ℕ) (is : (eqb code 9 || eqb code 11) ≡ true) (room : p .to + n ≤ length x) where
+module _ (b : List ℕ) (code : ℕ) (p : Place) (x : List ℕ) (n : ℕ) (is : isWhole4 code ≡ true) (room : p .to + n ≤ length x) where
   one-more : (k v : ℕ) (y : List ℕ) → v ≡ number 2 b (p .from + k * 4) → k < n → y ≡ filled b code p k x → set y (p .to + k) v ≡ filled b code p (k + 1) x
   one-more k v y e l g = filled-more b code p x n k 4 v y (sym (width-four code is)) (e ∙ sym (word-four code b (p .from + k * 4) is)) room l g
 

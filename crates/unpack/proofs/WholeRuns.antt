@@ -15,7 +15,7 @@ use Rattle.wire.proofs.Cond.{yes-if, no-if, and-left, and-right}
 use Rattle.wire.specs.All.{allBelow}
 use Rattle.table.specs.Leaf.{Leaf, none, base, isValue, width, allowed}
 use Rattle.wire.proofs.AllBelow.{at-below}
-use Rattle.table.proofs.Leaves.{no-base}
+use Rattle.table.proofs.Leaves.{none-of}
 use Rattle.leaf.specs.Forms.{wordAt}
 use Rattle.walk.specs.declared.Place.{Place}
 use Rattle.walk.specs.Walk.{Step, on, through}
@@ -80,9 +80,6 @@ module _ (b : List ℕ) (code n : ℕ) (p : Place) (x : List ℕ) where
 pub arm-judged : (b : List ℕ) (code from n m : ℕ) (r : Bool) → r ≡ runThere b m from n → code ≡ m → r ≡ runThere b code from n
 arm-judged b code from n m r e c = e ∙ ap (λ (k : ℕ). runThere b k from n) (sym c)
 
-above : (n x : ℕ) → n ≤ x → (x ≡ n → ⊥) → n + 1 ≤ x
-above n x h d = omega arith
-
 with-true : (a : Bool) → a ≡ (a && true)
 with-true true = refl
 with-true false = refl
@@ -104,7 +101,4 @@ module _ (b : List ℕ) (code from : ℕ) where
   pub arm-none : (code ≡ 0 → ⊥) → (code ≡ 1 → ⊥) → (code ≡ 2 → ⊥) → (code ≡ 3 → ⊥) → (code ≡ 4 → ⊥) → (code ≡ 5 → ⊥) → (code ≡ 6 → ⊥)
       → (code ≡ 7 → ⊥) → (code ≡ 8 → ⊥) → (code ≡ 9 → ⊥) → (code ≡ 10 → ⊥) → (code ≡ 11 → ⊥) → (code ≡ 12 → ⊥) → (n : ℕ)
       → (eqb n 0 && leb from (length b)) ≡ runThere b code from n
-  arm-none d0 d1 d2 d3 d4 d5 d6 d7 d8 d9 d10 d11 d12 n =
-      let h4 : 4 ≤ code = above 3 code (above 2 code (above 1 code (above 0 code (omega arith) d0) d1) d2) d3 in
-      let h8 : 8 ≤ code = above 7 code (above 6 code (above 5 code (above 4 code h4 d4) d5) d6) d7 in
-      none-run n (no-base code (above 12 code (above 11 code (above 10 code (above 9 code (above 8 code h8 d8) d9) d10) d11) d12))
+  arm-none d0 d1 d2 d3 d4 d5 d6 d7 d8 d9 d10 d11 d12 n = none-run n (none-of code d0 d1 d2 d3 d4 d5 d6 d7 d8 d9 d10 d11 d12)

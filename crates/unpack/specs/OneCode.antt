@@ -1,8 +1,8 @@
 -- Leaves of one base code, one behind another.
 use Prim.Native.Nat.{ℕ, zero, suc, _+_, _*_}
-use mathlib.Core.Bool.{Bool, _&&_}
+use mathlib.Core.Bool.{Bool, _&&_, _||_}
 use mathlib.Core.List.{List}
-use lib.Dec.{leb}
+use lib.Dec.{leb, eqb}
 use lib.ListN.{length}
 use Rattle.wire.specs.All.{allBelow}
 use Rattle.table.specs.Leaf.{width, allowed}
@@ -24,3 +24,7 @@ filled b code p (suc k) x = stored b code (along code p k) (filled b code p k x)
 -- so many are all there and allowed
 unfoldable pub runThere : List ℕ → ℕ → ℕ → ℕ → Bool
 runThere b code from n = leb (from + n * width code) (length b) && allBelow (isGood b code from) n
+
+-- uint32 and float32: the codes whose word is the number of four bytes itself
+abbrev pub isWhole4 : ℕ → Bool
+isWhole4 code = eqb code 9 || eqb code 11

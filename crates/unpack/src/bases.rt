@@ -7,10 +7,7 @@ ghost use Rattle.table.specs.Leaf.{width};
 ghost use Rattle.leaf.specs.Forms.{wordAt};
 ghost use Rattle.unpack.specs.Leaves.{isThere};
 
-// float32 and, behind it, double64: the codes of which not every word is allowed.
-pub(crate) const FLOAT32: u16 = 11;
-
-// Whether a leaf of the base code is there, and its word is allowed: of all but the floats every word is.
+// Whether a leaf of the base code is there, and its word is allowed: of most codes every word is.
 pub(crate) fn is_there(payload: &[u8], from: usize, code: u16) -> bool
     requires { ⌜ from ≤ length (now payload) ⌝ }
     ensures { λ r. ⌜ r ≡ isThere (now (payload .entry)) code from ⌝ }
@@ -18,7 +15,7 @@ pub(crate) fn is_there(payload: &[u8], from: usize, code: u16) -> bool
     if payload.len() - from < leaf::width(code) {
         return false;
     }
-    if code < FLOAT32 {
+    if leaf::range_of(code).every {
         return true;
     }
     leaf::allowed(code, word_in(payload, from, code))

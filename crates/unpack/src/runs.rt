@@ -3,14 +3,14 @@
 use crate::bases;
 use walk::Place;
 ghost use mathlib.Core.Path.{_≡_};
-ghost use mathlib.Core.Bool.{true, _||_, cond};
+ghost use mathlib.Core.Bool.{true, cond};
 ghost use Prim.Native.Nat.{_+_, _*_, _/_, _%_, _≤_, _<_};
-ghost use lib.Dec.{leb, eqb};
+ghost use lib.Dec.{leb};
 ghost use lib.ListN.{length};
 ghost use Rattle.wire.specs.Bytes.{number};
 ghost use Rattle.wire.specs.All.{allBelow};
 ghost use Rattle.table.specs.Leaf.{width, allowed};
-ghost use Rattle.unpack.specs.OneCode.{isGood, filled, runThere};
+ghost use Rattle.unpack.specs.OneCode.{isGood, filled, runThere, isWhole4};
 
 // Whether so many leaves of one code are all there and allowed.
 pub(crate) fn judge_run(payload: &[u8], from: usize, code: u16, count: u32) -> bool
@@ -45,13 +45,12 @@ fn judge_each(payload: &[u8], from: usize, code: u16, count: u32) -> bool
     }
 }
 
-// Whether the words of so many leaves are allowed: of all but the floats every word is. The refused are counted, and not left
-// at the first.
+// Whether the words of so many leaves are allowed: of most codes every word is. The refused are counted, and not left at the first.
 fn judged(payload: &[u8], from: usize, code: u16, count: usize) -> bool
     requires { ⌜ (from + count * width code ≤ length (now payload)) × (count < 4294967296) ⌝ }
     ensures { λ r. ⌜ r ≡ allBelow (isGood (now (payload .entry)) code from) count ⌝ }
 {
-    if code < bases::FLOAT32 {
+    if leaf::range_of(code).every {
         return true;
     }
     let width = leaf::width(code);
@@ -136,7 +135,7 @@ fn store(payload: &[u8], words: &mut [u64], code: u16, count: usize, p: Place)
 // them at once, and loses that again by bringing them into order.
 fn store_pairs(payload: &[u8], words: &mut [u64], code: u16, count: usize, p: Place)
     requires { ⌜ (p .from + count * 4 ≤ length (now payload)) × (p .to + count ≤ length (now words)) ⌝ }
-    requires { ⌜ (eqb code 9 || eqb code 11) ≡ true ⌝ }
+    requires { ⌜ isWhole4 code ≡ true ⌝ }
     ensures { λ _. ⌜ now (words .exit) ≡ filled (now (payload .entry)) code p count (now (words .entry)) ⌝ }
 {
     let pairs = count / 2;
@@ -163,7 +162,7 @@ fn two_in(payload: &[u8], at: usize) -> u64
 
 // uint32 and float32.
 fn is_whole4(code: u16) -> bool
-    ensures { λ r. ⌜ r ≡ (eqb code 9 || eqb code 11) ⌝ }
+    ensures { λ r. ⌜ r ≡ isWhole4 code ⌝ }
 {
-    (code == 9) | (code == 11)
+    (code == leaf::UINT32) | (code == leaf::FLOAT32)
 }

@@ -15,6 +15,7 @@ ghost use Rattle.walk.specs.declared.Place.{Place};
 ghost use Rattle.walk.specs.Walk.{Step, start, answer, left, begun, times, leafWalk, metWalk, typeWalk, Goes, Going};
 ghost use Rattle.unpack.specs.Steps.{Reads, ReadsCodes};
 ghost use Rattle.unpack.specs.Reading.{reader, Reading, memberRead};
+use crate::bases;
 use crate::by_codes;
 use crate::runs;
 use walk::COUNT_BYTES;
@@ -187,7 +188,7 @@ fn read_leaf(
 {
     let width = leaf::width(e.of);
     if wire::has_room(payload.len(), p.from, width) {
-        let word = leaf::word_at(payload, p.from, e.of);
+        let word = bases::word_in(payload, p.from, e.of);
         if leaf::takes(table, s, e, word) {
             put_word(words, p.to, word);
             Walked::Went(Place {

@@ -112,7 +112,7 @@ unfolding Says Settled form
 settles boolean w bs h =
     record { byte = h .byte; was = h .is; is = ap (λ (n : ℕ). n ∷ []) (mod-eq-of-lt (omega (arith, truth-small (h .byte), h .says)) ∙ h .says) }
 settles (signed k) w bs h = sym h
-settles (unsigned k) w bs h = sym h
+settles (unsigned k n) w bs h = sym h
 settles (float k e f) w bs h = sym h
 settles none w bs h = sym h
 

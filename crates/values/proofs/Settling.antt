@@ -29,7 +29,7 @@ settled-one : (l : Leaf) (bs cs ds : List ℕ) → Settled l bs cs → Settled l
 unfolding Settled
 settled-one boolean bs cs ds a b = a .is ∙ ap (λ (u : List ℕ). truth (getD u 0 0) ∷ []) (sym (a .was) ∙ b .was) ∙ sym (b .is)
 settled-one (signed k) bs cs ds a b = a ∙ sym b
-settled-one (unsigned k) bs cs ds a b = a ∙ sym b
+settled-one (unsigned k n) bs cs ds a b = a ∙ sym b
 settled-one (float k e f) bs cs ds a b = a ∙ sym b
 settled-one none bs cs ds a b = a ∙ sym b
 

@@ -70,7 +70,7 @@ pub record AsOne (bs cs : List ℕ) : Type 0 where
 unfoldable pub Settled : Leaf → List ℕ → List ℕ → Type 0
 Settled boolean bs cs = AsOne bs cs
 Settled (signed k) bs cs = cs ≡ bs
-Settled (unsigned k) bs cs = cs ≡ bs
+Settled (unsigned k n) bs cs = cs ≡ bs
 Settled (float k e f) bs cs = cs ≡ bs
 Settled none bs cs = cs ≡ bs
 

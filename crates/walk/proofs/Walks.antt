@@ -105,7 +105,7 @@ pub value-bytes : (l : Leaf) (w : ℕ) → isValue l w ≡ true → 1 ≤ bytesO
 unfolding isValue bytesOf
 value-bytes boolean w h = omega arith
 value-bytes (signed k) w h = one-le-pow k 2 (zero-lt-suc 1)
-value-bytes (unsigned k) w h = one-le-pow k 2 (zero-lt-suc 1)
+value-bytes (unsigned k n) w h = one-le-pow k 2 (zero-lt-suc 1)
 value-bytes (float k e f) w h = one-le-pow k 2 (zero-lt-suc 1)
 value-bytes none w h = absurd (let z : _≡_ {A = ℕ} 0 1 = cc in omega arith)
 
@@ -117,7 +117,7 @@ few-in : (l : Leaf) → Real l → bytesOf l ≤ 8
 unfolding bytesOf
 few-in boolean r = omega arith
 few-in (signed k) r = pow-le-pow-right (zero-lt-suc 1) r
-few-in (unsigned k) r = pow-le-pow-right (zero-lt-suc 1) r
+few-in (unsigned k n) r = pow-le-pow-right (zero-lt-suc 1) (r .0)
 few-in (float k e f) r = pow-le-pow-right (zero-lt-suc 1) r
 few-in none r = omega arith
 

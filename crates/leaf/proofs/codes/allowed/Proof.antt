@@ -1,9 +1,8 @@
--- `leaf::allowed` meets its contract: an integer by its limits, a float by the arm of its code.
+-- `leaf::allowed` meets its contract: an integer by its range, a float by the arm of its code.
 -- Assumes nothing.
 use borrow.Author.Needs.{needs}
 use Rattle.table.specs.Leaf.{allowed, base, isValue, finite}
-use Rattle.table.proofs.Leaves.{at-code, double}
-use Rattle.leaf.proofs.Limits.{in-range, other}
+use Rattle.leaf.proofs.Limits.{in-range, at-code, at-double, no-code}
 use Rattle.leaf.proofs.codes.allowed.Statement.{statement}
 use Rattle.leaf.proofs.codes.allowed.Tie as tie
 
@@ -13,7 +12,8 @@ allowed-spec =
     tie.close
     (tie.spec
     (λ c κs. search needs)
+    (λ c κs. search needs)
     (λ c. search in-range)
     (λ c. search (at-code 11))
-    (λ c. search double)
-    (λ c. search other))
+    (λ c. search at-double)
+    (λ c. search no-code))

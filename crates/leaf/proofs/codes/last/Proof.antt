@@ -1,25 +1,27 @@
 -- `leaf::last` meets its contract: each arm is the last of its code.
 -- Assumes nothing.
-use mathlib.Core.Path.{refl}
-use Rattle.leaf.specs.Limits.{last}
-use Rattle.leaf.proofs.Limits.{last-at, no-last}
+use Rattle.table.specs.Leaf.{base}
+use Rattle.table.proofs.Leaves.{arm, no-arm}
+use Rattle.leaf.specs.Limits.{rangeOf}
 use Rattle.leaf.proofs.codes.last.Statement.{statement}
 use Rattle.leaf.proofs.codes.last.Tie as tie
 
 pub last-spec : {M : Type 1} → statement M
-unfolding last
+unfolding base rangeOf
 last-spec =
     tie.close
     (tie.spec
-    (λ c. search (last-at 0 1 refl))
-    (λ c. search (last-at 1 255 refl))
-    (λ c. search (last-at 2 255 refl))
-    (λ c. search (last-at 3 65535 refl))
-    (λ c. search (last-at 4 4294967295 refl))
-    (λ c. search (last-at 5 18446744073709551615 refl))
-    (λ c. search (last-at 6 255 refl))
-    (λ c. search (last-at 7 255 refl))
-    (λ c. search (last-at 8 65535 refl))
-    (λ c. search (last-at 9 4294967295 refl))
-    (λ c. search (last-at 10 18446744073709551615 refl))
-    (λ c. search no-last))
+    (λ c. search (arm (λ l. rangeOf l .last) 0))
+    (λ c. search (arm (λ l. rangeOf l .last) 1))
+    (λ c. search (arm (λ l. rangeOf l .last) 2))
+    (λ c. search (arm (λ l. rangeOf l .last) 3))
+    (λ c. search (arm (λ l. rangeOf l .last) 4))
+    (λ c. search (arm (λ l. rangeOf l .last) 5))
+    (λ c. search (arm (λ l. rangeOf l .last) 6))
+    (λ c. search (arm (λ l. rangeOf l .last) 7))
+    (λ c. search (arm (λ l. rangeOf l .last) 8))
+    (λ c. search (arm (λ l. rangeOf l .last) 9))
+    (λ c. search (arm (λ l. rangeOf l .last) 10))
+    (λ c. search (arm (λ l. rangeOf l .last) 11))
+    (λ c. search (arm (λ l. rangeOf l .last) 12))
+    (λ c. search (no-arm (λ l. rangeOf l .last))))

@@ -1,4 +1,4 @@
--- `pack::runs::judged` meets its contract: each arm judges by its own code.
+-- `pack::limits::judged` meets its contract: each arm judges by its own code.
 -- Assumes nothing.
 use borrow.Author.Needs.{needs}
 use Rattle.pack.proofs.Measures.{by-code, none-by-code}

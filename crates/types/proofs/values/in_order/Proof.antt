@@ -25,7 +25,6 @@ in-order-spec =
     Inv-loop
     μ-loop
     (λ c κs. search needs)
-    (λ c κs. search needs)
     (λ c. (search needs, search none-below, search carried-none))
     (λ c. search needs)
     (λ c. search needs)

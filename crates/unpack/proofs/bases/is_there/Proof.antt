@@ -13,12 +13,15 @@ is-there-spec =
     (λ c. search needs)
     (λ c κs. search needs)
     (λ c. search cut-off)
+    (λ c κs. search needs)
     (λ c.
-    let at-width = c .before .before in
+    let at-range = c .before in
+    let at-if1 = at-range .before in
+    let at-width = at-if1 .before in
     let at-shared-slice-known = at-width .before in
     let at-pre = at-shared-slice-known .before in
-    surely _ _ _ _ (at-pre .pre) (at-width .width .ensures) (c .before .if1 .left)
-    (λ k. omega (arith, at-shared-slice-known .shared-slice-known .given k)) (c .if2 .taken))
+    surely _ _ _ _ (at-pre .pre) (at-width .width .ensures) (at-if1 .if1 .left)
+    (λ k. omega (arith, at-shared-slice-known .shared-slice-known .given k)) _ (at-range .range-of .ensures) (c .if2 .taken))
     (λ c κs. search all-there)
     (λ c κs. search needs)
     (λ c. search judged))

@@ -5,8 +5,7 @@ use mathlib.Core.Path.{refl}
 use Rattle.wire.specs.Bytes.{number}
 use Rattle.table.specs.Leaf.{width, base, bytesOf}
 use Rattle.leaf.specs.Forms.{wordAt, wordOf}
-use Rattle.leaf.proofs.Returns.{at-truth, at-extended, at-number, all-bits, no-word}
-use Rattle.unpack.proofs.OneLeaf.{room-of}
+use Rattle.unpack.proofs.OneLeaf.{room-of, at-truth, at-extended, at-number, all-bits, no-word}
 use Rattle.unpack.proofs.bases.word_in.Statement.{statement}
 use Rattle.unpack.proofs.bases.word_in.Tie as tie
 

@@ -23,7 +23,8 @@ judged-spec =
     (tie.spec
     Inv-loop
     μ-loop
-    (λ c. all-good _ _ _ _ (λ k. omega (arith, c .before .shared-slice-known .given k)) (c .if1 .taken))
+    (λ c κs. search needs)
+    (λ c. all-good _ _ _ _ (λ k. omega (arith, c .before .before .shared-slice-known .given k)) _ (c .before .range-of .ensures) (c .if1 .taken))
     (λ c κs. search needs)
     (λ c. (search judged-none, search needs, search needs))
     (λ c. search product-fits)
