@@ -23,7 +23,7 @@ use Rattle.message.specs.Reading.{readOf}
 use Rattle.platform.specs.declared.reactions.Standing.{Standing}
 use Rattle.platform.specs.declared.reactions.Heard.{Heard}
 use Rattle.platform.specs.declared.reactions.Heard.the-variants as heard
-use Rattle.platform.specs.declared.Outcome.{Outcome}
+use Rattle.platform.specs.declared.Received.{Received}
 use Rattle.platform.specs.declared.reactions.Reaction.{Reaction}
 use Rattle.platform.specs.Reaction.{operationIn, reactionTo}
 use Rattle.platform.specs.Receiving.{refused, answered, laidOut, outcomeOf, outputOf, outcomeIn, outputIn, receivedBy}
@@ -32,7 +32,7 @@ use Rattle.platform.proofs.reactions.Heard.{the-type}
 
 -- the message was refused, or read
 module _ (own : ℕ) (t : List ℕ) (s : Sections) (f : Found) (p : Standing) (x : Reading) where
-  pub unread : (n room : ℕ) (r : Outcome) → x ≡ reading.Refused n → r ≡ refused p n → r ≡ outcomeOf own t s f p x room
+  pub unread : (n room : ℕ) (r : Received) → x ≡ reading.Refused n → r ≡ refused p n → r ≡ outcomeOf own t s f p x room
   unfolding outcomeOf
   unread n room r e d = rw e d
 
@@ -41,7 +41,7 @@ module _ (own : ℕ) (t : List ℕ) (s : Sections) (f : Found) (p : Standing) (x
   unread-output n out e = rw e refl
 
   module _ (h : Header) (m : Message) (start len : ℕ) (e : x ≡ reading.Read h m start len) (a : Reaction) (k : a ≡ reactionTo own t s f p h m start len) where
-    pub was-read : (room : ℕ) (r : Outcome) → r ≡ answered p h a room → r ≡ outcomeOf own t s f p x room
+    pub was-read : (room : ℕ) (r : Received) → r ≡ answered p h a room → r ≡ outcomeOf own t s f p x room
     unfolding outcomeOf
     was-read room r d = rw (e, ← k) d
 
@@ -51,7 +51,7 @@ module _ (own : ℕ) (t : List ℕ) (s : Sections) (f : Found) (p : Standing) (x
 
 -- what the message asks for is looked up
 module _ (own : ℕ) (t : List ℕ) (s : Sections) (p : Standing) (m : List ℕ) (x : Reading) (f : Found) (e : x ≡ readOf own m) (l : f ≡ operationIn t s x) where
-  pub looked-up : (room : ℕ) (r : Outcome) → r ≡ outcomeOf own t s f p x room → r ≡ outcomeIn own t s p m room
+  pub looked-up : (room : ℕ) (r : Received) → r ≡ outcomeOf own t s f p x room → r ≡ outcomeIn own t s p m room
   looked-up room r a =
       a ∙ ap (λ (g : Found). outcomeOf own t s g p x room) l ∙ ap (λ (y : Reading). outcomeOf own t s (operationIn t s y) p y room) e
 
@@ -61,17 +61,17 @@ module _ (own : ℕ) (t : List ℕ) (s : Sections) (p : Standing) (m : List ℕ)
 
 -- on sections
 module _ (own : ℕ) (t : List ℕ) (s : Sections) (p : Standing) (m : List ℕ) (b : Bool) (e : b ≡ within t s) where
-  pub inside : (room : ℕ) (r : Outcome) → b ≡ true → r ≡ outcomeIn own t s p m room → r ≡ sectionsOutcome own t s p m room
+  pub inside : (room : ℕ) (r : Received) → b ≡ true → r ≡ outcomeIn own t s p m room → r ≡ sectionsOutcome own t s p m room
   unfolding sectionsOutcome
-  inside room r z d = d ∙ sym (yes-if {A = Outcome} (outcomeIn own t s p m room) (refused p cutShort) (sym e ∙ z))
+  inside room r z d = d ∙ sym (yes-if {A = Received} (outcomeIn own t s p m room) (refused p cutShort) (sym e ∙ z))
 
   pub inside-output : (out o : List ℕ) → b ≡ true → o ≡ outputIn own t s p m out → o ≡ sectionsOutput own t s p m out
   unfolding sectionsOutput
   inside-output out o z d = d ∙ sym (yes-if (outputIn own t s p m out) out (sym e ∙ z))
 
-  pub outside : (room : ℕ) (r : Outcome) → b ≡ false → r ≡ refused p cutShort → r ≡ sectionsOutcome own t s p m room
+  pub outside : (room : ℕ) (r : Received) → b ≡ false → r ≡ refused p cutShort → r ≡ sectionsOutcome own t s p m room
   unfolding sectionsOutcome
-  outside room r z d = d ∙ sym (no-if {A = Outcome} (outcomeIn own t s p m room) (refused p cutShort) (sym e ∙ z))
+  outside room r z d = d ∙ sym (no-if {A = Received} (outcomeIn own t s p m room) (refused p cutShort) (sym e ∙ z))
 
   pub outside-output : (out : List ℕ) → b ≡ false → out ≡ sectionsOutput own t s p m out
   unfolding sectionsOutput
@@ -79,7 +79,7 @@ module _ (own : ℕ) (t : List ℕ) (s : Sections) (p : Standing) (m : List ℕ)
 
 -- on table bytes
 module _ (own : ℕ) (t : List ℕ) (p : Standing) (m out : List ℕ) (k : Checked) (e : k ≡ checked t) where
-  pub bad-table : (n : ℕ) (r : Outcome) → k ≡ checked.Refused n → r ≡ refused p n → r ≡ receivedOf own t p m (length out)
+  pub bad-table : (n : ℕ) (r : Received) → k ≡ checked.Refused n → r ≡ refused p n → r ≡ receivedOf own t p m (length out)
   unfolding receivedOf receivedBy
   bad-table n r z d = rw (← e, z) d
 
@@ -88,7 +88,7 @@ module _ (own : ℕ) (t : List ℕ) (p : Standing) (m out : List ℕ) (k : Check
   bad-table-output n z = rw (← e, z) refl
 
   module _ (s : Sections) (z : k ≡ checked.Table s) where
-    pub good-table : (r : Outcome) → r ≡ outcomeIn own t s p m (length out) → r ≡ receivedOf own t p m (length out)
+    pub good-table : (r : Received) → r ≡ outcomeIn own t s p m (length out) → r ≡ receivedOf own t p m (length out)
     unfolding receivedOf receivedBy
     good-table r d = rw (← e, z) d
 

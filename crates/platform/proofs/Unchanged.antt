@@ -26,8 +26,8 @@ use Rattle.message.specs.Refusal.{noRoom, readRefusal}
 use Rattle.message.specs.Reading.{readOf}
 use Rattle.message.proofs.Accepted.{Readable, readable}
 use Rattle.platform.specs.declared.reactions.Standing.{Standing}
-use Rattle.platform.specs.declared.Answer.the-variants.{Refused, Noted}
-use Rattle.platform.specs.declared.Outcome.{Outcome}
+use Rattle.platform.specs.declared.Noting.the-variants.{Refused, Noted}
+use Rattle.platform.specs.declared.Received.{Received}
 use Rattle.platform.specs.declared.reactions.Reply.{Reply}
 use Rattle.platform.specs.declared.reactions.Owed.{Owed}
 use Rattle.platform.specs.declared.reactions.Owed.the-variants as owed
@@ -43,7 +43,7 @@ never : {n k : ℕ} {h : Header} {x : _} → Noted h x k ≡ Refused n → ⊥
 never e = let z : _≡_ {A = ℕ} 0 1 = cc in omega arith
 
 -- what stays where the answer is a refusal
-pub record Unchanged (p : Standing) (out : List ℕ) (r : Outcome) (left : List ℕ) : Type 0 where
+pub record Unchanged (p : Standing) (out : List ℕ) (r : Received) (left : List ℕ) : Type 0 where
   pub standing : r .standing ≡ p
   pub output : left ≡ out
 

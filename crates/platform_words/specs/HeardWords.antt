@@ -6,9 +6,9 @@ use Rattle.message.specs.Platform.{statusValue}
 use Rattle.platform.specs.declared.reactions.Standing.{Standing}
 use Rattle.platform.specs.declared.reactions.Heard.{Heard}
 use Rattle.platform.specs.declared.reactions.Heard.the-variants as heard
-use Rattle.platform.specs.declared.Answer.{Answer}
-use Rattle.platform.specs.declared.Answer.the-variants.{Refused, Noted}
-use Rattle.platform.specs.declared.Outcome.{Outcome}
+use Rattle.platform.specs.declared.Noting.{Noting}
+use Rattle.platform.specs.declared.Noting.the-variants.{Refused, Noted}
+use Rattle.platform.specs.declared.Received.{Received}
 use Rattle.platform_words.specs.Words.{standingWords}
 
 -- what was heard is eight words: which kind, its value, the sender and the message's sequence number, the operation's entry, where
@@ -24,16 +24,16 @@ heardWords h n (heard.Operation i start len) = 7 ∷ h .id ∷ h .platform ∷ h
 heardWords h n (heard.NotInTable id) = 8 ∷ id ∷ h .platform ∷ h .sequence ∷ 0 ∷ 0 ∷ 0 ∷ n ∷ []
 
 -- a refusal leaves the answer and the platform's words as they are
-abbrev pub answerWords : Answer → List ℕ → List ℕ
+abbrev pub answerWords : Noting → List ℕ → List ℕ
 answerWords (Refused k) words = words
 answerWords (Noted h x n) words = heardWords h n x
 
-abbrev pub notedWords : Answer → Standing → List ℕ → List ℕ
+abbrev pub notedWords : Noting → Standing → List ℕ → List ℕ
 notedWords (Refused k) p ws = ws
 notedWords (Noted h x n) p ws = standingWords p
 
-abbrev pub heardAfter : Outcome → List ℕ → List ℕ
+abbrev pub heardAfter : Received → List ℕ → List ℕ
 heardAfter o words = answerWords (o .answer) words
 
-abbrev pub platformAfter : Outcome → List ℕ → List ℕ
+abbrev pub platformAfter : Received → List ℕ → List ℕ
 platformAfter o ws = notedWords (o .answer) (o .standing) ws

@@ -10,13 +10,13 @@ use Rattle.table.specs.declared.Found.the-variants.{Nothing}
 use Rattle.table.specs.Search.{lookedUp}
 use Rattle.message.specs.Header.{headerLength, platformDomain, domainIn, senderIn, idIn, payloadSizeIn, sequenceIn}
 use Rattle.message.specs.Refusal.{readRefusal}
-use Rattle.platform.specs.declared.Outcome.{Outcome}
+use Rattle.platform.specs.declared.Received.{Received}
 use Rattle.platform.specs.Receiving.{outcomeIn, outputIn, numberGiven}
 use Rattle.platform_words.specs.Words.{standingIn}
 use Rattle.platform_words.specs.HeardWords.{heardAfter, platformAfter}
 
 -- own number, the platform's words, the table, its sections, the message and the output, in this order
-abbrev pub outcomeWithin : ℕ → List ℕ → List ℕ → Sections → List ℕ → List ℕ → Outcome
+abbrev pub outcomeWithin : ℕ → List ℕ → List ℕ → Sections → List ℕ → List ℕ → Received
 outcomeWithin own ws t s m out = outcomeIn own t s (standingIn ws) m (length out)
 
 abbrev pub numberWithin : ℕ → List ℕ → List ℕ → Sections → List ℕ → List ℕ → ℕ

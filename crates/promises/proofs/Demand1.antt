@@ -36,9 +36,9 @@ use Rattle.pack.specs.Writing.{writer}
 use Rattle.walk.specs.Walk.{start}
 use Rattle.payload.specs.Calls.{answeredIn, leftBy, leftIn, answeredIf, leftIf}
 use Rattle.platform.specs.declared.reactions.Standing.{Standing}
-use Rattle.platform.specs.declared.Outcome.{Outcome as Received′}
-use Rattle.platform.specs.declared.Answer.{Answer as Noting}
-use Rattle.platform.specs.declared.Answer.the-variants as noting
+use Rattle.platform.specs.declared.Received.{Received}
+use Rattle.platform.specs.declared.Noting.{Noting}
+use Rattle.platform.specs.declared.Noting.the-variants as noting
 use Rattle.platform.specs.Replies.{owedLength}
 use Rattle.platform.specs.Reaction.{operationFor, operationIn, reactionTo}
 use Rattle.platform.specs.Receiving.{refused, taken, answered, outcomeOf, outcomeIn, receivedBy, receivedOf, leftOf}
@@ -109,10 +109,10 @@ module _ (own : ℕ) (t : List ℕ) (p : Standing) (m out : List ℕ) where
   checked-kept : (s : Sections) → ¬ (receiveNumber (sectionsOutcome own t s p m (length out) .answer) ≡ 0)
       → Unchanged p out (sectionsOutcome own t s p m (length out)) (sectionsOutput own t s p m out)
   checked-kept s k =
-      let r : Received′ = sectionsOutcome own t s p m (length out) in
+      let r : Received = sectionsOutcome own t s p m (length out) in
       sections-refusal-changes-nothing own p (receiveNumber (r .answer)) out t s m (noting-refused (r .answer) k)
 
-kept : (p : Standing) (out : List ℕ) (r : Received′) (o : List ℕ) → (¬ (receiveNumber (r .answer) ≡ 0) → Unchanged p out r o) → Kept p out r o
+kept : (p : Standing) (out : List ℕ) (r : Received) (o : List ℕ) → (¬ (receiveNumber (r .answer) ≡ 0) → Unchanged p out r o) → Kept p out r o
 kept p out r o u =
     record {
       states = λ k. ap (λ (x : Standing). x .states) (u k .standing);

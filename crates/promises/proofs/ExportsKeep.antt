@@ -37,8 +37,8 @@ use Rattle.table.specs.Words.{sectionsIn}
 use Rattle.payload.specs.declared.Answer.{Answer}
 use Rattle.payload.specs.declared.Answer.the-variants as answer
 use Rattle.payload.specs.Calls.{unpacked, unpackedIn, packed, packedIn}
-use Rattle.platform.specs.declared.Answer.{Answer as Told}
-use Rattle.platform.specs.declared.Answer.the-variants as told
+use Rattle.platform.specs.declared.Noting.{Noting}
+use Rattle.platform.specs.declared.Noting.the-variants as noting
 use Rattle.platform.specs.declared.reactions.Standing.{Standing}
 use Rattle.platform.specs.Receiving.{numberGiven, receivedOf, sectionsOutcome}
 use Rattle.platform_words.specs.Words.{standingIn}
@@ -123,13 +123,13 @@ module _ (ws rooms d : List ℕ) where
   answer-keeps was = outcome-keeps was (takenOf (joinerIn ws) rooms d .outcome)
 
 -- one message at a platform
-heard-keeps : (was : List ℕ) (x : Told) → Keeps (numberGiven x) was (answerWords x was)
-heard-keeps was (told.Refused n) k = refl
-heard-keeps was (told.Noted h x n) k = absurd (k refl)
+heard-keeps : (was : List ℕ) (x : Noting) → Keeps (numberGiven x) was (answerWords x was)
+heard-keeps was (noting.Refused n) k = refl
+heard-keeps was (noting.Noted h x n) k = absurd (k refl)
 
-noted-keeps : (was : List ℕ) (p : Standing) (x : Told) → Keeps (numberGiven x) was (notedWords x p was)
-noted-keeps was p (told.Refused n) k = refl
-noted-keeps was p (told.Noted h x n) k = absurd (k refl)
+noted-keeps : (was : List ℕ) (p : Standing) (x : Noting) → Keeps (numberGiven x) was (notedWords x p was)
+noted-keeps was p (noting.Refused n) k = refl
+noted-keeps was p (noting.Noted h x n) k = absurd (k refl)
 
 -- what a contract says of the number and of what was lent
 by : {B : Type 0} {n m : ℕ} {was left z : B} → n ≡ m → left ≡ z → Keeps m was z → Keeps n was left

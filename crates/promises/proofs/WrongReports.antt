@@ -22,8 +22,8 @@ use Rattle.message.specs.declared.Message.the-variants as message
 use Rattle.platform.specs.declared.reactions.Standing.{Standing}
 use Rattle.platform.specs.declared.reactions.Heard.{Heard}
 use Rattle.platform.specs.declared.reactions.Heard.the-variants as heard
-use Rattle.platform.specs.declared.Answer.{Answer}
-use Rattle.platform.specs.declared.Answer.the-variants.{Refused, Noted}
+use Rattle.platform.specs.declared.Noting.{Noting}
+use Rattle.platform.specs.declared.Noting.the-variants.{Refused, Noted}
 use Rattle.platform.specs.Receiving.{freshStanding, receivedOf}
 use Rattle.promises.specs.Numbers.{operation}
 use Rattle.promises.specs.Platforms.{owedFor, replyLength, Receives, Receiving, NotesBy, RepliesBy}
@@ -100,7 +100,7 @@ module _ (X : Receiving) (r : RepliesBy X) where
       go (not-in-table n e) = absurd (n 1 has)
 
 -- what can be seen in a report
-abbrev heardIn : Answer → Heard
+abbrev heardIn : Noting → Heard
 heardIn (Refused n) = heard.Request
 heardIn (Noted h x n) = x
 
@@ -134,7 +134,7 @@ entryIn (heard.NotVersionedData id) = 0
 entryIn (heard.Operation i start len) = i
 entryIn (heard.NotInTable id) = 0
 
-requests : (a : Answer) → isRequest (heardIn (reported alwaysRequest a)) ≡ 1
+requests : (a : Noting) → isRequest (heardIn (reported alwaysRequest a)) ≡ 1
 requests (Refused n) = refl
 requests (Noted h x n) = refl
 
@@ -158,22 +158,22 @@ first (heard.NotVersionedData id) = refl
 first (heard.Operation i start len) = refl
 first (heard.NotInTable id) = refl
 
-starts : (a : Answer) → startIn (heardIn (reported payloadFromStart a)) ≡ 0
+starts : (a : Noting) → startIn (heardIn (reported payloadFromStart a)) ≡ 0
 starts (Refused n) = refl
 starts (Noted h x n) = from-start x
 
-entries : (a : Answer) → entryIn (heardIn (reported alwaysFirst a)) ≡ 0
+entries : (a : Noting) → entryIn (heardIn (reported alwaysFirst a)) ≡ 0
 entries (Refused n) = refl
 entries (Noted h x n) = first x
 
-abbrev given : Answer
+abbrev given : Noting
 given = receivedOf 1 t p operation 0 .answer
 
 always-request : RepliesBy (answering (reported alwaysRequest)) → ⊥
 always-request r =
     let X : Receiving = answering (reported alwaysRequest) in
     let x : Heard = notes X r .heard in
-    let a : isRequest x ≡ 1 = sym (ap (λ (y : Answer). isRequest (heardIn y)) (notes X r .answer)) ∙ requests given in
+    let a : isRequest x ≡ 1 = sym (ap (λ (y : Noting). isRequest (heardIn y)) (notes X r .answer)) ∙ requests given in
     let b : isRequest x ≡ 0 = ap isRequest (which X r .2) in
     omega arith
 
@@ -181,7 +181,7 @@ payload-from-start : RepliesBy (answering (reported payloadFromStart)) → ⊥
 payload-from-start r =
     let X : Receiving = answering (reported payloadFromStart) in
     let x : Heard = notes X r .heard in
-    let a : startIn x ≡ 0 = sym (ap (λ (y : Answer). startIn (heardIn y)) (notes X r .answer)) ∙ starts given in
+    let a : startIn x ≡ 0 = sym (ap (λ (y : Noting). startIn (heardIn y)) (notes X r .answer)) ∙ starts given in
     let b : startIn x ≡ 20 = ap startIn (which X r .2) in
     omega arith
 
@@ -189,11 +189,11 @@ always-first : RepliesBy (answering (reported alwaysFirst)) → ⊥
 always-first r =
     let X : Receiving = answering (reported alwaysFirst) in
     let x : Heard = notes X r .heard in
-    let a : entryIn x ≡ 0 = sym (ap (λ (y : Answer). entryIn (heardIn y)) (notes X r .answer)) ∙ entries given in
+    let a : entryIn x ≡ 0 = sym (ap (λ (y : Noting). entryIn (heardIn y)) (notes X r .answer)) ∙ entries given in
     let b : entryIn x ≡ which X r .0 = ap entryIn (which X r .2) in
     has-not (subst (HasID t s id) (sym b ∙ a) (which X r .1))
 
-noted : Answer → ℕ
+noted : Noting → ℕ
 noted (Refused n) = 0
 noted (Noted h x n) = 1
 

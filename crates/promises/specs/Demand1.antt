@@ -18,7 +18,7 @@ use Rattle.joiner.specs.declared.Joiner.{Joiner}
 use Rattle.joiner.specs.Take.{takenOf, roomsAfter}
 use Rattle.payload.specs.Calls.{unpackedIn, wordsIn, packedIn, bytesIn, unpacked, wordsAfter, packed, bytesAfter}
 use Rattle.platform.specs.declared.reactions.Standing.{Standing}
-use Rattle.platform.specs.declared.Outcome.{Outcome}
+use Rattle.platform.specs.declared.Received.{Received}
 use Rattle.platform.specs.Replies.{owedLength}
 use Rattle.platform.specs.Reaction.{operationFor, reactionTo}
 use Rattle.platform.specs.Receiving.{receivedOf, leftOf, sectionsOutcome, sectionsOutput, numberGiven as receiveNumber}
@@ -29,7 +29,7 @@ use Rattle.promises.specs.PayloadOrder.{numberOf, LieIn, PayloadInOrder}
 use Rattle.promises.specs.Platforms.{owedFor, replyLength}
 
 -- "changes no channel, room, platform state, sequence number or output byte", call by call: first what a call for one message keeps
-pub record Kept (p : Standing) (out : List ℕ) (r : Outcome) (left : List ℕ) : Type 0 where
+pub record Kept (p : Standing) (out : List ℕ) (r : Received) (left : List ℕ) : Type 0 where
   pub states : Keeps (receiveNumber (r .answer)) (p .states) (r .standing .states)
   pub next : Keeps (receiveNumber (r .answer)) (p .next) (r .standing .next)
   pub output : Keeps (receiveNumber (r .answer)) out left
