@@ -5,8 +5,8 @@ use mathlib.Core.Path.{_≡_, sym, ap, _∙_}
 use mathlib.Core.List.{List, [], _∷_}
 use lib.ListN.{length, getD}
 use Rattle.wire.specs.Bytes.{written}
-use Rattle.binding.specs.Header.{heardIn}
-use Rattle.binding.specs.declared.Heard.{Heard}
+use Rattle.binding.specs.Header.{headingIn}
+use Rattle.binding.specs.declared.Heading.{Heading}
 use Rattle.channel.specs.Outcomes.{refusalIn}
 use Rattle.channel.specs.declared.Step.{Step}
 use Rattle.channel.specs.declared.Judged.{Judged}
@@ -73,8 +73,8 @@ module _ {o : Outcome} (out : List ℕ) where
 
 -- `take`
 module _
-    (ws rooms d : List ℕ) {f : Looked} {r : Heard} {y R : ℕ} {x : Judged}
-    (eR : R ≡ getD ws 1 0) (er : r ≡ heardIn d) (ey : y ≡ senderBy r) (ef : f ≡ foundOf (joinerIn ws) (length rooms) y)
+    (ws rooms d : List ℕ) {f : Looked} {r : Heading} {y R : ℕ} {x : Judged}
+    (eR : R ≡ getD ws 1 0) (er : r ≡ headingIn d) (ey : y ≡ senderBy r) (ef : f ≡ foundOf (joinerIn ws) (length rooms) y)
     (ex : x ≡ judgedBy f R r (length d)) where
   abbrev taken : Taken
   taken = takenOf (joinerIn ws) rooms d

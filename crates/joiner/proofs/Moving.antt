@@ -11,9 +11,9 @@ use lib.ListN.{length, getD}
 use lib.Seq.{getD-set-same}
 use Rattle.wire.specs.Bytes.{written}
 use Rattle.wire.proofs.Cond.{and-left}
-use Rattle.binding.specs.Header.{heardIn, partIn, counterIn, pieceIn}
+use Rattle.binding.specs.Header.{headingIn, partIn, counterIn, pieceIn}
 use Rattle.binding.specs.declared.MessagePart.{MessagePart}
-use Rattle.binding.specs.declared.Heard.{Heard}
+use Rattle.binding.specs.declared.Heading.{Heading}
 use Rattle.channel.specs.Record.{channelLimit, newChannel}
 use Rattle.channel.specs.declared.Channel.{Channel}
 use Rattle.channel.specs.Channel.{roomOf, notedOf}
@@ -95,7 +95,7 @@ channels-length ws = go (isJoiner ws) refl
     go false e = refl
 
 -- a room's size is the second word's, wherever it is asked for
-same-room : {f : Looked} (ws : List ℕ) (b y : ℕ) (r : Heard) (n : ℕ) → f ≡ foundOf (joinerIn ws) b y → judgedBy f (getD ws 1 0) r n
+same-room : {f : Looked} (ws : List ℕ) (b y : ℕ) (r : Heading) (n : ℕ) → f ≡ foundOf (joinerIn ws) b y → judgedBy f (getD ws 1 0) r n
     ≡ judgedBy f (joinerIn ws .room) r n
 unfolding foundOf judgedBy
 same-room {f} ws b y r n e = go (isJoiner ws) refl
@@ -104,7 +104,7 @@ same-room {f} ws b y r n e = go (isJoiner ws) refl
     go true q = rw (stored-joiner ws q)
     go false q = let bad : f ≡ Bad = e ∙ rw (none-good ws b q) in rw bad
 
-pub judged-in : {f : Looked} {r : Heard} {y R : ℕ} {x : Judged} (ws : List ℕ) (b : ℕ) (d : List ℕ) → R ≡ getD ws 1 0 → r ≡ heardIn d → y
+pub judged-in : {f : Looked} {r : Heading} {y R : ℕ} {x : Judged} (ws : List ℕ) (b : ℕ) (d : List ℕ) → R ≡ getD ws 1 0 → r ≡ headingIn d → y
     ≡ senderBy r → f ≡ foundOf (joinerIn ws) b y → x ≡ judgedBy f R r (length d) → x ≡ judgedOf (joinerIn ws) b d
 judged-in {f} {r} {y} {R} {x} ws b d eR er ey ef ex =
     judged-by (joinerIn ws) b d (channels-length ws) er ey ef (ex ∙ ap (λ (q : ℕ). judgedBy f q r (length d)) eR ∙ same-room ws b y r (length d) ef)

@@ -60,10 +60,10 @@ pub fn take(
     ensures { λ _. ⌜ now (rooms .exit) ≡ takeRooms (now (state .entry)) (now (rooms .entry)) (now (datagram .entry)) ⌝ }
     ensures { λ _. ⌜ now (answer .exit) ≡ takeAnswer (now (state .entry)) (now (rooms .entry)) (now (datagram .entry)) (now (answer .entry)) ⌝ }
 {
-    let heard = BindingHeader::read(datagram);
+    let heading = BindingHeader::read(datagram);
     let size = state[1];
-    let found = looking::look(state, rooms.len(), crate::sender_of(heard));
-    match crate::judge(found, size, heard, datagram.len()) {
+    let found = looking::look(state, rooms.len(), crate::sender_of(heading));
+    match crate::judge(found, size, heading, datagram.len()) {
         Judged::Refusal(number) => number,
         Judged::Move { at, step } => {
             let outcome = step.outcome;

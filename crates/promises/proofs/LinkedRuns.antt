@@ -10,9 +10,9 @@ use lib.Dec.{leb, ltb, eqb}
 use lib.ListN.{length, getD}
 use Rattle.wire.proofs.Cond.{and-left, and-right}
 use Rattle.wire.proofs.Runs.{length-written}
-use Rattle.binding.specs.Header.{theVersion, smallestDatagram, largestDatagram, versionIn, heardIn, pieceIn}
+use Rattle.binding.specs.Header.{theVersion, smallestDatagram, largestDatagram, versionIn, headingIn, pieceIn}
 use Rattle.binding.specs.declared.BindingHeader.{BindingHeader}
-use Rattle.binding.specs.declared.Heard.the-variants as heard
+use Rattle.binding.specs.declared.Heading.the-variants as heading
 use Rattle.channel.specs.Record.{channelLimit}
 use Rattle.channel.specs.Outcomes.{refusalIn}
 use Rattle.channel.specs.Channel.{roomOf, steppedOf}
@@ -28,7 +28,7 @@ use Rattle.channel.proofs.Cases.{Stepped, again, whole, begins, stray, long, go
 use Rattle.joiner.specs.Setup.{placeOf, sendersOf, channelAt, good}
 use Rattle.joiner.specs.declared.Joiner.{Joiner}
 use Rattle.joiner.specs.declared.Taken.{Taken}
-use Rattle.joiner.specs.Take.{sentTo, heardBy, judgedOf, takenBy, takenOf, roomsAfter, messageOf}
+use Rattle.joiner.specs.Take.{sentTo, headingBy, judgedOf, takenBy, takenOf, roomsAfter, messageOf}
 use Rattle.joiner.specs.JoinerWords.{recordAt, senderLimit, recordIn, isRecord, areRecords, isJoiner, joinerIn, recordWords}
 use Rattle.joiner.specs.Calls.{outcomeWords, unlessRefused, withRecord, placeIn, takeNumber, takeWords, takeRooms, takeAnswer}
 use Rattle.joiner.specs.Records.{storedIn}
@@ -73,15 +73,15 @@ module _ (j : Joiner) (d : Datagram) where
       go true = step-numbered (step-cases (roomOf (j .room) k) (channelAt j k) (h .counter) (length (pieceIn d)) (h .part))
       go false = refl
 
-  heard-numbered : (t v : Bool) (h : BindingHeader) → ok (heardBy j d (cond t (cond v (heard.Piece h) (heard.Refused 22)) (heard.Refused 21)))
-  unfolding heardBy takenBy
-  heard-numbered true true h = sent-numbered h
-  heard-numbered true false h = refl
-  heard-numbered false v h = refl
+  heading-numbered : (t v : Bool) (h : BindingHeader) → ok (headingBy j d (cond t (cond v (heading.Piece h) (heading.Refused 22)) (heading.Refused 21)))
+  unfolding headingBy takenBy
+  heading-numbered true true h = sent-numbered h
+  heading-numbered true false h = refl
+  heading-numbered false v h = refl
 
-  judged-numbered : (t : Bool) → ok (cond t (heardBy j d (heardIn d)) (Refusal 20))
+  judged-numbered : (t : Bool) → ok (cond t (headingBy j d (headingIn d)) (Refusal 20))
   unfolding takenBy
-  judged-numbered true = heard-numbered (leb smallestDatagram (length d) && leb (length d) largestDatagram) (eqb (versionIn d) theVersion) _
+  judged-numbered true = heading-numbered (leb smallestDatagram (length d) && leb (length d) largestDatagram) (eqb (versionIn d) theVersion) _
   judged-numbered false = refl
 
 pub taken-numbered : (j : Joiner) (rooms : List ℕ) (d : Datagram) → numbered (takenOf j rooms d .outcome) ≡ true

@@ -13,10 +13,10 @@ use Rattle.message.specs.declared.Writing.the-variants as writing
 use Rattle.message.specs.Header.{markIn, versionIn, domainIn, senderIn, idIn, payloadSizeIn, payloadIn}
 use Rattle.message.specs.Reading.{readOut, readOf}
 use Rattle.message.specs.Writing.{writeOf}
-use Rattle.binding.specs.declared.Heard.the-variants as heard
+use Rattle.binding.specs.declared.Heading.the-variants as heading
 use Rattle.binding.specs.declared.cutter.Counted.the-variants as counted
 use Rattle.binding.specs.declared.cutter.Made.the-variants as made
-use Rattle.binding.specs.Header.{partIn, counterIn, pieceIn, headerIn, heardIn, senderIn as datagramSender, versionIn as datagramVersion}
+use Rattle.binding.specs.Header.{partIn, counterIn, pieceIn, headerIn, headingIn, senderIn as datagramSender, versionIn as datagramVersion}
 use Rattle.binding.specs.Cutting.{pieceCount, datagramOf, countedOf, madeOf}
 use Rattle.channel.specs.declared.Step.{Step}
 use Rattle.channel.specs.declared.Outcome.the-variants as outcome
@@ -122,7 +122,7 @@ pub record InOrder : Type 1 where
   pub read : (own : ℕ) (s : List ℕ) → Answers reading.Refused (readOut s) (readChecks own s) (readOf own s)
   pub write : (domain id : ℕ) (payload : List ℕ) (room : ℕ) →
       Answers writing.Refused (writing.Written (20 + length payload)) (writeChecks domain id payload room) (writeOf domain id payload room)
-  pub header : (d : List ℕ) → Answers heard.Refused (heard.Piece (headerIn d)) (headerChecks d) (heardIn d)
+  pub header : (d : List ℕ) → Answers heading.Refused (heading.Piece (headerIn d)) (headerChecks d) (headingIn d)
   pub setup : (ids : List ℕ) (R buffer : ℕ) →
       Answers notSetUp (fresh ids R) (20 when (¬ (CanSetUp ids R buffer)) ∷ []) (setupOf ids R buffer)
   pub take : (j : Joiner) (rooms d : List ℕ) → length (j .channels) ≡ 32 →

@@ -6,10 +6,10 @@ use mathlib.Core.Bool.{Bool, true, false, cond, _&&_, _||_}
 use mathlib.Core.List.{List}
 use lib.Dec.{leb, ltb, eqb}
 use lib.ListN.{length}
-use Rattle.binding.specs.Header.{heardIn, pieceIn}
+use Rattle.binding.specs.Header.{headingIn, pieceIn}
 use Rattle.binding.specs.declared.BindingHeader.{BindingHeader}
-use Rattle.binding.specs.declared.Heard.{Heard}
-use Rattle.binding.specs.declared.Heard.the-variants as heard
+use Rattle.binding.specs.declared.Heading.{Heading}
+use Rattle.binding.specs.declared.Heading.the-variants as heading
 use Rattle.binding.specs.declared.MessagePart.{MessagePart}
 use Rattle.binding.specs.declared.MessagePart.the-variants.{Begin, Middle, End, Whole}
 use Rattle.channel.specs.Record.{badSetup}
@@ -103,12 +103,12 @@ sentWith step j d h =
     let k = placeOf (sendersOf j) (h .sender) in
     cond (ltb k (j .count)) (Move k (step (roomOf (j .room) k) (channelAt j k) (h .part) (h .counter) (length (pieceIn d)))) (Refusal notSetUp)
 
-abbrev pub heardWith : Stepping → Joiner → List ℕ → Heard → Judged
-heardWith step j d (heard.Refused n) = Refusal n
-heardWith step j d (heard.Piece h) = sentWith step j d h
+abbrev pub headingWith : Stepping → Joiner → List ℕ → Heading → Judged
+headingWith step j d (heading.Refused n) = Refusal n
+headingWith step j d (heading.Piece h) = sentWith step j d h
 
 abbrev pub judgedWith : Stepping → Joiner → ℕ → List ℕ → Judged
-judgedWith step j b d = cond (good j b) (heardWith step j d (heardIn d)) (Refusal badSetup)
+judgedWith step j b d = cond (good j b) (headingWith step j d (headingIn d)) (Refusal badSetup)
 
 abbrev pub tookBy : Joiner → List ℕ → Datagram → Judged → Took Joiner
 tookBy j rooms d x = record { outcome = takenBy j x .outcome; state = takenBy j x .joiner; rooms = roomsBy rooms d x }
