@@ -2,8 +2,8 @@
 -- bytes held or delivered, else 0).
 use Prim.Native.Nat.{ℕ}
 use mathlib.Core.List.{List, [], _∷_}
-use Rattle.channel.specs.declared.Place.{Place}
-use Rattle.channel.specs.declared.Place.the-variants.{Datagram, Rooms}
+use Rattle.channel.specs.declared.Slice.{Slice}
+use Rattle.channel.specs.declared.Slice.the-variants.{Datagram, Rooms}
 use Rattle.channel.specs.declared.Outcome.{Outcome}
 use Rattle.channel.specs.declared.Outcome.the-variants.{Refused, Repeated, Delivered, Held, Stray, TooLong}
 
@@ -34,7 +34,7 @@ missedIn (Held m n) = m
 missedIn (Stray m) = m
 missedIn (TooLong m) = m
 
-abbrev pub lengthIn : Place → ℕ
+abbrev pub lengthIn : Slice → ℕ
 lengthIn (Datagram p n) = n
 lengthIn (Rooms p n) = n
 

@@ -11,8 +11,8 @@ use Rattle.channel.specs.Outcomes.{refusalIn}
 use Rattle.channel.specs.declared.Step.{Step}
 use Rattle.channel.specs.declared.Judged.{Judged}
 use Rattle.channel.specs.declared.Judged.the-variants.{Refusal, Move}
-use Rattle.channel.specs.declared.Place.{Place}
-use Rattle.channel.specs.declared.Place.the-variants.{Datagram, Rooms}
+use Rattle.channel.specs.declared.Slice.{Slice}
+use Rattle.channel.specs.declared.Slice.the-variants.{Datagram, Rooms}
 use Rattle.channel.specs.declared.Outcome.{Outcome}
 use Rattle.channel.specs.declared.Outcome.the-variants as outcome
 use Rattle.joiner.specs.Setup.{setupOf, foundOf, answerIn}
@@ -56,10 +56,10 @@ module _ {o : Outcome} (out : List ℕ) where
     pub told-repeated : o ≡ outcome.Repeated → x ≡ (1 ∷ 0 ∷ 0 ∷ 0 ∷ 0 ∷ []) → x ≡ outcomeWords o out
     told-repeated e f = rw e f
 
-    pub told-datagram : {p : Place} (m s l : ℕ) → o ≡ outcome.Delivered m p → p ≡ Datagram s l → x ≡ (2 ∷ m ∷ l ∷ 1 ∷ s ∷ []) → x ≡ outcomeWords o out
+    pub told-datagram : {p : Slice} (m s l : ℕ) → o ≡ outcome.Delivered m p → p ≡ Datagram s l → x ≡ (2 ∷ m ∷ l ∷ 1 ∷ s ∷ []) → x ≡ outcomeWords o out
     told-datagram m s l e g f = rw (e, g) f
 
-    pub told-rooms : {p : Place} (m s l : ℕ) → o ≡ outcome.Delivered m p → p ≡ Rooms s l → x ≡ (2 ∷ m ∷ l ∷ 2 ∷ s ∷ []) → x ≡ outcomeWords o out
+    pub told-rooms : {p : Slice} (m s l : ℕ) → o ≡ outcome.Delivered m p → p ≡ Rooms s l → x ≡ (2 ∷ m ∷ l ∷ 2 ∷ s ∷ []) → x ≡ outcomeWords o out
     told-rooms m s l e g f = rw (e, g) f
 
     pub told-held : (m n : ℕ) → o ≡ outcome.Held m n → x ≡ (3 ∷ m ∷ n ∷ 0 ∷ 0 ∷ []) → x ≡ outcomeWords o out

@@ -22,8 +22,8 @@ use Rattle.binding.specs.declared.Heading.{Heading}
 use Rattle.channel.specs.declared.Step.{Step}
 use Rattle.channel.specs.declared.Judged.{Judged}
 use Rattle.channel.specs.declared.Judged.the-variants.{Refusal, Move}
-use Rattle.channel.specs.declared.Place.{Place}
-use Rattle.channel.specs.declared.Place.the-variants.{Datagram, Rooms}
+use Rattle.channel.specs.declared.Slice.{Slice}
+use Rattle.channel.specs.declared.Slice.the-variants.{Datagram, Rooms}
 use Rattle.channel.specs.declared.Put.{Put}
 use Rattle.channel.specs.declared.Put.the-variants.{Nowhere, At}
 use Rattle.channel.specs.declared.Outcome.{Outcome}
@@ -37,7 +37,7 @@ use Rattle.joiner.specs.JoinerWords.{joinerIn, wordsOf}
 use Rattle.joiner.proofs.FoundBack.{looked}
 use Rattle.joiner.proofs.Judging.{Moved, judged-by, judged-moved, good-sizes}
 
-module _ {o : Outcome} {pl : Place} (d rooms : List ℕ) where
+module _ {o : Outcome} {pl : Slice} (d rooms : List ℕ) where
   pub in-datagram : {x : List ℕ} (m s l : ℕ) → o ≡ Delivered m pl → pl ≡ Datagram s l → x ≡ part d s l → x ≡ messageOf o d rooms
   unfolding messageOf
   in-datagram m s l eo ep ex = rw (eo, ep) ex

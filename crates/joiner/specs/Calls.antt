@@ -4,8 +4,8 @@ use mathlib.Core.List.{List, [], _∷_}
 use Rattle.wire.specs.Bytes.{written}
 use Rattle.binding.specs.Header.{senderIn}
 use Rattle.channel.specs.Outcomes.{refusalIn}
-use Rattle.channel.specs.declared.Place.{Place}
-use Rattle.channel.specs.declared.Place.the-variants.{Datagram, Rooms}
+use Rattle.channel.specs.declared.Slice.{Slice}
+use Rattle.channel.specs.declared.Slice.the-variants.{Datagram, Rooms}
 use Rattle.channel.specs.declared.Outcome.{Outcome}
 use Rattle.channel.specs.declared.Outcome.the-variants as outcome
 use Rattle.joiner.specs.Setup.{setupOf, sendersOf, placeOf, channelAt, answerIn}
@@ -29,7 +29,7 @@ setupWords ids R b ws = acceptedWords (setupOf ids R b .answer) (setupOf ids R b
 
 -- what an outcome is in words: which, missed, the bytes held or delivered, in which slice a delivered message lies (0 none, 1
 -- the datagram, 2 the rooms), and from which byte on; where it is a refusal, the words that were there
-abbrev pub deliveredWords : ℕ → Place → List ℕ
+abbrev pub deliveredWords : ℕ → Slice → List ℕ
 deliveredWords m (Datagram p n) = 2 ∷ m ∷ n ∷ 1 ∷ p ∷ []
 deliveredWords m (Rooms p n) = 2 ∷ m ∷ n ∷ 2 ∷ p ∷ []
 

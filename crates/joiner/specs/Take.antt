@@ -15,8 +15,8 @@ use Rattle.channel.specs.Record.{badSetup}
 use Rattle.channel.specs.declared.Channel.{Channel}
 use Rattle.channel.specs.declared.Put.{Put}
 use Rattle.channel.specs.declared.Put.the-variants.{Nowhere, At}
-use Rattle.channel.specs.declared.Place.{Place}
-use Rattle.channel.specs.declared.Place.the-variants.{Datagram, Rooms}
+use Rattle.channel.specs.declared.Slice.{Slice}
+use Rattle.channel.specs.declared.Slice.the-variants.{Datagram, Rooms}
 use Rattle.channel.specs.declared.Outcome.{Outcome}
 use Rattle.channel.specs.declared.Outcome.the-variants.{Refused, Repeated, Delivered, Held, Stray, TooLong}
 use Rattle.channel.specs.declared.Judged.{Judged}
@@ -86,7 +86,7 @@ unfoldable pub roomsAfter : Joiner → List ℕ → List ℕ → List ℕ
 roomsAfter j rooms d = roomsBy rooms d (judgedOf j (length rooms) d)
 
 -- where the message lies, as a part of the lent slice that holds it
-abbrev pub lyingAt : Place → List ℕ → List ℕ → List ℕ
+abbrev pub lyingAt : Slice → List ℕ → List ℕ → List ℕ
 lyingAt (Datagram p n) d rooms = part d p n
 lyingAt (Rooms p n) d rooms = part rooms p n
 

@@ -22,8 +22,8 @@ use channel::CHANNELS;
 use channel::Channel;
 use channel::Judged;
 use channel::Outcome;
-use channel::Place;
 use channel::Put;
+use channel::Slice;
 
 // 01, Numbers given back. 20 is the set-up's; 21 and 22 are the binding header's.
 pub const NOT_SET_UP: u32 = 23;
@@ -75,9 +75,9 @@ pub fn message<'a>(outcome: Outcome, datagram: &'a [u8], rooms: &'a [u8]) -> &'a
     ensures { λ r. ⌜ now r ≡ messageOf outcome (now (datagram .entry)) (now (rooms .entry)) ⌝ }
 {
     match outcome {
-        Outcome::Delivered { missed: _, place } => match place {
-            Place::Datagram { start, length } => wire::part(datagram, start, length),
-            Place::Rooms { start, length } => wire::part(rooms, start, length),
+        Outcome::Delivered { missed: _, slice } => match slice {
+            Slice::Datagram { start, length } => wire::part(datagram, start, length),
+            Slice::Rooms { start, length } => wire::part(rooms, start, length),
         },
         _ => &datagram[..0],
     }

@@ -10,7 +10,7 @@ use crate::setups::Verdict;
 use binding::BindingHeader;
 use channel::Judged;
 use channel::Outcome;
-use channel::Place;
+use channel::Slice;
 
 // How many words an answer of `take` is.
 pub const ANSWER_WORDS: usize = 5;
@@ -83,8 +83,8 @@ fn put_outcome(answer: &mut [u64; ANSWER_WORDS], outcome: Outcome)
     match outcome {
         Outcome::Refused(_) => {}
         Outcome::Repeated => put_words(answer, REPEATED, 0, 0, 0, 0),
-        Outcome::Delivered { missed, place } => match place {
-            Place::Datagram { start, length } => put_words(
+        Outcome::Delivered { missed, slice } => match slice {
+            Slice::Datagram { start, length } => put_words(
                 answer,
                 DELIVERED,
                 missed as u64,
@@ -92,7 +92,7 @@ fn put_outcome(answer: &mut [u64; ANSWER_WORDS], outcome: Outcome)
                 IN_DATAGRAM,
                 start as u64,
             ),
-            Place::Rooms { start, length } => put_words(
+            Slice::Rooms { start, length } => put_words(
                 answer,
                 DELIVERED,
                 missed as u64,

@@ -19,7 +19,7 @@ use Rattle.channel.specs.Channel.{roomOf, steppedOf}
 use Rattle.channel.specs.declared.Channel.{Channel}
 use Rattle.channel.specs.declared.Room.{Room}
 use Rattle.channel.specs.declared.Step.{Step}
-use Rattle.channel.specs.declared.Place.the-variants as place
+use Rattle.channel.specs.declared.Slice.the-variants as place
 use Rattle.channel.specs.declared.Outcome.{Outcome}
 use Rattle.channel.specs.declared.Outcome.the-variants.{Refused, Repeated, Delivered, Held, Stray, TooLong}
 use Rattle.channel.specs.declared.Judged.{Judged}

@@ -19,7 +19,7 @@ use Rattle.channel.specs.Record.{badSetup}
 use Rattle.channel.specs.Channel.{missedOf, keeping, notedOf, begunOf, followedOf, placedOf, steppedOf}
 use Rattle.channel.specs.declared.Judged.{Judged}
 use Rattle.channel.specs.declared.Judged.the-variants.{Refusal, Move}
-use Rattle.channel.specs.declared.Place.{Place}
+use Rattle.channel.specs.declared.Slice.{Slice}
 use Rattle.channel.specs.declared.Outcome.{Outcome}
 use Rattle.channel.specs.declared.Outcome.the-variants.{Refused, Repeated, Delivered, Held, Stray, TooLong}
 use Rattle.joiner.specs.Setup.{goodSizes, good, freshOf, setupOf}
@@ -116,7 +116,7 @@ with-our-step j rooms d = ap (λ (x : Judged). tookBy j rooms d (cond (good j (l
 
 -- a joiner that never delivers
 module _ (J : Joining) (n : NeverDelivers J) where
-  nothing-back : (o : Outcome) (d rooms : List ℕ) → ((m : ℕ) (p : Place) → o ≡ Delivered m p → ⊥) → handedBack o d rooms ≡ []
+  nothing-back : (o : Outcome) (d rooms : List ℕ) → ((m : ℕ) (p : Slice) → o ≡ Delivered m p → ⊥) → handedBack o d rooms ≡ []
   nothing-back (Delivered m p) d rooms h = absurd (h m p refl)
   nothing-back (Refused n) d rooms h = refl
   nothing-back Repeated d rooms h = refl

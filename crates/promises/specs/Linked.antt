@@ -8,8 +8,8 @@ use lib.Dec.{eqb}
 use lib.ListN.{length, getD}
 use denote.Ref.{now}
 use Rattle.wire.specs.Bytes.{part}
-use Rattle.channel.specs.declared.Place.{Place}
-use Rattle.channel.specs.declared.Place.the-variants as place
+use Rattle.channel.specs.declared.Slice.{Slice}
+use Rattle.channel.specs.declared.Slice.the-variants as place
 use Rattle.channel.specs.declared.Outcome.{Outcome}
 use Rattle.channel.specs.declared.Outcome.the-variants.{Refused, Repeated, Delivered, Held, Stray, TooLong}
 use Rattle.joiner.specs.Calls.{setupWords, takeNumber, takeWords, takeRooms, takeAnswer}
@@ -111,7 +111,7 @@ abbrev pub Delivers : Type 0
 Delivers = DeliversFor nyr
 
 -- the outcome, by the number and the answer's words
-abbrev pub placeFrom : List ℕ → Place
+abbrev pub placeFrom : List ℕ → Slice
 placeFrom w = cond (eqb (getD w 3 0) 1) (place.Datagram (getD w 4 0) (getD w 2 0)) (place.Rooms (getD w 4 0) (getD w 2 0))
 
 abbrev pub outcomeFrom : ℕ → List ℕ → Outcome

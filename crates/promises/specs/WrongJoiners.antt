@@ -19,7 +19,7 @@ use Rattle.channel.specs.declared.Step.{Step}
 use Rattle.channel.specs.declared.Put.the-variants.{Nowhere, At}
 use Rattle.channel.specs.declared.Outcome.{Outcome}
 use Rattle.channel.specs.declared.Outcome.the-variants.{Refused, Repeated, Delivered, Held, Stray, TooLong}
-use Rattle.channel.specs.declared.Place.{Place}
+use Rattle.channel.specs.declared.Slice.{Slice}
 use Rattle.channel.specs.declared.Judged.{Judged}
 use Rattle.channel.specs.declared.Judged.the-variants.{Refusal, Move}
 use Rattle.channel.specs.Channel.{roomOf, repeated, missedOf, notedOf, holding, tooLong, placedOf, steppedOf}
@@ -36,7 +36,7 @@ always o = record { State = Joiner; start = fresh; take = λ j rooms d. record {
 -- whatever it remembers, it never delivers
 abbrev pub NeverDelivers : Joining → Type 0
 NeverDelivers J =
-    (s : J .State) (rooms : List ℕ) (d : Datagram) (m : ℕ) (p : Place) → J .take s rooms d .outcome ≡ Delivered m p → ⊥
+    (s : J .State) (rooms : List ℕ) (d : Datagram) (m : ℕ) (p : Slice) → J .take s rooms d .outcome ≡ Delivered m p → ⊥
 
 -- or it delivers one message at most, of whatever traffic from a set-up
 abbrev pub DeliversOnce : Joining → Type 0
