@@ -100,7 +100,7 @@ abbrev pub headerBytes : BindingHeader → List ℕ
 headerBytes h =
     bytes 0 (theVersion * 64 + codeOf (h .part) * 16 + h .sender / 256) ++ (bytes 0 (h .sender % 256) ++ bytes 1 (h .counter))
 
--- the project's number for each answer, and 0 where nothing is refused
-abbrev pub refusalIn : Heading → ℕ
-refusalIn (Refused n) = n
-refusalIn (Piece h) = 0
+-- by cases: the number that an answer gives back, 0 where the header was read
+abbrev pub numberGiven : Heading → ℕ
+numberGiven (Refused n) = n
+numberGiven (Piece h) = 0

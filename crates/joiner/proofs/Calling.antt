@@ -7,7 +7,7 @@ use lib.ListN.{length, getD}
 use Rattle.wire.specs.Bytes.{written}
 use Rattle.binding.specs.Header.{headingIn}
 use Rattle.binding.specs.declared.Heading.{Heading}
-use Rattle.channel.specs.Outcomes.{refusalIn}
+use Rattle.channel.specs.Outcomes.{numberGiven}
 use Rattle.channel.specs.declared.Step.{Step}
 use Rattle.channel.specs.declared.Judged.{Judged}
 use Rattle.channel.specs.declared.Judged.the-variants.{Refusal, Move}
@@ -15,7 +15,8 @@ use Rattle.channel.specs.declared.Slice.{Slice}
 use Rattle.channel.specs.declared.Slice.the-variants.{Datagram, Rooms}
 use Rattle.channel.specs.declared.Outcome.{Outcome}
 use Rattle.channel.specs.declared.Outcome.the-variants as outcome
-use Rattle.joiner.specs.Setup.{setupOf, foundOf, answerIn}
+use Rattle.joiner.specs.Setup.{setupOf, foundOf}
+use Rattle.joiner.specs.Setup as setup
 use Rattle.joiner.specs.Take.{judgedOf, senderBy, judgedBy, takenBy, takenOf, putBy, roomsBy, roomsAfter}
 use Rattle.joiner.specs.declared.setups.Verdict.{Verdict}
 use Rattle.joiner.specs.declared.setups.Verdict.the-variants.{Accepted, Refused}
@@ -30,11 +31,11 @@ use Rattle.joiner.proofs.Moving.{step-number, judged-in, steps, words-m
 module _ (ids : List ℕ) (R b : ℕ) {m : NewJoiner} (e : m ≡ setupOf ids R b) where
   pub refused-number : (n : ℕ) → m .answer ≡ Refused n → n ≡ setupNumber ids R b
   unfolding setupNumber
-  refused-number n q = sym (ap answerIn (ap (λ (x : NewJoiner). x .answer) (sym e) ∙ q))
+  refused-number n q = sym (ap setup.numberGiven (ap (λ (x : NewJoiner). x .answer) (sym e) ∙ q))
 
   pub accepted-number : m .answer ≡ Accepted → 0 ≡ setupNumber ids R b
   unfolding setupNumber
-  accepted-number q = sym (ap answerIn (ap (λ (x : NewJoiner). x .answer) (sym e) ∙ q))
+  accepted-number q = sym (ap setup.numberGiven (ap (λ (x : NewJoiner). x .answer) (sym e) ∙ q))
 
   module _ (ws : List ℕ) where
     made-words : acceptedWords (m .answer) (m .joiner) ws ≡ setupWords ids R b ws
@@ -89,7 +90,7 @@ module _
 
     refused-take : n ≡ takeNumber ws rooms d
     unfolding takeNumber
-    refused-take = sym (ap (λ (t : Taken). refusalIn (t .outcome)) refused)
+    refused-take = sym (ap (λ (t : Taken). numberGiven (t .outcome)) refused)
 
     refused-state : ws ≡ takeWords ws rooms d
     unfolding takeWords
@@ -121,7 +122,7 @@ module _
 
     moved-take : 0 ≡ takeNumber ws rooms d
     unfolding takeNumber
-    moved-take = step-number (steps ws (length rooms) d k s moved) ∙ ap refusalIn (sym outcome-is)
+    moved-take = step-number (steps ws (length rooms) d k s moved) ∙ ap numberGiven (sym outcome-is)
 
     moved-state : {v : List ℕ} → v ≡ written ws (recordAt k) (recordWords (s .channel)) → v ≡ takeWords ws rooms d
     unfolding takeWords

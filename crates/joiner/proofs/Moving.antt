@@ -17,7 +17,7 @@ use Rattle.binding.specs.declared.Heading.{Heading}
 use Rattle.channel.specs.Record.{channelLimit, newChannel}
 use Rattle.channel.specs.declared.Channel.{Channel}
 use Rattle.channel.specs.Channel.{roomOf, notedOf}
-use Rattle.channel.specs.Outcomes.{refusalIn}
+use Rattle.channel.specs.Outcomes.{numberGiven, leftBy}
 use Rattle.channel.specs.declared.Room.{Room}
 use Rattle.channel.specs.declared.Step.{Step}
 use Rattle.channel.specs.declared.Judged.{Judged}
@@ -31,11 +31,11 @@ use Rattle.joiner.specs.Take.{judgedOf, senderBy, judgedBy, takenBy, cha
 use Rattle.joiner.proofs.Judging.{Moved, judged-by, judged-moved, good-sizes}
 use Rattle.joiner.specs.JoinerWords.{recordAt, areRecords, channelsIn, isJoiner, joinerIn, recordWords}
 use Rattle.joiner.proofs.Stored.{stored-length, none-good, stored-joiner}
-use Rattle.joiner.specs.Calls.{unlessRefused, withRecord, placeIn, wordsBy}
+use Rattle.joiner.specs.Calls.{withRecord, placeIn, wordsBy}
 
 -- a step that was taken
 module _ {room : Room} {ch : Channel} {c n : ℕ} where
-  pub step-changes : {p : MessagePart} {s : Step} (old new : List ℕ) → Stepped room ch c n p s → unlessRefused (s .outcome) old new ≡ new
+  pub step-changes : {p : MessagePart} {s : Step} (old new : List ℕ) → Stepped room ch c n p s → leftBy (s .outcome) old new ≡ new
   step-changes old new (again r) = refl
   step-changes old new (whole r) = refl
   step-changes old new (begins r f) = refl
@@ -44,7 +44,7 @@ module _ {room : Room} {ch : Channel} {c n : ℕ} where
   step-changes old new (goes-on r z f) = refl
   step-changes old new (ends r z f) = refl
 
-  pub step-number : {p : MessagePart} {s : Step} → Stepped room ch c n p s → 0 ≡ refusalIn (s .outcome)
+  pub step-number : {p : MessagePart} {s : Step} → Stepped room ch c n p s → 0 ≡ numberGiven (s .outcome)
   step-number (again r) = refl
   step-number (whole r) = refl
   step-number (begins r f) = refl

@@ -1,12 +1,13 @@
 -- What the calls for one message come to at their returns.
 -- Assumes nothing.
-use Prim.Native.Nat.{ℕ}
+use Prim.Native.Nat.{ℕ, _+_}
 use mathlib.Core.Path.{_≡_, refl, sym, ap, ap₂, _∙_}
 use mathlib.Core.Bool.{Bool, true, false, cond}
 use mathlib.Core.List.{List, [], _∷_}
 use denote.Enum.Declared.{tagOf}
 use types.Run.{OneOf, miss}
-use lib.ListN.{length}
+use lib.Dec.{leb}
+use lib.ListN.{length, take, drop}
 use Rattle.wire.specs.Bytes.{part}
 use Rattle.wire.proofs.Cond.{yes-if, no-if}
 use Rattle.table.specs.declared.Sections.{Sections}
@@ -27,7 +28,8 @@ use Rattle.platform.specs.declared.Received.{Received}
 use Rattle.platform.specs.declared.reactions.Reaction.{Reaction}
 use Rattle.platform.specs.Reaction.{operationIn, reactionTo}
 use Rattle.platform.specs.Receiving.{refused, answered, laidOut, outcomeOf, outputOf, outcomeIn, outputIn, receivedBy}
-use Rattle.platform.specs.Receiving.{receivedOf, leftBy, leftOf, sectionsOutcome, sectionsOutput, payloadHeard}
+use Rattle.platform.specs.Receiving.{receivedOf, leftIf, leftOf, sectionsOutcome, sectionsOutput}
+use Rattle.platform.specs.Heard.{payloadHeard}
 use Rattle.platform.proofs.reactions.Heard.{the-type}
 
 -- the message was refused, or read
@@ -84,7 +86,7 @@ module _ (own : ℕ) (t : List ℕ) (p : Standing) (m out : List ℕ) (k : Check
   bad-table n r z d = rw (← e, z) d
 
   pub bad-table-output : (n : ℕ) → k ≡ checked.Refused n → out ≡ leftOf own t p m out
-  unfolding leftOf leftBy
+  unfolding leftOf leftIf
   bad-table-output n z = rw (← e, z) refl
 
   module _ (s : Sections) (z : k ≡ checked.Table s) where
@@ -93,19 +95,26 @@ module _ (own : ℕ) (t : List ℕ) (p : Standing) (m out : List ℕ) (k : Check
     good-table r d = rw (← e, z) d
 
     pub good-table-output : (o : List ℕ) → o ≡ outputIn own t s p m out → o ≡ leftOf own t p m out
-    unfolding leftOf leftBy
+    unfolding leftOf leftIf
     good-table-output o d = rw (← e, z) d
 
 -- the payload of an operation, and of anything else
 pub operation-payload : (m u : List ℕ) (x : Heard) (i start len : ℕ) → x ≡ heard.Operation i start len → u ≡ part m start len → u ≡ payloadHeard m x
 operation-payload m u x i start len e d = d ∙ ap (payloadHeard m) (sym e)
 
+no-part : (m : List ℕ) → [] ≡ part m 0 0
+no-part m = go (leb (0 + 0) (length m))
+  where
+    go : (b : Bool) → [] ≡ cond b (take 0 (drop 0 m)) []
+    go true = refl
+    go false = refl
+
 pub no-payload : (m : List ℕ) (x : Heard) → OneOf (0 ∷ 1 ∷ 2 ∷ 3 ∷ 4 ∷ 5 ∷ 7 ∷ []) (tagOf the-type x) → [] ≡ payloadHeard m x
-no-payload m (heard.Status y) h = refl
-no-payload m heard.Request h = refl
-no-payload m (heard.UnknownOperation id) h = refl
-no-payload m heard.PullOfAll h = refl
-no-payload m (heard.PullOfOne id i) h = refl
-no-payload m (heard.NotVersionedData id) h = refl
+no-payload m (heard.Status y) h = no-part m
+no-payload m heard.Request h = no-part m
+no-payload m (heard.UnknownOperation id) h = no-part m
+no-payload m heard.PullOfAll h = no-part m
+no-payload m (heard.PullOfOne id i) h = no-part m
+no-payload m (heard.NotVersionedData id) h = no-part m
 no-payload m (heard.Operation i start len) h = absurd (miss (0 ∷ 1 ∷ 2 ∷ 3 ∷ 4 ∷ 5 ∷ 7 ∷ []) 6 tt h)
-no-payload m (heard.NotInTable id) h = refl
+no-payload m (heard.NotInTable id) h = no-part m

@@ -2,10 +2,10 @@
 -- the output.
 use Prim.Native.Nat.{ℕ}
 use mathlib.Core.Bool.{cond}
-use mathlib.Core.List.{List, []}
+use mathlib.Core.List.{List}
 use lib.Dec.{ltb}
 use lib.ListN.{length}
-use Rattle.wire.specs.Bytes.{over, part}
+use Rattle.wire.specs.Bytes.{over}
 use Rattle.table.specs.declared.Sections.{Sections}
 use Rattle.table.specs.declared.Found.{Found}
 use Rattle.table.specs.declared.Checked.{Checked}
@@ -18,8 +18,6 @@ use Rattle.message.specs.declared.Reading.the-variants as reading
 use Rattle.message.specs.Refusal.{noRoom}
 use Rattle.message.specs.Reading.{readOf}
 use Rattle.platform.specs.declared.reactions.Standing.{Standing}
-use Rattle.platform.specs.declared.reactions.Heard.{Heard}
-use Rattle.platform.specs.declared.reactions.Heard.the-variants as heard
 use Rattle.platform.specs.declared.Noting.{Noting}
 use Rattle.platform.specs.declared.Noting.the-variants.{Refused, Noted}
 use Rattle.platform.specs.declared.Received.{Received}
@@ -70,12 +68,12 @@ receivedBy (checked.Table s) own t p m room = outcomeIn own t s p m room
 unfoldable pub receivedOf : ℕ → List ℕ → Standing → List ℕ → ℕ → Received
 receivedOf own t p m room = receivedBy (checked t) own t p m room
 
-unfoldable pub leftBy : Checked → ℕ → List ℕ → Standing → List ℕ → List ℕ → List ℕ
-leftBy (checked.Refused n) own t p m out = out
-leftBy (checked.Table s) own t p m out = outputIn own t s p m out
+unfoldable pub leftIf : Checked → ℕ → List ℕ → Standing → List ℕ → List ℕ → List ℕ
+leftIf (checked.Refused n) own t p m out = out
+leftIf (checked.Table s) own t p m out = outputIn own t s p m out
 
 unfoldable pub leftOf : ℕ → List ℕ → Standing → List ℕ → List ℕ → List ℕ
-leftOf own t p m out = leftBy (checked t) own t p m out
+leftOf own t p m out = leftIf (checked t) own t p m out
 
 -- the call on sections: 30 where these don't lie in the bytes
 unfoldable pub sectionsOutcome : ℕ → List ℕ → Sections → Standing → List ℕ → ℕ → Received
@@ -83,23 +81,3 @@ sectionsOutcome own t s p m room = cond (within t s) (outcomeIn own t s p m room
 
 unfoldable pub sectionsOutput : ℕ → List ℕ → Sections → Standing → List ℕ → List ℕ → List ℕ
 sectionsOutput own t s p m out = cond (within t s) (outputIn own t s p m out) out
-
--- by cases: the number that an answer gives back (0: none), and how many reply bytes were written
-abbrev pub numberGiven : Noting → ℕ
-numberGiven (Refused n) = n
-numberGiven (Noted h x n) = 0
-
-abbrev pub bytesWritten : Noting → ℕ
-bytesWritten (Refused n) = 0
-bytesWritten (Noted h x n) = n
-
--- the payload of an operation, as a part of the message; none of anything else
-abbrev pub payloadHeard : List ℕ → Heard → List ℕ
-payloadHeard m (heard.Status x) = []
-payloadHeard m heard.Request = []
-payloadHeard m (heard.UnknownOperation id) = []
-payloadHeard m heard.PullOfAll = []
-payloadHeard m (heard.PullOfOne id i) = []
-payloadHeard m (heard.NotVersionedData id) = []
-payloadHeard m (heard.Operation i start len) = part m start len
-payloadHeard m (heard.NotInTable id) = []

@@ -15,7 +15,7 @@ ghost use mathlib.Core.Path.{_≡_};
 ghost use lib.ListN.{length};
 ghost use Rattle.platform.specs.Receiving.{freshStanding, refused, taken, answered, laidOut, outcomeOf, outputOf};
 ghost use Rattle.platform.specs.Receiving.{outcomeIn, outputIn, receivedOf, leftOf, sectionsOutcome, sectionsOutput};
-ghost use Rattle.platform.specs.Receiving.{payloadHeard};
+ghost use Rattle.platform.specs.Heard.{payloadHeard};
 use message::Header;
 use message::Own;
 use message::Reading;

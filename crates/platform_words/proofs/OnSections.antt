@@ -9,7 +9,8 @@ use Rattle.table.specs.declared.Sections.{Sections}
 use Rattle.table.specs.Layout.{cutShort, within}
 use Rattle.table.specs.Words.{sectionsIn}
 use Rattle.platform.specs.declared.Received.{Received}
-use Rattle.platform.specs.Receiving.{refused, numberGiven, sectionsOutcome, sectionsOutput}
+use Rattle.platform.specs.Receiving.{refused, sectionsOutcome, sectionsOutput}
+use Rattle.platform.specs.Noting.{numberGiven}
 use Rattle.platform_words.specs.Words.{standingIn}
 use Rattle.platform_words.specs.HeardWords.{heardAfter, platformAfter}
 use Rattle.platform_words.specs.Within.{outcomeWithin, numberWithin, wordsWithin, outputWithin, heardWithin}

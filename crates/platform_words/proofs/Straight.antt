@@ -31,7 +31,8 @@ use Rattle.platform.specs.declared.reactions.Reaction.{Reaction}
 use Rattle.platform.specs.Replies.{owedBytes}
 use Rattle.platform.specs.Reaction.{operationFor, operationIn, silent, onOperation, reactionTo}
 use Rattle.platform.specs.declared.Received.{Received}
-use Rattle.platform.specs.Receiving.{refused, taken, answered, laidOut, outcomeOf, outputOf, outcomeIn, outputIn, numberGiven}
+use Rattle.platform.specs.Receiving.{refused, taken, answered, laidOut, outcomeOf, outputOf, outcomeIn, outputIn}
+use Rattle.platform.specs.Noting.{numberGiven}
 use Rattle.platform_words.specs.Words.{standingIn, standingWords}
 use Rattle.platform_words.specs.HeardWords.{heardAfter, platformAfter}
 use Rattle.platform_words.specs.Within.{outcomeWithin, numberWithin, wordsWithin, outputWithin, heardWithin, operationHeard, operationWords}

@@ -11,7 +11,7 @@ use Rattle.platform.specs.declared.reactions.Heard.{Heard}
 use Rattle.platform.specs.declared.reactions.Heard.the-variants as heard
 use Rattle.platform.specs.declared.Noting.{Noting}
 use Rattle.platform.specs.declared.Noting.the-variants.{Refused, Noted}
-use Rattle.platform.specs.Receiving.{numberGiven}
+use Rattle.platform.specs.Noting.{numberGiven}
 use Rattle.platform_words.specs.Words.{standingWords}
 use Rattle.platform_words.specs.HeardWords.{heardWords, answerWords, notedWords}
 

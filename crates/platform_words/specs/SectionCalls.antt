@@ -4,7 +4,8 @@ use mathlib.Core.List.{List}
 use lib.ListN.{length}
 use Rattle.table.specs.Words.{sectionsIn}
 use Rattle.platform.specs.declared.Received.{Received}
-use Rattle.platform.specs.Receiving.{sectionsOutcome, sectionsOutput, numberGiven}
+use Rattle.platform.specs.Receiving.{sectionsOutcome, sectionsOutput}
+use Rattle.platform.specs.Noting.{numberGiven}
 use Rattle.platform_words.specs.Words.{standingIn}
 use Rattle.platform_words.specs.HeardWords.{heardAfter, platformAfter}
 

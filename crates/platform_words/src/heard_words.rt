@@ -8,7 +8,7 @@ use platform::Received;
 ghost use mathlib.Core.Path.{_≡_};
 ghost use mathlib.Core.List.{[], _∷_};
 ghost use Rattle.message.specs.Platform.{statusValue};
-ghost use Rattle.platform.specs.Receiving.{numberGiven};
+ghost use Rattle.platform.specs.Noting.{numberGiven};
 ghost use Rattle.platform_words.specs.HeardWords.{heardWords, heardAfter, platformAfter};
 use crate::standing_words;
 

@@ -2,6 +2,7 @@ mod Checks
 mod Order
 mod TakeOrder
 pub mod TableOrder
+mod NumbersInOrder
 pub mod PayloadOrder
 pub mod Demand1
 pub mod Headers

@@ -17,20 +17,22 @@ use Rattle.wire.proofs.Numbers.{past-end}
 use Rattle.message.specs.declared.Reading.{Reading}
 use Rattle.message.specs.declared.Writing.the-variants as writing
 use Rattle.message.specs.Header.{headerLength, domainIn, senderIn, idIn, payloadSizeIn, sequenceIn, headerIn}
-use Rattle.message.specs.Platform.{reservedID, payloadLength, statusOf, statusValue, platformMessage, messageOf}
+use Rattle.message.specs.Platform.{reservedID, payloadLength, statusOf, statusValue, platformMessage, messageOf, kindIn, valueIn}
 use Rattle.message.specs.Refusal.{contentsRefusal, readRefusal, writeRefusal}
 use Rattle.message.specs.Reading.{readOut, readOf, payloadOf}
 use Rattle.message.specs.Reading as reads
-use Rattle.message.specs.Writing.{headerFor, messageBytes, unlessRefused, writeOf, outputAfter}
+use Rattle.message.specs.Writing.{headerFor, messageBytes, writeOf, outputAfter}
 use Rattle.message.specs.Writing as writes
 use Rattle.message.proofs.Accepted.{Readable, readable, Writable, writable, admits}
 use Rattle.platform.proofs.Unchanged.{payload-stands}
 use Rattle.binding.specs.Header.{senders, counters}
-use Rattle.binding.specs.Cutting.{canCut, pieceCount, datagramOf, countedOf, countRefusal, madeOf, cutRefusal, cutInto}
+use Rattle.binding.specs.Cutting.{canCut, pieceCount, datagramOf, countedOf, madeOf, cutInto}
+use Rattle.binding.specs.Counted.{numberGiven as countNumber}
+use Rattle.binding.specs.Made.{numberGiven as cutNumber}
 use Rattle.binding.specs.declared.cutter.Counted.the-variants.{Pieces}
 use Rattle.binding.specs.declared.cutter.Made.the-variants as made
 use Rattle.binding.proofs.Cutting.{can-cut, pieces-made, made-front, made-rest}
-use Rattle.nyrkovash.specs.MessageCalls.{kindOf, valueOf, readLeft, writeLeft}
+use Rattle.nyrkovash.specs.MessageCalls.{readLeft, writeLeft}
 use Rattle.nyrkovash.specs.PieceCalls.{countLeft, madeLeft}
 use Rattle.promises.specs.Traffic.{Datagram, deliveredOn, fresh}
 use Rattle.promises.specs.Headers.{ReadsAs}
@@ -71,10 +73,10 @@ module _ (i : ℕ) (p : List ℕ) (e : contentsRefusal 0 i p ≡ 0) where
   abbrev f : ℕ
   f = number 2 p 0
 
-  platform-words : (kindOf (platformMessage i f) ≡ i) × (valueOf i (platformMessage i f) ≡ f)
+  platform-words : (kindIn (platformMessage i f) ≡ i) × (valueIn i (platformMessage i f) ≡ f)
   platform-words = go (eqb i 1) (eqb i 2) (eqb i 3) refl refl refl
     where
-      go : (x y z : Bool) → eqb i 1 ≡ x → eqb i 2 ≡ y → eqb i 3 ≡ z → (kindOf (platformMessage i f) ≡ i) × (valueOf i (platformMessage i f) ≡ f)
+      go : (x y z : Bool) → eqb i 1 ≡ x → eqb i 2 ≡ y → eqb i 3 ≡ z → (kindIn (platformMessage i f) ≡ i) × (valueIn i (platformMessage i f) ≡ f)
       go true y z a b c =
           let s : leb 2 f ≡ false = rw a at state-known in
           rw a (sym (eqb-true i 1 a), state-is f (leb-false 2 f s))
@@ -89,7 +91,7 @@ module _ (i : ℕ) (p : List ℕ) (e : contentsRefusal 0 i p ≡ 0) where
 
 -- the words that tell a message
 told-words : (d i : ℕ) (p : List ℕ) → d < 2 → contentsRefusal d i p ≡ 0
-    → (kindOf (messageOf d i (number 2 p 0)) ≡ kindSent d i) × (valueOf i (messageOf d i (number 2 p 0)) ≡ valueSent d i p)
+    → (kindIn (messageOf d i (number 2 p 0)) ≡ kindSent d i) × (valueIn i (messageOf d i (number 2 p 0)) ≡ valueSent d i p)
 told-words zero i p h e = platform-words i p e
 told-words (suc zero) i p h e = (refl, refl)
 told-words (suc (suc d)) i p h e = absurd (omega arith)
@@ -142,7 +144,7 @@ module _ (own domain id seq : ℕ) (payload out : List ℕ) (ho : own < 256) (hi
   rest-is =
       let b : List ℕ = messageBytes own domain id seq payload in
       let l : 0 + length b ≡ n = omega arith in
-      ap (λ (r : ℕ). drop n (unlessRefused r (over out 0 b) out)) w
+      ap (λ (r : ℕ). drop n (writes.leftBy (writes.answered r n) out (over out 0 b))) w
       ∙ drop-at b (drop (0 + length b) out) n (omega arith) ∙ ap (λ (j : ℕ). drop j out) l
 
   wrote : (written : ℕ) (left : List ℕ) → written ≡ n → left ≡ outputAfter own domain id seq payload out → Wrote own domain id seq payload out written left
@@ -249,7 +251,7 @@ each-is-written =
 
 -- a piece that was cut
 module _ (msg : List ℕ) (s sender first i : ℕ) (out : List ℕ) where
-  made-zero : cutRefusal (madeOf msg s sender first i (length out)) ≡ 0
+  made-zero : cutNumber (madeOf msg s sender first i (length out)) ≡ 0
       → madeOf msg s sender first i (length out) ≡ made.Datagram (length (datagramOf msg s sender first i))
   made-zero e =
       go (canCut (length msg) s && (ltb sender senders && ltb first counters)) (ltb i (pieceCount (length msg) s))
@@ -259,14 +261,14 @@ module _ (msg : List ℕ) (s sender first i : ℕ) (out : List ℕ) where
       l = length (datagramOf msg s sender first i)
 
       go : (a b c : Bool) →
-          cutRefusal (cond a (cond b (cond c (made.Datagram l) (made.Refused 52)) (made.Refused 51)) (made.Refused 50)) ≡ 0
+          cutNumber (cond a (cond b (cond c (made.Datagram l) (made.Refused 52)) (made.Refused 51)) (made.Refused 50)) ≡ 0
           → cond a (cond b (cond c (made.Datagram l) (made.Refused 52)) (made.Refused 51)) (made.Refused 50) ≡ made.Datagram l
       go true true true z = refl
       go true true false z = absurd (omega arith)
       go true false c z = absurd (omega arith)
       go false b c z = absurd (omega arith)
 
-  cut-front : (was written : ℕ) (left : List ℕ) → cutRefusal (madeOf msg s sender first i (length out)) ≡ 0
+  cut-front : (was written : ℕ) (left : List ℕ) → cutNumber (madeOf msg s sender first i (length out)) ≡ 0
       → written ≡ madeLeft was (madeOf msg s sender first i (length out)) → left ≡ cutInto msg s sender first i out
       → take written left ≡ datagramOf msg s sender first i
   cut-front was written left z e f =
@@ -301,7 +303,7 @@ module _ (msg : List ℕ) (s sender first : ℕ) (g : CanBeCut msg s sender firs
       pieces-made msg s sender first i (length out) N counts (g .sender-fits) (g .counter-fits) (omega arith) room in
       let m′ : madeOf (now (a .0)) (a .1 .0) (a .1 .1 .0) (a .1 .1 .1 .0) i (length out)
       ≡ made.Datagram (length (datagramOf msg s sender first i)) = rw (em, es, ek, ef) m in (
-        p .0 ∙ ap cutRefusal m′,
+        p .0 ∙ ap cutNumber m′,
         ap₂ (λ (x : ℕ) (b : List ℕ). drop x b) (p .1 .1 ∙ ap (madeLeft (now (a .1 .1 .1 .1 .1 .1 .0))) m′) (p .1 .0)
             ∙ made-rest (now (a .0)) (a .1 .0) (a .1 .1 .0) (a .1 .1 .1 .0) i out m′
             ∙ ap (λ (x : ℕ). drop x out) (sym (p .1 .1 ∙ ap (madeLeft (now (a .1 .1 .1 .1 .1 .1 .0))) m′)),
@@ -320,7 +322,7 @@ cut-then-joined : CutThenJoined
 cut-then-joined msg s sender first g k a n e p em es =
     let c : countedOf (a .0) (a .1 .0) ≡ Pieces (pieceCount (length msg) s) = rw (em, es) (counts msg s sender first g) in
     let given : now (e .1 .1 .0) ≡ pieceCount (length msg) s = p .1 ∙ ap (countLeft (now (a .1 .1 .0))) c in (
-      p .0 ∙ ap countRefusal c,
+      p .0 ∙ ap countNumber c,
       cuts-each msg s sender first g (now (e .1 .1 .0)) given,
       λ ids R rooms ch ds j l r. joined msg s sender first g ids R rooms ch ds j (l ∙ given) r,
     )

@@ -37,7 +37,8 @@ use Rattle.platform.specs.declared.Noting.the-variants.{Noted}
 use Rattle.platform.specs.declared.reactions.Reaction.{Reaction}
 use Rattle.platform.specs.Replies.{allData, owedLength}
 use Rattle.platform.specs.Reaction.{operationFor, isData, foundData, noData, onPullAll, onPullOne, onPull, onOperation, reactionTo}
-use Rattle.platform.specs.Receiving.{freshStanding, refused, taken, answered, receivedOf, leftOf, sectionsOutcome, sectionsOutput, numberGiven}
+use Rattle.platform.specs.Receiving.{freshStanding, refused, taken, answered, receivedOf, leftOf, sectionsOutcome, sectionsOutput}
+use Rattle.platform.specs.Noting.{numberGiven}
 use Rattle.platform_words.specs.Words.{standingIn, standingWords}
 use Rattle.platform_words.specs.HeardWords.{heardWords, answerWords, notedWords, heardAfter, platformAfter}
 use Rattle.platform_words.specs.StateCalls.{upNumber}

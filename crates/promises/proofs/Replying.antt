@@ -29,7 +29,8 @@ use Rattle.platform.specs.declared.Received.{Received}
 use Rattle.states.specs.States.{isUp}
 use Rattle.platform.specs.Replies.{replyBytes, replyHeader, Wide, replies, Each, owedBytes, owedLength}
 use Rattle.platform.specs.Reaction.{operationFor, operationIn}
-use Rattle.platform.specs.Receiving.{refused, taken, answered, laidOut, outcomeOf, outputOf, receivedBy, receivedOf, leftBy, leftOf, bytesWritten}
+use Rattle.platform.specs.Receiving.{refused, taken, answered, laidOut, outcomeOf, outputOf, receivedBy, receivedOf, leftIf, leftOf}
+use Rattle.platform.specs.Noting.{bytesIn}
 use Rattle.platform.specs.Exchange.{sentOf}
 use Rattle.platform.proofs.ReplyBytes.{length-reply, length-owed}
 use Rattle.platform.proofs.Unchanged.{allBytes, written-is-sent}
@@ -71,8 +72,8 @@ module _ (own : ℕ) (t : List ℕ) (s : Sections) (p : Standing) (m out : List 
       ap (λ (x : Checked). receivedBy x own t p m room) (c .table) ∙ ap (λ (x : Reading). outcomeOf own t s (operationIn t s x) p x room) (c .read)
 
   left-is : leftOf own t p m out ≡ laidOut own the out
-  unfolding leftOf leftBy outputOf operationIn
-  left-is = ap (λ (x : Checked). leftBy x own t p m out) (c .table) ∙ ap (λ (x : Reading). outputOf own t s (operationIn t s x) p x out) (c .read)
+  unfolding leftOf leftIf outputOf operationIn
+  left-is = ap (λ (x : Checked). leftIf x own t p m out) (c .table) ∙ ap (λ (x : Reading). outputOf own t s (operationIn t s x) p x out) (c .read)
 
   heard-as : (readRefusal own m ≡ 0) × (readOut m ≡ reading.Read h kind (c .start) (c .len))
   heard-as = was-read (readRefusal own m) (readOut m) h kind (c .start) (c .len) (c .read)
@@ -147,7 +148,7 @@ module _ (own : ℕ) (t : List ℕ) (s : Sections) (p : Standing) (m out : List 
     sent-is =
         subst
         (λ (b : Bool). part (laidOut own the out) 0
-        (bytesWritten (cond b (refused p noRoom) (taken h the (owedLength (the .owed))) .answer)) ≡ allBytes own (cond b [] (replies (the .owed))))
+        (bytesIn (cond b (refused p noRoom) (taken h the (owedLength (the .owed))) .answer)) ≡ allBytes own (cond b [] (replies (the .owed))))
         (le-ltb (length out) (owedLength (the .owed)) room)
         (written-is-sent own p out t s (operationFor t s h kind) (reading.Read h kind (c .start) (c .len)))
 

@@ -1,6 +1,7 @@
 pub mod Leaf
 pub mod All
 pub mod Layout
+pub mod Checked
 pub mod Entries
 pub mod Operations
 pub mod Words
