@@ -22,7 +22,8 @@ use Rattle.binding.specs.declared.cutter.Made.{Made}
 use Rattle.binding.specs.declared.cutter.Made.the-variants.{Refused, Datagram}
 use Rattle.binding.specs.Header.{senders, counters, largestPiece, codeOf, headerOf, headerBytes}
 use Rattle.binding.specs.Cutting.{pieceCount, countedOf, partOfPiece, bytesFrom, behind, datagramOf, largestMessage, canCut}
-use Rattle.binding.specs.Cutting.{canHead, cannotCut, noSuchPiece, noRoomForDatagram, madeIn, madeOf, outAfter, cutInto}
+use Rattle.binding.specs.Cutting.{canHead, cannotCut, noSuchPiece, noRoomForDatagram, madeIn, madeOf, cutInto}
+use Rattle.binding.specs.Made.{leftBy}
 use Rattle.binding.proofs.Cutting.{cuttable, headable, starts-in, started, covered, count-most}
 
 -- piece i of a message that can be cut, by where it starts
@@ -155,10 +156,10 @@ module _ (msg : List ℕ) (start size : ℕ) {r : ℕ} (e : r ≡ min size (leng
           ∙ sym (written-in out 0 (behind header msg start size) (omega arith))
 
 -- the output after a datagram that fits or does not
-out-written : (d out : List ℕ) → outAfter (madeIn d (length out)) out d ≡ written out 0 d
+out-written : (d out : List ℕ) → leftBy (madeIn d (length out)) out (over out 0 d) ≡ written out 0 d
 out-written d out = go (leb (length d) (length out)) refl
   where
-    go : (t : Bool) → leb (length d) (length out) ≡ t → outAfter (madeIn d (length out)) out d ≡ written out 0 d
+    go : (t : Bool) → leb (length d) (length out) ≡ t → leftBy (madeIn d (length out)) out (over out 0 d) ≡ written out 0 d
     go true e = rw e (sym (written-in out 0 d (omega (arith, leb-true (length d) (length out) e))))
     go false e = rw e (sym (written-out out 0 d (omega (arith, leb-false (length d) (length out) e))))
 
@@ -226,4 +227,4 @@ module _ (msg : List ℕ) (s sender first i : ℕ) (out : List ℕ) {a b : Bool}
       pub output-made : {o : List ℕ} → o ≡ written out 0 (behind head msg (i * s) s) → o ≡ cutInto msg s sender first i out
       output-made e =
           e ∙ ap (written out 0) same ∙ sym (out-written (datagramOf msg s sender first i) out)
-          ∙ ap (λ (r : Made). outAfter r out (datagramOf msg s sender first i)) (sym good)
+          ∙ ap (λ (r : Made). leftBy r out (over out 0 (datagramOf msg s sender first i))) (sym good)

@@ -13,10 +13,10 @@ use borrow.Author.Tests.{le-leb, leb-true, lt-ltb, ltb-true}
 use lib.Dec.{ltb, leb}
 use lib.ListN.{length, take, drop, length-take, length-drop}
 use lib.Seq.{take-all, take-add, take-at, drop-at}
-use Rattle.binding.specs.declared.Heard.the-variants.{Piece}
+use Rattle.binding.specs.declared.Heading.the-variants.{Piece}
 use Rattle.binding.specs.declared.cutter.Counted.the-variants.{Refused as NotCounted, Pieces}
 use Rattle.binding.specs.declared.cutter.Made.the-variants.{Refused, Datagram}
-use Rattle.binding.specs.Header.{headerLength, senders, counters, largestPiece, heardIn, pieceIn}
+use Rattle.binding.specs.Header.{headerLength, senders, counters, largestPiece, headingIn, pieceIn}
 use Rattle.binding.specs.Cutting.{pieceCount, countedOf, pieceAt, counterOf, headerOfPiece, datagramOf, largestMessage}
 use Rattle.binding.specs.Cutting.{canCut, canHead, madeOf, cutInto, together, noRoomForDatagram, noSuchPiece, cannotCut}
 use Rattle.binding.proofs.Headers.{header-back, piece-back}
@@ -113,9 +113,9 @@ pub counter-lt : (first i : ℕ) → counterOf first i < counters
 counter-lt first i = omega arith
 
 module _ (msg : List ℕ) (s sender first i : ℕ) where
-  pub datagram-heard : Cuttable (length msg) s → sender < senders → i < pieceCount (length msg) s
-      → heardIn (datagramOf msg s sender first i) ≡ Piece (headerOfPiece (length msg) s sender first i)
-  datagram-heard w k l =
+  pub datagram-heading : Cuttable (length msg) s → sender < senders → i < pieceCount (length msg) s
+      → headingIn (datagramOf msg s sender first i) ≡ Piece (headerOfPiece (length msg) s sender first i)
+  datagram-heading w k l =
       header-back (headerOfPiece (length msg) s sender first i) (pieceAt msg s i) k (counter-lt first i) (piece-some msg s i (w .size) l)
       (omega (arith, piece-most msg s i, w .piece))
 

@@ -14,10 +14,10 @@ use Rattle.wire.proofs.Numbers.{number-lt}
 use Rattle.binding.specs.declared.MessagePart.{MessagePart}
 use Rattle.binding.specs.declared.MessagePart.the-variants.{Begin, Middle, End, Whole}
 use Rattle.binding.specs.declared.BindingHeader.{BindingHeader}
-use Rattle.binding.specs.declared.Heard.the-variants.{Refused, Piece}
+use Rattle.binding.specs.declared.Heading.the-variants.{Refused, Piece}
 use Rattle.binding.specs.Header.{headerLength, theVersion, senders, counters, largestPiece, smallestDatagram}
 use Rattle.binding.specs.Header.{largestDatagram, codeOf, partOfCode, versionIn, partIn, senderIn, counterIn, headerIn}
-use Rattle.binding.specs.Header.{pieceIn, heardIn, wrongLength, wrongField, headerBytes}
+use Rattle.binding.specs.Header.{pieceIn, headingIn, wrongLength, wrongField, headerBytes}
 use Rattle.binding.proofs.Reading.{has-code}
 
 pub code-lt : (p : MessagePart) → codeOf p < 4
@@ -44,16 +44,16 @@ pub record Headed (d : List ℕ) (h : BindingHeader) : Type 0 where
   pub version : versionIn d ≡ theVersion
   pub fields : h ≡ headerIn d
 
-pub headed-heard : (d : List ℕ) (h : BindingHeader) → Headed d h → heardIn d ≡ Piece h
-headed-heard d h w = rw (
+pub headed-heading : (d : List ℕ) (h : BindingHeader) → Headed d h → headingIn d ≡ Piece h
+headed-heading d h w = rw (
   w .fields,
   le-leb smallestDatagram (length d) (w .long),
   le-leb (length d) largestDatagram (w .short),
   eq-eqb (versionIn d) theVersion (w .version),
 )
 
-pub heard-headed : (d : List ℕ) (h : BindingHeader) → heardIn d ≡ Piece h → Headed d h
-heard-headed d h e = go (leb smallestDatagram (length d)) (leb (length d) largestDatagram) (eqb (versionIn d) theVersion) refl refl refl e
+pub heading-headed : (d : List ℕ) (h : BindingHeader) → headingIn d ≡ Piece h → Headed d h
+heading-headed d h e = go (leb smallestDatagram (length d)) (leb (length d) largestDatagram) (eqb (versionIn d) theVersion) refl refl refl e
   where
     go : (a b v : Bool) → leb smallestDatagram (length d) ≡ a → leb (length d) largestDatagram ≡ b → eqb (versionIn d) theVersion ≡ v →
         cond (a && b) (cond v (Piece (headerIn d)) (Refused wrongField)) (Refused wrongLength) ≡ Piece h → Headed d h
@@ -68,13 +68,13 @@ heard-headed d h e = go (leb smallestDatagram (length d)) (leb (length d) larges
     go false b v ea eb ev q = let z : _≡_ {A = ℕ} 0 1 = cc in absurd (omega arith)
 
 -- where 21 and 22 apply
-pub too-short : (d : List ℕ) → length d < smallestDatagram → heardIn d ≡ Refused wrongLength
+pub too-short : (d : List ℕ) → length d < smallestDatagram → headingIn d ≡ Refused wrongLength
 too-short d h = rw (lt-leb smallestDatagram (length d) h)
 
-pub too-long : (d : List ℕ) → largestDatagram < length d → heardIn d ≡ Refused wrongLength
+pub too-long : (d : List ℕ) → largestDatagram < length d → headingIn d ≡ Refused wrongLength
 too-long d h = rw (le-leb smallestDatagram (length d) (omega arith), lt-leb (length d) largestDatagram h)
 
-pub other-version : (d : List ℕ) → smallestDatagram ≤ length d → length d ≤ largestDatagram → (versionIn d ≡ theVersion → ⊥) → heardIn d ≡ Refused wrongField
+pub other-version : (d : List ℕ) → smallestDatagram ≤ length d → length d ≤ largestDatagram → (versionIn d ≡ theVersion → ⊥) → headingIn d ≡ Refused wrongField
 other-version d l m n = rw (le-leb smallestDatagram (length d) l, le-leb (length d) largestDatagram m, ne-eqb (versionIn d) theVersion n)
 
 -- the ranges of what is read
@@ -97,7 +97,7 @@ header-octets h q hs hc o (suc (suc (suc (suc i)))) = o i
 
 -- written, then read: the same header, and the piece behind it
 pub header-back : (h : BindingHeader) (q : List ℕ) → h .sender < senders → h .counter < counters → 1 ≤ length q → length q ≤ largestPiece
-    → heardIn (headerBytes h ++ q) ≡ Piece h
+    → headingIn (headerBytes h ++ q) ≡ Piece h
 header-back h q hs hc l m =
     let d : List ℕ = headerBytes h ++ q in
     let k : codeOf (h .part) < 4 = code-lt (h .part) in
@@ -105,7 +105,7 @@ header-back h q hs hc l m =
     let p : h .part ≡ partIn d = has-code (h .part) e in
     let s : senderIn d ≡ h .sender = omega arith in
     let c : counterIn d ≡ h .counter = omega arith in
-    headed-heard d h (record { long = omega arith; short = omega arith; version = omega arith; fields = rw (← p, s, c) })
+    headed-heading d h (record { long = omega arith; short = omega arith; version = omega arith; fields = rw (← p, s, c) })
 
 pub piece-back : (h : BindingHeader) (q : List ℕ) → pieceIn (headerBytes h ++ q) ≡ q
 piece-back h q = refl
@@ -118,9 +118,9 @@ front-four d h =
     ∙ ap (_∷_ (getD d 2 0)) (drop-cons d 3 0 (omega arith))))
 
 -- read, then written: the same bytes
-pub bytes-back : (d : List ℕ) (h : BindingHeader) → Octets d → heardIn d ≡ Piece h → headerBytes h ++ pieceIn d ≡ d
+pub bytes-back : (d : List ℕ) (h : BindingHeader) → Octets d → headingIn d ≡ Piece h → headerBytes h ++ pieceIn d ≡ d
 bytes-back d h o e =
-    let w : Headed d h = heard-headed d h e in
+    let w : Headed d h = heading-headed d h e in
     let b : getD d 0 0 < 256 = o 0 in
     let k : codeOf (partIn d) ≡ number 0 d 0 / 16 % 4 = part-code (number 0 d 0 / 16 % 4) (omega arith) in
     let b0 : 0 + codeOf (partIn d) * 16 + senderIn d / 256 ≡ getD d 0 0 = omega (arith, o 1, w .version) in

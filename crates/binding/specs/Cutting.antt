@@ -6,6 +6,7 @@ use lib.Dec.{ltb, leb, eqb}
 use lib.ListN.{length, take, drop}
 use Rattle.wire.specs.Bytes.{over}
 use Rattle.binding.specs.Header.{senders, counters, largestPiece, headerOf, headerBytes}
+use Rattle.binding.specs.Made.{leftBy}
 use Rattle.binding.specs.declared.MessagePart.{MessagePart}
 use Rattle.binding.specs.declared.MessagePart.the-variants.{Begin, Middle, End, Whole}
 use Rattle.binding.specs.declared.BindingHeader.{BindingHeader}
@@ -81,24 +82,11 @@ madeOf msg s sender first i room =
     (cond (ltb i (pieceCount (length msg) s)) (madeIn (datagramOf msg s sender first i) room) (Refused noSuchPiece))
     (Refused cannotCut)
 
--- the output after an answer: a refusal leaves it, a datagram goes to its start and leaves the rest
-abbrev pub outAfter : Made → List ℕ → List ℕ → List ℕ
-outAfter (Refused n) out d = out
-outAfter (Datagram n) out d = over out 0 d
-
+-- the output afterwards: a refusal leaves it, a datagram goes to its start and leaves the rest
 abbrev pub cutInto : List ℕ → ℕ → ℕ → ℕ → ℕ → List ℕ → List ℕ
-cutInto msg s sender first i out = outAfter (madeOf msg s sender first i (length out)) out (datagramOf msg s sender first i)
+cutInto msg s sender first i out = leftBy (madeOf msg s sender first i (length out)) out (over out 0 (datagramOf msg s sender first i))
 
 -- the first n pieces, one behind another
 abbrev pub together : List ℕ → ℕ → ℕ → List ℕ
 together msg s zero = []
 together msg s (suc n) = together msg s n ++ pieceAt msg s n
-
--- the project's number for each answer, and 0 where nothing is refused
-abbrev pub countRefusal : Counted → ℕ
-countRefusal (NotCounted n) = n
-countRefusal (Pieces n) = 0
-
-abbrev pub cutRefusal : Made → ℕ
-cutRefusal (Refused n) = n
-cutRefusal (Datagram n) = 0

@@ -8,8 +8,8 @@ use Rattle.wire.specs.Bytes.{number, bytes}
 use Rattle.binding.specs.declared.MessagePart.{MessagePart}
 use Rattle.binding.specs.declared.MessagePart.the-variants.{Begin, Middle, End, Whole}
 use Rattle.binding.specs.declared.BindingHeader.{BindingHeader}
-use Rattle.binding.specs.declared.Heard.{Heard}
-use Rattle.binding.specs.declared.Heard.the-variants.{Refused, Piece}
+use Rattle.binding.specs.declared.Heading.{Heading}
+use Rattle.binding.specs.declared.Heading.the-variants.{Refused, Piece}
 
 -- 000, Table 8
 abbrev pub headerLength : ℕ
@@ -89,8 +89,8 @@ abbrev pub wrongField : ℕ
 wrongField = 22
 
 -- what a datagram is read as: every field but the version may have every value
-abbrev pub heardIn : List ℕ → Heard
-heardIn d =
+abbrev pub headingIn : List ℕ → Heading
+headingIn d =
     cond (leb smallestDatagram (length d) && leb (length d) largestDatagram)
     (cond (eqb (versionIn d) theVersion) (Piece (headerIn d)) (Refused wrongField))
     (Refused wrongLength)
@@ -100,7 +100,7 @@ abbrev pub headerBytes : BindingHeader → List ℕ
 headerBytes h =
     bytes 0 (theVersion * 64 + codeOf (h .part) * 16 + h .sender / 256) ++ (bytes 0 (h .sender % 256) ++ bytes 1 (h .counter))
 
--- the project's number for each answer, and 0 where nothing is refused
-abbrev pub refusalIn : Heard → ℕ
-refusalIn (Refused n) = n
-refusalIn (Piece h) = 0
+-- by cases: the number that an answer gives back, 0 where the header was read
+abbrev pub numberGiven : Heading → ℕ
+numberGiven (Refused n) = n
+numberGiven (Piece h) = 0

@@ -1,2 +1,4 @@
 pub mod Header
+pub mod Counted
+pub mod Made
 pub mod Cutting

@@ -11,7 +11,7 @@ pub use cutter::NO_SUCH_PIECE;
 pub use cutter::cut;
 pub use cutter::pieces;
 ghost use mathlib.Core.Path.{_≡_};
-ghost use Rattle.binding.specs.Header.{partOfCode, headerOf, heardIn};
+ghost use Rattle.binding.specs.Header.{partOfCode, headerOf, headingIn};
 
 // Which part of its message a datagram carries (000, Table 9). `Whole` is the table's "begin and end".
 pub enum MessagePart {
@@ -29,7 +29,7 @@ pub struct BindingHeader {
 }
 
 // What reading a datagram's header finds: a refusal's number, or the header. The piece is all that follows it.
-pub enum Heard {
+pub enum Heading {
     Refused(u32),
     Piece(BindingHeader),
 }
@@ -75,8 +75,8 @@ impl BindingHeader {
     }
 
     // The header of a datagram: its length is judged first, then the version. Every other field may have every value.
-    pub fn read(datagram: &[u8]) -> Heard
-        ensures { λ r. ⌜ r ≡ heardIn (now (datagram .entry)) ⌝ }
+    pub fn read(datagram: &[u8]) -> Heading
+        ensures { λ r. ⌜ r ≡ headingIn (now (datagram .entry)) ⌝ }
     {
         let length = datagram.len();
         if (BindingHeader::SMALLEST_DATAGRAM <= length)
@@ -88,12 +88,12 @@ impl BindingHeader {
                 let part = part_of_code((word / (SENDERS * COUNTERS) % PARTS) as u8);
                 let sender = (word / COUNTERS % SENDERS) as u16;
                 let counter = (word % COUNTERS) as u16;
-                Heard::Piece(BindingHeader::new(part, sender, counter))
+                Heading::Piece(BindingHeader::new(part, sender, counter))
             } else {
-                Heard::Refused(WRONG_FIELD)
+                Heading::Refused(WRONG_FIELD)
             }
         } else {
-            Heard::Refused(WRONG_DATAGRAM_LENGTH)
+            Heading::Refused(WRONG_DATAGRAM_LENGTH)
         }
     }
 }

@@ -14,7 +14,7 @@ use Rattle.channel.specs.declared.Channel.{Channel}
 use Rattle.channel.specs.declared.Room.{Room}
 use Rattle.channel.specs.declared.Step.{Step}
 use Rattle.channel.specs.declared.Put.the-variants.{Nowhere, At}
-use Rattle.channel.specs.declared.Place.the-variants.{Rooms}
+use Rattle.channel.specs.declared.Slice.the-variants.{Rooms}
 use Rattle.channel.specs.declared.Outcome.the-variants.{Refused, Repeated, Delivered, Held, Stray, TooLong}
 use Rattle.channel.specs.Channel.{missedOf, repeated, keeping, notedOf, holding, tooLong, wholeOf, begunOf, joinedOf, followedOf, placedOf, steppedOf}
 use Rattle.channel.specs.Record.{goodChannel, newChannel}

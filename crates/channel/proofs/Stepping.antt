@@ -14,7 +14,7 @@ use Rattle.channel.specs.declared.Room.{Room}
 use Rattle.channel.specs.declared.Step.{Step}
 use Rattle.channel.specs.declared.Put.{Put}
 use Rattle.channel.specs.declared.Put.the-variants.{Nowhere, At}
-use Rattle.channel.specs.declared.Place.the-variants.{Datagram, Rooms}
+use Rattle.channel.specs.declared.Slice.the-variants.{Datagram, Rooms}
 use Rattle.channel.specs.declared.Outcome.the-variants.{Repeated, Delivered, Held, TooLong}
 use Rattle.channel.specs.Channel.{Steppable, missedOf, repeated, keeping, notedOf, holding, strayOf, tooLong, wholeOf}
 use Rattle.channel.specs.Channel.{begunOf, followedOf, joinedOf, behindOf, placedOf, steppedOf}

@@ -15,7 +15,7 @@ use Rattle.channel.specs.declared.Put.{Put}
 use Rattle.channel.specs.declared.Put.the-variants.{Nowhere, At}
 use Rattle.channel.specs.declared.Judged.{Judged}
 use Rattle.channel.specs.declared.Judged.the-variants.{Refusal, Move}
-use Rattle.channel.specs.declared.Place.the-variants.{Datagram, Rooms}
+use Rattle.channel.specs.declared.Slice.the-variants.{Datagram, Rooms}
 use Rattle.channel.specs.declared.Outcome.the-variants.{Repeated, Delivered, Held, Stray, TooLong}
 
 abbrev pub roomOf : ℕ → ℕ → Room

@@ -25,8 +25,8 @@ pub struct Channel {
     pub held: u32,
 }
 
-// Where a delivered message lies: in the datagram it came in, or in the rooms.
-pub enum Place {
+// The lent slice that holds a delivered message, the datagram it came in or the rooms, and the part of it.
+pub enum Slice {
     Datagram { start: usize, length: usize },
     Rooms { start: usize, length: usize },
 }
@@ -34,7 +34,7 @@ pub enum Place {
 pub enum Outcome {
     Refused(u32),
     Repeated,
-    Delivered { missed: u32, place: Place },
+    Delivered { missed: u32, slice: Slice },
     Held { missed: u32, held: u32 },
     Stray { missed: u32 },
     TooLong { missed: u32 },

@@ -8,9 +8,9 @@ ghost use Rattle.channel.specs.Channel.{Steppable, missedOf, repeated, n
 ghost use Rattle.channel.specs.Channel.{wholeOf, begunOf, joinedOf, followedOf, placedOf, steppedOf};
 use crate::Channel;
 use crate::Outcome;
-use crate::Place;
 use crate::Put;
 use crate::Room;
+use crate::Slice;
 use crate::Step;
 use binding::BindingHeader;
 use binding::COUNTERS;
@@ -112,7 +112,7 @@ fn whole(channel: Channel, length: u32, missed: u32) -> Step
     Step {
         outcome: Outcome::Delivered {
             missed,
-            place: Place::Datagram {
+            slice: Slice::Datagram {
                 start: BindingHeader::LENGTH,
                 length: length as usize,
             },
@@ -167,7 +167,7 @@ fn joined(ends: bool, room: Room, channel: Channel, length: u32, missed: u32) ->
         Step {
             outcome: Outcome::Delivered {
                 missed,
-                place: Place::Rooms {
+                slice: Slice::Rooms {
                     start: room.start,
                     length: total as usize,
                 },

@@ -11,17 +11,17 @@ use borrow.Author.Tests.{leb-true, leb-false, ltb-true, ltb-false, eqb-true, eqb
 use lib.Dec.{leb, ltb, eqb}
 use lib.ListN.{length, getD}
 use Rattle.binding.specs.Header.{theVersion, smallestDatagram, largestDatagram, versionIn, partIn, senderIn, counterIn, headerIn}
-use Rattle.binding.specs.Header.{heardIn, pieceIn, wrongLength, wrongField}
-use Rattle.binding.specs.declared.Heard.{Heard}
-use Rattle.binding.specs.declared.Heard.the-variants as heard
-use Rattle.binding.proofs.Headers.{Headed, headed-heard, heard-headed}
+use Rattle.binding.specs.Header.{headingIn, pieceIn, wrongLength, wrongField}
+use Rattle.binding.specs.declared.Heading.{Heading}
+use Rattle.binding.specs.declared.Heading.the-variants as heading
+use Rattle.binding.proofs.Headers.{Headed, headed-heading, heading-headed}
 use Rattle.channel.specs.declared.Judged.the-variants.{Refusal, Move}
 use Rattle.channel.specs.declared.Outcome.the-variants.{Refused}
 use Rattle.channel.specs.Channel.{roomOf, steppedOf}
 use Rattle.channel.specs.Record.{badSetup}
 use Rattle.joiner.specs.declared.Joiner.{Joiner}
 use Rattle.joiner.specs.Setup.{placeOf, distinct, sendersOf, channelAt}
-use Rattle.joiner.specs.Take.{notSetUp, sentTo, heardBy, judgedOf, takenOf, Addressed, Foreign}
+use Rattle.joiner.specs.Take.{notSetUp, sentTo, headingBy, judgedOf, takenOf, Addressed, Foreign}
 use Rattle.joiner.proofs.Places.{at-place, place-first, distinct-says}
 use Rattle.joiner.proofs.Lookups.{senders-length}
 use Rattle.joiner.proofs.Judging.{Good}
@@ -53,11 +53,11 @@ whose ids d = go (leb smallestDatagram (length d)) refl (leb (length d) largestD
           },
         )
 
-unheard : (d : List ℕ) (n : ℕ) → heardIn d ≡ heard.Refused n → (wrongLength ≤ n) × (n ≤ wrongField)
-unheard d n e = go (leb smallestDatagram (length d)) (leb (length d) largestDatagram) (eqb (versionIn d) theVersion) e
+heading-refused : (d : List ℕ) (n : ℕ) → headingIn d ≡ heading.Refused n → (wrongLength ≤ n) × (n ≤ wrongField)
+heading-refused d n e = go (leb smallestDatagram (length d)) (leb (length d) largestDatagram) (eqb (versionIn d) theVersion) e
   where
-    go : (a b v : Bool) → cond (a && b) (cond v (heard.Piece (headerIn d)) (heard.Refused wrongField)) (heard.Refused wrongLength)
-        ≡ heard.Refused n → (wrongLength ≤ n) × (n ≤ wrongField)
+    go : (a b v : Bool) → cond (a && b) (cond v (heading.Piece (headerIn d)) (heading.Refused wrongField)) (heading.Refused wrongLength)
+        ≡ heading.Refused n → (wrongLength ≤ n) × (n ≤ wrongField)
     go true true true q = let z : _≡_ {A = ℕ} 0 1 = cc in absurd (omega arith)
     go true true false q = let z : n ≡ wrongField = cc in (omega arith, omega arith)
     go true false v q = let z : n ≡ wrongLength = cc in (omega arith, omega arith)
@@ -71,30 +71,30 @@ place-own ids k x u h e =
     omega arith
 
 module _ (j : Joiner) (b : ℕ) (d : List ℕ) (s : Standing j b) where
-  by-header : judgedOf j b d ≡ heardBy j d (heardIn d)
+  by-header : judgedOf j b d ≡ headingBy j d (headingIn d)
   unfolding judgedOf
   by-header = rw (s .well)
 
   pub addressed-moves : (k : ℕ) → Addressed (sendersOf j) k d → judgedOf j b d
       ≡ Move k (steppedOf (roomOf (j .room) k) (channelAt j k) (partIn d) (counterIn d) (length (pieceIn d)))
-  unfolding heardBy sentTo
+  unfolding headingBy sentTo
   addressed-moves k a =
       let g : Good j b = standing-good s in
       let l : length (sendersOf j) ≡ j .count = senders-length j (g .sizes .few) (s .width) in
       let p : placeOf (sendersOf j) (senderIn d) ≡ k = place-own (sendersOf j) k (senderIn d) (g .once) (a .known) (a .sender) in
-      let h : heardIn d ≡ heard.Piece (headerIn d) = headed-heard d (headerIn d)
+      let h : headingIn d ≡ heading.Piece (headerIn d) = headed-heading d (headerIn d)
       (record { long = a .long; short = a .short; version = a .version; fields = refl }) in
       let q : k < j .count = omega (arith, l, a .known) in
-      by-header ∙ ap (heardBy j d) h ∙ rw (p, lt-ltb k (j .count) q)
+      by-header ∙ ap (headingBy j d) h ∙ rw (p, lt-ltb k (j .count) q)
 
   not-known : Headed d (headerIn d) → j .count ≤ placeOf (sendersOf j) (senderIn d) → judgedOf j b d ≡ Refusal notSetUp
-  unfolding heardBy sentTo
-  not-known w h = by-header ∙ ap (heardBy j d) (headed-heard d (headerIn d) w) ∙ rw (le-ltb (placeOf (sendersOf j) (senderIn d)) (j .count) h)
+  unfolding headingBy sentTo
+  not-known w h = by-header ∙ ap (headingBy j d) (headed-heading d (headerIn d) w) ∙ rw (le-ltb (placeOf (sendersOf j) (senderIn d)) (j .count) h)
 
   -- a foreign datagram, and no other, is refused, with 21, 22 or 23
   pub foreign-refused : Foreign (sendersOf j) d → (n : ℕ) × (judgedOf j b d ≡ Refusal n) × (wrongLength ≤ n) × (n ≤ notSetUp)
-  unfolding heardBy
-  foreign-refused f = go (heardIn d) refl
+  unfolding headingBy
+  foreign-refused f = go (headingIn d) refl
     where
       nowhere : Headed d (headerIn d) → Foreign (sendersOf j) d → j .count ≤ placeOf (sendersOf j) (senderIn d)
       nowhere w (Foreign.short h) = absurd (omega (arith, w .long))
@@ -107,10 +107,10 @@ module _ (j : Joiner) (b : ℕ) (d : List ℕ) (s : Standing j b) where
           → ⊥ = λ q. h (placeOf (sendersOf j) (senderIn d)) q (at-place (sendersOf j) (senderIn d) q) in
           omega arith
 
-      go : (x : Heard) → heardIn d ≡ x → (n : ℕ) × (judgedOf j b d ≡ Refusal n) × (wrongLength ≤ n) × (n ≤ notSetUp)
-      go (heard.Refused n) e = (n, by-header ∙ ap (heardBy j d) e, unheard d n e .0, omega (arith, unheard d n e .1))
-      go (heard.Piece y) e =
-          let w : Headed d y = heard-headed d y e in
+      go : (x : Heading) → headingIn d ≡ x → (n : ℕ) × (judgedOf j b d ≡ Refusal n) × (wrongLength ≤ n) × (n ≤ notSetUp)
+      go (heading.Refused n) e = (n, by-header ∙ ap (headingBy j d) e, heading-refused d n e .0, omega (arith, heading-refused d n e .1))
+      go (heading.Piece y) e =
+          let w : Headed d y = heading-headed d y e in
           let v : Headed d (headerIn d) = record { long = w .long; short = w .short; version = w .version; fields = refl } in
           (notSetUp, not-known v (nowhere v f), omega arith, omega arith)
 

@@ -5,17 +5,18 @@ use mathlib.Core.Path.{_≡_, sym, ap, _∙_}
 use mathlib.Core.List.{List, [], _∷_}
 use lib.ListN.{length, getD}
 use Rattle.wire.specs.Bytes.{written}
-use Rattle.binding.specs.Header.{heardIn}
-use Rattle.binding.specs.declared.Heard.{Heard}
-use Rattle.channel.specs.Outcomes.{refusalIn}
+use Rattle.binding.specs.Header.{headingIn}
+use Rattle.binding.specs.declared.Heading.{Heading}
+use Rattle.channel.specs.Outcomes.{numberGiven}
 use Rattle.channel.specs.declared.Step.{Step}
 use Rattle.channel.specs.declared.Judged.{Judged}
 use Rattle.channel.specs.declared.Judged.the-variants.{Refusal, Move}
-use Rattle.channel.specs.declared.Place.{Place}
-use Rattle.channel.specs.declared.Place.the-variants.{Datagram, Rooms}
+use Rattle.channel.specs.declared.Slice.{Slice}
+use Rattle.channel.specs.declared.Slice.the-variants.{Datagram, Rooms}
 use Rattle.channel.specs.declared.Outcome.{Outcome}
 use Rattle.channel.specs.declared.Outcome.the-variants as outcome
-use Rattle.joiner.specs.Setup.{setupOf, foundOf, answerIn}
+use Rattle.joiner.specs.Setup.{setupOf, foundOf}
+use Rattle.joiner.specs.Setup as setup
 use Rattle.joiner.specs.Take.{judgedOf, senderBy, judgedBy, takenBy, takenOf, putBy, roomsBy, roomsAfter}
 use Rattle.joiner.specs.declared.setups.Verdict.{Verdict}
 use Rattle.joiner.specs.declared.setups.Verdict.the-variants.{Accepted, Refused}
@@ -30,11 +31,11 @@ use Rattle.joiner.proofs.Moving.{step-number, judged-in, steps, words-m
 module _ (ids : List ℕ) (R b : ℕ) {m : NewJoiner} (e : m ≡ setupOf ids R b) where
   pub refused-number : (n : ℕ) → m .answer ≡ Refused n → n ≡ setupNumber ids R b
   unfolding setupNumber
-  refused-number n q = sym (ap answerIn (ap (λ (x : NewJoiner). x .answer) (sym e) ∙ q))
+  refused-number n q = sym (ap setup.numberGiven (ap (λ (x : NewJoiner). x .answer) (sym e) ∙ q))
 
   pub accepted-number : m .answer ≡ Accepted → 0 ≡ setupNumber ids R b
   unfolding setupNumber
-  accepted-number q = sym (ap answerIn (ap (λ (x : NewJoiner). x .answer) (sym e) ∙ q))
+  accepted-number q = sym (ap setup.numberGiven (ap (λ (x : NewJoiner). x .answer) (sym e) ∙ q))
 
   module _ (ws : List ℕ) where
     made-words : acceptedWords (m .answer) (m .joiner) ws ≡ setupWords ids R b ws
@@ -56,10 +57,10 @@ module _ {o : Outcome} (out : List ℕ) where
     pub told-repeated : o ≡ outcome.Repeated → x ≡ (1 ∷ 0 ∷ 0 ∷ 0 ∷ 0 ∷ []) → x ≡ outcomeWords o out
     told-repeated e f = rw e f
 
-    pub told-datagram : {p : Place} (m s l : ℕ) → o ≡ outcome.Delivered m p → p ≡ Datagram s l → x ≡ (2 ∷ m ∷ l ∷ 1 ∷ s ∷ []) → x ≡ outcomeWords o out
+    pub told-datagram : {p : Slice} (m s l : ℕ) → o ≡ outcome.Delivered m p → p ≡ Datagram s l → x ≡ (2 ∷ m ∷ l ∷ 1 ∷ s ∷ []) → x ≡ outcomeWords o out
     told-datagram m s l e g f = rw (e, g) f
 
-    pub told-rooms : {p : Place} (m s l : ℕ) → o ≡ outcome.Delivered m p → p ≡ Rooms s l → x ≡ (2 ∷ m ∷ l ∷ 2 ∷ s ∷ []) → x ≡ outcomeWords o out
+    pub told-rooms : {p : Slice} (m s l : ℕ) → o ≡ outcome.Delivered m p → p ≡ Rooms s l → x ≡ (2 ∷ m ∷ l ∷ 2 ∷ s ∷ []) → x ≡ outcomeWords o out
     told-rooms m s l e g f = rw (e, g) f
 
     pub told-held : (m n : ℕ) → o ≡ outcome.Held m n → x ≡ (3 ∷ m ∷ n ∷ 0 ∷ 0 ∷ []) → x ≡ outcomeWords o out
@@ -73,8 +74,8 @@ module _ {o : Outcome} (out : List ℕ) where
 
 -- `take`
 module _
-    (ws rooms d : List ℕ) {f : Looked} {r : Heard} {y R : ℕ} {x : Judged}
-    (eR : R ≡ getD ws 1 0) (er : r ≡ heardIn d) (ey : y ≡ senderBy r) (ef : f ≡ foundOf (joinerIn ws) (length rooms) y)
+    (ws rooms d : List ℕ) {f : Looked} {r : Heading} {y R : ℕ} {x : Judged}
+    (eR : R ≡ getD ws 1 0) (er : r ≡ headingIn d) (ey : y ≡ senderBy r) (ef : f ≡ foundOf (joinerIn ws) (length rooms) y)
     (ex : x ≡ judgedBy f R r (length d)) where
   abbrev taken : Taken
   taken = takenOf (joinerIn ws) rooms d
@@ -89,7 +90,7 @@ module _
 
     refused-take : n ≡ takeNumber ws rooms d
     unfolding takeNumber
-    refused-take = sym (ap (λ (t : Taken). refusalIn (t .outcome)) refused)
+    refused-take = sym (ap (λ (t : Taken). numberGiven (t .outcome)) refused)
 
     refused-state : ws ≡ takeWords ws rooms d
     unfolding takeWords
@@ -121,7 +122,7 @@ module _
 
     moved-take : 0 ≡ takeNumber ws rooms d
     unfolding takeNumber
-    moved-take = step-number (steps ws (length rooms) d k s moved) ∙ ap refusalIn (sym outcome-is)
+    moved-take = step-number (steps ws (length rooms) d k s moved) ∙ ap numberGiven (sym outcome-is)
 
     moved-state : {v : List ℕ} → v ≡ written ws (recordAt k) (recordWords (s .channel)) → v ≡ takeWords ws rooms d
     unfolding takeWords

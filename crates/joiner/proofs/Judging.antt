@@ -10,11 +10,11 @@ use borrow.Author.Tests.{ltb-true, lt-ltb, le-ltb, le-leb}
 use lib.Dec.{ltb}
 use lib.ListN.{length}
 use Rattle.wire.proofs.Cond.{and-left, and-right}
-use Rattle.binding.specs.Header.{headerLength, largestDatagram, counters, heardIn, headerIn, partIn, senderIn, counterIn, pieceIn}
+use Rattle.binding.specs.Header.{headerLength, largestDatagram, counters, headingIn, headerIn, partIn, senderIn, counterIn, pieceIn}
 use Rattle.binding.specs.declared.BindingHeader.{BindingHeader}
-use Rattle.binding.specs.declared.Heard.{Heard}
-use Rattle.binding.specs.declared.Heard.the-variants as heard
-use Rattle.binding.proofs.Headers.{Headed, heard-headed, piece-length}
+use Rattle.binding.specs.declared.Heading.{Heading}
+use Rattle.binding.specs.declared.Heading.the-variants as heading
+use Rattle.binding.proofs.Headers.{Headed, heading-headed, piece-length}
 use Rattle.channel.specs.declared.Channel.{Channel}
 use Rattle.channel.proofs.Cases.{Sound, channel-says}
 use Rattle.channel.specs.declared.Step.{Step}
@@ -26,7 +26,7 @@ use Rattle.joiner.specs.declared.Joiner.{Joiner}
 use Rattle.joiner.specs.declared.looking.Looked.{Looked}
 use Rattle.joiner.specs.declared.looking.Looked.the-variants.{Bad, Nobody, Somebody}
 use Rattle.joiner.specs.Setup.{placeOf, distinct, every, channelsOf, sendersOf, channelAt, goodSizes, good, foundOf}
-use Rattle.joiner.specs.Take.{notSetUp, sentTo, heardBy, judgedOf, senderBy, refusalBy, judgedBy}
+use Rattle.joiner.specs.Take.{notSetUp, sentTo, headingBy, judgedOf, senderBy, refusalBy, judgedBy}
 use Rattle.joiner.proofs.Places.{every-at}
 use Rattle.joiner.proofs.Lookups.{Sizes, sizes-say, channels-length, channels-at, Borne, found-bad, found-nobody, found-somebody}
 
@@ -59,7 +59,7 @@ good-sizes j b e =
     sizes-say (j .count) (j .room) b (and-left (goodSizes (j .count) (j .room) b) (every (goodChannel (j .room)) (channelsOf j) && distinct (sendersOf j)) e)
 
 -- `judge`
-module _ {f : Looked} (R n : ℕ) (x : Heard) where
+module _ {f : Looked} (R n : ℕ) (x : Heading) where
   pub judged-bad : f ≡ Bad → Refusal badSetup ≡ judgedBy f R x n
   unfolding judgedBy
   judged-bad e = rw e
@@ -68,33 +68,33 @@ module _ {f : Looked} (R n : ℕ) (x : Heard) where
   unfolding judgedBy
   judged-nobody q e = rw (e, q)
 
-  pub judged-refused : (k : ℕ) (ch : Channel) (m : ℕ) → f ≡ Somebody k ch → x ≡ heard.Refused m → Refusal m ≡ judgedBy f R x n
+  pub judged-refused : (k : ℕ) (ch : Channel) (m : ℕ) → f ≡ Somebody k ch → x ≡ heading.Refused m → Refusal m ≡ judgedBy f R x n
   unfolding judgedBy
   judged-refused k ch m e q = rw (e, q)
 
-  pub judged-somebody : {y : Judged} (k : ℕ) (ch : Channel) (h : BindingHeader) → f ≡ Somebody k ch → x ≡ heard.Piece h → y
+  pub judged-somebody : {y : Judged} (k : ℕ) (ch : Channel) (h : BindingHeader) → f ≡ Somebody k ch → x ≡ heading.Piece h → y
       ≡ movedOf k R ch h n → y ≡ judgedBy f R x n
   unfolding judgedBy
   judged-somebody k ch h e q m = rw (e, q) m
 
 -- a datagram that is judged by what was found, as by the joiner itself
-module _ (j : Joiner) (b : ℕ) (d : List ℕ) {r : Heard} (er : r ≡ heardIn d) where
+module _ (j : Joiner) (b : ℕ) (d : List ℕ) {r : Heading} (er : r ≡ headingIn d) where
   not-well : good j b ≡ false → Refusal badSetup ≡ judgedOf j b d
   unfolding judgedOf
   not-well g = rw g
 
-  by-header : good j b ≡ true → judgedOf j b d ≡ heardBy j d r
+  by-header : good j b ≡ true → judgedOf j b d ≡ headingBy j d r
   unfolding judgedOf
   by-header g = rw (g, er)
 
-  pub not-heard : {t : Bool} {n : ℕ} → t ≡ good j b → t ≡ true → r ≡ heard.Refused n → Refusal n ≡ judgedOf j b d
-  unfolding heardBy
-  not-heard e g m = sym (by-header (sym e ∙ g) ∙ ap (heardBy j d) m)
+  pub no-heading : {t : Bool} {n : ℕ} → t ≡ good j b → t ≡ true → r ≡ heading.Refused n → Refusal n ≡ judgedOf j b d
+  unfolding headingBy
+  no-heading e g m = sym (by-header (sym e ∙ g) ∙ ap (headingBy j d) m)
 
-  module _ (h : BindingHeader) {f : Looked} (m : r ≡ heard.Piece h) (e : f ≡ foundOf j b (h .sender)) where
+  module _ (h : BindingHeader) {f : Looked} (m : r ≡ heading.Piece h) (e : f ≡ foundOf j b (h .sender)) where
     by-sender : good j b ≡ true → judgedOf j b d ≡ sentTo j d h
-    unfolding heardBy
-    by-sender g = by-header g ∙ ap (heardBy j d) m
+    unfolding headingBy
+    by-sender g = by-header g ∙ ap (headingBy j d) m
 
     pub to-nobody : f ≡ Nobody → Refusal notSetUp ≡ judgedOf j b d
     unfolding sentTo
@@ -115,7 +115,7 @@ module _ (j : Joiner) (b : ℕ) (d : List ℕ) {r : Heard} (er : r ≡ heardIn d
         let y : Borne j b (h .sender) k ch = found-somebody j b (h .sender) e k ch q in
         let g : Good j b = good-says j b w (y .well) in
         let x : Sound (j .room) ch = rw (y .channel) (channel-says (j .room) (channelAt j k) (g .each k (y .known))) in
-        let v : Headed d h = heard-headed d h (sym er ∙ m) in
+        let v : Headed d h = heading-headed d h (sym er ∙ m) in
         let few : k < channelLimit = omega (arith, y .known, g .sizes .few) in
         let long : headerLength ≤ length d = omega (arith, v .long) in
         rw (
@@ -127,23 +127,23 @@ module _ (j : Joiner) (b : ℕ) (d : List ℕ) {r : Heard} (er : r ≡ heardIn d
           le-leb (length d) largestDatagram (v .short),
         )
 
-pub judged-by : {f : Looked} {r : Heard} {s : ℕ} {x : Judged} (j : Joiner) (b : ℕ) (d : List ℕ) → length (j .channels) ≡ channelLimit → r
-    ≡ heardIn d → s ≡ senderBy r → f ≡ foundOf j b s → x ≡ judgedBy f (j .room) r (length d) → x ≡ judgedOf j b d
-unfolding judgedBy movedOf heardBy
+pub judged-by : {f : Looked} {r : Heading} {s : ℕ} {x : Judged} (j : Joiner) (b : ℕ) (d : List ℕ) → length (j .channels) ≡ channelLimit → r
+    ≡ headingIn d → s ≡ senderBy r → f ≡ foundOf j b s → x ≡ judgedBy f (j .room) r (length d) → x ≡ judgedOf j b d
+unfolding judgedBy movedOf headingBy
 judged-by {f} {r} {s} j b d w er es ef ex = ex ∙ go f refl r refl
   where
-    sought : (h : BindingHeader) → r ≡ heard.Piece h → f ≡ foundOf j b (h .sender)
+    sought : (h : BindingHeader) → r ≡ heading.Piece h → f ≡ foundOf j b (h .sender)
     sought h p = ef ∙ ap (foundOf j b) (es ∙ ap senderBy p)
 
-    refused : (n : ℕ) → r ≡ heard.Refused n → good j b ≡ true → Refusal n ≡ judgedOf j b d
-    refused n p g = not-heard j b d er {t = good j b} refl g p
+    refused : (n : ℕ) → r ≡ heading.Refused n → good j b ≡ true → Refusal n ≡ judgedOf j b d
+    refused n p g = no-heading j b d er {t = good j b} refl g p
 
-    go : (g : Looked) → f ≡ g → (y : Heard) → r ≡ y → judgedBy g (j .room) y (length d) ≡ judgedOf j b d
+    go : (g : Looked) → f ≡ g → (y : Heading) → r ≡ y → judgedBy g (j .room) y (length d) ≡ judgedOf j b d
     go Bad q y p = not-well j b d er (sym (found-bad j b s ef q))
-    go Nobody q (heard.Refused n) p = refused n p (found-nobody j b s ef q .0)
-    go Nobody q (heard.Piece h) p = to-nobody j b d er h p (sought h p) q
-    go (Somebody k ch) q (heard.Refused n) p = refused n p (found-somebody j b s ef k ch q .well)
-    go (Somebody k ch) q (heard.Piece h) p =
+    go Nobody q (heading.Refused n) p = refused n p (found-nobody j b s ef q .0)
+    go Nobody q (heading.Piece h) p = to-nobody j b d er h p (sought h p) q
+    go (Somebody k ch) q (heading.Refused n) p = refused n p (found-somebody j b s ef k ch q .well)
+    go (Somebody k ch) q (heading.Piece h) p =
         rw (found-moves j b d er h p (sought h p) k ch w q) (to-somebody j b d er h p (sought h p) k ch q refl refl)
 
 -- what it says that a datagram moves a channel
@@ -171,14 +171,14 @@ module _ (j : Joiner) (b : ℕ) (d : List ℕ) (k : ℕ) (s : Step) where
   sent g h false e q = absurd (clash notSetUp q)
 
   pub judged-moved : judgedOf j b d ≡ Move k s → Moved j b d k s
-  unfolding judgedOf heardBy sentTo
-  judged-moved e = by (good j b) refl (heardIn d) refl e
+  unfolding judgedOf headingBy sentTo
+  judged-moved e = by (good j b) refl (headingIn d) refl e
     where
-      by : (g : Bool) → good j b ≡ g → (x : Heard) → heardIn d ≡ x → cond g (heardBy j d x) (Refusal badSetup) ≡ Move k s → Moved j b d k s
+      by : (g : Bool) → good j b ≡ g → (x : Heading) → headingIn d ≡ x → cond g (headingBy j d x) (Refusal badSetup) ≡ Move k s → Moved j b d k s
       by false g x h q = absurd (clash badSetup q)
-      by true g (heard.Refused n) h q = absurd (clash n q)
-      by true g (heard.Piece y) h q =
-          let w : Headed d y = heard-headed d y h in
+      by true g (heading.Refused n) h q = absurd (clash n q)
+      by true g (heading.Piece y) h q =
+          let w : Headed d y = heading-headed d y h in
           let f : y ≡ headerIn d = w .fields in
           let v : Headed d (headerIn d) = record { long = w .long; short = w .short; version = w .version; fields = refl } in
           sent g v (ltb (placeOf (sendersOf j) (senderIn d)) (j .count)) refl (rw f at q)

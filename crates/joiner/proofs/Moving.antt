@@ -11,13 +11,13 @@ use lib.ListN.{length, getD}
 use lib.Seq.{getD-set-same}
 use Rattle.wire.specs.Bytes.{written}
 use Rattle.wire.proofs.Cond.{and-left}
-use Rattle.binding.specs.Header.{heardIn, partIn, counterIn, pieceIn}
+use Rattle.binding.specs.Header.{headingIn, partIn, counterIn, pieceIn}
 use Rattle.binding.specs.declared.MessagePart.{MessagePart}
-use Rattle.binding.specs.declared.Heard.{Heard}
+use Rattle.binding.specs.declared.Heading.{Heading}
 use Rattle.channel.specs.Record.{channelLimit, newChannel}
 use Rattle.channel.specs.declared.Channel.{Channel}
 use Rattle.channel.specs.Channel.{roomOf}
-use Rattle.channel.specs.Outcomes.{refusalIn}
+use Rattle.channel.specs.Outcomes.{numberGiven, leftBy}
 use Rattle.channel.specs.declared.Room.{Room}
 use Rattle.channel.specs.declared.Step.{Step}
 use Rattle.channel.specs.declared.Judged.{Judged}
@@ -31,11 +31,11 @@ use Rattle.joiner.specs.Take.{judgedOf, senderBy, judgedBy, takenBy, cha
 use Rattle.joiner.proofs.Judging.{Moved, judged-by, judged-moved, good-sizes}
 use Rattle.joiner.specs.JoinerWords.{recordAt, areRecords, channelsIn, isJoiner, joinerIn, recordWords}
 use Rattle.joiner.proofs.Stored.{stored-length, none-good, stored-joiner}
-use Rattle.joiner.specs.Calls.{unlessRefused, withRecord, placeIn, wordsBy}
+use Rattle.joiner.specs.Calls.{withRecord, placeIn, wordsBy}
 
 -- a step that was taken
 module _ {room : Room} {ch : Channel} {c n : ℕ} where
-  pub step-changes : {p : MessagePart} {s : Step} (old new : List ℕ) → Stepped room ch c n p s → unlessRefused (s .outcome) old new ≡ new
+  pub step-changes : {p : MessagePart} {s : Step} (old new : List ℕ) → Stepped room ch c n p s → leftBy (s .outcome) old new ≡ new
   step-changes old new (again r) = refl
   step-changes old new (whole r) = refl
   step-changes old new (begins r f) = refl
@@ -44,7 +44,7 @@ module _ {room : Room} {ch : Channel} {c n : ℕ} where
   step-changes old new (goes-on r z f) = refl
   step-changes old new (ends r z f) = refl
 
-  pub step-number : {p : MessagePart} {s : Step} → Stepped room ch c n p s → 0 ≡ refusalIn (s .outcome)
+  pub step-number : {p : MessagePart} {s : Step} → Stepped room ch c n p s → 0 ≡ numberGiven (s .outcome)
   step-number (again r) = refl
   step-number (whole r) = refl
   step-number (begins r f) = refl
@@ -85,7 +85,7 @@ channels-length ws = go (isJoiner ws) refl
     go false e = refl
 
 -- a room's size is the second word's, wherever it is asked for
-same-room : {f : Looked} (ws : List ℕ) (b y : ℕ) (r : Heard) (n : ℕ) → f ≡ foundOf (joinerIn ws) b y → judgedBy f (getD ws 1 0) r n
+same-room : {f : Looked} (ws : List ℕ) (b y : ℕ) (r : Heading) (n : ℕ) → f ≡ foundOf (joinerIn ws) b y → judgedBy f (getD ws 1 0) r n
     ≡ judgedBy f (joinerIn ws .room) r n
 unfolding foundOf judgedBy
 same-room {f} ws b y r n e = go (isJoiner ws) refl
@@ -94,7 +94,7 @@ same-room {f} ws b y r n e = go (isJoiner ws) refl
     go true q = rw (stored-joiner ws q)
     go false q = let bad : f ≡ Bad = e ∙ rw (none-good ws b q) in rw bad
 
-pub judged-in : {f : Looked} {r : Heard} {y R : ℕ} {x : Judged} (ws : List ℕ) (b : ℕ) (d : List ℕ) → R ≡ getD ws 1 0 → r ≡ heardIn d → y
+pub judged-in : {f : Looked} {r : Heading} {y R : ℕ} {x : Judged} (ws : List ℕ) (b : ℕ) (d : List ℕ) → R ≡ getD ws 1 0 → r ≡ headingIn d → y
     ≡ senderBy r → f ≡ foundOf (joinerIn ws) b y → x ≡ judgedBy f R r (length d) → x ≡ judgedOf (joinerIn ws) b d
 judged-in {f} {r} {y} {R} {x} ws b d eR er ey ef ex =
     judged-by (joinerIn ws) b d (channels-length ws) er ey ef (ex ∙ ap (λ (q : ℕ). judgedBy f q r (length d)) eR ∙ same-room ws b y r (length d) ef)

@@ -17,13 +17,13 @@ use types.Run.{OneOf}
 use Rattle.channel.proofs.Outcome.{the-type}
 use Rattle.wire.specs.Bytes.{written, part}
 use Rattle.wire.proofs.Runs.{over-none, over-all, no-run}
-use Rattle.binding.specs.Header.{headerLength, heardIn}
-use Rattle.binding.specs.declared.Heard.{Heard}
+use Rattle.binding.specs.Header.{headerLength, headingIn}
+use Rattle.binding.specs.declared.Heading.{Heading}
 use Rattle.channel.specs.declared.Step.{Step}
 use Rattle.channel.specs.declared.Judged.{Judged}
 use Rattle.channel.specs.declared.Judged.the-variants.{Refusal, Move}
-use Rattle.channel.specs.declared.Place.{Place}
-use Rattle.channel.specs.declared.Place.the-variants.{Datagram, Rooms}
+use Rattle.channel.specs.declared.Slice.{Slice}
+use Rattle.channel.specs.declared.Slice.the-variants.{Datagram, Rooms}
 use Rattle.channel.specs.declared.Put.{Put}
 use Rattle.channel.specs.declared.Put.the-variants.{Nowhere, At}
 use Rattle.channel.specs.declared.Outcome.{Outcome}
@@ -37,7 +37,7 @@ use Rattle.joiner.specs.JoinerWords.{joinerIn, wordsOf}
 use Rattle.joiner.proofs.FoundBack.{looked}
 use Rattle.joiner.proofs.Judging.{Moved, judged-by, judged-moved, good-sizes}
 
-module _ {o : Outcome} {pl : Place} (d rooms : List ℕ) where
+module _ {o : Outcome} {pl : Slice} (d rooms : List ℕ) where
   pub in-datagram : {x : List ℕ} (m s l : ℕ) → o ≡ Delivered m pl → pl ≡ Datagram s l → x ≡ part d s l → x ≡ messageOf o d rooms
   unfolding messageOf
   in-datagram m s l eo ep ex = rw (eo, ep) ex
@@ -78,8 +78,8 @@ not-delivered (TooLong m) d rooms t = refl
 
 -- `take`
 module _
-    {f : Looked} {r : Heard} {ws : List ℕ} {y : ℕ} {x : Judged} (j : Joiner) (rooms d : List ℕ) (w : length (j .channels) ≡ channelLimit)
-    (er : r ≡ heardIn d) (ey : y ≡ senderBy r) (ew : ws ≡ wordsOf j) (ef : f ≡ foundOf (joinerIn ws) (length rooms) y)
+    {f : Looked} {r : Heading} {ws : List ℕ} {y : ℕ} {x : Judged} (j : Joiner) (rooms d : List ℕ) (w : length (j .channels) ≡ channelLimit)
+    (er : r ≡ headingIn d) (ey : y ≡ senderBy r) (ew : ws ≡ wordsOf j) (ef : f ≡ foundOf (joinerIn ws) (length rooms) y)
     (ex : x ≡ judgedBy f (j .room) r (length d)) where
   judged : x ≡ judgedOf j (length rooms) d
   judged = judged-by j (length rooms) d w er ey (looked j (length rooms) y w ew ef) ex

@@ -3,52 +3,30 @@ use Prim.Native.Nat.{ℕ}
 use mathlib.Core.List.{List, [], _∷_}
 use Rattle.wire.specs.Bytes.{written}
 use Rattle.binding.specs.Header.{senderIn}
-use Rattle.channel.specs.Outcomes.{refusalIn}
-use Rattle.channel.specs.declared.Place.{Place}
-use Rattle.channel.specs.declared.Place.the-variants.{Datagram, Rooms}
+use Rattle.channel.specs.Outcomes.{numberGiven, leftBy, kindIn, missedIn, bytesIn, sliceIn, startIn}
 use Rattle.channel.specs.declared.Outcome.{Outcome}
-use Rattle.channel.specs.declared.Outcome.the-variants as outcome
-use Rattle.joiner.specs.Setup.{setupOf, sendersOf, placeOf, channelAt, answerIn}
+use Rattle.joiner.specs.Setup.{setupOf, sendersOf, placeOf, channelAt}
+use Rattle.joiner.specs.Setup as setup
 use Rattle.joiner.specs.Take.{takenOf, roomsAfter}
 use Rattle.joiner.specs.declared.setups.Verdict.{Verdict}
-use Rattle.joiner.specs.declared.setups.Verdict.the-variants.{Accepted, Refused}
 use Rattle.joiner.specs.declared.Joiner.{Joiner}
 use Rattle.joiner.specs.declared.Taken.{Taken}
 use Rattle.joiner.specs.JoinerWords.{recordAt, joinerIn, recordWords, wordsOf}
 
 -- a joiner that was accepted, as words; where it was refused, the words that were there
 abbrev pub acceptedWords : Verdict → Joiner → List ℕ → List ℕ
-acceptedWords Accepted j old = wordsOf j
-acceptedWords (Refused n) j old = old
+acceptedWords v j old = setup.leftBy v old (wordsOf j)
 
 unfoldable pub setupNumber : List ℕ → ℕ → ℕ → ℕ
-setupNumber ids R b = answerIn (setupOf ids R b .answer)
+setupNumber ids R b = setup.numberGiven (setupOf ids R b .answer)
 
 unfoldable pub setupWords : List ℕ → ℕ → ℕ → List ℕ → List ℕ
 setupWords ids R b ws = acceptedWords (setupOf ids R b .answer) (setupOf ids R b .joiner) ws
 
 -- what an outcome is in words: which, missed, the bytes held or delivered, in which slice a delivered message lies (0 none, 1
 -- the datagram, 2 the rooms), and from which byte on; where it is a refusal, the words that were there
-abbrev pub deliveredWords : ℕ → Place → List ℕ
-deliveredWords m (Datagram p n) = 2 ∷ m ∷ n ∷ 1 ∷ p ∷ []
-deliveredWords m (Rooms p n) = 2 ∷ m ∷ n ∷ 2 ∷ p ∷ []
-
 abbrev pub outcomeWords : Outcome → List ℕ → List ℕ
-outcomeWords (outcome.Refused n) old = old
-outcomeWords outcome.Repeated old = 1 ∷ 0 ∷ 0 ∷ 0 ∷ 0 ∷ []
-outcomeWords (outcome.Delivered m p) old = deliveredWords m p
-outcomeWords (outcome.Held m n) old = 3 ∷ m ∷ n ∷ 0 ∷ 0 ∷ []
-outcomeWords (outcome.Stray m) old = 4 ∷ m ∷ 0 ∷ 0 ∷ 0 ∷ []
-outcomeWords (outcome.TooLong m) old = 5 ∷ m ∷ 0 ∷ 0 ∷ 0 ∷ []
-
--- what a refusal leaves as it is
-abbrev pub unlessRefused : Outcome → List ℕ → List ℕ → List ℕ
-unlessRefused (outcome.Refused n) old new = old
-unlessRefused outcome.Repeated old new = new
-unlessRefused (outcome.Delivered m p) old new = new
-unlessRefused (outcome.Held m n) old new = new
-unlessRefused (outcome.Stray m) old new = new
-unlessRefused (outcome.TooLong m) old new = new
+outcomeWords o old = leftBy o old (kindIn o ∷ missedIn o ∷ bytesIn o ∷ sliceIn o ∷ startIn o ∷ [])
 
 -- the words with channel k's record as it is in j
 abbrev pub withRecord : List ℕ → ℕ → Joiner → List ℕ
@@ -60,10 +38,10 @@ placeIn j d = placeOf (sendersOf j) (senderIn d)
 
 -- the words after a datagram was taken: the record of the channel whose it is
 abbrev pub wordsBy : List ℕ → ℕ → Taken → List ℕ
-wordsBy ws k t = unlessRefused (t .outcome) ws (withRecord ws k (t .joiner))
+wordsBy ws k t = leftBy (t .outcome) ws (withRecord ws k (t .joiner))
 
 unfoldable pub takeNumber : List ℕ → List ℕ → List ℕ → ℕ
-takeNumber ws rooms d = refusalIn (takenOf (joinerIn ws) rooms d .outcome)
+takeNumber ws rooms d = numberGiven (takenOf (joinerIn ws) rooms d .outcome)
 
 unfoldable pub takeWords : List ℕ → List ℕ → List ℕ → List ℕ
 takeWords ws rooms d = wordsBy ws (placeIn (joinerIn ws) d) (takenOf (joinerIn ws) rooms d)

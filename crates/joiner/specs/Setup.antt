@@ -77,10 +77,14 @@ setupOf ids R buffer =
     (record { answer = Accepted; joiner = freshOf ids R })
     refusedSetup
 
--- a set-up's number: 20, or 0 where it is accepted
-abbrev pub answerIn : Verdict → ℕ
-answerIn Accepted = 0
-answerIn (Refused n) = n
+-- by cases: a set-up's number, which is 20, or 0 where it is accepted; and what a refusal leaves as it was
+abbrev pub numberGiven : Verdict → ℕ
+numberGiven Accepted = 0
+numberGiven (Refused n) = n
+
+abbrev pub leftBy : {A : Type 0} → Verdict → A → A → A
+leftBy Accepted was new = new
+leftBy (Refused n) was new = was
 
 -- what is asked of a set-up, in 01's words
 pub record Acceptable (ids : List ℕ) (R buffer : ℕ) : Type 0 where

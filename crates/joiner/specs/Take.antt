@@ -6,17 +6,17 @@ use mathlib.Core.List.{List, []}
 use lib.Dec.{ltb}
 use lib.ListN.{length, getD, set}
 use Rattle.wire.specs.Bytes.{written, part}
-use Rattle.binding.specs.Header.{theVersion, smallestDatagram, largestDatagram, versionIn, senderIn, heardIn, pieceIn}
+use Rattle.binding.specs.Header.{theVersion, smallestDatagram, largestDatagram, versionIn, senderIn, headingIn, pieceIn}
 use Rattle.binding.specs.declared.BindingHeader.{BindingHeader}
-use Rattle.binding.specs.declared.Heard.{Heard}
-use Rattle.binding.specs.declared.Heard.the-variants as heard
+use Rattle.binding.specs.declared.Heading.{Heading}
+use Rattle.binding.specs.declared.Heading.the-variants as heading
 use Rattle.channel.specs.Channel.{roomOf, steppedOf, movedOf}
 use Rattle.channel.specs.Record.{badSetup}
 use Rattle.channel.specs.declared.Channel.{Channel}
 use Rattle.channel.specs.declared.Put.{Put}
 use Rattle.channel.specs.declared.Put.the-variants.{Nowhere, At}
-use Rattle.channel.specs.declared.Place.{Place}
-use Rattle.channel.specs.declared.Place.the-variants.{Datagram, Rooms}
+use Rattle.channel.specs.declared.Slice.{Slice}
+use Rattle.channel.specs.declared.Slice.the-variants.{Datagram, Rooms}
 use Rattle.channel.specs.declared.Outcome.{Outcome}
 use Rattle.channel.specs.declared.Outcome.the-variants.{Refused, Repeated, Delivered, Held, Stray, TooLong}
 use Rattle.channel.specs.declared.Judged.{Judged}
@@ -37,30 +37,30 @@ sentTo j d h =
     cond (ltb k (j .count)) (Move k (steppedOf (roomOf (j .room) k) (channelAt j k) (h .part) (h .counter) (length (pieceIn d)))) (Refusal notSetUp)
 
 -- 21 and 22 are the binding header's
-unfoldable pub heardBy : Joiner → List ℕ → Heard → Judged
-heardBy j d (heard.Refused n) = Refusal n
-heardBy j d (heard.Piece h) = sentTo j d h
+unfoldable pub headingBy : Joiner → List ℕ → Heading → Judged
+headingBy j d (heading.Refused n) = Refusal n
+headingBy j d (heading.Piece h) = sentTo j d h
 
 -- what the datagram d comes to in rooms of b bytes, before anything is written
 unfoldable pub judgedOf : Joiner → ℕ → List ℕ → Judged
-judgedOf j b d = cond (good j b) (heardBy j d (heardIn d)) (Refusal badSetup)
+judgedOf j b d = cond (good j b) (headingBy j d (headingIn d)) (Refusal badSetup)
 
 -- the same of what a look found. The sender ID to look for: any, where the header is refused
-abbrev pub senderBy : Heard → ℕ
-senderBy (heard.Refused n) = 0
-senderBy (heard.Piece h) = h .sender
+abbrev pub senderBy : Heading → ℕ
+senderBy (heading.Refused n) = 0
+senderBy (heading.Piece h) = h .sender
 
 -- the header's own number; else nobody bears its sender ID
-abbrev pub refusalBy : Heard → ℕ
-refusalBy (heard.Refused n) = n
-refusalBy (heard.Piece h) = notSetUp
+abbrev pub refusalBy : Heading → ℕ
+refusalBy (heading.Refused n) = n
+refusalBy (heading.Piece h) = notSetUp
 
 -- what a datagram of n bytes comes to, with rooms of R bytes
-unfoldable pub judgedBy : Looked → ℕ → Heard → ℕ → Judged
+unfoldable pub judgedBy : Looked → ℕ → Heading → ℕ → Judged
 judgedBy Bad R x n = Refusal badSetup
 judgedBy Nobody R x n = Refusal (refusalBy x)
-judgedBy (Somebody k ch) R (heard.Refused m) n = Refusal m
-judgedBy (Somebody k ch) R (heard.Piece h) n = movedOf k R ch h n
+judgedBy (Somebody k ch) R (heading.Refused m) n = Refusal m
+judgedBy (Somebody k ch) R (heading.Piece h) n = movedOf k R ch h n
 
 -- the joiner with channel k's record changed
 abbrev pub changed : Joiner → ℕ → Channel → Joiner
@@ -86,7 +86,7 @@ unfoldable pub roomsAfter : Joiner → List ℕ → List ℕ → List ℕ
 roomsAfter j rooms d = roomsBy rooms d (judgedOf j (length rooms) d)
 
 -- where the message lies, as a part of the lent slice that holds it
-abbrev pub lyingAt : Place → List ℕ → List ℕ → List ℕ
+abbrev pub lyingAt : Slice → List ℕ → List ℕ → List ℕ
 lyingAt (Datagram p n) d rooms = part d p n
 lyingAt (Rooms p n) d rooms = part rooms p n
 

@@ -16,14 +16,14 @@ ghost use mathlib.Core.Path.{_≡_};
 ghost use Rattle.joiner.specs.Take.{senderBy, refusalBy, judgedBy, takenOf, roomsAfter, putBy, messageOf};
 use crate::looking::Looked;
 use binding::BindingHeader;
-use binding::Heard;
+use binding::Heading;
 use channel::BAD_SETUP;
 use channel::CHANNELS;
 use channel::Channel;
 use channel::Judged;
 use channel::Outcome;
-use channel::Place;
 use channel::Put;
+use channel::Slice;
 
 // 01, Numbers given back. 20 is the set-up's; 21 and 22 are the binding header's.
 pub const NOT_SET_UP: u32 = 23;
@@ -46,10 +46,10 @@ pub fn take(joiner: Joiner, rooms: &mut [u8], datagram: &[u8]) -> Taken
     ensures { λ r. ⌜ r ≡ takenOf joiner (now (rooms .entry)) (now (datagram .entry)) ⌝ }
     ensures { λ _. ⌜ now (rooms .exit) ≡ roomsAfter joiner (now (rooms .entry)) (now (datagram .entry)) ⌝ }
 {
-    let heard = BindingHeader::read(datagram);
+    let heading = BindingHeader::read(datagram);
     let words = in_words::words_of(joiner);
-    let found = looking::look(&words, rooms.len(), sender_of(heard));
-    match judge(found, joiner.room, heard, datagram.len()) {
+    let found = looking::look(&words, rooms.len(), sender_of(heading));
+    match judge(found, joiner.room, heading, datagram.len()) {
         Judged::Refusal(number) => Taken {
             outcome: Outcome::Refused(number),
             joiner,
@@ -75,45 +75,45 @@ pub fn message<'a>(outcome: Outcome, datagram: &'a [u8], rooms: &'a [u8]) -> &'a
     ensures { λ r. ⌜ now r ≡ messageOf outcome (now (datagram .entry)) (now (rooms .entry)) ⌝ }
 {
     match outcome {
-        Outcome::Delivered { missed: _, place } => match place {
-            Place::Datagram { start, length } => wire::part(datagram, start, length),
-            Place::Rooms { start, length } => wire::part(rooms, start, length),
+        Outcome::Delivered { missed: _, slice } => match slice {
+            Slice::Datagram { start, length } => wire::part(datagram, start, length),
+            Slice::Rooms { start, length } => wire::part(rooms, start, length),
         },
         _ => &datagram[..0],
     }
 }
 
 // The sender ID for which a joiner is looked at: any, where the header is refused.
-pub(crate) fn sender_of(heard: Heard) -> u16
-    ensures { λ r. ⌜ r ≡ senderBy heard ⌝ }
+pub(crate) fn sender_of(heading: Heading) -> u16
+    ensures { λ r. ⌜ r ≡ senderBy heading ⌝ }
 {
-    match heard {
-        Heard::Refused(_) => 0,
-        Heard::Piece(header) => header.sender,
+    match heading {
+        Heading::Refused(_) => 0,
+        Heading::Piece(header) => header.sender,
     }
 }
 
 // What a datagram of `length` bytes comes to, before anything is written: the numbers in their order, then its channel's
 // step. `found` is what the look for its sender ID found in a joiner with rooms of `size` bytes.
-pub(crate) fn judge(found: Looked, size: u32, heard: Heard, length: usize) -> Judged
-    ensures { λ r. ⌜ r ≡ judgedBy found size heard length ⌝ }
+pub(crate) fn judge(found: Looked, size: u32, heading: Heading, length: usize) -> Judged
+    ensures { λ r. ⌜ r ≡ judgedBy found size heading length ⌝ }
 {
     match found {
         Looked::Bad => Judged::Refusal(BAD_SETUP),
-        Looked::Nobody => Judged::Refusal(refusal(heard)),
-        Looked::Somebody { at, channel } => match heard {
-            Heard::Refused(number) => Judged::Refusal(number),
-            Heard::Piece(header) => channel::moved(at, size, channel, header, length),
+        Looked::Nobody => Judged::Refusal(refusal(heading)),
+        Looked::Somebody { at, channel } => match heading {
+            Heading::Refused(number) => Judged::Refusal(number),
+            Heading::Piece(header) => channel::moved(at, size, channel, header, length),
         },
     }
 }
 
-fn refusal(heard: Heard) -> u32
-    ensures { λ r. ⌜ r ≡ refusalBy heard ⌝ }
+fn refusal(heading: Heading) -> u32
+    ensures { λ r. ⌜ r ≡ refusalBy heading ⌝ }
 {
-    match heard {
-        Heard::Refused(number) => number,
-        Heard::Piece(_) => NOT_SET_UP,
+    match heading {
+        Heading::Refused(number) => number,
+        Heading::Piece(_) => NOT_SET_UP,
     }
 }
 

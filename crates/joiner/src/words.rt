@@ -10,7 +10,7 @@ use crate::setups::Verdict;
 use binding::BindingHeader;
 use channel::Judged;
 use channel::Outcome;
-use channel::Place;
+use channel::Slice;
 
 // How many words an answer of `take` is.
 pub const ANSWER_WORDS: usize = 5;
@@ -60,10 +60,10 @@ pub fn take(
     ensures { λ _. ⌜ now (rooms .exit) ≡ takeRooms (now (state .entry)) (now (rooms .entry)) (now (datagram .entry)) ⌝ }
     ensures { λ _. ⌜ now (answer .exit) ≡ takeAnswer (now (state .entry)) (now (rooms .entry)) (now (datagram .entry)) (now (answer .entry)) ⌝ }
 {
-    let heard = BindingHeader::read(datagram);
+    let heading = BindingHeader::read(datagram);
     let size = state[1];
-    let found = looking::look(state, rooms.len(), crate::sender_of(heard));
-    match crate::judge(found, size, heard, datagram.len()) {
+    let found = looking::look(state, rooms.len(), crate::sender_of(heading));
+    match crate::judge(found, size, heading, datagram.len()) {
         Judged::Refusal(number) => number,
         Judged::Move { at, step } => {
             let outcome = step.outcome;
@@ -83,8 +83,8 @@ fn put_outcome(answer: &mut [u64; ANSWER_WORDS], outcome: Outcome)
     match outcome {
         Outcome::Refused(_) => {}
         Outcome::Repeated => put_words(answer, REPEATED, 0, 0, 0, 0),
-        Outcome::Delivered { missed, place } => match place {
-            Place::Datagram { start, length } => put_words(
+        Outcome::Delivered { missed, slice } => match slice {
+            Slice::Datagram { start, length } => put_words(
                 answer,
                 DELIVERED,
                 missed as u64,
@@ -92,7 +92,7 @@ fn put_outcome(answer: &mut [u64; ANSWER_WORDS], outcome: Outcome)
                 IN_DATAGRAM,
                 start as u64,
             ),
-            Place::Rooms { start, length } => put_words(
+            Slice::Rooms { start, length } => put_words(
                 answer,
                 DELIVERED,
                 missed as u64,

@@ -14,7 +14,7 @@ use Rattle.message.specs.declared.Writing.{Writing}
 use Rattle.message.specs.declared.Writing.the-variants as writing
 use Rattle.message.specs.Header.{headerLength, theMark, theVersion, headerBytes}
 use Rattle.message.specs.Refusal.{writeRefusal}
-use Rattle.message.specs.Writing.{headerFor, messageBytes, writeOf, unlessRefused, outputAfter}
+use Rattle.message.specs.Writing.{headerFor, messageBytes, writeOf, leftBy, outputAfter}
 use Rattle.message.specs.Writing as Writing
 use Rattle.message.proofs.Accepted.{Writable, writable}
 
@@ -48,9 +48,9 @@ writing-refused : (n k : ℕ) → (n ≡ 0 → ⊥) → writing.Refused n ≡ Wr
 writing-refused zero k h = absurd (h refl)
 writing-refused (suc n) k h = refl
 
-left-as-it-was : (n : ℕ) (w out : List ℕ) → (n ≡ 0 → ⊥) → out ≡ unlessRefused n w out
-left-as-it-was zero w out h = absurd (h refl)
-left-as-it-was (suc n) w out h = refl
+left-as-it-was : (n k : ℕ) (w out : List ℕ) → (n ≡ 0 → ⊥) → out ≡ leftBy (Writing.answered n k) out w
+left-as-it-was zero k w out h = absurd (h refl)
+left-as-it-was (suc n) k w out h = refl
 
 module _ (domain id : ℕ) (payload : List ℕ) (room n : ℕ) (e : n ≡ writeRefusal domain id payload room) where
   pub answer-in : n ≡ 0 → writing.Written (headerLength + length payload) ≡ writeOf domain id payload room
@@ -63,6 +63,9 @@ module _ (own domain id seq : ℕ) (payload out : List ℕ) (n : ℕ) (e : n ≡
   unfoldable laid : List ℕ
   laid = over out 0 (messageBytes own domain id seq payload)
 
+  abbrev laid-by : ℕ → List ℕ
+  laid-by r = leftBy (Writing.answered r (headerLength + length payload)) out laid
+
   pub output-in : {h : Header} {a b : List ℕ} → n ≡ 0 → h ≡ headerFor own domain id seq payload → a ≡ written out 0 (headerBytes h) → b
       ≡ written a headerLength payload → b ≡ outputAfter own domain id seq payload out
   unfolding laid
@@ -70,8 +73,8 @@ module _ (own domain id seq : ℕ) (payload out : List ℕ) (n : ℕ) (e : n ≡
       let ok : Writable domain id payload (length out) = writable domain id payload (length out) (sym e ∙ z) in
       let header : List ℕ = headerBytes (headerFor own domain id seq payload) in
       let k : a ≡ over out 0 header = l ∙ written-in out 0 (headerBytes h) (omega arith) ∙ ap (λ (x : Header). over out 0 (headerBytes x)) hd in
-      written-behind out header payload headerLength k refl (omega arith) w ∙ ap (λ (r : ℕ). unlessRefused r laid out) (sym z ∙ e)
+      written-behind out header payload headerLength k refl (omega arith) w ∙ ap laid-by (sym z ∙ e)
 
   pub output-not : (n ≡ 0 → ⊥) → out ≡ outputAfter own domain id seq payload out
   unfolding laid
-  output-not h = left-as-it-was n laid out h ∙ ap (λ (r : ℕ). unlessRefused r laid out) e
+  output-not h = left-as-it-was n (headerLength + length payload) laid out h ∙ ap laid-by e

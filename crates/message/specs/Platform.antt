@@ -50,3 +50,19 @@ platformMessage id field =
 
 abbrev pub messageOf : ℕ → ℕ → ℕ → Message
 messageOf domain id field = cond (eqb domain platformDomain) (platformMessage id field) Operation
+
+-- by cases: its kind, which is its ID in Table 3, and 5 for an operation
+abbrev pub kindIn : Message → ℕ
+kindIn (PlatformStatus x) = platformStatus
+kindIn PlatformStatusRequest = platformStatusRequest
+kindIn (UnknownOperation i) = unknownOperation
+kindIn (VersionedDataPull i) = versionedDataPull
+kindIn Operation = 5
+
+-- its value: the state that it tells; the ID in its payload; an operation's ID, which is its header's
+abbrev pub valueIn : ℕ → Message → ℕ
+valueIn id (PlatformStatus x) = statusValue x
+valueIn id PlatformStatusRequest = 0
+valueIn id (UnknownOperation i) = i
+valueIn id (VersionedDataPull i) = i
+valueIn id Operation = id

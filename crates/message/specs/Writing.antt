@@ -25,20 +25,21 @@ answered (suc r) n = Refused (suc r)
 abbrev pub writeOf : ℕ → ℕ → List ℕ → ℕ → Writing
 writeOf domain id payload room = answered (writeRefusal domain id payload room) (headerLength + length payload)
 
--- the output afterwards: the message at its start and the rest as it was, or all of it as it was
-abbrev pub unlessRefused : ℕ → List ℕ → List ℕ → List ℕ
-unlessRefused zero written out = written
-unlessRefused (suc r) written out = out
-
-abbrev pub outputAfter : ℕ → ℕ → ℕ → ℕ → List ℕ → List ℕ → List ℕ
-outputAfter own domain id seq payload out =
-    unlessRefused (writeRefusal domain id payload (length out)) (over out 0 (messageBytes own domain id seq payload)) out
-
--- by cases: the number that an answer gives back (0: the message was written), and the bytes that were written
+-- by cases: the number that an answer gives back (0: the message was written), the bytes that were written, and what a refusal
+-- leaves as it was
 abbrev pub numberGiven : Writing → ℕ
 numberGiven (Refused n) = n
 numberGiven (Written n) = 0
 
-abbrev pub bytesWritten : Writing → ℕ
-bytesWritten (Refused n) = 0
-bytesWritten (Written n) = n
+abbrev pub bytesIn : Writing → ℕ
+bytesIn (Refused n) = 0
+bytesIn (Written n) = n
+
+abbrev pub leftBy : {A : Type 0} → Writing → A → A → A
+leftBy (Refused n) was new = was
+leftBy (Written n) was new = new
+
+-- the output afterwards: the message at its start and the rest as it was, or all of it as it was
+abbrev pub outputAfter : ℕ → ℕ → ℕ → ℕ → List ℕ → List ℕ → List ℕ
+outputAfter own domain id seq payload out =
+    leftBy (writeOf domain id payload (length out)) out (over out 0 (messageBytes own domain id seq payload))

@@ -6,13 +6,13 @@ use mathlib.Core.List.{List}
 use Rattle.table.specs.declared.Sections.{Sections}
 use Rattle.payload.specs.declared.Answer.{Answer}
 use Rattle.walk.specs.Walk.{Codec}
-use Rattle.payload.specs.Calls.{answeredIn, leftIn}
-use Rattle.nyrkovash.specs.PayloadCalls.{refusalIn, givenLeft}
+use Rattle.payload.specs.Calls.{numberGiven, answeredIn, leftIn}
+use Rattle.nyrkovash.specs.PayloadCalls.{givenLeft}
 
 -- a call handed table bytes
 module _ {g : Answer} (a : Answer) (e : g ≡ a) {x : ℕ} where
-  pub given-number : x ≡ refusalIn g → x ≡ refusalIn a
-  given-number f = f ∙ ap refusalIn e
+  pub given-number : x ≡ numberGiven g → x ≡ numberGiven a
+  given-number f = f ∙ ap numberGiven e
 
   pub given-count : (was : ℕ) → x ≡ givenLeft was g → x ≡ givenLeft was a
   given-count was f = f ∙ ap (givenLeft was) e
@@ -23,7 +23,7 @@ module _ {z : Sections} (c : Codec) (n : ℕ) (t : List ℕ) (s : Sections) (i :
     answer-in : g ≡ answeredIn c n t s i room
     answer-in = e ∙ ap (λ (y : Sections). answeredIn c n t y i room) es
 
-    pub number-in : {x : ℕ} → x ≡ refusalIn g → x ≡ refusalIn (answeredIn c n t s i room)
+    pub number-in : {x : ℕ} → x ≡ numberGiven g → x ≡ numberGiven (answeredIn c n t s i room)
     number-in f = given-number (answeredIn c n t s i room) answer-in f
 
     pub count-in : {x : ℕ} (was : ℕ) → x ≡ givenLeft was g → x ≡ givenLeft was (answeredIn c n t s i room)

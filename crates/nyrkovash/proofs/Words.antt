@@ -13,13 +13,14 @@ use Rattle.wire.proofs.Cond.{yes-if, passed, neither}
 use Rattle.wire.proofs.Numbers.{past-end, number-drop}
 use Rattle.message.specs.Header.{headerLength, platformDomain, domainIn, senderIn, idIn, payloadSizeIn, sequenceIn, payloadIn}
 use Rattle.message.specs.Platform.{platformStatus, reservedID, payloadLength, reservedStates, statusOf, statusValue, platformMessage, messageOf}
+use Rattle.message.specs.Platform.{kindIn, valueIn}
 use Rattle.message.specs.Refusal.{contentsRefusal, readRefusal}
 use Rattle.message.specs.Reading.{answered, readOut, numberGiven}
 use Rattle.message.specs.declared.Message.{Message}
 use Rattle.message.specs.declared.Message.the-variants.{Operation}
 use Rattle.message.specs.declared.Reading.{Reading}
 use Rattle.message.proofs.Accepted.{readable}
-use Rattle.nyrkovash.specs.MessageCalls.{kindOf, valueOf, readLeft, readNumber, readAnswer}
+use Rattle.nyrkovash.specs.MessageCalls.{readLeft, readNumber, readAnswer}
 
 -- a state that is not reserved is 0 or 1
 state-is : (f : ℕ) → f < 2 → statusValue (statusOf f) ≡ f
@@ -47,10 +48,10 @@ module _ (i : ℕ) (p : List ℕ) (e : contentsRefusal platformDomain i p ≡ 0)
       let l = passed (not (eqb (length p) (payloadLength i))) 7 _ r .1 in
       passed (eqb i platformStatus && leb reservedStates (number 2 p 0)) 8 0 l .0
 
-  pub kind-is-id : (f : ℕ) → kindOf (platformMessage i f) ≡ i
+  pub kind-is-id : (f : ℕ) → kindIn (platformMessage i f) ≡ i
   kind-is-id f = go (eqb i 1) (eqb i 2) (eqb i 3) refl refl refl
     where
-      go : (x y z : Bool) → eqb i 1 ≡ x → eqb i 2 ≡ y → eqb i 3 ≡ z → kindOf (platformMessage i f) ≡ i
+      go : (x y z : Bool) → eqb i 1 ≡ x → eqb i 2 ≡ y → eqb i 3 ≡ z → kindIn (platformMessage i f) ≡ i
       go true y z a b c = rw a (sym (eqb-true i 1 a))
       go false true z a b c = rw (a, b) (sym (eqb-true i 2 b))
       go false false true a b c = rw (a, b, c) (sym (eqb-true i 3 c))
@@ -60,10 +61,10 @@ module _ (i : ℕ) (p : List ℕ) (e : contentsRefusal platformDomain i p ≡ 0)
           let k4 = k .1 in
           rw (a, b, c) (omega (arith, eqb-false i 1 a, eqb-false i 2 b, eqb-false i 3 c, k0))
 
-  pub value-is-field : valueOf i (platformMessage i (number 2 p 0)) ≡ number 2 p 0
+  pub value-is-field : valueIn i (platformMessage i (number 2 p 0)) ≡ number 2 p 0
   value-is-field = go (eqb i 1) (eqb i 2) (eqb i 3) refl refl refl
     where
-      go : (x y z : Bool) → eqb i 1 ≡ x → eqb i 2 ≡ y → eqb i 3 ≡ z → valueOf i (platformMessage i (number 2 p 0)) ≡ number 2 p 0
+      go : (x y z : Bool) → eqb i 1 ≡ x → eqb i 2 ≡ y → eqb i 3 ≡ z → valueIn i (platformMessage i (number 2 p 0)) ≡ number 2 p 0
       go true y z a b c =
           let s : leb reservedStates (number 2 p 0) ≡ false = rw a at state-known in
           rw a (state-is (number 2 p 0) (leb-false reservedStates (number 2 p 0) s))
@@ -74,19 +75,19 @@ module _ (i : ℕ) (p : List ℕ) (e : contentsRefusal platformDomain i p ≡ 0)
       go false false false a b c = rw (a, b, c)
 
 module _ (d i : ℕ) (p : List ℕ) (e : contentsRefusal d i p ≡ 0) where
-  kind-is : (f : ℕ) → kindOf (messageOf d i f) ≡ cond (eqb d platformDomain) i (kindOf Operation)
+  kind-is : (f : ℕ) → kindIn (messageOf d i f) ≡ cond (eqb d platformDomain) i (kindIn Operation)
   kind-is f = go (eqb d platformDomain) refl
     where
-      go : (b : Bool) → eqb d platformDomain ≡ b → kindOf (messageOf d i f) ≡ cond (eqb d platformDomain) i (kindOf Operation)
+      go : (b : Bool) → eqb d platformDomain ≡ b → kindIn (messageOf d i f) ≡ cond (eqb d platformDomain) i (kindIn Operation)
       go true a =
           let z : d ≡ 0 = eqb-true d 0 a in
           rw a (kind-is-id i p (rw z at e) f)
       go false a = rw a
 
-  value-is : valueOf i (messageOf d i (number 2 p 0)) ≡ cond (eqb d platformDomain) (number 2 p 0) i
+  value-is : valueIn i (messageOf d i (number 2 p 0)) ≡ cond (eqb d platformDomain) (number 2 p 0) i
   value-is = go (eqb d platformDomain) refl
     where
-      go : (b : Bool) → eqb d platformDomain ≡ b → valueOf i (messageOf d i (number 2 p 0)) ≡ cond (eqb d platformDomain) (number 2 p 0) i
+      go : (b : Bool) → eqb d platformDomain ≡ b → valueIn i (messageOf d i (number 2 p 0)) ≡ cond (eqb d platformDomain) (number 2 p 0) i
       go true a =
           let z : d ≡ 0 = eqb-true d 0 a in
           rw a (value-is-field i p (rw z at e))
@@ -96,22 +97,22 @@ module _ (d i : ℕ) (p : List ℕ) (e : contentsRefusal d i p ≡ 0) where
 pub words-read :
     {d i f k v a b l : ℕ} (s was : List ℕ) →
     contentsRefusal (domainIn s) (idIn s) (payloadIn s) ≡ 0 →
-    d ≡ domainIn s → i ≡ idIn s → k ≡ cond (eqb d platformDomain) i (kindOf Operation) →
+    d ≡ domainIn s → i ≡ idIn s → k ≡ cond (eqb d platformDomain) i (kindIn Operation) →
     f ≡ number 2 s headerLength → v ≡ cond (eqb d platformDomain) f i →
     a ≡ senderIn s → b ≡ sequenceIn s → l ≡ payloadSizeIn s →
     (k ∷ v ∷ a ∷ b ∷ headerLength ∷ l ∷ []) ≡ readLeft was (readOut s)
 words-read {d} {i} {f} {k} {v} {a} {b} {l} s was ok ed ei ek ef ev ea eb el =
     let m : Message = messageOf (domainIn s) (idIn s) (number 2 (payloadIn s) 0) in
     let f₁ : f ≡ number 2 (payloadIn s) 0 = ef ∙ sym (number-drop 2 headerLength s 0) in
-    let k₁ : k ≡ cond (eqb (domainIn s) platformDomain) (idIn s) (kindOf Operation) =
-    ek ∙ ap₂ (λ (y z : ℕ). cond (eqb y platformDomain) z (kindOf Operation)) ed ei in
-    let k₂ : k ≡ kindOf m = k₁ ∙ sym (kind-is (domainIn s) (idIn s) (payloadIn s) ok (number 2 (payloadIn s) 0)) in
+    let k₁ : k ≡ cond (eqb (domainIn s) platformDomain) (idIn s) (kindIn Operation) =
+    ek ∙ ap₂ (λ (y z : ℕ). cond (eqb y platformDomain) z (kindIn Operation)) ed ei in
+    let k₂ : k ≡ kindIn m = k₁ ∙ sym (kind-is (domainIn s) (idIn s) (payloadIn s) ok (number 2 (payloadIn s) 0)) in
     let v₁ : v ≡ cond (eqb (domainIn s) platformDomain) (number 2 (payloadIn s) 0) (idIn s) =
     ev ∙ ap (λ (y : ℕ). cond (eqb y platformDomain) f i) ed ∙ ap₂ (λ (y z : ℕ). cond (eqb (domainIn s) platformDomain) y z) f₁ ei in
-    let v₂ : v ≡ valueOf (idIn s) m = v₁ ∙ sym (value-is (domainIn s) (idIn s) (payloadIn s) ok) in
+    let v₂ : v ≡ valueIn (idIn s) m = v₁ ∙ sym (value-is (domainIn s) (idIn s) (payloadIn s) ok) in
     ap₂ (λ (y z : ℕ). y ∷ z ∷ a ∷ b ∷ headerLength ∷ l ∷ []) k₂ v₂
-    ∙ ap₂ (λ (y z : ℕ). kindOf m ∷ valueOf (idIn s) m ∷ y ∷ z ∷ headerLength ∷ l ∷ []) ea eb
-    ∙ ap (λ (y : ℕ). kindOf m ∷ valueOf (idIn s) m ∷ senderIn s ∷ sequenceIn s ∷ headerLength ∷ y ∷ []) el
+    ∙ ap₂ (λ (y z : ℕ). kindIn m ∷ valueIn (idIn s) m ∷ y ∷ z ∷ headerLength ∷ l ∷ []) ea eb
+    ∙ ap (λ (y : ℕ). kindIn m ∷ valueIn (idIn s) m ∷ senderIn s ∷ sequenceIn s ∷ headerLength ∷ y ∷ []) el
 
 -- `read`, by the number that refuses
 not-refused : (n : ℕ) (r : Reading) → (n ≡ 0 → ⊥) → numberGiven (answered n r) ≡ n

@@ -3,29 +3,27 @@
 use Prim.Native.Nat.{ℕ}
 use mathlib.Core.List.{List}
 use lib.ListN.{length}
-use Rattle.binding.specs.Cutting.{countedOf, countRefusal, madeOf, cutRefusal}
+use Rattle.binding.specs.Cutting.{countedOf, madeOf}
+use Rattle.binding.specs.Counted as counted
+use Rattle.binding.specs.Made as made
 use Rattle.binding.specs.declared.cutter.Counted.{Counted}
-use Rattle.binding.specs.declared.cutter.Counted.the-variants as counted
 use Rattle.binding.specs.declared.cutter.Made.{Made}
-use Rattle.binding.specs.declared.cutter.Made.the-variants as made
 
 abbrev pub countLeft : ℕ → Counted → ℕ
-countLeft was (counted.Refused n) = was
-countLeft was (counted.Pieces n) = n
+countLeft was x = counted.leftBy x was (counted.piecesIn x)
 
 abbrev pub piecesNumber : ℕ → ℕ → ℕ
-piecesNumber m s = countRefusal (countedOf m s)
+piecesNumber m s = counted.numberGiven (countedOf m s)
 
 abbrev pub piecesGiven : ℕ → ℕ → ℕ → ℕ
 piecesGiven m s was = countLeft was (countedOf m s)
 
 abbrev pub madeLeft : ℕ → Made → ℕ
-madeLeft was (made.Refused n) = was
-madeLeft was (made.Datagram n) = n
+madeLeft was x = made.leftBy x was (made.bytesIn x)
 
 -- for an output, which is `cutInto` afterwards
 abbrev pub cutNumber : List ℕ → ℕ → ℕ → ℕ → ℕ → List ℕ → ℕ
-cutNumber msg s sender first i out = cutRefusal (madeOf msg s sender first i (length out))
+cutNumber msg s sender first i out = made.numberGiven (madeOf msg s sender first i (length out))
 
 abbrev pub cutGiven : List ℕ → ℕ → ℕ → ℕ → ℕ → List ℕ → ℕ → ℕ
 cutGiven msg s sender first i out was = madeLeft was (madeOf msg s sender first i (length out))

@@ -9,23 +9,19 @@ use Rattle.table.specs.declared.Checked.the-variants.{Refused, Table}
 use Rattle.table.specs.declared.Found.{Found}
 use Rattle.table.specs.declared.Found.the-variants.{At, Nothing}
 use Rattle.table.specs.Layout.{cutShort, within}
+use Rattle.table.specs.Checked.{numberGiven}
 use Rattle.table.specs.Entries.{operationAt}
 use Rattle.table.specs.Search.{lookedUp}
 use Rattle.types.specs.Table.{checked}
 use Rattle.table.specs.Words.{wordsOf}
 
--- 30 to 33, 0 where the table is good
-abbrev pub checkRefusal : Checked → ℕ
-checkRefusal (Refused n) = n
-checkRefusal (Table s) = 0
-
--- the sections in their words; at a refusal the words stay as they were
+-- the sections in their words; at a refusal, 30 to 33, the words stay as they were
 abbrev pub sectionsLeft : List ℕ → Checked → List ℕ
 sectionsLeft was (Refused n) = was
 sectionsLeft was (Table s) = wordsOf s
 
 abbrev pub checkNumber : List ℕ → ℕ
-checkNumber t = checkRefusal (checked t)
+checkNumber t = numberGiven (checked t)
 
 abbrev pub checkAnswer : List ℕ → List ℕ → List ℕ
 checkAnswer t was = sectionsLeft was (checked t)

@@ -1,9 +1,9 @@
 // Payloads unpacked and packed, as the C interface has them: a refusal's number, or 0 and how many words or bytes were given.
 ghost use mathlib.Core.Path.{_≡_};
-ghost use Rattle.payload.specs.Calls.{wordsAfter, wordsIn, bytesAfter, bytesIn};
+ghost use Rattle.payload.specs.Calls.{numberGiven, wordsAfter, wordsIn, bytesAfter, bytesIn};
 ghost use Rattle.table.specs.Words.{sectionsIn};
 ghost use Rattle.nyrkovash.specs.PayloadCalls.{unpackNumber, unpackGiven, unpackNumberIn, unpackGivenIn};
-ghost use Rattle.nyrkovash.specs.PayloadCalls.{packNumber, packGiven, packNumberIn, packGivenIn, refusalIn, givenLeft};
+ghost use Rattle.nyrkovash.specs.PayloadCalls.{packNumber, packGiven, packNumberIn, packGivenIn, givenLeft};
 use payload::Answer;
 use table::SECTIONS_WORDS;
 
@@ -83,7 +83,7 @@ pub extern "C" fn nyr_pack_in(
 }
 
 fn told(answer: Answer, given: &mut usize) -> u32
-    ensures { λ r. ⌜ r ≡ refusalIn answer ⌝ }
+    ensures { λ r. ⌜ r ≡ numberGiven answer ⌝ }
     ensures { λ _. ⌜ now (given .exit) ≡ givenLeft (now (given .entry)) answer ⌝ }
 {
     match answer {

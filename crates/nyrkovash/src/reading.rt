@@ -6,7 +6,8 @@ ghost use Rattle.message.specs.declared.Message.the-variants.{Operation};
 ghost use Rattle.message.specs.Header.{platformDomain, domainIn, idIn, payloadIn};
 ghost use Rattle.message.specs.Refusal.{contentsRefusal, readRefusal};
 ghost use Rattle.message.specs.Reading.{readOut};
-ghost use Rattle.nyrkovash.specs.MessageCalls.{kindOf, readLeft, readNumber, readAnswer};
+ghost use Rattle.message.specs.Platform.{kindIn};
+ghost use Rattle.nyrkovash.specs.MessageCalls.{readLeft, readNumber, readAnswer};
 use message::Header;
 use message::Own;
 
@@ -72,7 +73,7 @@ fn put_reading(message: &[u8], answer: &mut [u64; READING_WORDS])
 }
 
 fn kind_of(domain: u8, id: u32) -> u64
-    ensures { λ r. ⌜ r ≡ cond (eqb domain platformDomain) id (kindOf Operation) ⌝ }
+    ensures { λ r. ⌜ r ≡ cond (eqb domain platformDomain) id (kindIn Operation) ⌝ }
 {
     if domain == Header::PLATFORM_DOMAIN {
         id as u64

@@ -40,8 +40,19 @@ unfoldable pub answeredIn : Codec → ℕ → List ℕ → Sections → ℕ → 
 answeredIn c n t s i room =
     cond (within t s) (cond (isType s i) (answeredType c n t s i room) (Refused noSuchType)) (Refused cutShort)
 
+-- by cases: the number that an answer gives back (0: all was given), and how many words or bytes were given
+abbrev pub numberGiven : Answer → ℕ
+numberGiven (Refused k) = k
+numberGiven (Stopped k) = k
+numberGiven (Gave k) = 0
+
+abbrev pub countIn : Answer → ℕ
+countIn (Refused k) = 0
+countIn (Stopped k) = 0
+countIn (Gave k) = k
+
 -- what is left: what the walk writes where all of it is given, and as it was at a refusal
-unfoldable pub leftBy : Answer → List ℕ → List ℕ → List ℕ
+unfoldable pub leftBy : {A : Type 0} → Answer → A → A → A
 leftBy (Refused k) before after = before
 leftBy (Stopped k) before after = before
 leftBy (Gave k) before after = after

@@ -15,19 +15,19 @@ use Rattle.platform.specs.declared.reactions.Standing.{Standing}
 use Rattle.platform.specs.declared.reactions.Reaction.{Reaction}
 use Rattle.platform.specs.Replies.{owedBytes, owedLength}
 use Rattle.platform.proofs.ReplyBytes.{length-owed}
-use Rattle.platform.specs.declared.Outcome.{Outcome}
+use Rattle.platform.specs.declared.Received.{Received}
 use Rattle.platform.specs.Receiving.{freshStanding, refused, taken, answered, laidOut}
 
 -- the replies fit, or 10
 module _ (p : Standing) (h : Header) (x : Reaction) (w : ℕ) (e : w ≡ owedLength (x .owed)) where
-  pub too-long : (room : ℕ) (r : Outcome) → room < w → r ≡ refused p 10 → r ≡ answered p h x room
+  pub too-long : (room : ℕ) (r : Received) → room < w → r ≡ refused p 10 → r ≡ answered p h x room
   unfolding answered
-  too-long room r l d = d ∙ sym (yes-lt {A = Outcome} (refused p 10) (taken h x (owedLength (x .owed))) room (owedLength (x .owed)) (omega arith))
+  too-long room r l d = d ∙ sym (yes-lt {A = Received} (refused p 10) (taken h x (owedLength (x .owed))) room (owedLength (x .owed)) (omega arith))
 
-  pub fitting : (room : ℕ) (r : Outcome) → w ≤ room → r ≡ taken h x w → r ≡ answered p h x room
+  pub fitting : (room : ℕ) (r : Received) → w ≤ room → r ≡ taken h x w → r ≡ answered p h x room
   unfolding answered
   fitting room r l d = d ∙ ap (taken h x) e
-      ∙ sym (no-lt {A = Outcome} (refused p 10) (taken h x (owedLength (x .owed))) room (owedLength (x .owed)) (omega arith))
+      ∙ sym (no-lt {A = Received} (refused p 10) (taken h x (owedLength (x .owed))) room (owedLength (x .owed)) (omega arith))
 
 module _ (own : ℕ) (x : Reaction) (w : ℕ) (e : w ≡ owedLength (x .owed)) (out : List ℕ) where
   pub left-as-it-was : length out < w → out ≡ laidOut own x out

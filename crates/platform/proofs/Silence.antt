@@ -23,7 +23,7 @@ use Rattle.message.specs.Refusal.{noRoom}
 use Rattle.message.specs.Reading.{readOf}
 use Rattle.platform.specs.declared.reactions.Standing.{Standing}
 use Rattle.platform.specs.declared.reactions.Heard.the-variants as heard
-use Rattle.platform.specs.declared.Outcome.{Outcome}
+use Rattle.platform.specs.declared.Received.{Received}
 use Rattle.platform.specs.declared.reactions.Reply.{Reply}
 use Rattle.platform.specs.declared.reactions.Reply.the-variants.{StatusUp, PullAll, Unknown}
 use Rattle.platform.specs.declared.reactions.Reaction.{Reaction}

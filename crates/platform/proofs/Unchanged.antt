@@ -26,8 +26,8 @@ use Rattle.message.specs.Refusal.{noRoom, readRefusal}
 use Rattle.message.specs.Reading.{readOf}
 use Rattle.message.proofs.Accepted.{Readable, readable}
 use Rattle.platform.specs.declared.reactions.Standing.{Standing}
-use Rattle.platform.specs.declared.Answer.the-variants.{Refused, Noted}
-use Rattle.platform.specs.declared.Outcome.{Outcome}
+use Rattle.platform.specs.declared.Noting.the-variants.{Refused, Noted}
+use Rattle.platform.specs.declared.Received.{Received}
 use Rattle.platform.specs.declared.reactions.Reply.{Reply}
 use Rattle.platform.specs.declared.reactions.Owed.{Owed}
 use Rattle.platform.specs.declared.reactions.Owed.the-variants as owed
@@ -35,7 +35,8 @@ use Rattle.platform.specs.declared.reactions.Reaction.{Reaction}
 use Rattle.platform.specs.Replies.{replyBytes, replies, owedBytes, owedLength}
 use Rattle.platform.specs.Reaction.{operationIn, reactionTo}
 use Rattle.platform.specs.Receiving.{refused, taken, answered, laidOut, outcomeOf, outputOf, outcomeIn, outputIn}
-use Rattle.platform.specs.Receiving.{receivedBy, receivedOf, leftBy, leftOf, sectionsOutcome, sectionsOutput, bytesWritten}
+use Rattle.platform.specs.Receiving.{receivedBy, receivedOf, leftIf, leftOf, sectionsOutcome, sectionsOutput}
+use Rattle.platform.specs.Noting.{bytesIn}
 use Rattle.platform.specs.Exchange.{written, sentOf}
 use Rattle.platform.proofs.ReplyBytes.{length-owed}
 
@@ -43,7 +44,7 @@ never : {n k : ℕ} {h : Header} {x : _} → Noted h x k ≡ Refused n → ⊥
 never e = let z : _≡_ {A = ℕ} 0 1 = cc in omega arith
 
 -- what stays where the answer is a refusal
-pub record Unchanged (p : Standing) (out : List ℕ) (r : Outcome) (left : List ℕ) : Type 0 where
+pub record Unchanged (p : Standing) (out : List ℕ) (r : Received) (left : List ℕ) : Type 0 where
   pub standing : r .standing ≡ p
   pub output : left ≡ out
 
@@ -67,11 +68,11 @@ module _ (own : ℕ) (p : Standing) (n : ℕ) (out : List ℕ) where
   -- the call on table bytes
   pub refusal-changes-nothing : (t m : List ℕ) → receivedOf own t p m (length out) .answer ≡ Refused n
       → Unchanged p out (receivedOf own t p m (length out)) (leftOf own t p m out)
-  unfolding receivedOf leftOf receivedBy leftBy
+  unfolding receivedOf leftOf receivedBy leftIf
   refusal-changes-nothing t m e = go (checked t) e
     where
       go : (c : Checked) → receivedBy c own t p m (length out) .answer ≡ Refused n
-          → Unchanged p out (receivedBy c own t p m (length out)) (leftBy c own t p m out)
+          → Unchanged p out (receivedBy c own t p m (length out)) (leftIf c own t p m out)
       go (checked.Refused k) q = record { standing = refl; output = refl }
       go (checked.Table s) q = outcome-unchanged t s (operationIn t s (readOf own m)) (readOf own m) q
 
@@ -99,14 +100,14 @@ owed-bytes own (owed.Two r q) = ap (λ (u : List ℕ). replyBytes own r ++ u) (s
 
 -- what a call says that it wrote is the replies that it sends
 module _ (own : ℕ) (p : Standing) (out : List ℕ) where
-  laid-is-sent : (h : Header) (x : Reaction) → part (laidOut own x out) 0 (bytesWritten (answered p h x (length out) .answer))
+  laid-is-sent : (h : Header) (x : Reaction) → part (laidOut own x out) 0 (bytesIn (answered p h x (length out) .answer))
       ≡ allBytes own (written x (length out))
   unfolding answered laidOut
   laid-is-sent h x = go (ltb (length out) (owedLength (x .owed))) refl
     where
       go : (b : Bool) → ltb (length out) (owedLength (x .owed)) ≡ b
           → part (cond b out (over out 0 (owedBytes own (x .owed)))) 0
-          (bytesWritten (cond b (refused p noRoom) (taken h x (owedLength (x .owed))) .answer)) ≡ allBytes own (cond b [] (replies (x .owed)))
+          (bytesIn (cond b (refused p noRoom) (taken h x (owedLength (x .owed))) .answer)) ≡ allBytes own (cond b [] (replies (x .owed)))
       go true q = part-in out 0 0 (omega arith)
       go false q =
           let l : length (owedBytes own (x .owed)) ≡ owedLength (x .owed) = length-owed own (x .owed) in
@@ -114,7 +115,7 @@ module _ (own : ℕ) (p : Standing) (out : List ℕ) where
           ap (part (over out 0 (owedBytes own (x .owed))) 0) (sym l) ∙ part-over out 0 (owedBytes own (x .owed)) (omega arith) ∙ owed-bytes own (x .owed)
 
   pub written-is-sent : (t : List ℕ) (s : Sections) (f : Found) (x : Reading)
-      → part (outputOf own t s f p x out) 0 (bytesWritten (outcomeOf own t s f p x (length out) .answer)) ≡ allBytes own (sentOf own t s f p x (length out))
+      → part (outputOf own t s f p x out) 0 (bytesIn (outcomeOf own t s f p x (length out) .answer)) ≡ allBytes own (sentOf own t s f p x (length out))
   unfolding outcomeOf outputOf sentOf
   written-is-sent t s f (reading.Refused k) = part-in out 0 0 (omega arith)
   written-is-sent t s f (reading.Read h m start len) = laid-is-sent h (reactionTo own t s f p h m start len)

@@ -11,17 +11,17 @@ use Rattle.table.specs.Layout.{cutShort}
 use Rattle.types.specs.Table.{checked}
 use Rattle.types.proofs.Accepted.{accepted, is-within}
 use Rattle.platform.specs.declared.reactions.Standing.{Standing}
-use Rattle.platform.specs.declared.Outcome.{Outcome}
-use Rattle.platform.specs.Receiving.{refused, outcomeIn, outputIn, receivedBy, receivedOf, leftBy, leftOf, sectionsOutcome, sectionsOutput}
+use Rattle.platform.specs.declared.Received.{Received}
+use Rattle.platform.specs.Receiving.{refused, outcomeIn, outputIn, receivedBy, receivedOf, leftIf, leftOf, sectionsOutcome, sectionsOutput}
 
 module _ (own : ℕ) (t : List ℕ) (s : Sections) (p : Standing) (m : List ℕ) (e : checked t ≡ checked.Table s) where
   pub same-outcome : (room : ℕ) → sectionsOutcome own t s p m room ≡ receivedOf own t p m room
   unfolding receivedOf receivedBy sectionsOutcome
   same-outcome room =
-      yes-if {A = Outcome} (outcomeIn own t s p m room) (refused p cutShort) (is-within t s (accepted t s e))
+      yes-if {A = Received} (outcomeIn own t s p m room) (refused p cutShort) (is-within t s (accepted t s e))
       ∙ ap (λ (x : Checked). receivedBy x own t p m room) (sym e)
 
   pub same-output : (out : List ℕ) → sectionsOutput own t s p m out ≡ leftOf own t p m out
-  unfolding leftOf leftBy sectionsOutput
+  unfolding leftOf leftIf sectionsOutput
   same-output out =
-      yes-if (outputIn own t s p m out) out (is-within t s (accepted t s e)) ∙ ap (λ (x : Checked). leftBy x own t p m out) (sym e)
+      yes-if (outputIn own t s p m out) out (is-within t s (accepted t s e)) ∙ ap (λ (x : Checked). leftIf x own t p m out) (sym e)

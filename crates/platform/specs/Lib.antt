@@ -1,3 +1,5 @@
+pub mod Heard
+pub mod Noting
 pub mod Receiving
 pub mod Exchange
 pub mod Replies

@@ -15,7 +15,7 @@ ghost use mathlib.Core.Path.{_≡_};
 ghost use lib.ListN.{length};
 ghost use Rattle.platform.specs.Receiving.{freshStanding, refused, taken, answered, laidOut, outcomeOf, outputOf};
 ghost use Rattle.platform.specs.Receiving.{outcomeIn, outputIn, receivedOf, leftOf, sectionsOutcome, sectionsOutput};
-ghost use Rattle.platform.specs.Receiving.{payloadHeard};
+ghost use Rattle.platform.specs.Heard.{payloadHeard};
 use message::Header;
 use message::Own;
 use message::Reading;
@@ -24,7 +24,7 @@ use table::Checked;
 use table::Found;
 use table::Sections;
 
-pub enum Answer {
+pub enum Noting {
     Refused(u32),
     // The replies are owed to the header's platform.
     Noted {
@@ -34,9 +34,9 @@ pub enum Answer {
     },
 }
 
-pub struct Outcome {
+pub struct Received {
     pub standing: Standing,
-    pub answer: Answer,
+    pub answer: Noting,
 }
 
 // This platform is UP, the others are DOWN, and own numbers start at 0.
@@ -56,7 +56,7 @@ pub fn receive(
     standing: Standing,
     message: &[u8],
     out: &mut [u8],
-) -> Outcome
+) -> Received
     ensures answer { λ r. ⌜ r ≡ receivedOf (own .platform) (now (table .entry)) standing (now (message .entry)) (length (now (out .entry))) ⌝ }
     ensures output { λ r. ⌜ now (out .exit) ≡ leftOf (own .platform) (now (table .entry)) standing (now (message .entry)) (now (out .entry)) ⌝ }
 {
@@ -74,7 +74,7 @@ pub fn receive_checked(
     standing: Standing,
     message: &[u8],
     out: &mut [u8],
-) -> Outcome
+) -> Received
     ensures answer { λ r. ⌜ r ≡ sectionsOutcome (own .platform) (now (table .entry)) s standing (now (message .entry)) (length (now (out .entry))) ⌝ }
     ensures output { λ r. ⌜ now (out .exit) ≡ sectionsOutput (own .platform) (now (table .entry)) s standing (now (message .entry)) (now (out .entry)) ⌝ }
 {
@@ -93,7 +93,7 @@ pub fn receive_within(
     standing: Standing,
     message: &[u8],
     out: &mut [u8],
-) -> Outcome
+) -> Received
     ensures answer { λ r. ⌜ r ≡ outcomeIn (own .platform) (now (table .entry)) s standing (now (message .entry)) (length (now (out .entry))) ⌝ }
     ensures output { λ r. ⌜ now (out .exit) ≡ outputIn (own .platform) (now (table .entry)) s standing (now (message .entry)) (now (out .entry)) ⌝ }
 {
@@ -124,7 +124,7 @@ fn settled(
     standing: Standing,
     reading: Reading,
     out: &mut [u8],
-) -> Outcome
+) -> Received
     ensures answer { λ r. ⌜ r ≡ outcomeOf (own .platform) (now (table .entry)) s found standing reading (length (now (out .entry))) ⌝ }
     ensures output { λ r. ⌜ now (out .exit) ≡ outputOf (own .platform) (now (table .entry)) s found standing reading (now (out .entry)) ⌝ }
 {
@@ -159,7 +159,7 @@ fn answered(
     header: Header,
     reaction: Reaction,
     out: &mut [u8],
-) -> Outcome
+) -> Received
     ensures answer { λ r. ⌜ r ≡ answered standing header reaction (length (now (out .entry))) ⌝ }
     ensures output { λ r. ⌜ now (out .exit) ≡ laidOut (own .platform) reaction (now (out .entry)) ⌝ }
 {
@@ -173,14 +173,14 @@ fn answered(
     }
 }
 
-fn taken(header: Header, reaction: Reaction, written: usize) -> Outcome
+fn taken(header: Header, reaction: Reaction, written: usize) -> Received
     ensures { λ r. ⌜ r ≡ taken header reaction written ⌝ }
 {
     let standing = reaction.standing;
     let heard = reaction.heard;
-    Outcome {
+    Received {
         standing,
-        answer: Answer::Noted {
+        answer: Noting::Noted {
             header,
             heard,
             written,
@@ -188,11 +188,11 @@ fn taken(header: Header, reaction: Reaction, written: usize) -> Outcome
     }
 }
 
-fn refused(standing: Standing, number: u32) -> Outcome
+fn refused(standing: Standing, number: u32) -> Received
     ensures { λ r. ⌜ r ≡ refused standing number ⌝ }
 {
-    Outcome {
+    Received {
         standing,
-        answer: Answer::Refused(number),
+        answer: Noting::Refused(number),
     }
 }

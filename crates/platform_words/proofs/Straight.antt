@@ -30,8 +30,9 @@ use Rattle.platform.specs.declared.reactions.Heard.the-variants as heard
 use Rattle.platform.specs.declared.reactions.Reaction.{Reaction}
 use Rattle.platform.specs.Replies.{owedBytes}
 use Rattle.platform.specs.Reaction.{operationFor, operationIn, silent, onOperation, reactionTo}
-use Rattle.platform.specs.declared.Outcome.{Outcome}
-use Rattle.platform.specs.Receiving.{refused, taken, answered, laidOut, outcomeOf, outputOf, outcomeIn, outputIn, numberGiven}
+use Rattle.platform.specs.declared.Received.{Received}
+use Rattle.platform.specs.Receiving.{refused, taken, answered, laidOut, outcomeOf, outputOf, outcomeIn, outputIn}
+use Rattle.platform.specs.Noting.{numberGiven}
 use Rattle.platform_words.specs.Words.{standingIn, standingWords}
 use Rattle.platform_words.specs.HeardWords.{heardAfter, platformAfter}
 use Rattle.platform_words.specs.Within.{outcomeWithin, numberWithin, wordsWithin, outputWithin, heardWithin, operationHeard, operationWords}
@@ -97,7 +98,7 @@ module _ (own : ℕ) (t : List ℕ) (s : Sections) (p : Standing) (m : List ℕ)
     its-outcome room =
         ap (λ (x : Reading). outcomeOf own t s (operationIn t s x) p x room) (k .read-is)
         ∙ ap (λ (f : Found). answered p (headerIn m) (onOperation f p (headerIn m) headerLength (payloadSizeIn m)) room) (k .looked-is)
-        ∙ no-lt {A = Outcome} (refused p noRoom) (taken (headerIn m) told 0) room 0 (omega arith)
+        ∙ no-lt {A = Received} (refused p noRoom) (taken (headerIn m) told 0) room 0 (omega arith)
 
     pub its-output : (out : List ℕ) → outputIn own t s p m out ≡ out
     unfolding outputOf operationIn operationFor reactionTo onOperation laidOut owedBytes
@@ -115,31 +116,31 @@ module _ {f : Found} (own : ℕ) (ws t : List ℕ) (s : Sections) (m out : List 
   meant = sym (its-outcome own t s (standingIn ws) m i its (length out))
 
   pub straight-number : 0 ≡ numberWithin own ws t s m out
-  straight-number = ap (λ (o : Outcome). numberGiven (o .answer)) meant
+  straight-number = ap (λ (o : Received). numberGiven (o .answer)) meant
 
   pub straight-words : {x : List ℕ} {p : Standing} → p ≡ standingIn ws → x ≡ standingWords p → x ≡ wordsWithin own ws t s m out
-  straight-words ep ex = ex ∙ ap standingWords ep ∙ ap (λ (o : Outcome). platformAfter o ws) meant
+  straight-words ep ex = ex ∙ ap standingWords ep ∙ ap (λ (o : Received). platformAfter o ws) meant
 
   pub straight-output : out ≡ outputWithin own ws t s m out
   straight-output = sym (its-output own t s (standingIn ws) m i its out)
 
   pub straight-heard : {x : List ℕ} (heard : List ℕ) → x ≡ operationWords m i → x ≡ heardWithin own ws t s m out heard
-  straight-heard heard ex = ex ∙ ap (λ (o : Outcome). heardAfter o heard) meant
+  straight-heard heard ex = ex ∙ ap (λ (o : Received). heardAfter o heard) meant
 
 -- or what is answered
 module _ {p : Standing} (own : ℕ) (ws t : List ℕ) (s : Sections) (m out : List ℕ) (ep : p ≡ standingIn ws) where
-  module _ {o : Outcome} (eo : o ≡ outcomeIn own t s p m (length out)) where
+  module _ {o : Received} (eo : o ≡ outcomeIn own t s p m (length out)) where
     answer-is : o ≡ outcomeWithin own ws t s m out
     answer-is = eo ∙ ap (λ (y : Standing). outcomeIn own t s y m (length out)) ep
 
     pub answered-number : {n : ℕ} → n ≡ numberGiven (o .answer) → n ≡ numberWithin own ws t s m out
-    answered-number e = e ∙ ap (λ (x : Outcome). numberGiven (x .answer)) answer-is
+    answered-number e = e ∙ ap (λ (x : Received). numberGiven (x .answer)) answer-is
 
     pub answered-words : {x : List ℕ} → x ≡ platformAfter o ws → x ≡ wordsWithin own ws t s m out
-    answered-words e = e ∙ ap (λ (y : Outcome). platformAfter y ws) answer-is
+    answered-words e = e ∙ ap (λ (y : Received). platformAfter y ws) answer-is
 
     pub answered-heard : {x : List ℕ} (heard : List ℕ) → x ≡ heardAfter o heard → x ≡ heardWithin own ws t s m out heard
-    answered-heard heard e = e ∙ ap (λ (y : Outcome). heardAfter y heard) answer-is
+    answered-heard heard e = e ∙ ap (λ (y : Received). heardAfter y heard) answer-is
 
   pub answered-output : {x : List ℕ} → x ≡ outputIn own t s p m out → x ≡ outputWithin own ws t s m out
   answered-output e = e ∙ ap (λ (y : Standing). outputIn own t s y m out) ep

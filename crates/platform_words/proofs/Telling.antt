@@ -9,9 +9,9 @@ use Rattle.message.specs.Platform.{statusValue}
 use Rattle.platform.specs.declared.reactions.Standing.{Standing}
 use Rattle.platform.specs.declared.reactions.Heard.{Heard}
 use Rattle.platform.specs.declared.reactions.Heard.the-variants as heard
-use Rattle.platform.specs.declared.Answer.{Answer}
-use Rattle.platform.specs.declared.Answer.the-variants.{Refused, Noted}
-use Rattle.platform.specs.Receiving.{numberGiven}
+use Rattle.platform.specs.declared.Noting.{Noting}
+use Rattle.platform.specs.declared.Noting.the-variants.{Refused, Noted}
+use Rattle.platform.specs.Noting.{numberGiven}
 use Rattle.platform_words.specs.Words.{standingWords}
 use Rattle.platform_words.specs.HeardWords.{heardWords, answerWords, notedWords}
 
@@ -43,7 +43,7 @@ module _ {x : List ℕ} {y : Heard} (h : Header) (n : ℕ) where
   told-absent id e f = rw e f
 
 -- `tell`
-module _ {a : Answer} where
+module _ {a : Noting} where
   pub refused-number : (n : ℕ) → a ≡ Refused n → n ≡ numberGiven a
   refused-number n e = rw e
 

@@ -3,13 +3,14 @@ use Prim.Native.Nat.{ℕ}
 use mathlib.Core.List.{List}
 use lib.ListN.{length}
 use Rattle.table.specs.Words.{sectionsIn}
-use Rattle.platform.specs.declared.Outcome.{Outcome}
-use Rattle.platform.specs.Receiving.{sectionsOutcome, sectionsOutput, numberGiven}
+use Rattle.platform.specs.declared.Received.{Received}
+use Rattle.platform.specs.Receiving.{sectionsOutcome, sectionsOutput}
+use Rattle.platform.specs.Noting.{numberGiven}
 use Rattle.platform_words.specs.Words.{standingIn}
 use Rattle.platform_words.specs.HeardWords.{heardAfter, platformAfter}
 
 -- own number, the platform's words, the table, the sections' words, the message and the output, in this order
-abbrev pub outcomeWith : ℕ → List ℕ → List ℕ → List ℕ → List ℕ → List ℕ → Outcome
+abbrev pub outcomeWith : ℕ → List ℕ → List ℕ → List ℕ → List ℕ → List ℕ → Received
 outcomeWith own ws t ss m out = sectionsOutcome own t (sectionsIn ss) (standingIn ws) m (length out)
 
 abbrev pub receiveInNumber : ℕ → List ℕ → List ℕ → List ℕ → List ℕ → List ℕ → ℕ

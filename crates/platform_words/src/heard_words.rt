@@ -2,13 +2,13 @@
 use crate::standing_words::PLATFORM_WORDS;
 use message::Header;
 use message::Status;
-use platform::Answer;
 use platform::Heard;
-use platform::Outcome;
+use platform::Noting;
+use platform::Received;
 ghost use mathlib.Core.Path.{_≡_};
 ghost use mathlib.Core.List.{[], _∷_};
 ghost use Rattle.message.specs.Platform.{statusValue};
-ghost use Rattle.platform.specs.Receiving.{numberGiven};
+ghost use Rattle.platform.specs.Noting.{numberGiven};
 ghost use Rattle.platform_words.specs.HeardWords.{heardWords, heardAfter, platformAfter};
 use crate::standing_words;
 
@@ -34,7 +34,7 @@ pub const NOT_IN_TABLE: u64 = 8;
 
 // The platform's words and the answer are written only where nothing was refused.
 pub(crate) fn tell(
-    outcome: Outcome,
+    outcome: Received,
     platform: &mut [u64; PLATFORM_WORDS],
     heard: &mut [u64; HEARD_WORDS],
 ) -> u32
@@ -45,8 +45,8 @@ pub(crate) fn tell(
     let given = outcome.answer;
     let standing = outcome.standing;
     match given {
-        Answer::Refused(number) => number,
-        Answer::Noted {
+        Noting::Refused(number) => number,
+        Noting::Noted {
             header,
             heard: what,
             written,

@@ -10,7 +10,7 @@ use lib.ListN.{length, replicate}
 use Rattle.wire.proofs.Cond.{both}
 use Rattle.binding.specs.declared.BindingHeader.{BindingHeader}
 use Rattle.binding.specs.Header.{senders, counters, largestPiece, headerOf, headerBytes}
-use Rattle.binding.proofs.Headers.{Headed, header-back, heard-headed, piece-back}
+use Rattle.binding.proofs.Headers.{Headed, header-back, heading-headed, piece-back}
 use Rattle.promises.specs.Senders.{Piece, Message, Sent, sentFrom, sentBy, after, arriving, together, goodPieces, goodMessage, goodMessages}
 use Rattle.promises.specs.Traffic.{Datagram}
 use Rattle.promises.proofs.Machine.{Event}
@@ -54,7 +54,7 @@ module _ (id : ℕ) (i : id < senders) where
   one c s b f =
       let h : BindingHeader = headerOf (s .mark) id c in
       let d : Datagram = headerBytes h ++ s .piece .bytes in
-      let w : Headed d h = heard-headed d h (header-back h (s .piece .bytes) i b (f .some) (f .few)) in
+      let w : Headed d h = heading-headed d h (header-back h (s .piece .bytes) i b (f .some) (f .few)) in
       ap₂ (λ (x : BindingHeader) (q : List ℕ). record { mark = x .part; counter = x .counter; bytes = q }) (sym (w .fields)) (piece-back h (s .piece .bytes))
 
   pub events : (c : ℕ) (ss : List Sent) → c < counters → Fit ss → map eventIn (arriving id c ss) ≡ eventsOf c ss

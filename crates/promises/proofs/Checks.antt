@@ -4,11 +4,11 @@ use Prim.Native.Nat.{ℕ, suc, _≤_, _<_}
 use mathlib.Core.Path.{_≡_, refl, sym, subst}
 use mathlib.Core.Bool.{Bool, true, false, not, cond, _&&_, _||_}
 use mathlib.Core.Logic.{_⊎_, inl, inr, ⊎-elim}
-use mathlib.Core.List.{List, _∷_, _++_}
+use mathlib.Core.List.{List, [], _∷_, _++_}
 use native.Mathlib.Omega.{arith}
 use borrow.Author.Tests.{ltb-true, ltb-false, leb-true, leb-false, eqb-true, eqb-false}
 use lib.Dec.{eqb, leb, ltb}
-use Rattle.promises.specs.Checks.{Check, _when_, Answers, Outside, none, this, next, below, above}
+use Rattle.promises.specs.Checks.{Check, _when_, Answers, Gives, Outside, none, this, next, below, above}
 
 -- a test that holds just where the check applies
 pub record Decides (b : Bool) (A : Type 0) : Type 0 where
@@ -83,6 +83,13 @@ module _ {A : Type 0} (refused : ℕ → A) (good : A) where
   -- one that is passed over, since the first half of what it asks does not hold
   pub passing : {B C : Type 0} {cs : List Check} {x : A} (n : ℕ) → ¬ B → Answers refused good cs x → Answers refused good (n when (B × C) ∷ cs) x
   passing {B} {C} n z a = next {c = n when (B × C)} (λ p. z (p .0)) a
+
+-- the number that an answer gives back
+pub numbers : {A : Type 0} {refused : ℕ → A} {good : A} (f : A → ℕ) → ((n : ℕ) → f (refused n) ≡ n) → f good ≡ 0
+    → {cs : List Check} {x : A} → Answers refused good cs x → Gives cs (f x)
+numbers f e z none = subst (Answers (λ n. n) 0 []) (sym z) none
+numbers f e z (this {c} {cs} a) = subst (Answers (λ n. n) 0 (c ∷ cs)) (sym (e (c .number))) (this a)
+numbers f e z (next n a) = next n (numbers f e z a)
 
 -- what is made of an answer goes on with further checks where it was good
 pub then : {A B : Type 0} (refused : ℕ → A) (good : A) (refused′ : ℕ → B) (good′ : B) (f : A → B) → ((n : ℕ) → f (refused n) ≡ refused′ n)

@@ -19,8 +19,8 @@ use Rattle.binding.specs.declared.MessagePart.the-variants.{Begin, Middle, End,
 use Rattle.binding.specs.Header.{senders, counters, largestPiece, headerOf, headerBytes}
 use Rattle.binding.specs.declared.BindingHeader.{BindingHeader}
 use Rattle.binding.specs.Cutting.{pieceCount, pieceAt, partOfPiece, counterOf, headerOfPiece, datagramOf}
-use Rattle.binding.proofs.Headers.{Headed, heard-headed, header-octets}
-use Rattle.binding.proofs.Cutting.{Cuttable, covered, count-some, one-piece, piece-some, piece-most, counter-lt, datagram-heard}
+use Rattle.binding.proofs.Headers.{Headed, heading-headed, header-octets}
+use Rattle.binding.proofs.Cutting.{Cuttable, covered, count-some, one-piece, piece-some, piece-most, counter-lt, datagram-heading}
 use Rattle.promises.specs.Senders.{Piece, Message, Sender, markOf, sentFrom, after, arriving, arrives, lossesWithin}
 use Rattle.promises.specs.Senders.{together, allArrived, goodPieces, goodMessage}
 use Rattle.promises.specs.Traffic.{Datagram, isOf, ofChannel, AreBytes, none, more}
@@ -114,8 +114,8 @@ module _ (ids : List ℕ) (k : ℕ) (known : k < length ids) (range : getD ids k
   is-own : (i : ℕ) → i < pieceCount (length msg) s → isOf ids k (datagramOf msg s id first i) ≡ true
   is-own i l =
       let d : Datagram = datagramOf msg s id first i in
-      let h : Headed d (headerOfPiece (length msg) s id first i) = heard-headed d (headerOfPiece (length msg) s id first i)
-      (datagram-heard msg s id first i w range l) in
+      let h : Headed d (headerOfPiece (length msg) s id first i) = heading-headed d (headerOfPiece (length msg) s id first i)
+      (datagram-heading msg s id first i w range l) in
       addressed-is ids k d (record
       { long = h .long; short = h .short; version = h .version; known = known; sender = ap (λ (x : BindingHeader). x .sender) (h .fields) })
 

@@ -18,14 +18,18 @@ use Rattle.message.specs.declared.Reading.the-variants as reading
 use Rattle.message.specs.Header.{headerLength, headerIn, payloadSizeIn}
 use Rattle.message.specs.Refusal.{platforms, noRoom, writeRefusal}
 use Rattle.message.specs.Reading.{readOut, readOf}
-use Rattle.message.specs.Writing.{messageBytes, unlessRefused, numberGiven as writeNumber}
+use Rattle.message.specs.Writing.{messageBytes, writeOf, numberGiven as writeNumber}
 use Rattle.message.specs.Writing as writes
+use Rattle.message.specs.declared.Writing.{Writing}
+use Rattle.message.specs.declared.Writing.the-variants as writing
 use Rattle.binding.specs.declared.cutter.Made.{Made}
 use Rattle.binding.specs.declared.cutter.Made.the-variants as made
-use Rattle.binding.specs.Cutting.{outAfter, cutRefusal, madeOf, datagramOf}
+use Rattle.binding.specs.Cutting.{madeOf, datagramOf}
+use Rattle.binding.specs.Made.{numberGiven as cutNumber}
+use Rattle.binding.specs.Made as makes
 use Rattle.channel.specs.declared.Outcome.{Outcome}
 use Rattle.channel.specs.declared.Outcome.the-variants as outcome
-use Rattle.channel.specs.Outcomes.{refusalIn}
+use Rattle.channel.specs.Outcomes.{numberGiven as takeNumber}
 use Rattle.joiner.specs.Take.{takenOf}
 use Rattle.joiner.proofs.Standing.{refusal-keeps-joiner, refusal-keeps-rooms}
 use Rattle.payload.specs.declared.Answer.{Answer}
@@ -34,26 +38,28 @@ use Rattle.walk.specs.Walk.{Codec, left, typeWalk}
 use Rattle.unpack.specs.Reading.{reader}
 use Rattle.pack.specs.Writing.{writer}
 use Rattle.walk.specs.Walk.{start}
-use Rattle.payload.specs.Calls.{answeredIn, leftBy, leftIn, answeredIf, leftIf}
+use Rattle.payload.specs.Calls.{numberGiven, answeredIn, leftBy, leftIn, answeredIf, leftIf}
 use Rattle.platform.specs.declared.reactions.Standing.{Standing}
-use Rattle.platform.specs.declared.Outcome.{Outcome as Received′}
-use Rattle.platform.specs.declared.Answer.{Answer as Noting}
-use Rattle.platform.specs.declared.Answer.the-variants as noting
+use Rattle.platform.specs.declared.Received.{Received}
+use Rattle.platform.specs.declared.Noting.{Noting}
+use Rattle.platform.specs.declared.Noting.the-variants as noting
 use Rattle.platform.specs.Replies.{owedLength}
 use Rattle.platform.specs.Reaction.{operationFor, operationIn, reactionTo}
 use Rattle.platform.specs.Receiving.{refused, taken, answered, outcomeOf, outcomeIn, receivedBy, receivedOf, leftOf}
-use Rattle.platform.specs.Receiving.{sectionsOutcome, sectionsOutput, numberGiven as receiveNumber}
+use Rattle.platform.specs.Receiving.{sectionsOutcome, sectionsOutput}
+use Rattle.platform.specs.Noting.{numberGiven as receiveNumber}
 use Rattle.platform.proofs.Unchanged.{Unchanged, refusal-changes-nothing, sections-refusal-changes-nothing}
 use Rattle.promises.specs.Checks.{Check, _when_, Answers, Keeps, none, this, next}
 use Rattle.promises.specs.Order.{InOrder, readChecks}
 use Rattle.promises.specs.TableOrder.{sectionsIn}
-use Rattle.promises.specs.PayloadOrder.{numberOf, LieIn}
+use Rattle.promises.specs.PayloadOrder.{LieIn}
 use Rattle.promises.specs.Platforms.{owedFor, replyLength, Receives}
-use Rattle.promises.specs.Demand1.{Kept, ChangesNothing, kindIn, receiveChecks, ReceiveInOrder, owedIn, ReceiveCheckedInOrder, Demand1}
+use Rattle.promises.specs.Demand1.{Kept, ChangesNothing, itsMessage, receiveChecks, ReceiveInOrder, owedIn, ReceiveCheckedInOrder, Demand1}
 use Rattle.promises.proofs.Checks.{by, then, lt-decides}
 use Rattle.promises.proofs.Order.{read-in-order, write-in-order, header-in-order, pieces-in-order, cut-in-order}
 use Rattle.promises.proofs.TakeOrder.{setup-in-order, take-in-order}
 use Rattle.promises.proofs.TableOrder.{table-in-order}
+use Rattle.promises.proofs.NumbersInOrder.{numbers-in-order, table-number-in-order}
 use Rattle.promises.proofs.PayloadOrder.{lie-decides, payload-in-order}
 use Rattle.promises.proofs.Replying.{the, its-length}
 
@@ -66,15 +72,15 @@ one refuse good (c ∷ cs) x y (next n a) (this b) = absurd (n b)
 one refuse good (c ∷ cs) x y (next n a) (next m b) = one refuse good cs x y a b
 
 -- a refusal by its number
-write-keeps : (r n : ℕ) (w out : List ℕ) → Keeps (writeNumber (writes.answered r n)) out (unlessRefused r w out)
-write-keeps zero n w out k = absurd (k refl)
-write-keeps (suc r) n w out k = refl
+write-keeps : (x : Writing) (out new : List ℕ) → Keeps (writeNumber x) out (writes.leftBy x out new)
+write-keeps (writing.Refused n) out new k = refl
+write-keeps (writing.Written n) out new k = absurd (k refl)
 
-cut-keeps : (x : Made) (out d : List ℕ) → Keeps (cutRefusal x) out (outAfter x out d)
-cut-keeps (made.Refused n) out d k = refl
-cut-keeps (made.Datagram n) out d k = absurd (k refl)
+cut-keeps : (x : Made) (out new : List ℕ) → Keeps (cutNumber x) out (makes.leftBy x out new)
+cut-keeps (made.Refused n) out new k = refl
+cut-keeps (made.Datagram n) out new k = absurd (k refl)
 
-taken-refused : (x : Outcome) → ¬ (refusalIn x ≡ 0) → x ≡ outcome.Refused (refusalIn x)
+taken-refused : (x : Outcome) → ¬ (takeNumber x ≡ 0) → x ≡ outcome.Refused (takeNumber x)
 taken-refused (outcome.Refused n) k = refl
 taken-refused outcome.Repeated k = absurd (k refl)
 taken-refused (outcome.Delivered m p) k = absurd (k refl)
@@ -82,17 +88,17 @@ taken-refused (outcome.Held m n) k = absurd (k refl)
 taken-refused (outcome.Stray m) k = absurd (k refl)
 taken-refused (outcome.TooLong m) k = absurd (k refl)
 
-left-keeps : (a : Answer) (x y : List ℕ) → Keeps (numberOf a) x (leftBy a x y)
+left-keeps : (a : Answer) (x y : List ℕ) → Keeps (numberGiven a) x (leftBy a x y)
 unfolding leftBy
 left-keeps (answer.Refused n) x y k = refl
 left-keeps (answer.Stopped n) x y k = refl
 left-keeps (answer.Gave n) x y k = absurd (k refl)
 
-in-keeps : (c : Codec) (n : ℕ) (t : List ℕ) (s : Sections) (i : ℕ) (x : List ℕ) → Keeps (numberOf (answeredIn c n t s i (length x))) x (leftIn c n t s i x)
+in-keeps : (c : Codec) (n : ℕ) (t : List ℕ) (s : Sections) (i : ℕ) (x : List ℕ) → Keeps (numberGiven (answeredIn c n t s i (length x))) x (leftIn c n t s i x)
 unfolding leftIn
 in-keeps c n t s i x = left-keeps (answeredIn c n t s i (length x)) x (left (typeWalk c t s i start x))
 
-if-keeps : (r : Checked) (c : Codec) (n : ℕ) (t : List ℕ) (i : ℕ) (x : List ℕ) → Keeps (numberOf (answeredIf r c n t i (length x))) x (leftIf r c n t i x)
+if-keeps : (r : Checked) (c : Codec) (n : ℕ) (t : List ℕ) (i : ℕ) (x : List ℕ) → Keeps (numberGiven (answeredIf r c n t i (length x))) x (leftIf r c n t i x)
 unfolding answeredIf leftIf
 if-keeps (check.Refused m) c n t i x k = refl
 if-keeps (check.Table s) c n t i x k = in-keeps c n t s i x k
@@ -109,10 +115,10 @@ module _ (own : ℕ) (t : List ℕ) (p : Standing) (m out : List ℕ) where
   checked-kept : (s : Sections) → ¬ (receiveNumber (sectionsOutcome own t s p m (length out) .answer) ≡ 0)
       → Unchanged p out (sectionsOutcome own t s p m (length out)) (sectionsOutput own t s p m out)
   checked-kept s k =
-      let r : Received′ = sectionsOutcome own t s p m (length out) in
+      let r : Received = sectionsOutcome own t s p m (length out) in
       sections-refusal-changes-nothing own p (receiveNumber (r .answer)) out t s m (noting-refused (r .answer) k)
 
-kept : (p : Standing) (out : List ℕ) (r : Received′) (o : List ℕ) → (¬ (receiveNumber (r .answer) ≡ 0) → Unchanged p out r o) → Kept p out r o
+kept : (p : Standing) (out : List ℕ) (r : Received) (o : List ℕ) → (¬ (receiveNumber (r .answer) ≡ 0) → Unchanged p out r o) → Kept p out r o
 kept p out r o u =
     record {
       states = λ k. ap (λ (x : Standing). x .states) (u k .standing);
@@ -123,9 +129,10 @@ kept p out r o u =
 changes-nothing : ChangesNothing
 changes-nothing =
     record {
-      write-output = λ own domain id seq payload out. write-keeps (writeRefusal domain id payload (length out))
-          (headerLength + length payload) (over out 0 (messageBytes own domain id seq payload)) out;
-      cut-output = λ msg s sender counter i out. cut-keeps (madeOf msg s sender counter i (length out)) out (datagramOf msg s sender counter i);
+      write-output = λ own domain id seq payload out. write-keeps (writeOf domain id payload (length out)) out
+          (over out 0 (messageBytes own domain id seq payload));
+      cut-output = λ msg s sender counter i out. cut-keeps (madeOf msg s sender counter i (length out)) out
+          (over out 0 (datagramOf msg s sender counter i));
       take-joiner = λ j rooms d k. refusal-keeps-joiner j rooms d _ (taken-refused (takenOf j rooms d .outcome) k);
       take-rooms = λ j rooms d k. refusal-keeps-rooms j rooms d _ (taken-refused (takenOf j rooms d .outcome) k);
       unpack-words = λ t i b words. if-keeps (checked t) (reader b) (length b) t i words;
@@ -151,24 +158,24 @@ in-order = record {
 -- one call for one message
 module _ (own : ℕ) (t : List ℕ) (p : Standing) (m : List ℕ) (room : ℕ) (ho : own < platforms) (hn : p .next < 2 ^ 32) (o : Octets m) where
   abbrev replies : ℕ
-  replies = replyLength * length (owedFor own t (sectionsIn t) p (headerIn m) (kindIn m))
+  replies = replyLength * length (owedFor own t (sectionsIn t) p (headerIn m) (itsMessage m))
 
   -- 10, where the table and the message are good
   module _ (e : checked t ≡ check.Table (sectionsIn t)) (f : readOf own m ≡ readOut m) where
-    receives : Receives own t (sectionsIn t) p m (headerIn m) (kindIn m)
+    receives : Receives own t (sectionsIn t) p m (headerIn m) (itsMessage m)
     receives = record { platform = ho; next = hn; bytes = o; table = e; start = headerLength; len = payloadSizeIn m; read = f }
 
     number-is : receiveNumber (outcomeOf own t (sectionsIn t) (operationIn t (sectionsIn t) (readOut m)) p (readOut m) room .answer)
         ≡ cond (ltb room replies) 10 0
     unfolding outcomeOf answered operationIn receives
     number-is =
-        let w : ℕ = owedLength (the own t (sectionsIn t) p m [] (headerIn m) (kindIn m) receives .owed) in
-        go (ltb room w) ∙ ap (λ (n : ℕ). cond (ltb room n) 10 0) (its-length own t (sectionsIn t) p m [] (headerIn m) (kindIn m) receives)
+        let w : ℕ = owedLength (the own t (sectionsIn t) p m [] (headerIn m) (itsMessage m) receives .owed) in
+        go (ltb room w) ∙ ap (λ (n : ℕ). cond (ltb room n) 10 0) (its-length own t (sectionsIn t) p m [] (headerIn m) (itsMessage m) receives)
       where
         go : (b : Bool) → receiveNumber
             (cond b (refused p noRoom)
-            (taken (headerIn m) (the own t (sectionsIn t) p m [] (headerIn m) (kindIn m) receives)
-            (owedLength (the own t (sectionsIn t) p m [] (headerIn m) (kindIn m) receives .owed))) .answer) ≡ cond b 10 0
+            (taken (headerIn m) (the own t (sectionsIn t) p m [] (headerIn m) (itsMessage m) receives)
+            (owedLength (the own t (sectionsIn t) p m [] (headerIn m) (itsMessage m) receives .owed))) .answer) ≡ cond b 10 0
         go true = refl
         go false = refl
 
@@ -198,7 +205,7 @@ receive-in-order own t p m room ho hn o = received-in-order own t p m room ho hn
 -- the same on sections
 module _ (own : ℕ) (t : List ℕ) (s : Sections) (p : Standing) (m : List ℕ) (room : ℕ) where
   abbrev whatIsFound : Found
-  whatIsFound = operationFor t s (headerIn m) (kindIn m)
+  whatIsFound = operationFor t s (headerIn m) (itsMessage m)
 
   answered-number : receiveNumber (outcomeOf own t s whatIsFound p (readOut m) room .answer) ≡ cond (ltb room (owedIn own t s p m)) 10 0
   unfolding outcomeOf answered
@@ -206,7 +213,7 @@ module _ (own : ℕ) (t : List ℕ) (s : Sections) (p : Standing) (m : List ℕ)
     where
       go : (b : Bool) → receiveNumber
           (cond b (refused p noRoom)
-          (taken (headerIn m) (reactionTo own t s whatIsFound p (headerIn m) (kindIn m) headerLength (payloadSizeIn m))
+          (taken (headerIn m) (reactionTo own t s whatIsFound p (headerIn m) (itsMessage m) headerLength (payloadSizeIn m))
           (owedIn own t s p m)) .answer) ≡ cond b 10 0
       go true = refl
       go false = refl
@@ -240,6 +247,8 @@ demand-1 =
     record {
       in-order = in-order;
       table-in-order = table-in-order;
+      numbers-in-order = numbers-in-order;
+      table-number-in-order = table-number-in-order;
       payload-in-order = payload-in-order;
       receive-in-order = receive-in-order;
       receive-checked-in-order = receive-checked-in-order;

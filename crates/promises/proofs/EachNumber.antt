@@ -8,7 +8,7 @@ use borrow.Author.Tests.{le-leb}
 use lib.ListN.{length}
 use Rattle.channel.specs.Channel.{missedOf, keeping, notedOf, begunOf, followedOf, placedOf, steppedOf}
 use Rattle.joiner.specs.Setup.{goodSizes, good, freshOf, setupOf}
-use Rattle.joiner.specs.Take.{sentTo, heardBy, judgedOf, takenBy, takenOf, putBy, roomsBy, roomsAfter, messageOf}
+use Rattle.joiner.specs.Take.{sentTo, headingBy, judgedOf, takenBy, takenOf, putBy, roomsBy, roomsAfter, messageOf}
 use Rattle.wire.specs.All.{allBelow, above}
 use Rattle.table.specs.Layout.{sectionAt, after, ended, afterValues, afterMembers, afterTypes, sectionsOf, liesIn, within}
 use Rattle.table.specs.Entries.{typeAt, memberAt, valueAt, idAt, operationAt}
@@ -28,7 +28,8 @@ use Rattle.payload.specs.Calls.{answered, answeredType, answeredIn, leftBy, lef
 use Rattle.states.specs.States.{bitOf, isUp, turned, withWord, withOwn}
 use Rattle.states.specs.States as states
 use Rattle.platform.specs.Reaction.{operationFor, operationIn, cameUp, onState, onStatus, reactionTo}
-use Rattle.platform.specs.Receiving.{freshStanding, outcomeOf, receivedBy, receivedOf, sectionsOutcome, numberGiven}
+use Rattle.platform.specs.Receiving.{freshStanding, outcomeOf, receivedBy, receivedOf, sectionsOutcome}
+use Rattle.platform.specs.Noting.{numberGiven}
 use Rattle.platform.specs.Receiving as platform
 use Rattle.promises.specs.TableOrder.{sectionsIn}
 use Rattle.promises.specs.Numbers.{wholeTable, status}
@@ -49,7 +50,7 @@ unfolding allBelow above sectionAt after ended afterValues afterMembers afterTyp
 one-call = (refl, refl, refl)
 
 pub each-number : EachNumber
-unfolding missedOf keeping notedOf begunOf followedOf placedOf steppedOf goodSizes good freshOf setupOf sentTo heardBy judgedOf
+unfolding missedOf keeping notedOf begunOf followedOf placedOf steppedOf goodSizes good freshOf setupOf sentTo headingBy judgedOf
     takenBy takenOf putBy roomsBy roomsAfter messageOf allBelow above sectionAt after ended afterValues afterMembers afterTypes
     sectionsOf liesIn within typeAt memberAt valueAt idAt operationAt base bytesOf inSigned finite isValue width allowed fieldsOk
     memberOk membersOk pointedOk typeOk operationFields operationOk sizeOf sizes largest sizeFits entriesOk sizesOk judged judging checked truth

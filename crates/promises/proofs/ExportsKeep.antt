@@ -6,7 +6,9 @@ use mathlib.Core.Bool.{Bool, true, false, cond}
 use mathlib.Core.List.{List}
 use lib.ListN.{length}
 use denote.Ref.{now}
-use Rattle.binding.specs.Cutting.{countedOf, countRefusal, madeOf, cutRefusal}
+use Rattle.binding.specs.Cutting.{countedOf, madeOf}
+use Rattle.binding.specs.Counted.{numberGiven as countNumber}
+use Rattle.binding.specs.Made.{numberGiven as cutNumber}
 use Rattle.binding.specs.declared.cutter.Counted.{Counted}
 use Rattle.binding.specs.declared.cutter.Counted.the-variants as counted
 use Rattle.binding.specs.declared.cutter.Made.{Made}
@@ -16,11 +18,11 @@ use Rattle.joiner.specs.declared.setups.Verdict.{Verdict}
 use Rattle.joiner.specs.declared.setups.Verdict.the-variants as set-up
 use Rattle.channel.specs.declared.Outcome.{Outcome}
 use Rattle.channel.specs.declared.Outcome.the-variants.{Refused, Repeated, Delivered, Held, Stray, TooLong}
-use Rattle.channel.specs.Outcomes.{refusalIn as takeRefusal}
-use Rattle.joiner.specs.Setup.{setupOf, answerIn}
+use Rattle.channel.specs.Outcomes.{leftBy, numberGiven as outcomeNumber}
+use Rattle.joiner.specs.Setup.{setupOf, numberGiven as verdictNumber}
 use Rattle.joiner.specs.Take.{takenOf}
 use Rattle.joiner.specs.JoinerWords.{joinerIn}
-use Rattle.joiner.specs.Calls.{acceptedWords, setupNumber, setupWords, outcomeWords, unlessRefused, placeIn, withRecord}
+use Rattle.joiner.specs.Calls.{acceptedWords, setupNumber, setupWords, outcomeWords, placeIn, withRecord}
 use Rattle.joiner.specs.Calls.{takeNumber, takeWords, takeRooms, takeAnswer}
 use Rattle.message.specs.Reading.{readOf, numberGiven as readNumber}
 use Rattle.message.specs.declared.Reading.{Reading}
@@ -29,6 +31,7 @@ use Rattle.message.specs.Writing.{writeOf, numberGiven as writeNumber}
 use Rattle.message.specs.declared.Writing.{Writing}
 use Rattle.message.specs.declared.Writing.the-variants as writing
 use Rattle.table.specs.Layout.{cutShort, within}
+use Rattle.table.specs.Checked.{numberGiven as checkNumber}
 use Rattle.table.specs.Search.{lookedUp}
 use Rattle.table.specs.declared.Checked.{Checked}
 use Rattle.table.specs.declared.Checked.the-variants as check
@@ -37,27 +40,29 @@ use Rattle.table.specs.Words.{sectionsIn}
 use Rattle.payload.specs.declared.Answer.{Answer}
 use Rattle.payload.specs.declared.Answer.the-variants as answer
 use Rattle.payload.specs.Calls.{unpacked, unpackedIn, packed, packedIn}
-use Rattle.platform.specs.declared.Answer.{Answer as Told}
-use Rattle.platform.specs.declared.Answer.the-variants as told
+use Rattle.payload.specs.Calls as payload
+use Rattle.platform.specs.declared.Noting.{Noting}
+use Rattle.platform.specs.declared.Noting.the-variants as noting
 use Rattle.platform.specs.declared.reactions.Standing.{Standing}
-use Rattle.platform.specs.Receiving.{numberGiven, receivedOf, sectionsOutcome}
+use Rattle.platform.specs.Receiving.{receivedOf, sectionsOutcome}
+use Rattle.platform.specs.Noting.{numberGiven}
 use Rattle.platform_words.specs.Words.{standingIn}
 use Rattle.platform_words.specs.HeardWords.{answerWords, notedWords}
 use Rattle.nyrkovash.specs.PieceCalls.{countLeft, madeLeft}
 use Rattle.nyrkovash.specs.MessageCalls.{readLeft, writeLeft}
-use Rattle.nyrkovash.specs.TableCalls.{checkRefusal, sectionsLeft, foundWords}
-use Rattle.nyrkovash.specs.PayloadCalls.{refusalIn, givenLeft}
+use Rattle.nyrkovash.specs.TableCalls.{sectionsLeft, foundWords}
+use Rattle.nyrkovash.specs.PayloadCalls.{givenLeft}
 use Rattle.promises.specs.Checks.{Keeps}
 use Rattle.promises.specs.Demand1.{ChangesNothing}
 use Rattle.promises.specs.ExportsKeep.{ExportsKeep}
 use Rattle.promises.proofs.Demand1.{demand-1}
 
 -- what was lent for an answer
-count-keeps : (was : ℕ) (x : Counted) → Keeps (countRefusal x) was (countLeft was x)
+count-keeps : (was : ℕ) (x : Counted) → Keeps (countNumber x) was (countLeft was x)
 count-keeps was (counted.Refused n) k = refl
 count-keeps was (counted.Pieces n) k = absurd (k refl)
 
-made-keeps : (was : ℕ) (x : Made) → Keeps (cutRefusal x) was (madeLeft was x)
+made-keeps : (was : ℕ) (x : Made) → Keeps (cutNumber x) was (madeLeft was x)
 made-keeps was (made.Refused n) k = refl
 made-keeps was (made.Datagram n) k = absurd (k refl)
 
@@ -69,11 +74,12 @@ write-keeps : (was : ℕ) (x : Writing) → Keeps (writeNumber x) was (writeLeft
 write-keeps was (writing.Refused n) k = refl
 write-keeps was (writing.Written n) k = absurd (k refl)
 
-check-keeps : (was : List ℕ) (x : Checked) → Keeps (checkRefusal x) was (sectionsLeft was x)
+check-keeps : (was : List ℕ) (x : Checked) → Keeps (checkNumber x) was (sectionsLeft was x)
 check-keeps was (check.Refused n) k = refl
 check-keeps was (check.Table s) k = absurd (k refl)
 
-given-keeps : (was : ℕ) (x : Answer) → Keeps (refusalIn x) was (givenLeft was x)
+given-keeps : (was : ℕ) (x : Answer) → Keeps (payload.numberGiven x) was (givenLeft was x)
+unfolding payload.leftBy
 given-keeps was (answer.Refused n) k = refl
 given-keeps was (answer.Stopped n) k = refl
 given-keeps was (answer.Gave n) k = absurd (k refl)
@@ -83,7 +89,7 @@ found-keeps true was x k = absurd (k refl)
 found-keeps false was x k = refl
 
 -- joining
-accepted-keeps : (was : List ℕ) (x : Verdict) (j : Joiner) → Keeps (answerIn x) was (acceptedWords x j was)
+accepted-keeps : (was : List ℕ) (x : Verdict) (j : Joiner) → Keeps (verdictNumber x) was (acceptedWords x j was)
 accepted-keeps was set-up.Accepted j k = absurd (k refl)
 accepted-keeps was (set-up.Refused n) j k = refl
 
@@ -91,7 +97,7 @@ setup-keeps : (ids : List ℕ) (R b : ℕ) (ws : List ℕ) → Keeps (setupNumbe
 unfolding setupNumber setupWords
 setup-keeps ids R b ws = accepted-keeps ws (setupOf ids R b .answer) (setupOf ids R b .joiner)
 
-outcome-keeps : (was : List ℕ) (o : Outcome) → Keeps (takeRefusal o) was (outcomeWords o was)
+outcome-keeps : (was : List ℕ) (o : Outcome) → Keeps (outcomeNumber o) was (outcomeWords o was)
 outcome-keeps was (Refused n) k = refl
 outcome-keeps was Repeated k = absurd (k refl)
 outcome-keeps was (Delivered m p) k = absurd (k refl)
@@ -99,7 +105,7 @@ outcome-keeps was (Held m n) k = absurd (k refl)
 outcome-keeps was (Stray m) k = absurd (k refl)
 outcome-keeps was (TooLong m) k = absurd (k refl)
 
-record-keeps : (was new : List ℕ) (o : Outcome) → Keeps (takeRefusal o) was (unlessRefused o was new)
+record-keeps : (was new : List ℕ) (o : Outcome) → Keeps (outcomeNumber o) was (leftBy o was new)
 record-keeps was new (Refused n) k = refl
 record-keeps was new Repeated k = absurd (k refl)
 record-keeps was new (Delivered m p) k = absurd (k refl)
@@ -123,13 +129,13 @@ module _ (ws rooms d : List ℕ) where
   answer-keeps was = outcome-keeps was (takenOf (joinerIn ws) rooms d .outcome)
 
 -- one message at a platform
-heard-keeps : (was : List ℕ) (x : Told) → Keeps (numberGiven x) was (answerWords x was)
-heard-keeps was (told.Refused n) k = refl
-heard-keeps was (told.Noted h x n) k = absurd (k refl)
+heard-keeps : (was : List ℕ) (x : Noting) → Keeps (numberGiven x) was (answerWords x was)
+heard-keeps was (noting.Refused n) k = refl
+heard-keeps was (noting.Noted h x n) k = absurd (k refl)
 
-noted-keeps : (was : List ℕ) (p : Standing) (x : Told) → Keeps (numberGiven x) was (notedWords x p was)
-noted-keeps was p (told.Refused n) k = refl
-noted-keeps was p (told.Noted h x n) k = absurd (k refl)
+noted-keeps : (was : List ℕ) (p : Standing) (x : Noting) → Keeps (numberGiven x) was (notedWords x p was)
+noted-keeps was p (noting.Refused n) k = refl
+noted-keeps was p (noting.Noted h x n) k = absurd (k refl)
 
 -- what a contract says of the number and of what was lent
 by : {B : Type 0} {n m : ℕ} {was left z : B} → n ≡ m → left ≡ z → Keeps m was z → Keeps n was left

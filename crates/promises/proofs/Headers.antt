@@ -21,7 +21,7 @@ use Rattle.message.specs.Platform.{platformStatus, platformStatusRequest, unkno
 use Rattle.message.specs.Refusal.{contentsRefusal, readRefusal, writeRefusal}
 use Rattle.message.specs.Reading.{readOut, readOf, payloadOf}
 use Rattle.message.specs.Reading as reads
-use Rattle.message.specs.Writing.{headerFor, messageBytes, unlessRefused, writeOf, outputAfter}
+use Rattle.message.specs.Writing.{headerFor, messageBytes, leftBy, writeOf, outputAfter}
 use Rattle.message.specs.Writing as writes
 use Rattle.message.proofs.Accepted.{readable, admits}
 use Rattle.message.proofs.RoundTrip.{reads-back, payload-back, same-bytes, writes-again}
@@ -42,7 +42,7 @@ was-read (suc r) x h m start len e = let z : _≡_ {A = ℕ} 0 1 = cc in absurd 
 -- the output where nothing refuses, and its front
 module _ (own domain id seq : ℕ) (payload out : List ℕ) (w : writeRefusal domain id payload (length out) ≡ 0) where
   written-out : outputAfter own domain id seq payload out ≡ over out 0 (messageBytes own domain id seq payload)
-  written-out = ap (λ (r : ℕ). unlessRefused r (over out 0 (messageBytes own domain id seq payload)) out) w
+  written-out = ap (λ (r : ℕ). leftBy (writes.answered r (headerLength + length payload)) out (over out 0 (messageBytes own domain id seq payload))) w
 
   front : take (headerLength + length payload) (outputAfter own domain id seq payload out) ≡ messageBytes own domain id seq payload
   front =

@@ -2,6 +2,7 @@ mod Checks
 mod Order
 mod TakeOrder
 pub mod TableOrder
+mod NumbersInOrder
 pub mod PayloadOrder
 pub mod Demand1
 pub mod Headers
@@ -51,3 +52,4 @@ pub mod Rules32
 pub mod WrongChecks
 pub mod Sizes33
 pub mod LinkedCut
+pub mod Missed

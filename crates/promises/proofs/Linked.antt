@@ -13,7 +13,7 @@ use Rattle.channel.specs.declared.Channel.{Channel}
 use Rattle.channel.specs.declared.Outcome.{Outcome}
 use Rattle.joiner.specs.declared.Joiner.{Joiner}
 use Rattle.joiner.specs.declared.setups.NewJoiner.{NewJoiner}
-use Rattle.joiner.specs.Setup.{channelAt, freshOf, setupOf, answerIn, Acceptable}
+use Rattle.joiner.specs.Setup.{channelAt, freshOf, setupOf, numberGiven, Acceptable}
 use Rattle.joiner.specs.Take.{takenOf, roomsAfter}
 use Rattle.joiner.specs.JoinerWords.{joinerWords, senderLimit, joinerIn, recordsWords, wordsOf}
 use Rattle.joiner.specs.Calls.{acceptedWords, setupNumber, setupWords, takeNumber, takeWords, takeRooms, takeAnswer}
@@ -54,7 +54,7 @@ module _ (ids : List ℕ) (R b : ℕ) (a : Acceptable ids R b) where
 
   set-number : setupNumber ids R b ≡ 0
   unfolding setupNumber
-  set-number = ap (λ (x : NewJoiner). answerIn (x .answer)) (accepts ids R b a)
+  set-number = ap (λ (x : NewJoiner). numberGiven (x .answer)) (accepts ids R b a)
 
   set-words : (was : List ℕ) → setupWords ids R b was ≡ wordsOf j
   unfolding setupWords

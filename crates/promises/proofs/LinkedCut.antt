@@ -9,7 +9,9 @@ use lib.ListN.{length, getD, take, drop, replicate, length-replicate}
 use lib.Seq.{take-at}
 use Rattle.wire.specs.Bytes.{over as written-over}
 use Rattle.binding.specs.Header.{senders, counters}
-use Rattle.binding.specs.Cutting.{pieceCount, datagramOf, countedOf, countRefusal, madeOf, cutRefusal, outAfter, cutInto}
+use Rattle.binding.specs.Cutting.{pieceCount, datagramOf, countedOf, madeOf, cutInto}
+use Rattle.binding.specs.Counted as counting
+use Rattle.binding.specs.Made as cutting
 use Rattle.binding.specs.declared.cutter.Counted.the-variants.{Pieces}
 use Rattle.binding.specs.declared.cutter.Made.{Made}
 use Rattle.binding.specs.declared.cutter.Made.the-variants as made
@@ -32,7 +34,7 @@ module _ {m s was n count : ℕ} (w : Cuttable m s) (p : Counts (record { total 
 
   count-number : n ≡ 0
   count-number =
-      p .1 .1 .1 .0 .0 ∙ ap (λ (y : PiecesLent). piecesNumber (y .total) (y .size)) (p .1 .1 .1 .1 .0) ∙ ap countRefusal counted
+      p .1 .1 .1 .0 .0 ∙ ap (λ (y : PiecesLent). piecesNumber (y .total) (y .size)) (p .1 .1 .1 .1 .0) ∙ ap counting.numberGiven counted
 
   count-is : count ≡ pieceCount m s
   count-is =
@@ -56,13 +58,13 @@ module _ (msg : List ℕ) (s id first : ℕ) (w : Cuttable (length msg) s) (rang
     cut-number =
         p .1 .1 .1 .0 .0
         ∙ ap (λ (y : CutLent). cutNumber (y .message) (y .size) (y .sender) (y .first) (y .piece) (y .out)) (p .1 .1 .1 .1 .0)
-        ∙ ap cutRefusal makes
+        ∙ ap cutting.numberGiven makes
 
     cut-out : l .out ≡ written-over out 0 d
     cut-out =
         ap (λ (y : CutLeft). y .out) (sym (p .1 .1 .1 .1 .1)) ∙ p .1 .1 .1 .0 .1 .0
         ∙ ap (λ (y : CutLent). cutInto (y .message) (y .size) (y .sender) (y .first) (y .piece) (y .out)) (p .1 .1 .1 .1 .0)
-        ∙ ap (λ (x : Made). outAfter x out d) makes
+        ∙ ap (λ (x : Made). cutting.leftBy x out (written-over out 0 d)) makes
 
     cut-written : l .written ≡ length d
     cut-written =

@@ -15,15 +15,15 @@ use Rattle.wire.specs.Bytes.{Octets, number, bytes, over}
 use Rattle.message.specs.declared.Reading.{Reading}
 use Rattle.message.specs.declared.Writing.the-variants as writing
 use Rattle.message.specs.Header.{headerLength, domainIn, senderIn, idIn, payloadSizeIn, sequenceIn, headerIn}
-use Rattle.message.specs.Platform.{messageOf}
+use Rattle.message.specs.Platform.{messageOf, kindIn, valueIn}
 use Rattle.message.specs.Refusal.{contentsRefusal, readRefusal, writeRefusal}
 use Rattle.message.specs.Reading.{readOut, readOf, payloadOf}
 use Rattle.message.specs.Reading as reads
-use Rattle.message.specs.Writing.{headerFor, messageBytes, unlessRefused, writeOf, outputAfter}
+use Rattle.message.specs.Writing.{headerFor, messageBytes, writeOf, outputAfter}
 use Rattle.message.specs.Writing as writes
 use Rattle.message.proofs.Accepted.{Readable, readable, Writable, writable, admits}
 use Rattle.platform.proofs.Unchanged.{payload-stands}
-use Rattle.nyrkovash.specs.MessageCalls.{kindOf, valueOf, readLeft, writeLeft}
+use Rattle.nyrkovash.specs.MessageCalls.{readLeft, writeLeft}
 use Rattle.nyrkovash.proofs.Words.{kind-is-id, value-is-field}
 use Rattle.promises.specs.Headers.{ReadsAs}
 use Rattle.promises.specs.LinkedMessages.{kindSent, valueSent, IsRead, Wrote, WriteThenRead, WasRead, ReadThenWrite, IsWritten, EachIsWritten}
@@ -33,7 +33,7 @@ use Rattle.promises.proofs.LinkedPieces.{cut-then-joined}
 
 -- the words that tell a message
 told-words : (d i : ℕ) (p : List ℕ) → d < 2 → contentsRefusal d i p ≡ 0
-    → (kindOf (messageOf d i (number 2 p 0)) ≡ kindSent d i) × (valueOf i (messageOf d i (number 2 p 0)) ≡ valueSent d i p)
+    → (kindIn (messageOf d i (number 2 p 0)) ≡ kindSent d i) × (valueIn i (messageOf d i (number 2 p 0)) ≡ valueSent d i p)
 told-words zero i p h e = (kind-is-id i p e (number 2 p 0), value-is-field i p e)
 told-words (suc zero) i p h e = (refl, refl)
 told-words (suc (suc d)) i p h e = absurd (omega arith)
@@ -86,7 +86,7 @@ module _ (own domain id seq : ℕ) (payload out : List ℕ) (ho : own < 256) (hi
   rest-is =
       let b : List ℕ = messageBytes own domain id seq payload in
       let l : 0 + length b ≡ n = omega arith in
-      ap (λ (r : ℕ). drop n (unlessRefused r (over out 0 b) out)) w
+      ap (λ (r : ℕ). drop n (writes.leftBy (writes.answered r n) out (over out 0 b))) w
       ∙ drop-at b (drop (0 + length b) out) n (omega arith) ∙ ap (λ (j : ℕ). drop j out) l
 
   wrote : (written : ℕ) (left : List ℕ) → written ≡ n → left ≡ outputAfter own domain id seq payload out → Wrote own domain id seq payload out written left

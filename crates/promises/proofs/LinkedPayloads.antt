@@ -13,6 +13,7 @@ use Rattle.table.specs.declared.Sections.{Sections}
 use Rattle.table.specs.declared.Checked.{Checked}
 use Rattle.table.specs.declared.Checked.the-variants as check
 use Rattle.table.specs.Layout.{within}
+use Rattle.table.specs.Checked.{numberGiven as checkNumber}
 use Rattle.table.specs.Entries.{isType}
 use Rattle.table.specs.Words.{sectionsIn, wordsOf}
 use Rattle.table.proofs.Chain.{Chain}
@@ -22,15 +23,15 @@ use Rattle.types.proofs.Accepted.{accepted}
 use Rattle.payload.specs.declared.Answer.{Answer}
 use Rattle.payload.specs.declared.Answer.the-variants.{Refused, Stopped, Gave}
 use Rattle.walk.specs.Walk.{Codec}
+use Rattle.payload.specs.Calls.{numberGiven, leftBy}
 use Rattle.payload.specs.Calls.{answeredType, answeredIn, answeredIf, unpackedIn, wordsIn, packedIn, bytesIn, unpacked, wordsAfter, packed, bytesAfter}
 use Rattle.unpack.specs.Reading.{reader}
 use Rattle.pack.specs.Writing.{writer}
 use Rattle.values.proofs.Checked.{same-answer, same-left}
 use Rattle.values.specs.Values.{Value, Spoken}
-use Rattle.nyrkovash.specs.TableCalls.{checkRefusal, sectionsLeft}
-use Rattle.nyrkovash.specs.PayloadCalls.{refusalIn, givenLeft}
+use Rattle.nyrkovash.specs.TableCalls.{sectionsLeft}
+use Rattle.nyrkovash.specs.PayloadCalls.{givenLeft}
 use Rattle.promises.specs.Checks.{Keeps}
-use Rattle.promises.specs.PayloadOrder.{numberOf}
 use Rattle.promises.specs.Payloads.{Known, PackGivesBy, UnpackGivesBy, PacksExactlyBy, UnpacksExactlyBy, RoundTripsBy, PackGives, UnpackGives}
 use Rattle.promises.specs.Payloads.{PacksExactly, UnpacksExactly}
 use Rattle.promises.specs.WrongCodecs.{KeepsBy}
@@ -41,7 +42,8 @@ use Rattle.promises.proofs.Demand1.{demand-1}
 use Rattle.promises.proofs.Numbered.{Numbered, TableNumbered, table-numbered, bytes-numbered}
 
 -- number and count tell the answer
-told : (a : Answer) (was : ℕ) → Numbered a → givenBack (refusalIn a) (givenLeft was a) ≡ toldOf a
+told : (a : Answer) (was : ℕ) → Numbered a → givenBack (numberGiven a) (givenLeft was a) ≡ toldOf a
+unfolding leftBy
 told (Refused zero) was h = absurd (omega arith)
 told (Refused (suc n)) was h = refl
 told (Stopped zero) was h = absurd (omega arith)
@@ -55,7 +57,7 @@ told-gave (Stopped zero) k h e = absurd (omega arith)
 told-gave (Stopped (suc n)) k h e = let z : _≡_ {A = ℕ} 0 1 = cc in absurd (omega arith)
 told-gave (Gave n) k h e = e
 
-told-number : (a : Answer) → Numbered a → numberOf (toldOf a) ≡ numberOf a
+told-number : (a : Answer) → Numbered a → numberGiven (toldOf a) ≡ numberGiven a
 told-number (Refused zero) h = absurd (omega arith)
 told-number (Refused (suc n)) h = refl
 told-number (Stopped zero) h = absurd (omega arith)
@@ -101,7 +103,7 @@ module _ (t : List ℕ) (s : Sections) (i : ℕ) (h : Known t s i) where
   round-trips : RoundTripsBy linkedCoding t s i
   round-trips = trips-follow linkedCoding t s i packs-exactly unpacks-exactly
 
-keeps-told : {before after : List ℕ} (a : Answer) → Numbered a → Keeps (numberOf a) before after → Keeps (numberOf (toldOf a)) before after
+keeps-told : {before after : List ℕ} (a : Answer) → Numbered a → Keeps (numberGiven a) before after → Keeps (numberGiven (toldOf a)) before after
 keeps-told a h k z = k (λ e. z (told-number a h ∙ e))
 
 keeps : KeepsBy linkedCoding
@@ -134,11 +136,11 @@ sections-back t s ss e f =
     ap sectionsIn f ∙ read-back s [] (n .0) (n .1) (n .2) (n .3)
 
 -- what a contract says of number and count, told
-module _ {n given : ℕ} {b : Answer} (a : Answer) (was : ℕ) (same : b ≡ a) (sound : Numbered a) (e : n ≡ refusalIn b) (f : given ≡ givenLeft was b) where
+module _ {n given : ℕ} {b : Answer} (a : Answer) (was : ℕ) (same : b ≡ a) (sound : Numbered a) (e : n ≡ numberGiven b) (f : given ≡ givenLeft was b) where
   pub as-told : givenBack n given ≡ toldOf a
-  as-told = ap₂ givenBack (e ∙ ap refusalIn same) (f ∙ ap (givenLeft was) same) ∙ told a was sound
+  as-told = ap₂ givenBack (e ∙ ap numberGiven same) (f ∙ ap (givenLeft was) same) ∙ told a was sound
 
-check-zero : (was : List ℕ) (x : Checked) → TableNumbered x → checkRefusal x ≡ 0 → (s : Sections) × (x ≡ check.Table s)
+check-zero : (was : List ℕ) (x : Checked) → TableNumbered x → checkNumber x ≡ 0 → (s : Sections) × (x ≡ check.Table s)
 check-zero was (check.Refused n) h e = absurd (omega arith)
 check-zero was (check.Table s) h e = (s, refl)
 
@@ -251,7 +253,7 @@ linked-payloads =
           let b = now (a .1 .1 .0) in
           let room = length (now (a .1 .1 .1 .0)) in
           (as-told (unpacked t (a .1 .0) b room) (now (a .1 .1 .1 .1 .0)) refl (unpack-numbered t (a .1 .0) b room) (p .0) (p .1 .1), p .1 .0);
-      check = λ s k a n e p h. (p .0 ∙ ap checkRefusal h, p .1 ∙ ap (sectionsLeft (now (a .1 .0))) h);
+      check = λ s k a n e p h. (p .0 ∙ ap checkNumber h, p .1 ∙ ap (sectionsLeft (now (a .1 .0))) h);
       checks-only = λ k a n e p z. check-zero [] (checked (now (a .0))) (table-numbered (now (a .0))) (sym (p .0) ∙ z);
       pack-in = λ s k a n e p h f.
           let t = now (a .0) in

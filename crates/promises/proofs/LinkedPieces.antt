@@ -10,7 +10,9 @@ use lib.ListN.{length, take, drop}
 use denote.Ref.{now}
 use Rattle.wire.specs.Bytes.{bytes}
 use Rattle.binding.specs.Header.{senders, counters}
-use Rattle.binding.specs.Cutting.{canCut, pieceCount, datagramOf, countedOf, countRefusal, madeOf, cutRefusal, cutInto}
+use Rattle.binding.specs.Cutting.{canCut, pieceCount, datagramOf, countedOf, madeOf, cutInto}
+use Rattle.binding.specs.Counted.{numberGiven as countNumber}
+use Rattle.binding.specs.Made.{numberGiven as cutNumber}
 use Rattle.binding.specs.declared.cutter.Counted.the-variants.{Pieces}
 use Rattle.binding.specs.declared.cutter.Made.the-variants as made
 use Rattle.binding.proofs.Cutting.{can-cut, pieces-made, made-front, made-rest}
@@ -23,7 +25,7 @@ use Rattle.promises.proofs.CutAndJoined.{cut-and-joined}
 
 -- a piece that was cut
 module _ (msg : List ℕ) (s sender first i : ℕ) (out : List ℕ) where
-  made-zero : cutRefusal (madeOf msg s sender first i (length out)) ≡ 0
+  made-zero : cutNumber (madeOf msg s sender first i (length out)) ≡ 0
       → madeOf msg s sender first i (length out) ≡ made.Datagram (length (datagramOf msg s sender first i))
   made-zero e =
       go (canCut (length msg) s && (ltb sender senders && ltb first counters)) (ltb i (pieceCount (length msg) s))
@@ -33,14 +35,14 @@ module _ (msg : List ℕ) (s sender first i : ℕ) (out : List ℕ) where
       l = length (datagramOf msg s sender first i)
 
       go : (a b c : Bool) →
-          cutRefusal (cond a (cond b (cond c (made.Datagram l) (made.Refused 52)) (made.Refused 51)) (made.Refused 50)) ≡ 0
+          cutNumber (cond a (cond b (cond c (made.Datagram l) (made.Refused 52)) (made.Refused 51)) (made.Refused 50)) ≡ 0
           → cond a (cond b (cond c (made.Datagram l) (made.Refused 52)) (made.Refused 51)) (made.Refused 50) ≡ made.Datagram l
       go true true true z = refl
       go true true false z = absurd (omega arith)
       go true false c z = absurd (omega arith)
       go false b c z = absurd (omega arith)
 
-  cut-front : (was written : ℕ) (left : List ℕ) → cutRefusal (madeOf msg s sender first i (length out)) ≡ 0
+  cut-front : (was written : ℕ) (left : List ℕ) → cutNumber (madeOf msg s sender first i (length out)) ≡ 0
       → written ≡ madeLeft was (madeOf msg s sender first i (length out)) → left ≡ cutInto msg s sender first i out
       → take written left ≡ datagramOf msg s sender first i
   cut-front was written left z e f =
@@ -75,7 +77,7 @@ module _ (msg : List ℕ) (s sender first : ℕ) (g : CanBeCut msg s sender firs
       pieces-made msg s sender first i (length out) N counts (g .sender-fits) (g .counter-fits) (omega arith) room in
       let m′ : madeOf (now (a .0)) (a .1 .0) (a .1 .1 .0) (a .1 .1 .1 .0) i (length out)
       ≡ made.Datagram (length (datagramOf msg s sender first i)) = rw (em, es, ek, ef) m in (
-        p .0 ∙ ap cutRefusal m′,
+        p .0 ∙ ap cutNumber m′,
         ap₂ (λ (x : ℕ) (b : List ℕ). drop x b) (p .1 .1 ∙ ap (madeLeft (now (a .1 .1 .1 .1 .1 .1 .0))) m′) (p .1 .0)
             ∙ made-rest (now (a .0)) (a .1 .0) (a .1 .1 .0) (a .1 .1 .1 .0) i out m′
             ∙ ap (λ (x : ℕ). drop x out) (sym (p .1 .1 ∙ ap (madeLeft (now (a .1 .1 .1 .1 .1 .1 .0))) m′)),
@@ -104,7 +106,7 @@ pub cut-then-joined : CutThenJoined
 cut-then-joined msg s sender first g k a n e p em es =
     let c : countedOf (a .0) (a .1 .0) ≡ Pieces (pieceCount (length msg) s) = rw (em, es) (counts msg s sender first g) in
     let given : now (e .1 .1 .0) ≡ pieceCount (length msg) s = p .1 ∙ ap (countLeft (now (a .1 .1 .0))) c in (
-      p .0 ∙ ap countRefusal c,
+      p .0 ∙ ap countNumber c,
       cuts-each msg s sender first g (now (e .1 .1 .0)) given,
       λ ids R rooms ch ds j l r. joined msg s sender first g ids R rooms ch ds j (l ∙ given) r,
     )

@@ -31,13 +31,14 @@ use Rattle.message.specs.Reading.{readOut}
 use Rattle.message.proofs.Accepted.{readable}
 use Rattle.states.specs.States.{isUp}
 use Rattle.platform.specs.declared.reactions.Standing.{Standing}
-use Rattle.platform.specs.declared.Outcome.{Outcome}
-use Rattle.platform.specs.declared.Answer.{Answer}
-use Rattle.platform.specs.declared.Answer.the-variants.{Noted}
+use Rattle.platform.specs.declared.Received.{Received}
+use Rattle.platform.specs.declared.Noting.{Noting}
+use Rattle.platform.specs.declared.Noting.the-variants.{Noted}
 use Rattle.platform.specs.declared.reactions.Reaction.{Reaction}
 use Rattle.platform.specs.Replies.{allData, owedLength}
 use Rattle.platform.specs.Reaction.{operationFor, isData, foundData, noData, onPullAll, onPullOne, onPull, onOperation, reactionTo}
-use Rattle.platform.specs.Receiving.{freshStanding, refused, taken, answered, receivedOf, leftOf, sectionsOutcome, sectionsOutput, numberGiven}
+use Rattle.platform.specs.Receiving.{freshStanding, refused, taken, answered, receivedOf, leftOf, sectionsOutcome, sectionsOutput}
+use Rattle.platform.specs.Noting.{numberGiven}
 use Rattle.platform_words.specs.Words.{standingIn, standingWords}
 use Rattle.platform_words.specs.HeardWords.{heardWords, answerWords, notedWords, heardAfter, platformAfter}
 use Rattle.platform_words.specs.StateCalls.{upNumber}
@@ -175,27 +176,27 @@ module _ (own : ℕ) (ws t : List ℕ) (s : Sections) (m out : List ℕ) (h : He
     answer-is =
         let l : owedLength (reaction .owed) ≡ N = its-length own t s p m out h kind receives in
         let room : owedLength (reaction .owed) ≤ length out = omega arith in
-        ap (λ (x : Outcome). x .answer)
+        ap (λ (x : Received). x .answer)
         (received-is own t s p m out h kind receives (length out)
-        ∙ no-lt {A = Outcome} (refused p noRoom) (taken h reaction (owedLength (reaction .owed))) (length out) (owedLength (reaction .owed)) room)
+        ∙ no-lt {A = Received} (refused p noRoom) (taken h reaction (owedLength (reaction .owed))) (length out) (owedLength (reaction .owed)) room)
         ∙ ap (Noted h (reaction .heard)) l
 
   -- what a call's contract says of the number and of what was lent
-  module _ (o : Outcome) (l : List ℕ) (same : o ≡ receivedOf own t p m (length out)) (alike : l ≡ leftOf own t p m out)
+  module _ (o : Received) (l : List ℕ) (same : o ≡ receivedOf own t p m (length out)) (alike : l ≡ leftOf own t p m out)
       (n : ℕ) (after left heard was : List ℕ) (en : n ≡ numberGiven (o .answer)) (ea : after ≡ platformAfter o ws) (el : left ≡ l)
       (eh : heard ≡ heardAfter o was) where
     says : N ≤ length out → Says own ws t s m out h kind n after left heard
     says fits =
-        let a : o .answer ≡ Noted h (reaction .heard) N = ap (λ (x : Outcome). x .answer) same ∙ answer-is fits in
+        let a : o .answer ≡ Noted h (reaction .heard) N = ap (λ (x : Received). x .answer) same ∙ answer-is fits in
         let q : Standing = receivedOf own t p m (length out) .standing in
         let w : after ≡ standingWords q =
-        ea ∙ ap (λ (x : Answer). notedWords x (o .standing) ws) a ∙ ap (λ (x : Outcome). standingWords (x .standing)) same in
+        ea ∙ ap (λ (x : Noting). notedWords x (o .standing) ws) a ∙ ap (λ (x : Received). standingWords (x .standing)) same in
         let x : Notes own t s p m out h kind N = its-notes fits in
         record {
           number = en ∙ ap numberGiven a;
           replies = rw (el ∙ alike) (x .written);
           rest = rw (el ∙ alike) (x .rest);
-          heard-is = eh ∙ ap (λ (y : Answer). answerWords y was) a ∙ heard-words;
+          heard-is = eh ∙ ap (λ (y : Noting). answerWords y was) a ∙ heard-words;
           states = up-is own after q (stateAfter own p h kind) (c .platform) w (x .states);
           next = ap (λ (y : List ℕ). getD y 4 0) w ∙ x .next;
         }
@@ -204,7 +205,7 @@ module _ (own : ℕ) (ws t : List ℕ) (s : Sections) (m out : List ℕ) (h : He
     answered-so =
         record {
           fit = says;
-          do-not-fit = λ short. en ∙ ap (λ (x : Outcome). numberGiven (x .answer)) same ∙ ap numberGiven (too-short own t s p m out h kind receives short);
+          do-not-fit = λ short. en ∙ ap (λ (x : Received). numberGiven (x .answer)) same ∙ ap numberGiven (too-short own t s p m out h kind receives short);
         }
 
 -- on the sections of a table that the check accepts, in their words
@@ -253,9 +254,9 @@ linked-replies =
           let m = now (a .1 .1 .1 .1 .0) in
           let out = now (a .1 .1 .1 .1 .1 .0) in
           let q = outcome-same own ws t s (now (a .1 .1 .1 .0)) m c f (length out) in (
-            p .0 ∙ ap (λ (x : Outcome). numberGiven (x .answer)) q,
-            p .1 .0 ∙ ap (λ (x : Outcome). platformAfter x ws) q,
+            p .0 ∙ ap (λ (x : Received). numberGiven (x .answer)) q,
+            p .1 .0 ∙ ap (λ (x : Received). platformAfter x ws) q,
             p .1 .1 .0 ∙ output-same own ws t s (now (a .1 .1 .1 .0)) m c f out,
-            p .1 .1 .1 ∙ ap (λ (x : Outcome). heardAfter x (now (a .1 .1 .1 .1 .1 .1 .0))) q,
+            p .1 .1 .1 ∙ ap (λ (x : Received). heardAfter x (now (a .1 .1 .1 .1 .1 .1 .0))) q,
           );
     }

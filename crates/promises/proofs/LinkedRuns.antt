@@ -11,16 +11,16 @@ use lib.ListN.{length, getD}
 use Rattle.wire.proofs.Cond.{and-left, and-right}
 use Rattle.wire.proofs.AllBelow.{at-below}
 use Rattle.wire.proofs.Runs.{length-written}
-use Rattle.binding.specs.Header.{theVersion, smallestDatagram, largestDatagram, versionIn, heardIn, pieceIn}
+use Rattle.binding.specs.Header.{theVersion, smallestDatagram, largestDatagram, versionIn, headingIn, pieceIn}
 use Rattle.binding.specs.declared.BindingHeader.{BindingHeader}
-use Rattle.binding.specs.declared.Heard.the-variants as heard
+use Rattle.binding.specs.declared.Heading.the-variants as heading
 use Rattle.channel.specs.Record.{channelLimit}
-use Rattle.channel.specs.Outcomes.{refusalIn}
+use Rattle.channel.specs.Outcomes.{numberGiven, leftBy}
 use Rattle.channel.specs.Channel.{roomOf, steppedOf}
 use Rattle.channel.specs.declared.Channel.{Channel}
 use Rattle.channel.specs.declared.Room.{Room}
 use Rattle.channel.specs.declared.Step.{Step}
-use Rattle.channel.specs.declared.Place.the-variants as place
+use Rattle.channel.specs.declared.Slice.the-variants as slice
 use Rattle.channel.specs.declared.Outcome.{Outcome}
 use Rattle.channel.specs.declared.Outcome.the-variants.{Refused, Repeated, Delivered, Held, Stray, TooLong}
 use Rattle.channel.specs.declared.Judged.{Judged}
@@ -29,9 +29,9 @@ use Rattle.channel.proofs.Cases.{Stepped, again, whole, begins, stray, long, go
 use Rattle.joiner.specs.Setup.{placeOf, sendersOf, channelAt, good}
 use Rattle.joiner.specs.declared.Joiner.{Joiner}
 use Rattle.joiner.specs.declared.Taken.{Taken}
-use Rattle.joiner.specs.Take.{sentTo, heardBy, judgedOf, takenBy, takenOf, roomsAfter, messageOf}
+use Rattle.joiner.specs.Take.{sentTo, headingBy, judgedOf, takenBy, takenOf, roomsAfter, messageOf}
 use Rattle.joiner.specs.JoinerWords.{recordAt, senderLimit, recordIn, isRecord, areRecords, isJoiner, joinerIn, recordWords}
-use Rattle.joiner.specs.Calls.{outcomeWords, unlessRefused, withRecord, placeIn, takeNumber, takeWords, takeRooms, takeAnswer}
+use Rattle.joiner.specs.Calls.{outcomeWords, withRecord, placeIn, takeNumber, takeWords, takeRooms, takeAnswer}
 use Rattle.joiner.specs.Records.{storedIn}
 use Rattle.joiner.specs.View.{View, viewOf}
 use Rattle.joiner.proofs.Stored.{stored-at, stored-joiner, is-joiner}
@@ -74,15 +74,15 @@ module _ (j : Joiner) (d : Datagram) where
       go true = step-numbered (step-cases (roomOf (j .room) k) (channelAt j k) (h .counter) (length (pieceIn d)) (h .part))
       go false = refl
 
-  heard-numbered : (t v : Bool) (h : BindingHeader) → ok (heardBy j d (cond t (cond v (heard.Piece h) (heard.Refused 22)) (heard.Refused 21)))
-  unfolding heardBy takenBy
-  heard-numbered true true h = sent-numbered h
-  heard-numbered true false h = refl
-  heard-numbered false v h = refl
+  heading-numbered : (t v : Bool) (h : BindingHeader) → ok (headingBy j d (cond t (cond v (heading.Piece h) (heading.Refused 22)) (heading.Refused 21)))
+  unfolding headingBy takenBy
+  heading-numbered true true h = sent-numbered h
+  heading-numbered true false h = refl
+  heading-numbered false v h = refl
 
-  judged-numbered : (t : Bool) → ok (cond t (heardBy j d (heardIn d)) (Refusal 20))
+  judged-numbered : (t : Bool) → ok (cond t (headingBy j d (headingIn d)) (Refusal 20))
   unfolding takenBy
-  judged-numbered true = heard-numbered (leb smallestDatagram (length d) && leb (length d) largestDatagram) (eqb (versionIn d) theVersion) _
+  judged-numbered true = heading-numbered (leb smallestDatagram (length d) && leb (length d) largestDatagram) (eqb (versionIn d) theVersion) _
   judged-numbered false = refl
 
 pub taken-numbered : (j : Joiner) (rooms : List ℕ) (d : Datagram) → numbered (takenOf j rooms d .outcome) ≡ true
@@ -97,11 +97,11 @@ refused-back x y n e = go (eqb n 0) e
     go false q = refl
     go true q = let z : _≡_ {A = ℕ} 0 1 = cc in absurd (omega arith)
 
-outcome-back : (o : Outcome) (out : List ℕ) → numbered o ≡ true → outcomeFrom (refusalIn o) (outcomeWords o out) ≡ o
+outcome-back : (o : Outcome) (out : List ℕ) → numbered o ≡ true → outcomeFrom (numberGiven o) (outcomeWords o out) ≡ o
 outcome-back (Refused n) out e = refused-back _ (Refused n) n e
 outcome-back Repeated out e = refl
-outcome-back (Delivered m (place.Datagram p n)) out e = refl
-outcome-back (Delivered m (place.Rooms p n)) out e = refl
+outcome-back (Delivered m (slice.Datagram p n)) out e = refl
+outcome-back (Delivered m (slice.Rooms p n)) out e = refl
 outcome-back (Held m n) out e = refl
 outcome-back (Stray m) out e = refl
 outcome-back (TooLong m) out e = refl
@@ -113,12 +113,12 @@ no-message s x n e = go (eqb n 0) e
     go false q = refl
     go true q = let z : _≡_ {A = ℕ} 0 1 = cc in absurd (omega arith)
 
-message-back : (o : Outcome) (out d rooms : List ℕ) → numbered o ≡ true → messageIn (refusalIn o) (outcomeWords o out) d rooms ≡ handedBack o d rooms
+message-back : (o : Outcome) (out d rooms : List ℕ) → numbered o ≡ true → messageIn (numberGiven o) (outcomeWords o out) d rooms ≡ handedBack o d rooms
 unfolding messageOf
 message-back (Refused n) out d rooms e = no-message _ _ n e
 message-back Repeated out d rooms e = refl
-message-back (Delivered m (place.Datagram p n)) out d rooms e = refl
-message-back (Delivered m (place.Rooms p n)) out d rooms e = refl
+message-back (Delivered m (slice.Datagram p n)) out d rooms e = refl
+message-back (Delivered m (slice.Rooms p n)) out d rooms e = refl
 message-back (Held m n) out d rooms e = refl
 message-back (Stray m) out d rooms e = refl
 message-back (TooLong m) out d rooms e = refl
@@ -138,7 +138,7 @@ module _ (ws rooms : List ℕ) (d : Datagram) (out : List ℕ) where
   message-is = message-back (t .outcome) out d (roomsAfter (joinerIn ws) rooms d) (taken-numbered (joinerIn ws) rooms d)
 
 -- the joiner stays one of 130 words
-unless-length : (o : Outcome) (old new : List ℕ) → length new ≡ length old → length (unlessRefused o old new) ≡ length old
+unless-length : (o : Outcome) (old new : List ℕ) → length new ≡ length old → length (leftBy o old new) ≡ length old
 unless-length (Refused n) old new e = refl
 unless-length Repeated old new e = e
 unless-length (Delivered m p) old new e = e

@@ -23,11 +23,11 @@ use Rattle.message.specs.Reading.{readOut, readOf}
 use Rattle.message.specs.Reading as reads
 use Rattle.message.specs.Writing.{writeOf}
 use Rattle.message.specs.Writing as writes
-use Rattle.binding.specs.declared.Heard.the-variants as heard
+use Rattle.binding.specs.declared.Heading.the-variants as heading
 use Rattle.binding.specs.declared.cutter.Counted.the-variants as counted
 use Rattle.binding.specs.declared.cutter.Made.{Made}
 use Rattle.binding.specs.declared.cutter.Made.the-variants as made
-use Rattle.binding.specs.Header.{senders, counters, versionIn as versionOf, headerIn, heardIn}
+use Rattle.binding.specs.Header.{senders, counters, versionIn as versionOf, headerIn, headingIn}
 use Rattle.binding.specs.Cutting.{canCut, canHead, pieceCount, datagramOf, countedOf, madeOf}
 use Rattle.binding.proofs.Cutting.{Cuttable, cuttable, can-cut}
 use Rattle.promises.specs.Checks.{Check, _when_, Answers, Outside, none, below, above}
@@ -117,10 +117,10 @@ inside lo hi x = flip-decides (leb lo x && leb x hi) (and-decides (leb lo x) (le
 pub version-decides : (d : List ℕ) → Decides (not (eqb (versionOf d) 0)) (¬ (versionOf d ≡ 0))
 version-decides d = not-decides (eqb (versionOf d) 0) (eq-decides (versionOf d) 0)
 
-pub header-in-order : (d : List ℕ) → Answers heard.Refused (heard.Piece (headerIn d)) (headerChecks d) (heardIn d)
+pub header-in-order : (d : List ℕ) → Answers heading.Refused (heading.Piece (headerIn d)) (headerChecks d) (headingIn d)
 header-in-order d =
-    unless heard.Refused (heard.Piece (headerIn d)) (leb 5 (length d) && leb (length d) 65507) 21 (inside 5 65507 (length d))
-    (unless heard.Refused (heard.Piece (headerIn d)) (eqb (versionOf d) 0) 22 (version-decides d) none)
+    unless heading.Refused (heading.Piece (headerIn d)) (leb 5 (length d) && leb (length d) 65507) 21 (inside 5 65507 (length d))
+    (unless heading.Refused (heading.Piece (headerIn d)) (eqb (versionOf d) 0) 22 (version-decides d) none)
 
 -- not below, and not up to
 pub below-decides : (m n : ℕ) → Decides (not (ltb m n)) (n ≤ m)

@@ -23,17 +23,14 @@ use Rattle.walk.specs.Walk.{Step, on, stop, answer, next as goOn, through, Code
 use Rattle.unpack.specs.Reading.{reader}
 use Rattle.pack.specs.Writing.{writer}
 use Rattle.walk.specs.Walk.{start}
-use Rattle.payload.specs.Calls.{answered, answeredType, answeredIn, answeredIf}
-use Rattle.promises.specs.Checks.{Check, _when_, Answers, none, this, next}
+use Rattle.payload.specs.Calls.{numberGiven, answered, answeredType, answeredIn, answeredIf}
+use Rattle.promises.specs.Checks.{Check, _when_, Gives, none, this, next}
 use Rattle.promises.specs.TableOrder.{sectionsIn, tableChecks}
 use Rattle.walk.specs.declared.Place.{Place}
-use Rattle.promises.specs.PayloadOrder.{numberOf, Stretch, itemMet, behind, inTurn, met, walkChecks, LiesIn, LieIn, PayloadInOrder}
+use Rattle.promises.specs.PayloadOrder.{Stretch, itemMet, behind, inTurn, met, walkChecks, LiesIn, LieIn, PayloadInOrder}
 use Rattle.promises.proofs.Checks.{Decides, lt-decides, le-decides, and-decides, decides-same, by, unless, then}
 use Rattle.promises.proofs.Order.{below-decides}
 use Rattle.promises.proofs.TableOrder.{table-in-order}
-
-abbrev Numbers : List Check → ℕ → Type 1
-Numbers cs n = Answers (λ (k : ℕ). k) 0 cs n
 
 -- sections that lie in the bytes
 lies-decides : (width most : ℕ) (t : List ℕ) (x : Section) → Decides (liesIn width most (length t) x) (LiesIn width most t x)
@@ -72,13 +69,13 @@ number K (stop n q y) = n
 
 -- a walk F that meets what G says
 abbrev Follows : (Place → List ℕ → Step) → (Place → Stretch) → Type 1
-Follows F G = (p : Place) (x : List ℕ) (K : Place → List ℕ → ℕ) (rest : List Check) → ((y : List ℕ) → Numbers rest (K (G p .end) y))
-    → Numbers (G p .checks ++ rest) (number K (F p x))
+Follows F G = (p : Place) (x : List ℕ) (K : Place → List ℕ → ℕ) (rest : List Check) → ((y : List ℕ) → Gives rest (K (G p .end) y))
+    → Gives (G p .checks ++ rest) (number K (F p x))
 
 item-follows : (c : Codec) (n code : ℕ) (ok : ℕ → Bool) → Follows (item c n code ok) (itemMet c n code ok)
 unfolding item
 item-follows c n code ok p x K rest a =
-    subst (Numbers (itemMet c n code ok p .checks ++ rest)) (sym (go (c .there code p) refl (fine c code ok p) refl))
+    subst (Gives (itemMet c n code ok p .checks ++ rest)) (sym (go (c .there code p) refl (fine c code ok p) refl))
     (unless (λ k. k) 0 (c .there code p) 40 (false-decides (c .there code p))
     (unless (λ k. k) 0 (fine c code ok p) n (false-decides (fine c code ok p)) (a y)))
   where
@@ -99,8 +96,8 @@ number-next K (stop n q y) f = refl
 behind-follows : (F : Place → List ℕ → Step) (S : Place → Stretch) (H : Place → Place → List ℕ → Step) (T : Place → Place → Stretch)
     → Follows F S → ((p : Place) → Follows (H p) (T p)) → Follows (λ p x. goOn (F p x) (H p)) (λ p. behind (S p) (T p))
 behind-follows F S H T f h p x K rest a =
-    subst (λ (cs : List Check). Numbers cs (number K (goOn (F p x) (H p)))) (sym (append-assoc (S p .checks) (T p (S p .end) .checks) rest))
-    (subst (Numbers (S p .checks ++ (T p (S p .end) .checks ++ rest))) (sym (number-next K (F p x) (H p)))
+    subst (λ (cs : List Check). Gives cs (number K (goOn (F p x) (H p)))) (sym (append-assoc (S p .checks) (T p (S p .end) .checks) rest))
+    (subst (Gives (S p .checks ++ (T p (S p .end) .checks ++ rest))) (sym (number-next K (F p x) (H p)))
     (f p x (λ q y. number K (H p q y)) (T p (S p .end) .checks ++ rest) (λ y. h p (S p .end) y K rest a)))
 
 through-follows : (F : ℕ → Place → List ℕ → Step) (G : ℕ → Place → Stretch) → ((k : ℕ) → Follows (F k) (G k)) → (n : ℕ) → Follows (through n F) (inTurn n G)
@@ -126,57 +123,57 @@ module _ (c : Codec) (n : ℕ) (t : List ℕ) (s : Sections) (i room : ℕ) wher
   abbrev ending : Place → List ℕ → ℕ
   ending q y = cond (ltb (q .from) n) 41 (cond (ltb room (q .to)) 45 0)
 
-  number-answered : (st : Step) → numberOf (answered n room (answer st)) ≡ number ending st
+  number-answered : (st : Step) → numberGiven (answered n room (answer st)) ≡ number ending st
   unfolding answered answer
   number-answered (on q y) = go (ltb (q .from) n) (ltb room (q .to))
     where
-      go : (a b : Bool) → numberOf (cond a (Stopped 41) (cond b (Refused 45) (Gave (q .to)))) ≡ cond a 41 (cond b 45 0)
+      go : (a b : Bool) → numberGiven (cond a (Stopped 41) (cond b (Refused 45) (Gave (q .to)))) ≡ cond a 41 (cond b 45 0)
       go true b = refl
       go false true = refl
       go false false = refl
   number-answered (stop k q y) = go (eqb k 32)
     where
-      go : (b : Bool) → numberOf (cond b (Refused k) (Stopped k)) ≡ k
+      go : (b : Bool) → numberGiven (cond b (Refused k) (Stopped k)) ≡ k
       go true = refl
       go false = refl
 
   abbrev last : Place
   last = met c (tree t s i) start .end
 
-  type-in-order : Numbers (met c (tree t s i) start .checks ++ (41 when (last .from < n) ∷ 45 when (room < last .to) ∷ []))
-      (numberOf (answeredType c n t s i room))
+  type-in-order : Gives (met c (tree t s i) start .checks ++ (41 when (last .from < n) ∷ 45 when (room < last .to) ∷ []))
+      (numberGiven (answeredType c n t s i room))
   unfolding answeredType typeWalk
   type-in-order =
-      subst (Numbers (met c (tree t s i) start .checks ++ (41 when (last .from < n) ∷ 45 when (room < last .to) ∷ [])))
+      subst (Gives (met c (tree t s i) start .checks ++ (41 when (last .from < n) ∷ 45 when (room < last .to) ∷ [])))
       (sym (number-answered (walk c (tree t s i) start [])))
       (walk-follows c (tree t s i) start [] ending (41 when (last .from < n) ∷ 45 when (room < last .to) ∷ [])
       (λ y. by (λ k. k) 0 (ltb (last .from) n) 41 (lt-decides (last .from) n) (by (λ k. k) 0 (ltb room (last .to)) 45 (lt-decides room (last .to)) none)))
 
   -- 44
-  known-in-order : Numbers (walkChecks c n t s i room) (numberOf (cond (isType s i) (answeredType c n t s i room) (Refused 44)))
+  known-in-order : Gives (walkChecks c n t s i room) (numberGiven (cond (isType s i) (answeredType c n t s i room) (Refused 44)))
   known-in-order = go (isType s i) refl
     where
-      go : (b : Bool) → isType s i ≡ b → Numbers (walkChecks c n t s i room) (numberOf (cond b (answeredType c n t s i room) (Refused 44)))
+      go : (b : Bool) → isType s i ≡ b → Gives (walkChecks c n t s i room) (numberGiven (cond b (answeredType c n t s i room) (Refused 44)))
       go true e = next (below-decides i (s .types .count) .no-is (ap not e)) type-in-order
       go false e = this (below-decides i (s .types .count) .yes-is (ap not e))
 
   -- on sections
-  sections-in-order : Numbers (30 when (¬ (LieIn t s)) ∷ walkChecks c n t s i room) (numberOf (answeredIn c n t s i room))
+  sections-in-order : Gives (30 when (¬ (LieIn t s)) ∷ walkChecks c n t s i room) (numberGiven (answeredIn c n t s i room))
   unfolding answeredIn
   sections-in-order = go (within t s) refl
     where
       go : (b : Bool) → within t s ≡ b
-          → Numbers (30 when (¬ (LieIn t s)) ∷ walkChecks c n t s i room)
-          (numberOf (cond b (cond (isType s i) (answeredType c n t s i room) (Refused 44)) (Refused 30)))
+          → Gives (30 when (¬ (LieIn t s)) ∷ walkChecks c n t s i room)
+          (numberGiven (cond b (cond (isType s i) (answeredType c n t s i room) (Refused 44)) (Refused 30)))
       go true e = next (λ (f : ¬ (LieIn t s)). f (lie-decides t s .yes-is e)) known-in-order
       go false e = this (lie-decides t s .no-is e)
 
 -- on bytes
 bytes-in-order : (c : Codec) (n : ℕ) (t : List ℕ) (i room : ℕ)
-    → Numbers (tableChecks t ++ walkChecks c n t (sectionsIn t) i room) (numberOf (answeredIf (checked t) c n t i room))
+    → Gives (tableChecks t ++ walkChecks c n t (sectionsIn t) i room) (numberGiven (answeredIf (checked t) c n t i room))
 unfolding answeredIf answeredIn
 bytes-in-order c n t i room =
-    then check.Refused (check.Table (sectionsIn t)) (λ k. k) 0 (λ (x : Checked). numberOf (answeredIf x c n t i room)) (λ k. refl)
+    then check.Refused (check.Table (sectionsIn t)) (λ k. k) 0 (λ (x : Checked). numberGiven (answeredIf x c n t i room)) (λ k. refl)
     (table-in-order t) (λ e. rw (is-within t (sectionsIn t) (accepted t (sectionsIn t) e)) (known-in-order c n t (sectionsIn t) i room))
 
 pub payload-in-order : PayloadInOrder

@@ -24,12 +24,13 @@ use Rattle.message.specs.Refusal.{platforms, noRoom, readRefusal}
 use Rattle.message.specs.Reading.{readOut, readOf}
 use Rattle.message.proofs.Accepted.{Readable, readable}
 use Rattle.platform.specs.declared.reactions.Standing.{Standing}
-use Rattle.platform.specs.declared.Answer.the-variants.{Refused, Noted}
-use Rattle.platform.specs.declared.Outcome.{Outcome}
+use Rattle.platform.specs.declared.Noting.the-variants.{Refused, Noted}
+use Rattle.platform.specs.declared.Received.{Received}
 use Rattle.states.specs.States.{isUp}
 use Rattle.platform.specs.Replies.{replyBytes, replyHeader, Wide, replies, Each, owedBytes, owedLength}
 use Rattle.platform.specs.Reaction.{operationFor, operationIn}
-use Rattle.platform.specs.Receiving.{refused, taken, answered, laidOut, outcomeOf, outputOf, receivedBy, receivedOf, leftBy, leftOf, bytesWritten}
+use Rattle.platform.specs.Receiving.{refused, taken, answered, laidOut, outcomeOf, outputOf, receivedBy, receivedOf, leftIf, leftOf}
+use Rattle.platform.specs.Noting.{bytesIn}
 use Rattle.platform.specs.Exchange.{sentOf}
 use Rattle.platform.proofs.ReplyBytes.{length-reply, length-owed}
 use Rattle.platform.proofs.Unchanged.{allBytes, written-is-sent}
@@ -71,8 +72,8 @@ module _ (own : ℕ) (t : List ℕ) (s : Sections) (p : Standing) (m out : List 
       ap (λ (x : Checked). receivedBy x own t p m room) (c .table) ∙ ap (λ (x : Reading). outcomeOf own t s (operationIn t s x) p x room) (c .read)
 
   left-is : leftOf own t p m out ≡ laidOut own the out
-  unfolding leftOf leftBy outputOf operationIn
-  left-is = ap (λ (x : Checked). leftBy x own t p m out) (c .table) ∙ ap (λ (x : Reading). outputOf own t s (operationIn t s x) p x out) (c .read)
+  unfolding leftOf leftIf outputOf operationIn
+  left-is = ap (λ (x : Checked). leftIf x own t p m out) (c .table) ∙ ap (λ (x : Reading). outputOf own t s (operationIn t s x) p x out) (c .read)
 
   heard-as : (readRefusal own m ≡ 0) × (readOut m ≡ reading.Read h kind (c .start) (c .len))
   heard-as = was-read (readRefusal own m) (readOut m) h kind (c .start) (c .len) (c .read)
@@ -135,7 +136,7 @@ module _ (own : ℕ) (t : List ℕ) (s : Sections) (p : Standing) (m out : List 
     taken-is : receivedOf own t p m (length out) ≡ taken h the (owedLength (the .owed))
     unfolding answered
     taken-is = received-is (length out)
-        ∙ no-lt {A = Outcome} (refused p noRoom) (taken h the (owedLength (the .owed))) (length out) (owedLength (the .owed)) room
+        ∙ no-lt {A = Received} (refused p noRoom) (taken h the (owedLength (the .owed))) (length out) (owedLength (the .owed)) room
 
     laid-is : leftOf own t p m out ≡ over out 0 (owedBytes own (the .owed))
     unfolding laidOut
@@ -147,7 +148,7 @@ module _ (own : ℕ) (t : List ℕ) (s : Sections) (p : Standing) (m out : List 
     sent-is =
         subst
         (λ (b : Bool). part (laidOut own the out) 0
-        (bytesWritten (cond b (refused p noRoom) (taken h the (owedLength (the .owed))) .answer)) ≡ allBytes own (cond b [] (replies (the .owed))))
+        (bytesIn (cond b (refused p noRoom) (taken h the (owedLength (the .owed))) .answer)) ≡ allBytes own (cond b [] (replies (the .owed))))
         (le-ltb (length out) (owedLength (the .owed)) room)
         (written-is-sent own p out t s (operationFor t s h kind) (reading.Read h kind (c .start) (c .len)))
 
@@ -170,7 +171,7 @@ module _ (own : ℕ) (t : List ℕ) (s : Sections) (p : Standing) (m out : List 
     notes =
         record {
           heard = the .heard;
-          answer = ap (λ (x : Outcome). x .answer) taken-is ∙ ap (Noted h (the .heard)) its-length;
+          answer = ap (λ (x : Received). x .answer) taken-is ∙ ap (Noted h (the .heard)) its-length;
           reports = reported;
           written =
               subst (λ (k : ℕ). AreReplies (h .platform) own (take k (leftOf own t p m out)) (owedFor own t s p h kind)) its-length
@@ -178,13 +179,13 @@ module _ (own : ℕ) (t : List ℕ) (s : Sections) (p : Standing) (m out : List 
               (subst (AreReplies (h .platform) own (allBytes own (replies (the .owed)))) (how .owed-is)
               (are-replies own (h .platform) (c .platform) (λ e. from-another (sym e)) (replies (the .owed)) (how .wide))));
           rest = subst (λ (k : ℕ). drop k (leftOf own t p m out) ≡ drop k out) its-length rest-is;
-          next = ap (λ (x : Outcome). x .standing .next) taken-is ∙ how .next;
-          states = λ k l. ap (λ (x : Outcome). isUp own (x .standing .states) k) taken-is ∙ how .states k l;
+          next = ap (λ (x : Received). x .standing .next) taken-is ∙ how .next;
+          states = λ k l. ap (λ (x : Received). isUp own (x .standing .states) k) taken-is ∙ how .states k l;
         }
 
   pub too-short : length out < replyLength * length (owedFor own t s p h kind) → receivedOf own t p m (length out) .answer ≡ Refused noRoom
   unfolding answered
   too-short l =
-      ap (λ (x : Outcome). x .answer)
+      ap (λ (x : Received). x .answer)
       (received-is (length out)
-      ∙ yes-lt {A = Outcome} (refused p noRoom) (taken h the (owedLength (the .owed))) (length out) (owedLength (the .owed)) (omega (arith, its-length)))
+      ∙ yes-lt {A = Received} (refused p noRoom) (taken h the (owedLength (the .owed))) (length out) (owedLength (the .owed)) (omega (arith, its-length)))

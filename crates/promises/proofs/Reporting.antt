@@ -27,7 +27,7 @@ use Rattle.platform.specs.declared.reactions.Heard.the-variants as heard
 use Rattle.platform.specs.declared.reactions.Reaction.{Reaction}
 use Rattle.platform.specs.Replies.{allData}
 use Rattle.platform.specs.Reaction.{operationFor, isData, notData, noData, onPullAll, onPullOne, onPull, onOperation, reactionTo}
-use Rattle.platform.specs.Receiving.{payloadHeard}
+use Rattle.platform.specs.Heard.{payloadHeard}
 use Rattle.promises.specs.Reports.{HasID, IsVersioned, Pulled, Operated, Reports, all, none-of-all, one, not-versioned, in-table, not-in-table}
 use Rattle.promises.proofs.Rules32.{some-below}
 use Rattle.promises.proofs.Reacting.{X, status-heard}

@@ -6,14 +6,14 @@ use mathlib.Core.List.{List, [], _∷_}
 use native.Mathlib.Omega.{arith}
 use lib.ListN.{length, take}
 use Rattle.binding.specs.declared.MessagePart.the-variants.{Begin, End, Whole}
-use Rattle.binding.specs.declared.Heard.the-variants.{Piece}
+use Rattle.binding.specs.declared.Heading.the-variants.{Piece}
 use Rattle.binding.specs.declared.cutter.Made.the-variants.{Datagram}
-use Rattle.binding.specs.Header.{heardIn, pieceIn}
+use Rattle.binding.specs.Header.{headingIn, pieceIn}
 use Rattle.binding.specs.Cutting.{pieceCount, pieceAt, partOfPiece, counterOf, headerOfPiece, datagramOf, madeOf, cutInto}
-use Rattle.binding.proofs.Cutting.{Cuttable, piece-length, datagram-heard, datagram-piece, makes-made, made-front}
+use Rattle.binding.proofs.Cutting.{Cuttable, piece-length, datagram-heading, datagram-piece, makes-made, made-front}
 use Rattle.channel.specs.Channel.{missedOf, keeping, notedOf, begunOf, followedOf, placedOf, steppedOf}
 use Rattle.joiner.specs.Setup.{goodSizes, good, freshOf, setupOf}
-use Rattle.joiner.specs.Take.{sentTo, heardBy, judgedOf, takenBy, takenOf, putBy, roomsBy, roomsAfter, messageOf}
+use Rattle.joiner.specs.Take.{sentTo, headingBy, judgedOf, takenBy, takenOf, putBy, roomsBy, roomsAfter, messageOf}
 use Rattle.wire.specs.All.{allBelow, above}
 use Rattle.table.specs.Layout.{sectionAt, after, ended, afterValues, afterMembers, afterTypes, sectionsOf, liesIn, within}
 use Rattle.table.specs.Entries.{typeAt, memberAt, valueAt, idAt, operationAt}
@@ -58,7 +58,7 @@ module _ (msg : List ℕ) (m s sender first i n : ℕ) (e : length msg ≡ m) (w
       let front : take (4 + n) (cutInto msg s sender first i out) ≡ datagramOf msg s sender first i = made-front msg s sender first i out q in
       record {
         made = q;
-        header = ap heardIn front ∙ datagram-heard msg s sender first i cuttable-is hs there-is ∙ ap (λ (k : ℕ). Piece (headerOfPiece k s sender first i)) e;
+        header = ap headingIn front ∙ datagram-heading msg s sender first i cuttable-is hs there-is ∙ ap (λ (k : ℕ). Piece (headerOfPiece k s sender first i)) e;
         piece = ap pieceIn front ∙ datagram-piece msg s sender first i;
       }
 
@@ -85,7 +85,7 @@ abbrev _and_ : {A B : Type 0} → A → B → A × B
 _and_ a b = (a, b)
 
 pub starred : Starred
-unfolding missedOf keeping notedOf begunOf followedOf placedOf steppedOf goodSizes good freshOf setupOf sentTo heardBy judgedOf
+unfolding missedOf keeping notedOf begunOf followedOf placedOf steppedOf goodSizes good freshOf setupOf sentTo headingBy judgedOf
     takenBy takenOf putBy roomsBy roomsAfter messageOf allBelow above sectionAt after ended afterValues afterMembers afterTypes
     sectionsOf liesIn within typeAt memberAt valueAt idAt operationAt base bytesOf inSigned finite isValue width allowed fieldsOk
     memberOk membersOk pointedOk typeOk operationOk sizeOf sizes largest sizeFits entriesOk sizesOk judged judging checked truth

@@ -15,7 +15,7 @@ use Rattle.channel.proofs.Cases.{channel-says, sound-good}
 use Rattle.channel.proofs.Cases as cases
 use Rattle.joiner.specs.declared.Joiner.{Joiner}
 use Rattle.joiner.specs.Setup.{sendersOf, channelAt, good, freshOf, setupOf, Acceptable}
-use Rattle.joiner.specs.Take.{sentTo, heardBy, judgedOf, takenBy, takenOf}
+use Rattle.joiner.specs.Take.{sentTo, headingBy, judgedOf, takenBy, takenOf}
 use Rattle.joiner.proofs.Places.{at-place, place-first, distinct-says, is-distinct}
 use Rattle.joiner.proofs.Lookups.{senders-length, senders-at}
 use Rattle.joiner.proofs.Judging.{Good, good-says}
@@ -122,7 +122,7 @@ take-shape : (j : Joiner) (rooms d : List ℕ) → takenOf j rooms d
     ≡ cond (good j (length rooms))
     (cond (leb 5 (length d) && leb (length d) 65507)
     (cond (eqb (versionIn d) 0) (cond (ltb (itsChannel j d) (j .count)) (moved j d) (keptWith j 23)) (keptWith j 22)) (keptWith j 21)) (keptWith j 20)
-unfolding takenOf takenBy judgedOf heardBy sentTo
+unfolding takenOf takenBy judgedOf headingBy sentTo
 take-shape j rooms d = go (good j (length rooms)) refl (leb 5 (length d) && leb (length d) 65507) refl (eqb (versionIn d) 0) refl
     (ltb (itsChannel j d) (j .count)) refl
   where

@@ -25,7 +25,7 @@ use Rattle.walk.specs.Tree.{byKind, look, elementsOf, treeOf, trees, tree}
 use Rattle.walk.specs.Walk.{answer, left, next, through, item, counted, walk, typeWalk}
 use Rattle.unpack.specs.Reading.{reader}
 use Rattle.pack.specs.Writing.{writer}
-use Rattle.payload.specs.Calls.{answered, answeredType, answeredIn, leftBy, leftIn, answeredIf, leftIf, unpacked}
+use Rattle.payload.specs.Calls.{numberGiven, answered, answeredType, answeredIn, leftBy, leftIn, answeredIf, leftIf, unpacked}
 use Rattle.payload.specs.declared.Answer.{Answer}
 use Rattle.payload.specs.declared.Answer.the-variants.{Refused, Stopped, Gave}
 use Rattle.values.specs.Values.{Value, Spoken, Over, Row}
@@ -33,7 +33,6 @@ use Rattle.promises.specs.Cases.{table, uint16, uint8, boolean8, upToThr
 use Rattle.promises.specs.Payloads.{Known, Coding, ourCoding, PackGivesBy, UnpackGivesBy, PayloadsBy}
 use Rattle.promises.specs.WrongCodecs.{PacksNothing, UnpacksNothing, PacksAlike, plainCopy, arraysRefused, onlyOneIsTrue}
 use Rattle.promises.specs.WrongCodecs.{wideBytes, roomNotSeen, KeepsBy, storesAtOnce, NoWrongCodec}
-use Rattle.promises.specs.PayloadOrder.{numberOf}
 use Rattle.promises.proofs.Demand1.{demand-1}
 
 -- the table of the starred cases
@@ -161,7 +160,7 @@ pair = 0 ∷ 2 ∷ 0 ∷ 0 ∷ 0 ∷ 11 ∷ 0 ∷ 0 ∷ 0 ∷ 0 ∷ 0 ∷ 3 ∷ 
 abbrev late : List ℕ
 late = 0x7F ∷ 0x7F ∷ 0xFF ∷ 0xFF ∷ 0x7F ∷ 0x80 ∷ 0x00 ∷ 0x00 ∷ []
 
-refused-42 : numberOf (unpacked pair 1 late 2) ≡ 42
+refused-42 : numberGiven (unpacked pair 1 late 2) ≡ 42
 unfolding allBelow above sectionAt after ended afterValues afterMembers afterTypes sectionsOf liesIn within typeAt memberAt
     valueAt idAt operationAt base bytesOf inSigned finite isValue width allowed fieldsOk memberOk membersOk pointedOk typeOk
     operationOk sizeOf sizes largest sizeFits entriesOk sizesOk judged judging checked truth extended wordOf form wordAt formOf
@@ -176,7 +175,7 @@ unfolding allBelow above sectionAt after ended afterValues afterMembers afterTyp
     choice byKind look elementsOf treeOf trees tree answer left next through item counted walk typeWalk reader writer answered
     answeredType answeredIn leftBy leftIn answeredIf leftIf
 stores-at-once k =
-    let n : ¬ (numberOf (unpacked pair 1 late 2) ≡ 0) = λ (z : numberOf (unpacked pair 1 late 2) ≡ 0). let y : _≡_ {A = ℕ} 42 0 =
+    let n : ¬ (numberGiven (unpacked pair 1 late 2) ≡ 0) = λ (z : numberGiven (unpacked pair 1 late 2) ≡ 0). let y : _≡_ {A = ℕ} 42 0 =
     sym refused-42 ∙ z in absurd (omega (arith, y)) in
     let e : _≡_ {A = ℕ} 0x7F7FFFFF 9 = ap (λ (x : List ℕ). getD x 0 0) (k .unpack-words pair 1 late (lent 2) n) in
     absurd (omega (arith, e))

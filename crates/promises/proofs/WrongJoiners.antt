@@ -8,42 +8,42 @@ use native.Mathlib.Omega.{arith}
 use native.Mathlib.Nat.{zero-add}
 use borrow.Author.Tests.{le-leb}
 use lib.ListN.{length, take, replicate}
-use Rattle.binding.specs.Header.{counters, heardIn}
+use Rattle.binding.specs.Header.{counters, headingIn}
 use Rattle.binding.specs.declared.MessagePart.the-variants.{End, Whole}
-use Rattle.binding.specs.declared.Heard.{Heard}
-use Rattle.binding.specs.declared.Heard.the-variants as heard
+use Rattle.binding.specs.declared.Heading.{Heading}
+use Rattle.binding.specs.declared.Heading.the-variants as heading
 use Rattle.channel.specs.Record.{badSetup}
 use Rattle.channel.specs.Channel.{missedOf, keeping, notedOf, begunOf, followedOf, placedOf, steppedOf}
 use Rattle.channel.specs.declared.Judged.{Judged}
 use Rattle.channel.specs.declared.Judged.the-variants.{Refusal}
-use Rattle.channel.specs.declared.Place.{Place}
+use Rattle.channel.specs.declared.Slice.{Slice}
 use Rattle.channel.specs.declared.Outcome.{Outcome}
 use Rattle.channel.specs.declared.Outcome.the-variants.{Refused, Repeated, Delivered, Held, Stray, TooLong}
 use Rattle.joiner.specs.Setup.{goodSizes, good, freshOf, setupOf}
 use Rattle.joiner.specs.declared.Joiner.{Joiner}
-use Rattle.joiner.specs.Take.{sentTo, heardBy, judgedOf, takenBy, takenOf, putBy, roomsBy, roomsAfter, messageOf}
+use Rattle.joiner.specs.Take.{sentTo, headingBy, judgedOf, takenBy, takenOf, putBy, roomsBy, roomsAfter, messageOf}
 use Rattle.promises.specs.Cases.{sender, datagrams, ids, room}
 use Rattle.promises.specs.Senders.{Piece, Message, Sender, sentBy, after, arriving, arrives, mostLost, lossesWithin, goodMessages, completeOf}
 use Rattle.promises.specs.Traffic.{Datagram, isOf, ofChannel, handedBack, Joining, deliveredBy, ourJoining}
 use Rattle.promises.specs.Demand3.{Demand3For}
-use Rattle.promises.specs.WrongJoiners.{heardWith, tookBy, delivers, always, NeverDelivers, DeliversOnce, firstOnly}
+use Rattle.promises.specs.WrongJoiners.{headingWith, tookBy, delivers, always, NeverDelivers, DeliversOnce, firstOnly}
 use Rattle.promises.specs.WrongJoiners.{againAnswered, stepping, testing, notAbove, never, beginningKeeps, repeatedPlaced}
 use Rattle.promises.specs.WrongJoiners.{strayForgotten, sharedRoom, firstChannelOnly, NoWrongJoiner}
 use Rattle.promises.proofs.SmallTraffic.{allOctets, Small, deliveredOf, total, kept, one, lost, twice, from, wraps, small-wraps, two, small-two}
 use Rattle.promises.proofs.SmallTraffic.{both-ids, senders, mix, granted-mix, firstByte}
 
-our-step : (j : Joiner) (d : List ℕ) (x : Heard) → heardWith steppedOf j d x ≡ heardBy j d x
-unfolding sentTo heardBy
-our-step j d (heard.Refused n) = refl
-our-step j d (heard.Piece h) = refl
+our-step : (j : Joiner) (d : List ℕ) (x : Heading) → headingWith steppedOf j d x ≡ headingBy j d x
+unfolding sentTo headingBy
+our-step j d (heading.Refused n) = refl
+our-step j d (heading.Piece h) = refl
 
 with-our-step : (j : Joiner) (rooms : List ℕ) (d : Datagram) → stepping steppedOf .take j rooms d ≡ ourJoining .take j rooms d
 unfolding judgedOf takenOf roomsAfter
-with-our-step j rooms d = ap (λ (x : Judged). tookBy j rooms d (cond (good j (length rooms)) x (Refusal badSetup))) (our-step j d (heardIn d))
+with-our-step j rooms d = ap (λ (x : Judged). tookBy j rooms d (cond (good j (length rooms)) x (Refusal badSetup))) (our-step j d (headingIn d))
 
 -- a joiner that never delivers
 module _ (J : Joining) (n : NeverDelivers J) where
-  nothing-back : (o : Outcome) (d rooms : List ℕ) → ((m : ℕ) (p : Place) → o ≡ Delivered m p → ⊥) → handedBack o d rooms ≡ []
+  nothing-back : (o : Outcome) (d rooms : List ℕ) → ((m : ℕ) (p : Slice) → o ≡ Delivered m p → ⊥) → handedBack o d rooms ≡ []
   nothing-back (Delivered m p) d rooms h = absurd (h m p refl)
   nothing-back (Refused n) d rooms h = refl
   nothing-back Repeated d rooms h = refl
@@ -79,7 +79,7 @@ constant (Stray m) d = silent (always (Stray m)) (not-delivered (Stray m) refl) 
 constant (TooLong m) d = silent (always (TooLong m)) (not-delivered (TooLong m) refl) d
 
 pub greater-than : Demand3For (stepping (testing notAbove)) → ⊥
-unfolding missedOf keeping notedOf begunOf followedOf placedOf steppedOf goodSizes good freshOf setupOf sentTo heardBy judgedOf
+unfolding missedOf keeping notedOf begunOf followedOf placedOf steppedOf goodSizes good freshOf setupOf sentTo headingBy judgedOf
     takenBy takenOf putBy roomsBy roomsAfter messageOf
 greater-than d = let e : _≡_ {A = ℕ} 0 1 = ap length (kept (stepping (testing notAbove)) wraps small-wraps d) in absurd (omega (arith, e))
 
@@ -89,7 +89,7 @@ once J o d =
     absurd (omega (arith, e, o ids 0 24 (room 24) (arrives sender two)))
 
 pub first-only : Demand3For firstOnly → ⊥
-unfolding missedOf keeping notedOf begunOf followedOf placedOf steppedOf goodSizes good freshOf setupOf sentTo heardBy judgedOf
+unfolding missedOf keeping notedOf begunOf followedOf placedOf steppedOf goodSizes good freshOf setupOf sentTo headingBy judgedOf
     takenBy takenOf putBy roomsBy roomsAfter messageOf
 first-only d = let e : _≡_ {A = ℕ} 1 2 = ap length (kept firstOnly two small-two d) in absurd (omega (arith, e))
 
@@ -101,7 +101,7 @@ small-brokenOff : Small brokenOff
 small-brokenOff = record { counter = refl; messages = refl; losses = refl; bytes = refl; own = refl }
 
 pub old-length-kept : Demand3For (stepping beginningKeeps) → ⊥
-unfolding missedOf keeping notedOf begunOf followedOf placedOf steppedOf goodSizes good freshOf setupOf sentTo heardBy judgedOf
+unfolding missedOf keeping notedOf begunOf followedOf placedOf steppedOf goodSizes good freshOf setupOf sentTo headingBy judgedOf
     takenBy takenOf putBy roomsBy roomsAfter messageOf
 old-length-kept d = let e : _≡_ {A = ℕ} 4 2 = ap total (kept (stepping beginningKeeps) brokenOff small-brokenOff d) in absurd (omega (arith, e))
 
@@ -113,7 +113,7 @@ small-endTwice : Small endTwice
 small-endTwice = record { counter = refl; messages = refl; losses = refl; bytes = refl; own = refl }
 
 pub end-twice : Demand3For againAnswered → ⊥
-unfolding missedOf keeping notedOf begunOf followedOf placedOf steppedOf goodSizes good freshOf setupOf sentTo heardBy judgedOf
+unfolding missedOf keeping notedOf begunOf followedOf placedOf steppedOf goodSizes good freshOf setupOf sentTo headingBy judgedOf
     takenBy takenOf putBy roomsBy roomsAfter messageOf
 end-twice d = let e : _≡_ {A = ℕ} 2 1 = ap length (kept againAnswered endTwice small-endTwice d) in absurd (omega (arith, e))
 
@@ -125,7 +125,7 @@ small-wholeTwice : Small wholeTwice
 small-wholeTwice = record { counter = refl; messages = refl; losses = refl; bytes = refl; own = refl }
 
 pub whole-twice : Demand3For (stepping (testing never)) → ⊥
-unfolding missedOf keeping notedOf begunOf followedOf placedOf steppedOf goodSizes good freshOf setupOf sentTo heardBy judgedOf
+unfolding missedOf keeping notedOf begunOf followedOf placedOf steppedOf goodSizes good freshOf setupOf sentTo headingBy judgedOf
     takenBy takenOf putBy roomsBy roomsAfter messageOf
 whole-twice d = let e : _≡_ {A = ℕ} 2 1 = ap length (kept (stepping (testing never)) wholeTwice small-wholeTwice d) in absurd (omega (arith, e))
 
@@ -137,7 +137,7 @@ small-middleTwice : Small middleTwice
 small-middleTwice = record { counter = refl; messages = refl; losses = refl; bytes = refl; own = refl }
 
 pub middle-twice : Demand3For (stepping repeatedPlaced) → ⊥
-unfolding missedOf keeping notedOf begunOf followedOf placedOf steppedOf goodSizes good freshOf setupOf sentTo heardBy judgedOf
+unfolding missedOf keeping notedOf begunOf followedOf placedOf steppedOf goodSizes good freshOf setupOf sentTo headingBy judgedOf
     takenBy takenOf putBy roomsBy roomsAfter messageOf
 middle-twice d = let e : _≡_ {A = ℕ} 4 3 = ap total (kept (stepping repeatedPlaced) middleTwice small-middleTwice d) in absurd (omega (arith, e))
 
@@ -197,7 +197,7 @@ module _ (n : ℕ) (round : (3 + n) % counters ≡ 0) (few : n ≤ mostLost) whe
       }
 
   strays : Demand3For (stepping strayForgotten) → ⊥
-  unfolding missedOf keeping notedOf begunOf followedOf placedOf steppedOf goodSizes good freshOf setupOf sentTo heardBy judgedOf
+  unfolding missedOf keeping notedOf begunOf followedOf placedOf steppedOf goodSizes good freshOf setupOf sentTo headingBy judgedOf
       takenBy takenOf putBy roomsBy roomsAfter messageOf
   strays d =
       let J = stepping strayForgotten in
@@ -211,12 +211,12 @@ pub stray-forgotten : Demand3For (stepping strayForgotten) → ⊥
 stray-forgotten = strays (counters - 3) (omega arith) (omega arith)
 
 pub shared-room : Demand3For (stepping sharedRoom) → ⊥
-unfolding missedOf keeping notedOf begunOf followedOf placedOf steppedOf goodSizes good freshOf setupOf sentTo heardBy judgedOf
+unfolding missedOf keeping notedOf begunOf followedOf placedOf steppedOf goodSizes good freshOf setupOf sentTo headingBy judgedOf
     takenBy takenOf putBy roomsBy roomsAfter messageOf
 shared-room d = let e : _≡_ {A = ℕ} 0xCC 0xAA = ap firstByte (d both-ids 24 (room 48) senders mix granted-mix 0 (omega arith)) in absurd (omega (arith, e))
 
 pub first-channel-only : Demand3For (stepping firstChannelOnly) → ⊥
-unfolding missedOf keeping notedOf begunOf followedOf placedOf steppedOf goodSizes good freshOf setupOf sentTo heardBy judgedOf
+unfolding missedOf keeping notedOf begunOf followedOf placedOf steppedOf goodSizes good freshOf setupOf sentTo headingBy judgedOf
     takenBy takenOf putBy roomsBy roomsAfter messageOf
 first-channel-only d = let e : _≡_ {A = ℕ} 0 1 = ap length (d both-ids 24 (room 48) senders mix granted-mix 1 (omega arith)) in absurd (omega (arith, e))
 

@@ -22,8 +22,9 @@ use Rattle.message.specs.declared.Message.the-variants as message
 use Rattle.platform.specs.declared.reactions.Standing.{Standing}
 use Rattle.platform.specs.declared.reactions.Heard.{Heard}
 use Rattle.platform.specs.declared.reactions.Heard.the-variants as heard
-use Rattle.platform.specs.declared.Answer.{Answer}
-use Rattle.platform.specs.declared.Answer.the-variants.{Refused, Noted}
+use Rattle.platform.specs.Heard.{kindIn, entryIn, startIn}
+use Rattle.platform.specs.declared.Noting.{Noting}
+use Rattle.platform.specs.declared.Noting.the-variants.{Refused, Noted}
 use Rattle.platform.specs.Receiving.{freshStanding, receivedOf}
 use Rattle.promises.specs.Numbers.{operation}
 use Rattle.promises.specs.Platforms.{owedFor, replyLength, Receives, Receiving, NotesBy, RepliesBy}
@@ -100,41 +101,11 @@ module _ (X : Receiving) (r : RepliesBy X) where
       go (not-in-table n e) = absurd (n 1 has)
 
 -- what can be seen in a report
-abbrev heardIn : Answer → Heard
+abbrev heardIn : Noting → Heard
 heardIn (Refused n) = heard.Request
 heardIn (Noted h x n) = x
 
-abbrev isRequest : Heard → ℕ
-isRequest (heard.Status x) = 0
-isRequest heard.Request = 1
-isRequest (heard.UnknownOperation id) = 0
-isRequest heard.PullOfAll = 0
-isRequest (heard.PullOfOne id i) = 0
-isRequest (heard.NotVersionedData id) = 0
-isRequest (heard.Operation i start len) = 0
-isRequest (heard.NotInTable id) = 0
-
-abbrev startIn : Heard → ℕ
-startIn (heard.Status x) = 0
-startIn heard.Request = 0
-startIn (heard.UnknownOperation id) = 0
-startIn heard.PullOfAll = 0
-startIn (heard.PullOfOne id i) = 0
-startIn (heard.NotVersionedData id) = 0
-startIn (heard.Operation i start len) = start
-startIn (heard.NotInTable id) = 0
-
-abbrev entryIn : Heard → ℕ
-entryIn (heard.Status x) = 0
-entryIn heard.Request = 0
-entryIn (heard.UnknownOperation id) = 0
-entryIn heard.PullOfAll = 0
-entryIn (heard.PullOfOne id i) = 0
-entryIn (heard.NotVersionedData id) = 0
-entryIn (heard.Operation i start len) = i
-entryIn (heard.NotInTable id) = 0
-
-requests : (a : Answer) → isRequest (heardIn (reported alwaysRequest a)) ≡ 1
+requests : (a : Noting) → kindIn (heardIn (reported alwaysRequest a)) ≡ 2
 requests (Refused n) = refl
 requests (Noted h x n) = refl
 
@@ -148,40 +119,40 @@ from-start (heard.NotVersionedData id) = refl
 from-start (heard.Operation i start len) = refl
 from-start (heard.NotInTable id) = refl
 
-first : (x : Heard) → entryIn (alwaysFirst x) ≡ 0
-first (heard.Status x) = refl
-first heard.Request = refl
-first (heard.UnknownOperation id) = refl
-first heard.PullOfAll = refl
-first (heard.PullOfOne id i) = refl
-first (heard.NotVersionedData id) = refl
-first (heard.Operation i start len) = refl
-first (heard.NotInTable id) = refl
+first : (x : Heard) → kindIn (alwaysFirst x) ≡ 7 → entryIn (alwaysFirst x) ≡ 0
+first (heard.Status x) k = refl
+first heard.Request k = refl
+first (heard.UnknownOperation id) k = refl
+first heard.PullOfAll k = refl
+first (heard.PullOfOne id i) k = absurd (omega arith)
+first (heard.NotVersionedData id) k = refl
+first (heard.Operation i start len) k = refl
+first (heard.NotInTable id) k = refl
 
-starts : (a : Answer) → startIn (heardIn (reported payloadFromStart a)) ≡ 0
+starts : (a : Noting) → startIn (heardIn (reported payloadFromStart a)) ≡ 0
 starts (Refused n) = refl
 starts (Noted h x n) = from-start x
 
-entries : (a : Answer) → entryIn (heardIn (reported alwaysFirst a)) ≡ 0
-entries (Refused n) = refl
-entries (Noted h x n) = first x
+entries : (a : Noting) → kindIn (heardIn (reported alwaysFirst a)) ≡ 7 → entryIn (heardIn (reported alwaysFirst a)) ≡ 0
+entries (Refused n) k = refl
+entries (Noted h x n) k = first x k
 
-abbrev given : Answer
+abbrev given : Noting
 given = receivedOf 1 t p operation 0 .answer
 
 always-request : RepliesBy (answering (reported alwaysRequest)) → ⊥
 always-request r =
     let X : Receiving = answering (reported alwaysRequest) in
     let x : Heard = notes X r .heard in
-    let a : isRequest x ≡ 1 = sym (ap (λ (y : Answer). isRequest (heardIn y)) (notes X r .answer)) ∙ requests given in
-    let b : isRequest x ≡ 0 = ap isRequest (which X r .2) in
+    let a : kindIn x ≡ 2 = sym (ap (λ (y : Noting). kindIn (heardIn y)) (notes X r .answer)) ∙ requests given in
+    let b : kindIn x ≡ 7 = ap kindIn (which X r .2) in
     omega arith
 
 payload-from-start : RepliesBy (answering (reported payloadFromStart)) → ⊥
 payload-from-start r =
     let X : Receiving = answering (reported payloadFromStart) in
     let x : Heard = notes X r .heard in
-    let a : startIn x ≡ 0 = sym (ap (λ (y : Answer). startIn (heardIn y)) (notes X r .answer)) ∙ starts given in
+    let a : startIn x ≡ 0 = sym (ap (λ (y : Noting). startIn (heardIn y)) (notes X r .answer)) ∙ starts given in
     let b : startIn x ≡ 20 = ap startIn (which X r .2) in
     omega arith
 
@@ -189,11 +160,13 @@ always-first : RepliesBy (answering (reported alwaysFirst)) → ⊥
 always-first r =
     let X : Receiving = answering (reported alwaysFirst) in
     let x : Heard = notes X r .heard in
-    let a : entryIn x ≡ 0 = sym (ap (λ (y : Answer). entryIn (heardIn y)) (notes X r .answer)) ∙ entries given in
+    let y : Noting = reported alwaysFirst given in
+    let e : heardIn y ≡ x = ap heardIn (notes X r .answer) in
+    let a : entryIn x ≡ 0 = sym (ap entryIn e) ∙ entries given (ap kindIn (e ∙ which X r .2)) in
     let b : entryIn x ≡ which X r .0 = ap entryIn (which X r .2) in
     has-not (subst (HasID t s id) (sym b ∙ a) (which X r .1))
 
-noted : Answer → ℕ
+noted : Noting → ℕ
 noted (Refused n) = 0
 noted (Noted h x n) = 1
 

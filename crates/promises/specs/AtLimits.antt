@@ -15,15 +15,16 @@ use Rattle.message.specs.declared.Message.{Message}
 use Rattle.message.specs.declared.Reading.the-variants.{Read}
 use Rattle.message.specs.Reading.{readOf}
 use Rattle.binding.specs.declared.MessagePart.{MessagePart}
-use Rattle.binding.specs.declared.Heard.the-variants.{Piece}
-use Rattle.binding.specs.Header.{headerOf, headerBytes, heardIn}
+use Rattle.binding.specs.declared.Heading.the-variants.{Piece}
+use Rattle.binding.specs.Header.{headerOf, headerBytes, headingIn}
 use Rattle.joiner.specs.declared.setups.Verdict.the-variants.{Accepted}
 use Rattle.joiner.specs.Setup.{setupOf}
 use Rattle.states.specs.declared.States.{States}
 use Rattle.states.specs.States.{isUp, howManyUp, countBelow, Words}
 use Rattle.platform.specs.declared.reactions.Standing.{Standing}
-use Rattle.platform.specs.Receiving.{freshStanding, receivedOf, numberGiven}
-use Rattle.promises.specs.Checks.{Answers}
+use Rattle.platform.specs.Receiving.{freshStanding, receivedOf}
+use Rattle.platform.specs.Noting.{numberGiven}
+use Rattle.promises.specs.Checks.{Gives}
 use Rattle.promises.specs.Demand1.{receiveChecks, ReceiveInOrder}
 use Rattle.promises.specs.Headers.{Addressed, HeaderThenRead}
 use Rattle.promises.specs.CutAndJoined.{Cut}
@@ -37,16 +38,16 @@ pub record AtLimits : Type 1 where
   pub receives : (t : List ℕ) (s : Sections) (p : Standing) (m : List ℕ) (h : Header) (kind : Message) (start len : ℕ) →
       p .next ≡ 0xFFFFFFFF → Octets m → checked t ≡ Table s → readOf 255 m ≡ Read h kind start len → Receives 255 t s p m h kind
   pub receive-in-order : ReceiveInOrder → (t : List ℕ) (p : Standing) (m : List ℕ) (room : ℕ) → p .next ≡ 0xFFFFFFFF → Octets m →
-      Answers (λ n. n) 0 (receiveChecks 255 t p m room) (numberGiven (receivedOf 255 t p m room .answer))
+      Gives (receiveChecks 255 t p m room) (numberGiven (receivedOf 255 t p m room .answer))
   -- its state and the others', those above 255 too
   pub another-is-down : StatesAre → isUp 254 (freshStanding 254 .states) 255 ≡ false
   pub above-is-down : StatesAre → (s : States) → isUp 255 s 256 ≡ false
   pub counted : StatesAre → (s : States) → Words s → howManyUp 255 s ≡ countBelow (isUp 255 s) 256
   -- sender 4,095, counter 65,535 and a piece of 1 and of 65,503 bytes
   pub header : HeaderThenRead → (part : MessagePart) (piece : List ℕ) → length piece ≡ 65503 →
-      heardIn (headerBytes (headerOf part 4095 65535) ++ piece) ≡ Piece (headerOf part 4095 65535)
+      headingIn (headerBytes (headerOf part 4095 65535) ++ piece) ≡ Piece (headerOf part 4095 65535)
   pub shortest-piece : HeaderThenRead → (part : MessagePart) (piece : List ℕ) → length piece ≡ 1 →
-      heardIn (headerBytes (headerOf part 0 0) ++ piece) ≡ Piece (headerOf part 0 0)
+      headingIn (headerBytes (headerOf part 0 0) ++ piece) ≡ Piece (headerOf part 0 0)
   -- a message of 65,560 bytes cut at 65,503; and one of a byte, cut at 1
   pub cut : (ids rooms : List ℕ) (k : ℕ) (msg : List ℕ) → setupOf ids 65560 (length rooms) .answer ≡ Accepted → k < length ids →
       length msg ≡ 65560 → Octets msg → Cut ids 65560 rooms k msg 65503 65535

@@ -6,10 +6,10 @@ use mathlib.Core.Path.{_≡_}
 use mathlib.Core.List.{List, [], _∷_, _++_}
 use lib.ListN.{length, replicate, take, drop}
 use Rattle.binding.specs.declared.MessagePart.{MessagePart}
-use Rattle.binding.specs.declared.Heard.the-variants.{Piece}
+use Rattle.binding.specs.declared.Heading.the-variants.{Piece}
 use Rattle.binding.specs.declared.cutter.Counted.the-variants.{Pieces}
 use Rattle.binding.specs.declared.cutter.Made.the-variants as made
-use Rattle.binding.specs.Header.{headerOf, headerBytes, heardIn, pieceIn}
+use Rattle.binding.specs.Header.{headerOf, headerBytes, headingIn, pieceIn}
 use Rattle.binding.specs.Cutting.{countedOf, madeOf, cutInto}
 use Rattle.channel.specs.declared.Outcome.{Outcome}
 use Rattle.payload.specs.declared.Answer.{Answer}
@@ -81,7 +81,7 @@ pub data Case : Type 0 where
 -- sender and counter; and behind it stand the message's bytes from i times s on
 pub record CutAs (msg : List ℕ) (s sender first i : ℕ) (c : Cut) (out : List ℕ) : Type 0 where
   pub made : madeOf msg s sender first i (length out) ≡ made.Datagram (4 + c .bytes)
-  pub header : heardIn (take (4 + c .bytes) (cutInto msg s sender first i out))
+  pub header : headingIn (take (4 + c .bytes) (cutInto msg s sender first i out))
       ≡ Piece (record { part = c .mark; sender = sender; counter = c .counter })
   pub piece : pieceIn (take (4 + c .bytes) (cutInto msg s sender first i out)) ≡ take s (drop (i * s) msg)
 

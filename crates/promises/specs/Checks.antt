@@ -21,6 +21,10 @@ pub data Answers {A : Type 0} (refused : ℕ → A) (good : A) : List Check → 
   this : {c : Check} {cs : List Check} → c .applies → Answers refused good (c ∷ cs) (refused (c .number))
   next : {c : Check} {cs : List Check} {x : A} → ¬ (c .applies) → Answers refused good cs x → Answers refused good (c ∷ cs) x
 
+-- a call that gives this number back: that of the first check that applies, and 0 where none does
+abbrev pub Gives : List Check → ℕ → Type 1
+Gives checks number = Answers (λ n. n) 0 checks number
+
 -- a call that gives this number back (0: it does not refuse), and what it was lent or handed, before and after
 abbrev pub Keeps : {A : Type 0} → ℕ → A → A → Type 0
 Keeps number before after = ¬ (number ≡ 0) → after ≡ before

@@ -11,24 +11,26 @@ use Rattle.message.specs.declared.Message.{Message}
 use Rattle.message.specs.Header.{domainIn, idIn, payloadSizeIn, payloadIn, headerIn}
 use Rattle.message.specs.Platform.{messageOf}
 use Rattle.message.specs.Writing.{writeOf, outputAfter, numberGiven as writeNumber}
-use Rattle.binding.specs.Cutting.{madeOf, cutInto, cutRefusal}
-use Rattle.channel.specs.Outcomes.{refusalIn}
+use Rattle.binding.specs.Cutting.{madeOf, cutInto}
+use Rattle.binding.specs.Made.{numberGiven as cutNumber}
+use Rattle.channel.specs.Outcomes.{numberGiven as takeNumber}
 use Rattle.joiner.specs.declared.Joiner.{Joiner}
 use Rattle.joiner.specs.Take.{takenOf, roomsAfter}
-use Rattle.payload.specs.Calls.{unpackedIn, wordsIn, packedIn, bytesIn, unpacked, wordsAfter, packed, bytesAfter}
+use Rattle.payload.specs.Calls.{numberGiven, unpackedIn, wordsIn, packedIn, bytesIn, unpacked, wordsAfter, packed, bytesAfter}
 use Rattle.platform.specs.declared.reactions.Standing.{Standing}
-use Rattle.platform.specs.declared.Outcome.{Outcome}
+use Rattle.platform.specs.declared.Received.{Received}
 use Rattle.platform.specs.Replies.{owedLength}
 use Rattle.platform.specs.Reaction.{operationFor, reactionTo}
-use Rattle.platform.specs.Receiving.{receivedOf, leftOf, sectionsOutcome, sectionsOutput, numberGiven as receiveNumber}
-use Rattle.promises.specs.Checks.{Check, _when_, Answers, Keeps}
-use Rattle.promises.specs.Order.{readChecks, InOrder}
-use Rattle.promises.specs.TableOrder.{sectionsIn, tableChecks, TableInOrder}
-use Rattle.promises.specs.PayloadOrder.{numberOf, LieIn, PayloadInOrder}
+use Rattle.platform.specs.Receiving.{receivedOf, leftOf, sectionsOutcome, sectionsOutput}
+use Rattle.platform.specs.Noting.{numberGiven as receiveNumber}
+use Rattle.promises.specs.Checks.{Check, _when_, Answers, Gives, Keeps}
+use Rattle.promises.specs.Order.{readChecks, InOrder, NumbersInOrder}
+use Rattle.promises.specs.TableOrder.{sectionsIn, tableChecks, TableInOrder, TableNumberInOrder}
+use Rattle.promises.specs.PayloadOrder.{LieIn, PayloadInOrder}
 use Rattle.promises.specs.Platforms.{owedFor, replyLength}
 
 -- "changes no channel, room, platform state, sequence number or output byte", call by call: first what a call for one message keeps
-pub record Kept (p : Standing) (out : List ℕ) (r : Outcome) (left : List ℕ) : Type 0 where
+pub record Kept (p : Standing) (out : List ℕ) (r : Received) (left : List ℕ) : Type 0 where
   pub states : Keeps (receiveNumber (r .answer)) (p .states) (r .standing .states)
   pub next : Keeps (receiveNumber (r .answer)) (p .next) (r .standing .next)
   pub output : Keeps (receiveNumber (r .answer)) out left
@@ -37,50 +39,52 @@ pub record ChangesNothing : Type 0 where
   pub write-output : (own domain id seq : ℕ) (payload out : List ℕ) →
       Keeps (writeNumber (writeOf domain id payload (length out))) out (outputAfter own domain id seq payload out)
   pub cut-output : (msg : List ℕ) (s sender first i : ℕ) (out : List ℕ) →
-      Keeps (cutRefusal (madeOf msg s sender first i (length out))) out (cutInto msg s sender first i out)
-  pub take-joiner : (j : Joiner) (rooms d : List ℕ) → Keeps (refusalIn (takenOf j rooms d .outcome)) j (takenOf j rooms d .joiner)
-  pub take-rooms : (j : Joiner) (rooms d : List ℕ) → Keeps (refusalIn (takenOf j rooms d .outcome)) rooms (roomsAfter j rooms d)
+      Keeps (cutNumber (madeOf msg s sender first i (length out))) out (cutInto msg s sender first i out)
+  pub take-joiner : (j : Joiner) (rooms d : List ℕ) → Keeps (takeNumber (takenOf j rooms d .outcome)) j (takenOf j rooms d .joiner)
+  pub take-rooms : (j : Joiner) (rooms d : List ℕ) → Keeps (takeNumber (takenOf j rooms d .outcome)) rooms (roomsAfter j rooms d)
   pub unpack-words : (t : List ℕ) (i : ℕ) (b words : List ℕ) →
-      Keeps (numberOf (unpacked t i b (length words))) words (wordsAfter t i b words)
+      Keeps (numberGiven (unpacked t i b (length words))) words (wordsAfter t i b words)
   pub unpack-in-words : (t : List ℕ) (s : Sections) (i : ℕ) (b words : List ℕ) →
-      Keeps (numberOf (unpackedIn t s i b (length words))) words (wordsIn t s i b words)
-  pub pack-output : (t : List ℕ) (i : ℕ) (ws out : List ℕ) → Keeps (numberOf (packed t i ws (length out))) out (bytesAfter t i ws out)
+      Keeps (numberGiven (unpackedIn t s i b (length words))) words (wordsIn t s i b words)
+  pub pack-output : (t : List ℕ) (i : ℕ) (ws out : List ℕ) → Keeps (numberGiven (packed t i ws (length out))) out (bytesAfter t i ws out)
   pub pack-in-output : (t : List ℕ) (s : Sections) (i : ℕ) (ws out : List ℕ) →
-      Keeps (numberOf (packedIn t s i ws (length out))) out (bytesIn t s i ws out)
+      Keeps (numberGiven (packedIn t s i ws (length out))) out (bytesIn t s i ws out)
   pub receive : (own : ℕ) (t : List ℕ) (p : Standing) (m out : List ℕ) →
       Kept p out (receivedOf own t p m (length out)) (leftOf own t p m out)
   pub receive-checked : (own : ℕ) (t : List ℕ) (s : Sections) (p : Standing) (m out : List ℕ) →
       Kept p out (sectionsOutcome own t s p m (length out)) (sectionsOutput own t s p m out)
 
 -- one call for one message: 30 to 33 for the table, 1 to 9 for the message, and "where they don't all fit it is 10"
-abbrev pub kindIn : List ℕ → Message
-kindIn m = messageOf (domainIn m) (idIn m) (number 2 (payloadIn m) 0)
+abbrev pub itsMessage : List ℕ → Message
+itsMessage m = messageOf (domainIn m) (idIn m) (number 2 (payloadIn m) 0)
 
 abbrev pub receiveChecks : ℕ → List ℕ → Standing → List ℕ → ℕ → List Check
 receiveChecks own t p m room =
-    tableChecks t ++ (readChecks own m ++ (10 when (room < replyLength * length (owedFor own t (sectionsIn t) p (headerIn m) (kindIn m))) ∷ []))
+    tableChecks t ++ (readChecks own m ++ (10 when (room < replyLength * length (owedFor own t (sectionsIn t) p (headerIn m) (itsMessage m))) ∷ []))
 
 abbrev pub ReceiveInOrder : Type 1
 ReceiveInOrder =
     (own : ℕ) (t : List ℕ) (p : Standing) (m : List ℕ) (room : ℕ) → own < 256 → p .next < 2 ^ 32 → Octets m
-    → Answers (λ n. n) 0 (receiveChecks own t p m room) (receiveNumber (receivedOf own t p m room .answer))
+    → Gives (receiveChecks own t p m room) (receiveNumber (receivedOf own t p m room .answer))
 
 -- how many bytes of replies are owed, with the operation that is found for the message
 abbrev pub owedIn : ℕ → List ℕ → Sections → Standing → List ℕ → ℕ
 owedIn own t s p m =
-    owedLength (reactionTo own t s (operationFor t s (headerIn m) (kindIn m)) p (headerIn m) (kindIn m) 20 (payloadSizeIn m) .owed)
+    owedLength (reactionTo own t s (operationFor t s (headerIn m) (itsMessage m)) p (headerIn m) (itsMessage m) 20 (payloadSizeIn m) .owed)
 
 -- the same on any sections: 30 where these do not lie in the bytes
 abbrev pub ReceiveCheckedInOrder : Type 1
 ReceiveCheckedInOrder =
     (own : ℕ) (t : List ℕ) (s : Sections) (p : Standing) (m : List ℕ) (room : ℕ)
-    → Answers (λ n. n) 0 (30 when (¬ (LieIn t s)) ∷ (readChecks own m ++ (10 when (room < owedIn own t s p m) ∷ [])))
+    → Gives (30 when (¬ (LieIn t s)) ∷ (readChecks own m ++ (10 when (room < owedIn own t s p m) ∷ [])))
     (receiveNumber (sectionsOutcome own t s p m room .answer))
 
 pub record Demand1 : Type 1 where
   -- "a fixed order of checks": what each call answers is the first of its checks that applies
   pub in-order : InOrder
   pub table-in-order : TableInOrder
+  pub numbers-in-order : NumbersInOrder
+  pub table-number-in-order : TableNumberInOrder
   pub payload-in-order : PayloadInOrder
   pub receive-in-order : ReceiveInOrder
   pub receive-checked-in-order : ReceiveCheckedInOrder

@@ -12,10 +12,10 @@ use Rattle.message.specs.declared.Reading.the-variants as reading
 use Rattle.message.specs.declared.Writing.the-variants as writing
 use Rattle.message.specs.Reading.{readOf}
 use Rattle.message.specs.Writing.{writeOf}
-use Rattle.binding.specs.declared.Heard.the-variants as heard
+use Rattle.binding.specs.declared.Heading.the-variants as heading
 use Rattle.binding.specs.declared.cutter.Counted.the-variants as counted
 use Rattle.binding.specs.declared.cutter.Made.the-variants as made
-use Rattle.binding.specs.Header.{heardIn}
+use Rattle.binding.specs.Header.{headingIn}
 use Rattle.binding.specs.Cutting.{countedOf, madeOf}
 use Rattle.channel.specs.declared.Outcome.the-variants as outcome
 use Rattle.joiner.specs.declared.Joiner.{Joiner}
@@ -25,10 +25,10 @@ use Rattle.joiner.specs.Take.{changed, takenOf}
 use Rattle.table.specs.declared.Sections.{Sections}
 use Rattle.table.specs.declared.Checked.the-variants as check
 use Rattle.types.specs.Table.{checked}
-use Rattle.platform.specs.Receiving.{freshStanding, receivedOf, sectionsOutcome, numberGiven}
-use Rattle.payload.specs.Calls.{unpackedIn, packedIn, unpacked, packed}
+use Rattle.platform.specs.Receiving.{freshStanding, receivedOf, sectionsOutcome}
+use Rattle.platform.specs.Noting.{numberGiven}
+use Rattle.payload.specs.Calls.{numberGiven as payloadNumber, unpackedIn, packedIn, unpacked, packed}
 use Rattle.promises.specs.TableOrder.{sectionsIn}
-use Rattle.promises.specs.PayloadOrder.{numberOf}
 use Rattle.promises.specs.Numbers.{wholeTable, status}
 use Rattle.promises.specs.Cases.{table, uint16, uint8, float32, upToThree}
 
@@ -95,8 +95,8 @@ pub record EachNumber : Type 0 where
   pub write-9 : writeOf 0 1 (bytes 2 2) 24 ≡ writing.Refused 9
   pub write-10 : writeOf 0 2 [] 19 ≡ writing.Refused 10
   -- a datagram's header; and one that is too long
-  pub header : Each heard.Refused heardIn (21 for replicate 4 0 ∷ 22 for (0x40 ∷ 5 ∷ 0 ∷ 0 ∷ 1 ∷ []) ∷ [])
-  pub header-long : (d : List ℕ) → length d ≡ 65508 → heardIn d ≡ heard.Refused 21
+  pub header : Each heading.Refused headingIn (21 for replicate 4 0 ∷ 22 for (0x40 ∷ 5 ∷ 0 ∷ 0 ∷ 1 ∷ []) ∷ [])
+  pub header-long : (d : List ℕ) → length d ≡ 65508 → headingIn d ≡ heading.Refused 21
   -- a set-up: each line of what 20 asks
   pub setup : Each verdict.Refused (λ (x : List ℕ × ℕ × ℕ). setupOf (x .0) (x .1) (x .2) .answer)
       (20 for ([], 24, 0)
@@ -150,7 +150,7 @@ pub record EachNumber : Type 0 where
       (0 ∷ 2 ∷ 0 ∷ 0 ∷ 0 ∷ 12 ∷ 0 ∷ 0 ∷ 0 ∷ 0 ∷ 0 ∷ 3 ∷ 0 ∷ 0 ∷ 0 ∷ 0 ∷ 0xFF ∷ 0xFF ∷ noEntry ++ (noEntry ++ noEntry))
       ∷ [])
   -- a payload of the table of specs/Cases: type, payload and room
-  pub unpack : Each (λ n. n) (λ (x : ℕ × List ℕ × ℕ). numberOf (unpacked table (x .0) (x .1) (x .2)))
+  pub unpack : Each (λ n. n) (λ (x : ℕ × List ℕ × ℕ). payloadNumber (unpacked table (x .0) (x .1) (x .2)))
       (44 for (7, [], 9)
       ∷ 40 for (uint16, 1 ∷ [], 9)
       ∷ 42 for (float32, 0x7F ∷ 0x80 ∷ 0 ∷ 0 ∷ [], 9)
@@ -158,7 +158,7 @@ pub record EachNumber : Type 0 where
       ∷ 41 for (uint8, 1 ∷ 2 ∷ [], 9)
       ∷ 45 for (uint16, 1 ∷ 2 ∷ [], 0)
       ∷ [])
-  pub pack : Each (λ n. n) (λ (x : ℕ × List ℕ × ℕ). numberOf (packed table (x .0) (x .1) (x .2)))
+  pub pack : Each (λ n. n) (λ (x : ℕ × List ℕ × ℕ). payloadNumber (packed table (x .0) (x .1) (x .2)))
       (44 for (7, [], 9)
       ∷ 40 for (uint16, [], 9)
       ∷ 42 for (uint8, 256 ∷ [], 9)
@@ -167,9 +167,9 @@ pub record EachNumber : Type 0 where
       ∷ 45 for (uint16, 258 ∷ [], 1)
       ∷ [])
   -- on sections: which do not lie in the bytes; and an entry that breaks a rule, where it is met
-  pub on-sections : Each (λ n. n) (λ (x : List ℕ × Sections). numberOf (unpackedIn (x .0) (x .1) 0 (1 ∷ 2 ∷ []) 9))
+  pub on-sections : Each (λ n. n) (λ (x : List ℕ × Sections). payloadNumber (unpackedIn (x .0) (x .1) 0 (1 ∷ 2 ∷ []) 9))
       (30 for ([], sectionsIn types) ∷ 32 for (brokenTable, sectionsIn brokenTable) ∷ [])
-  pub packing-on-sections : Each (λ n. n) (λ (x : List ℕ × Sections). numberOf (packedIn (x .0) (x .1) 0 (258 ∷ []) 9))
+  pub packing-on-sections : Each (λ n. n) (λ (x : List ℕ × Sections). payloadNumber (packedIn (x .0) (x .1) 0 (258 ∷ []) 9))
       (30 for ([], sectionsIn types) ∷ 32 for (brokenTable, sectionsIn brokenTable) ∷ [])
   -- one call for one message: two replies of 24 bytes are owed to an UP
   pub receive-10 : numberGiven (receivedOf 1 wholeTable (freshStanding 1) status 47 .answer) ≡ 10

@@ -16,8 +16,8 @@ use Rattle.message.specs.Platform.{statusValue, messageOf}
 use Rattle.message.specs.Reading.{readOf, payloadOf}
 use Rattle.message.specs.Writing.{headerFor, writeOf, outputAfter}
 use Rattle.binding.specs.declared.BindingHeader.{BindingHeader}
-use Rattle.binding.specs.declared.Heard.the-variants.{Piece}
-use Rattle.binding.specs.Header.{heardIn, pieceIn, headerBytes}
+use Rattle.binding.specs.declared.Heading.the-variants.{Piece}
+use Rattle.binding.specs.Header.{headingIn, pieceIn, headerBytes}
 
 -- at this platform the bytes read as a message with this header, of this kind and with this payload
 pub record ReadsAs (reader : ℕ) (s : List ℕ) (header : Header) (kind : Message) (its-payload : List ℕ) : Type 0 where
@@ -65,7 +65,7 @@ pub record EachMessage : Type 0 where
 abbrev pub HeaderThenRead : Type 0
 HeaderThenRead =
     (h : BindingHeader) (piece : List ℕ) → h .sender < 4096 → h .counter < 65536 → 1 ≤ length piece → length piece ≤ 65503
-    → (heardIn (headerBytes h ++ piece) ≡ Piece h) × (pieceIn (headerBytes h ++ piece) ≡ piece)
+    → (headingIn (headerBytes h ++ piece) ≡ Piece h) × (pieceIn (headerBytes h ++ piece) ≡ piece)
 
 abbrev pub HeaderReadThenWritten : Type 0
-HeaderReadThenWritten = (d : List ℕ) (h : BindingHeader) → Octets d → heardIn d ≡ Piece h → headerBytes h ++ pieceIn d ≡ d
+HeaderReadThenWritten = (d : List ℕ) (h : BindingHeader) → Octets d → headingIn d ≡ Piece h → headerBytes h ++ pieceIn d ≡ d

@@ -39,3 +39,4 @@ pub mod Rules32
 pub mod WrongChecks
 pub mod Sizes33
 pub mod LinkedCut
+pub mod Missed

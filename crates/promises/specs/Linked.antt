@@ -8,8 +8,8 @@ use lib.Dec.{eqb}
 use lib.ListN.{length, getD}
 use denote.Ref.{now}
 use Rattle.wire.specs.Bytes.{part}
-use Rattle.channel.specs.declared.Place.{Place}
-use Rattle.channel.specs.declared.Place.the-variants as place
+use Rattle.channel.specs.declared.Slice.{Slice}
+use Rattle.channel.specs.declared.Slice.the-variants as slice
 use Rattle.channel.specs.declared.Outcome.{Outcome}
 use Rattle.channel.specs.declared.Outcome.the-variants.{Refused, Repeated, Delivered, Held, Stray, TooLong}
 use Rattle.joiner.specs.Calls.{setupWords, takeNumber, takeWords, takeRooms, takeAnswer}
@@ -111,8 +111,8 @@ abbrev pub Delivers : Type 0
 Delivers = DeliversFor nyr
 
 -- the outcome, by the number and the answer's words
-abbrev pub placeFrom : List ℕ → Place
-placeFrom w = cond (eqb (getD w 3 0) 1) (place.Datagram (getD w 4 0) (getD w 2 0)) (place.Rooms (getD w 4 0) (getD w 2 0))
+abbrev pub sliceFrom : List ℕ → Slice
+sliceFrom w = cond (eqb (getD w 3 0) 1) (slice.Datagram (getD w 4 0) (getD w 2 0)) (slice.Rooms (getD w 4 0) (getD w 2 0))
 
 abbrev pub outcomeFrom : ℕ → List ℕ → Outcome
 outcomeFrom n w =
@@ -120,7 +120,7 @@ outcomeFrom n w =
     let missed = getD w 1 0 in
     cond (eqb n 0)
     (cond (eqb which 1) Repeated
-    (cond (eqb which 2) (Delivered missed (placeFrom w))
+    (cond (eqb which 2) (Delivered missed (sliceFrom w))
     (cond (eqb which 3) (Held missed (getD w 2 0)) (cond (eqb which 4) (Stray missed) (TooLong missed)))))
     (Refused n)
 

@@ -13,9 +13,8 @@ use Rattle.table.specs.Words.{wordsOf}
 use Rattle.types.specs.Table.{checked}
 use Rattle.payload.specs.declared.Answer.{Answer}
 use Rattle.payload.specs.declared.Answer.the-variants.{Refused, Gave}
-use Rattle.payload.specs.Calls.{unpacked, wordsAfter, packed, bytesAfter}
+use Rattle.payload.specs.Calls.{numberGiven, countIn, unpacked, wordsAfter, packed, bytesAfter}
 use Rattle.values.specs.Values.{Value, Spoken, BooleansAsOne}
-use Rattle.nyrkovash.specs.PayloadCalls.{refusalIn, givenLeft}
 use Rattle.nyrkovash.proofs.nyr_check_table.Reads.{Post as nyr-check-table}
 use Rattle.nyrkovash.proofs.nyr_unpack.Reads.{Post as nyr-unpack}
 use Rattle.nyrkovash.proofs.nyr_unpack_in.Reads.{Post as nyr-unpack-in}
@@ -30,7 +29,7 @@ givenBack zero given = Gave given
 givenBack (suc n) given = Refused (suc n)
 
 abbrev pub toldOf : Answer → Answer
-toldOf a = givenBack (refusalIn a) (givenLeft 0 a)
+toldOf a = givenBack (numberGiven a) (countIn a)
 
 -- the codec that a program in C sees
 abbrev pub linkedCoding : Coding

@@ -11,23 +11,27 @@ use Rattle.wire.specs.Bytes.{number}
 use Rattle.message.specs.declared.Reading.the-variants as reading
 use Rattle.message.specs.declared.Writing.the-variants as writing
 use Rattle.message.specs.Header.{markIn, versionIn, domainIn, senderIn, idIn, payloadSizeIn, payloadIn}
-use Rattle.message.specs.Reading.{readOut, readOf}
-use Rattle.message.specs.Writing.{writeOf}
-use Rattle.binding.specs.declared.Heard.the-variants as heard
+use Rattle.message.specs.Reading.{readOut, readOf, numberGiven as readNumber}
+use Rattle.message.specs.Writing.{writeOf, numberGiven as writeNumber}
+use Rattle.binding.specs.declared.Heading.the-variants as heading
 use Rattle.binding.specs.declared.cutter.Counted.the-variants as counted
 use Rattle.binding.specs.declared.cutter.Made.the-variants as made
-use Rattle.binding.specs.Header.{partIn, counterIn, pieceIn, headerIn, heardIn, senderIn as datagramSender, versionIn as datagramVersion}
+use Rattle.binding.specs.Header.{partIn, counterIn, pieceIn, headerIn, headingIn, senderIn as datagramSender, versionIn as datagramVersion}
+use Rattle.binding.specs.Header.{numberGiven as headerNumber}
+use Rattle.binding.specs.Counted.{numberGiven as piecesNumber}
+use Rattle.binding.specs.Made.{numberGiven as cutNumber}
 use Rattle.binding.specs.Cutting.{pieceCount, datagramOf, countedOf, madeOf}
 use Rattle.channel.specs.declared.Step.{Step}
 use Rattle.channel.specs.declared.Outcome.the-variants as outcome
 use Rattle.channel.specs.Channel.{roomOf, steppedOf}
+use Rattle.channel.specs.Outcomes.{numberGiven as takeNumber}
 use Rattle.joiner.specs.declared.Joiner.{Joiner}
 use Rattle.joiner.specs.declared.Taken.{Taken}
 use Rattle.joiner.specs.declared.setups.Verdict.the-variants as answer
 use Rattle.joiner.specs.declared.setups.NewJoiner.{NewJoiner}
-use Rattle.joiner.specs.Setup.{placeOf, sendersOf, channelAt, freshOf, setupOf}
+use Rattle.joiner.specs.Setup.{placeOf, sendersOf, channelAt, freshOf, setupOf, numberGiven as setupNumber}
 use Rattle.joiner.specs.Take.{changed, takenOf}
-use Rattle.promises.specs.Checks.{Check, _when_, Answers, Outside}
+use Rattle.promises.specs.Checks.{Check, _when_, Answers, Gives, Outside}
 
 -- 000, Table 4: a PLATFORM_STATUS_REQUEST (2) has no payload, the other three 32 bits
 abbrev pub lengthInTable4 : ℕ → ℕ
@@ -117,12 +121,22 @@ fresh ids R = record { answer = answer.Accepted; joiner = freshOf ids R }
 abbrev pub notSetUp : ℕ → NewJoiner
 notSetUp n = record { answer = answer.Refused n; joiner = freshOf [] 0 }
 
+-- each call gives back the number of the first of its checks that applies, and 0 where none does: by the definition of its answer
+pub record NumbersInOrder : Type 1 where
+  pub read : (own : ℕ) (s : List ℕ) → Gives (readChecks own s) (readNumber (readOf own s))
+  pub write : (domain id : ℕ) (payload : List ℕ) (room : ℕ) → Gives (writeChecks domain id payload room) (writeNumber (writeOf domain id payload room))
+  pub header : (d : List ℕ) → Gives (headerChecks d) (headerNumber (headingIn d))
+  pub setup : (ids : List ℕ) (R buffer : ℕ) → Gives (20 when (¬ (CanSetUp ids R buffer)) ∷ []) (setupNumber (setupOf ids R buffer .answer))
+  pub take : (j : Joiner) (rooms d : List ℕ) → length (j .channels) ≡ 32 → Gives (takeChecks j (length rooms) d) (takeNumber (takenOf j rooms d .outcome))
+  pub pieces : (m s : ℕ) → Gives (50 when (Outside 1 65560 m ⊎ Outside 1 65503 s) ∷ []) (piecesNumber (countedOf m s))
+  pub cut : (msg : List ℕ) (s sender first i room : ℕ) → Gives (cutChecks msg s sender first i room) (cutNumber (madeOf msg s sender first i room))
+
 -- each call answers by its checks
 pub record InOrder : Type 1 where
   pub read : (own : ℕ) (s : List ℕ) → Answers reading.Refused (readOut s) (readChecks own s) (readOf own s)
   pub write : (domain id : ℕ) (payload : List ℕ) (room : ℕ) →
       Answers writing.Refused (writing.Written (20 + length payload)) (writeChecks domain id payload room) (writeOf domain id payload room)
-  pub header : (d : List ℕ) → Answers heard.Refused (heard.Piece (headerIn d)) (headerChecks d) (heardIn d)
+  pub header : (d : List ℕ) → Answers heading.Refused (heading.Piece (headerIn d)) (headerChecks d) (headingIn d)
   pub setup : (ids : List ℕ) (R buffer : ℕ) →
       Answers notSetUp (fresh ids R) (20 when (¬ (CanSetUp ids R buffer)) ∷ []) (setupOf ids R buffer)
   pub take : (j : Joiner) (rooms d : List ℕ) → length (j .channels) ≡ 32 →

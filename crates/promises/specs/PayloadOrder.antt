@@ -12,22 +12,15 @@ use Rattle.table.specs.declared.Section.{Section}
 use Rattle.table.specs.declared.Sections.{Sections}
 use Rattle.table.specs.Leaf.{allowed}
 use Rattle.payload.specs.declared.Answer.{Answer}
-use Rattle.payload.specs.declared.Answer.the-variants.{Refused, Stopped, Gave}
 use Rattle.walk.specs.declared.Place.{Place}
 use Rattle.walk.specs.Tree.{Tree, leaf, row, array, broken, tree}
 use Rattle.walk.specs.Walk.{Codec}
 use Rattle.unpack.specs.Reading.{reader}
 use Rattle.pack.specs.Writing.{writer}
 use Rattle.walk.specs.Walk.{start}
-use Rattle.payload.specs.Calls.{unpackedIn, packedIn, unpacked, packed}
-use Rattle.promises.specs.Checks.{Check, _when_, Answers}
+use Rattle.payload.specs.Calls.{numberGiven, unpackedIn, packedIn, unpacked, packed}
+use Rattle.promises.specs.Checks.{Check, _when_, Gives}
 use Rattle.promises.specs.TableOrder.{sectionsIn, tableChecks}
-
--- the number that an answer gives back; 0: nothing is refused
-abbrev pub numberOf : Answer → ℕ
-numberOf (Refused n) = n
-numberOf (Stopped n) = n
-numberOf (Gave n) = 0
 
 -- the base code of an array's count on the wire: 32 bits
 abbrev pub uint32 : ℕ
@@ -72,7 +65,7 @@ walkChecks c n t s i room =
     ∷ []))
 
 abbrev pub GivesNumber : List Check → Answer → Type 1
-GivesNumber checks a = Answers (λ n. n) 0 checks (numberOf a)
+GivesNumber checks a = Gives checks (numberGiven a)
 
 -- sections that could be a table's of these bytes: each with no more entries than its limit, which lie in the bytes
 abbrev pub LiesIn : ℕ → ℕ → List ℕ → Section → Type 0

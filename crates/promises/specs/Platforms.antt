@@ -23,8 +23,8 @@ use Rattle.message.specs.Reading.{readOf}
 use Rattle.states.specs.declared.States.{States}
 use Rattle.platform.specs.declared.reactions.Standing.{Standing}
 use Rattle.platform.specs.declared.reactions.Heard.{Heard}
-use Rattle.platform.specs.declared.Answer.the-variants.{Refused, Noted}
-use Rattle.platform.specs.declared.Outcome.{Outcome}
+use Rattle.platform.specs.declared.Noting.the-variants.{Refused, Noted}
+use Rattle.platform.specs.declared.Received.{Received}
 use Rattle.states.specs.States.{isUp, howManyUp, countBelow, Words}
 use Rattle.platform.specs.Reaction.{noData, foundData}
 use Rattle.platform.specs.Receiving.{freshStanding, receivedOf, leftOf}
@@ -119,7 +119,7 @@ pub record Receives (own : ℕ) (t : List ℕ) (s : Sections) (p : Standing) (m 
 
 -- a platform, ours or any other: what its call answers and keeps, and what it leaves in the output
 pub record Receiving : Type 0 where
-  pub outcome : ℕ → List ℕ → Standing → List ℕ → ℕ → Outcome
+  pub outcome : ℕ → List ℕ → Standing → List ℕ → ℕ → Received
   pub left : ℕ → List ℕ → Standing → List ℕ → List ℕ → List ℕ
 
 abbrev pub ourReceiving : Receiving

@@ -11,7 +11,7 @@ use Rattle.message.specs.declared.Message.{Message}
 use Rattle.message.specs.declared.Message.the-variants as message
 use Rattle.platform.specs.declared.reactions.Heard.{Heard}
 use Rattle.platform.specs.declared.reactions.Heard.the-variants as heard
-use Rattle.platform.specs.Receiving.{payloadHeard}
+use Rattle.platform.specs.Heard.{payloadHeard}
 
 -- entry i of the table's operations has this ID; entry i is versioned data, kind 1
 abbrev pub HasID : List ℕ → Sections → ℕ → ℕ → Type 0

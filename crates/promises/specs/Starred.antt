@@ -5,7 +5,7 @@ use mathlib.Core.List.{List, [], _∷_, _++_}
 use lib.ListN.{replicate}
 use Rattle.binding.specs.declared.MessagePart.the-variants.{Begin, End, Whole}
 use Rattle.channel.specs.declared.Outcome.the-variants.{Delivered, Held, TooLong}
-use Rattle.channel.specs.declared.Place.the-variants.{Rooms}
+use Rattle.channel.specs.declared.Slice.the-variants.{Rooms}
 use Rattle.promises.specs.Cases.{uint16, int16, int8, uint8, boolean8, float32, upToThree, Case, unpacks, unpack-refused}
 use Rattle.promises.specs.Cases.{packs, pack-refused, cuts, joins, Holds}
 

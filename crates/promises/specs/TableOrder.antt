@@ -9,9 +9,10 @@ use Rattle.table.specs.declared.Sections.{Sections}
 use Rattle.table.specs.declared.Checked.{Checked}
 use Rattle.table.specs.declared.Checked.the-variants.{Refused, Table}
 use Rattle.table.specs.Layout.{sectionEnd, counted}
+use Rattle.table.specs.Checked.{numberGiven}
 use Rattle.types.specs.Sizes.{largest}
 use Rattle.types.specs.Table.{checked}
-use Rattle.promises.specs.Checks.{Check, _when_, Answers, Outside}
+use Rattle.promises.specs.Checks.{Check, _when_, Answers, Gives, Outside}
 use Rattle.promises.specs.Rules32.{TypeKeeps, OperationKeeps}
 
 -- the four sections, each behind the one before it: 8 bytes a type, 2 a member, 8 a value, 8 an operation
@@ -57,3 +58,7 @@ TableInOrderBy C = (t : List ℕ) → Answers Refused (Table (sectionsIn t)) (ta
 
 abbrev pub TableInOrder : Type 1
 TableInOrder = TableInOrderBy checked
+
+-- the number that it gives back
+abbrev pub TableNumberInOrder : Type 1
+TableNumberInOrder = (t : List ℕ) → Gives (tableChecks t) (numberGiven (checked t))

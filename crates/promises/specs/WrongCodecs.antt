@@ -15,11 +15,10 @@ use Rattle.types.specs.Table.{checked}
 use Rattle.walk.specs.Walk.{Codec, start, left, typeWalk}
 use Rattle.unpack.specs.Reading.{reader}
 use Rattle.pack.specs.Writing.{writer}
-use Rattle.payload.specs.Calls.{packed, bytesAfter, unpacked, wordsAfter}
+use Rattle.payload.specs.Calls.{numberGiven, packed, bytesAfter, unpacked, wordsAfter}
 use Rattle.promises.specs.Checks.{Keeps}
 use Rattle.promises.specs.TableOrder.{sectionsIn}
 use Rattle.promises.specs.Rules32.{kindOf, ofOf}
-use Rattle.promises.specs.PayloadOrder.{numberOf}
 use Rattle.promises.specs.Payloads.{Coding, ourCoding, PayloadsBy}
 
 -- whatever else it does, it packs nothing; or it unpacks nothing
@@ -92,8 +91,8 @@ roomNotSeen =
 
 -- demand 1 of packing and unpacking: a refusal changes no output byte or word
 pub record KeepsBy (C : Coding) : Type 0 where
-  pub unpack-words : (t : List ℕ) (i : ℕ) (b words : List ℕ) → Keeps (numberOf (C .unpacks t i b (length words))) words (C .words-left t i b words)
-  pub pack-output : (t : List ℕ) (i : ℕ) (ws out : List ℕ) → Keeps (numberOf (C .packs t i ws (length out))) out (C .bytes-left t i ws out)
+  pub unpack-words : (t : List ℕ) (i : ℕ) (b words : List ℕ) → Keeps (numberGiven (C .unpacks t i b (length words))) words (C .words-left t i b words)
+  pub pack-output : (t : List ℕ) (i : ℕ) (ws out : List ℕ) → Keeps (numberGiven (C .packs t i ws (length out))) out (C .bytes-left t i ws out)
 
 -- "words stored before a late 42 is found": what the walk has written by then stays
 abbrev pub storedBy : Checked → Codec → List ℕ → ℕ → List ℕ → List ℕ

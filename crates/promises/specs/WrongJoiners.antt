@@ -6,10 +6,10 @@ use mathlib.Core.Bool.{Bool, true, false, cond, _&&_}
 use mathlib.Core.List.{List}
 use lib.Dec.{leb, ltb, eqb}
 use lib.ListN.{length}
-use Rattle.binding.specs.Header.{heardIn, pieceIn}
+use Rattle.binding.specs.Header.{headingIn, pieceIn}
 use Rattle.binding.specs.declared.BindingHeader.{BindingHeader}
-use Rattle.binding.specs.declared.Heard.{Heard}
-use Rattle.binding.specs.declared.Heard.the-variants as heard
+use Rattle.binding.specs.declared.Heading.{Heading}
+use Rattle.binding.specs.declared.Heading.the-variants as heading
 use Rattle.binding.specs.declared.MessagePart.{MessagePart}
 use Rattle.binding.specs.declared.MessagePart.the-variants.{Begin, Middle, End, Whole}
 use Rattle.channel.specs.declared.Channel.{Channel}
@@ -18,7 +18,7 @@ use Rattle.channel.specs.declared.Step.{Step}
 use Rattle.channel.specs.declared.Put.the-variants.{Nowhere, At}
 use Rattle.channel.specs.declared.Outcome.{Outcome}
 use Rattle.channel.specs.declared.Outcome.the-variants.{Refused, Repeated, Delivered, Held, Stray, TooLong}
-use Rattle.channel.specs.declared.Place.{Place}
+use Rattle.channel.specs.declared.Slice.{Slice}
 use Rattle.channel.specs.declared.Judged.{Judged}
 use Rattle.channel.specs.declared.Judged.the-variants.{Refusal, Move}
 use Rattle.channel.specs.Channel.{roomOf, repeated, missedOf, notedOf, holding, tooLong, placedOf, steppedOf}
@@ -35,7 +35,7 @@ always o = record { State = Joiner; start = fresh; take = λ j rooms d. record {
 -- whatever it remembers, it never delivers
 abbrev pub NeverDelivers : Joining → Type 0
 NeverDelivers J =
-    (s : J .State) (rooms : List ℕ) (d : Datagram) (m : ℕ) (p : Place) → J .take s rooms d .outcome ≡ Delivered m p → ⊥
+    (s : J .State) (rooms : List ℕ) (d : Datagram) (m : ℕ) (p : Slice) → J .take s rooms d .outcome ≡ Delivered m p → ⊥
 
 -- or it delivers one message at most, of whatever traffic from a set-up
 abbrev pub DeliversOnce : Joining → Type 0
@@ -102,12 +102,12 @@ sentWith step j d h =
     let k = placeOf (sendersOf j) (h .sender) in
     cond (ltb k (j .count)) (Move k (step (roomOf (j .room) k) (channelAt j k) (h .part) (h .counter) (length (pieceIn d)))) (Refusal 23)
 
-abbrev pub heardWith : Stepping → Joiner → List ℕ → Heard → Judged
-heardWith step j d (heard.Refused n) = Refusal n
-heardWith step j d (heard.Piece h) = sentWith step j d h
+abbrev pub headingWith : Stepping → Joiner → List ℕ → Heading → Judged
+headingWith step j d (heading.Refused n) = Refusal n
+headingWith step j d (heading.Piece h) = sentWith step j d h
 
 abbrev pub judgedWith : Stepping → Joiner → ℕ → List ℕ → Judged
-judgedWith step j b d = cond (good j b) (heardWith step j d (heardIn d)) (Refusal 20)
+judgedWith step j b d = cond (good j b) (headingWith step j d (headingIn d)) (Refusal 20)
 
 abbrev pub tookBy : Joiner → List ℕ → Datagram → Judged → Took Joiner
 tookBy j rooms d x = record { outcome = takenBy j x .outcome; state = takenBy j x .joiner; rooms = roomsBy rooms d x }

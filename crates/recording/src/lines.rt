@@ -9,7 +9,7 @@ ghost use Rattle.recording.specs.Line.{lineLimit, lineOf, refusedLine, e
 ghost use Rattle.recording.specs.Words.{refusalWords, countWords, valueWords};
 use crate::text;
 use channel::Outcome;
-use channel::Place;
+use channel::Slice;
 
 // How a run ends: after the last datagram, in the middle of something, or at its start.
 pub enum Ending {
@@ -80,7 +80,7 @@ fn put_name(line: &mut [u8], at: usize, outcome: Outcome) -> usize
         Outcome::Repeated => text::put_text(line, at, b" repeated"),
         Outcome::Delivered {
             missed: _,
-            place: _,
+            slice: _,
         } => text::put_text(line, at, b" delivered"),
         Outcome::Held { missed: _, held: _ } => text::put_text(line, at, b" held"),
         Outcome::Stray { missed: _ } => text::put_text(line, at, b" stray"),
@@ -122,7 +122,7 @@ fn missed_in(outcome: Outcome) -> u32
     match outcome {
         Outcome::Refused(_) => 0,
         Outcome::Repeated => 0,
-        Outcome::Delivered { missed, place: _ } => missed,
+        Outcome::Delivered { missed, slice: _ } => missed,
         Outcome::Held { missed, held: _ } => missed,
         Outcome::Stray { missed } => missed,
         Outcome::TooLong { missed } => missed,
@@ -136,9 +136,9 @@ fn bytes_in(outcome: Outcome) -> usize
     match outcome {
         Outcome::Refused(_) => 0,
         Outcome::Repeated => 0,
-        Outcome::Delivered { missed: _, place } => match place {
-            Place::Datagram { start: _, length } => length,
-            Place::Rooms { start: _, length } => length,
+        Outcome::Delivered { missed: _, slice } => match slice {
+            Slice::Datagram { start: _, length } => length,
+            Slice::Rooms { start: _, length } => length,
         },
         Outcome::Held { missed: _, held } => held as usize,
         Outcome::Stray { missed: _ } => 0,

@@ -11,15 +11,16 @@ use Rattle.message.specs.declared.Writing.{Writing}
 use Rattle.message.specs.declared.Writing.the-variants as writing
 use Rattle.message.specs.Header.{headerLength}
 use Rattle.message.specs.Refusal.{writeRefusal}
-use Rattle.message.specs.Writing.{messageBytes, answered, writeOf, unlessRefused, outputAfter}
+use Rattle.message.specs.Writing.{messageBytes, answered, writeOf, outputAfter}
+use Rattle.message.specs.Writing as writes
 use Rattle.pending.specs.declared.Slot.{Slot}
 use Rattle.pending.specs.declared.Slot.the-variants.{At, Nowhere}
 use Rattle.pending.specs.Places.{freePlace, entered, enteredAt}
 use Rattle.pending.specs.Free.{drawn, nextFree}
 use Rattle.requests.specs.declared.Sending.{Sending}
 use Rattle.requests.specs.declared.Sent.the-variants.{Refused, Under}
-use Rattle.requests.specs.Sending.{operationDomain, noRequest, unlessFull, sendRefusal, refusedWith, answeredBy, sentOf, listSent, outputSent}
-use Rattle.requests.specs.Sending.{writtenOf, listWritten, outputWritten}
+use Rattle.requests.specs.Sending.{operationDomain, noRequest, unlessFull, sendRefusal, refusedWith, answeredBy, leftBy, sentOf, listSent}
+use Rattle.requests.specs.Sending.{outputSent, writtenOf, listWritten, outputWritten}
 
 -- what an answer of `write` says of the number that refuses
 wrote : (r all n : ℕ) → answered r all ≡ writing.Written n → (r ≡ 0) × (n ≡ all)
@@ -38,11 +39,16 @@ declined (suc r) all n e next m =
     let h : suc r ≡ n = cc in
     ap (refusedWith next) (sym h)
 
-stays : (r all n : ℕ) (a b : List ℕ) → answered r all ≡ writing.Refused n → b ≡ unlessRefused r a b
-stays zero all n a b e =
+stays : (r all n next m : ℕ) (was new : List ℕ) → answered r all ≡ writing.Refused n → was ≡ leftBy (answeredBy r next m all .answer) was new
+stays zero all n next m was new e =
     let z : _≡_ {A = ℕ} 0 1 = cc in
     absurd (omega arith)
-stays (suc r) all n a b e = refl
+stays (suc r) all n next m was new e = refl
+
+-- what writing leaves, and what sending does
+left-alike : (r all next m : ℕ) (was new : List ℕ) → writes.leftBy (answered r all) was new ≡ leftBy (answeredBy r next m all .answer) was new
+left-alike zero all next m was new = refl
+left-alike (suc r) all next m was new = refl
 
 -- the message was written, or was not
 module _ (next id room : ℕ) (l payload : List ℕ) (w : Writing) (p : w ≡ writeOf operationDomain id payload room) (x : ℕ) (q : x ≡ nextFree l next) where
@@ -63,7 +69,8 @@ module _ (next id room : ℕ) (l payload : List ℕ) (w : Writing) (p : w ≡ wr
 
     pub not-sent-list : (k target : ℕ) → l ≡ listWritten next l k id target payload room
     not-sent-list k target =
-        stays (writeRefusal operationDomain id payload room) (headerLength + length payload) n (entered l k (nextFree l next) id target) l (sym p ∙ e)
+        stays (writeRefusal operationDomain id payload room) (headerLength + length payload) n next (nextFree l next) l
+        (entered l k (nextFree l next) id target) (sym p ∙ e)
 
 pub sent-output : (own next id : ℕ) (l payload out r : List ℕ) (x : ℕ) → x ≡ nextFree l next → r ≡ outputAfter own operationDomain id x payload out
     → r ≡ outputWritten own next l id payload out
@@ -87,11 +94,17 @@ module _ (next kind id : ℕ) (l payload : List ℕ) (s : Slot) (p : s ≡ freeP
     pub tried-list : (room target : ℕ) (r : List ℕ) → r ≡ listWritten next l k id target payload room
         → r ≡ listSent next l kind id target payload room
     tried-list room target r f =
-        f ∙ sym (ap₂ (λ (n : ℕ) (x : Slot). unlessRefused n (enteredAt l x (nextFree l next) id target) l) (as-written room) (sym p ∙ e))
+        f
+        ∙ sym (ap₂
+        (λ (n : ℕ) (x : Slot). leftBy (answeredBy n next (nextFree l next) (headerLength + length payload) .answer) l (enteredAt l x (nextFree l next) id target))
+        (as-written room) (sym p ∙ e))
 
     pub tried-output : (own : ℕ) (out r : List ℕ) → r ≡ outputWritten own next l id payload out → r ≡ outputSent own next l kind id payload out
     tried-output own out r f =
-        f ∙ sym (ap (λ (n : ℕ). unlessRefused n (over out 0 (messageBytes own operationDomain id (nextFree l next) payload)) out) (as-written (length out)))
+        let new = over out 0 (messageBytes own operationDomain id (nextFree l next) payload) in
+        f
+        ∙ left-alike (writeRefusal operationDomain id payload (length out)) (headerLength + length payload) next (nextFree l next) out new
+        ∙ sym (ap (λ (n : ℕ). leftBy (answeredBy n next (nextFree l next) (headerLength + length payload) .answer) out new) (as-written (length out)))
 
   -- 60
   pub full : s ≡ Nowhere → (room : ℕ) → sendRefusal l kind id payload room ≡ 60
@@ -107,12 +120,17 @@ module _ (next kind id room : ℕ) (l payload : List ℕ) (n : ℕ) (e : sendRef
   refused-answer r f = f ∙ sym (ap (λ (x : ℕ). answeredBy x next (nextFree l next) (headerLength + length payload)) e)
 
   pub refused-list : (target : ℕ) → l ≡ listSent next l kind id target payload room
-  refused-list target = sym (ap (λ (x : ℕ). unlessRefused x (enteredAt l (freePlace l) (nextFree l next) id target) l) e)
+  refused-list target =
+      sym (ap
+      (λ (x : ℕ). leftBy (answeredBy x next (nextFree l next) (headerLength + length payload) .answer) l
+      (enteredAt l (freePlace l) (nextFree l next) id target)) e)
 
 pub refused-output : (own next kind id : ℕ) (l payload out : List ℕ) (n : ℕ) → sendRefusal l kind id payload (length out) ≡ suc n
     → out ≡ outputSent own next l kind id payload out
 refused-output own next kind id l payload out n e =
-    sym (ap (λ (x : ℕ). unlessRefused x (over out 0 (messageBytes own operationDomain id (nextFree l next) payload)) out) e)
+    sym (ap
+    (λ (x : ℕ). leftBy (answeredBy x next (nextFree l next) (headerLength + length payload) .answer) out
+    (over out 0 (messageBytes own operationDomain id (nextFree l next) payload))) e)
 
 module _ (next kind id : ℕ) (l payload : List ℕ) (s : Slot) (p : s ≡ freePlace l) (right : kind ≡ 2) (e : s ≡ Nowhere) where
   pub full-answer : (room : ℕ) (r : Sending) → r ≡ refusedWith next 60 → r ≡ sentOf next l kind id payload room

@@ -12,13 +12,13 @@ use Rattle.wire.specs.Bytes.{over}
 use Rattle.wire.proofs.Cond.{passed}
 use Rattle.message.specs.Header.{headerLength}
 use Rattle.message.specs.Refusal.{writeRefusal}
-use Rattle.message.specs.Writing.{messageBytes, unlessRefused}
+use Rattle.message.specs.Writing.{messageBytes}
 use Rattle.pending.specs.declared.Slot.{Slot}
 use Rattle.pending.specs.declared.Slot.the-variants.{At, Nowhere}
 use Rattle.pending.specs.Places.{freePlace, enteredAt}
 use Rattle.pending.specs.Free.{drawn, nextFree}
 use Rattle.requests.specs.declared.Sent.the-variants.{Under}
-use Rattle.requests.specs.Sending.{operationDomain, unlessFull, sendRefusal, answeredBy, sentOf, listSent, outputSent, numberGiven}
+use Rattle.requests.specs.Sending.{operationDomain, unlessFull, sendRefusal, answeredBy, sentOf, numberGiven, leftBy, listSent, outputSent}
 
 pub record Sendable (l : List ℕ) (kind id : ℕ) (payload : List ℕ) (room : ℕ) : Type 0 where
   pub right : kind ≡ 2
@@ -59,7 +59,8 @@ module _ (l : List ℕ) (kind id : ℕ) (payload : List ℕ) (room : ℕ) where
 
     pub entered-so : (target : ℕ) → sendRefusal l kind id payload room ≡ 0
         → listSent next l kind id target payload room ≡ enteredAt l (freePlace l) (nextFree l next) id target
-    entered-so target e = ap (λ (r : ℕ). unlessRefused r (enteredAt l (freePlace l) (nextFree l next) id target) l) e
+    entered-so target e =
+        ap (λ (r : ℕ). leftBy (answeredBy r next (nextFree l next) (headerLength + length payload) .answer) l (enteredAt l (freePlace l) (nextFree l next) id target)) e
 
     -- a refusal leaves all as it was
     pub next-kept : (numberGiven (sentOf next l kind id payload room .answer) ≡ 0 → ⊥) → sentOf next l kind id payload room .next ≡ next
@@ -73,7 +74,8 @@ module _ (l : List ℕ) (kind id : ℕ) (payload : List ℕ) (room : ℕ) where
         → listSent next l kind id target payload room ≡ l
     list-kept target d = go (sendRefusal l kind id payload room) (λ e. d (given-is next ∙ e))
       where
-        go : (r : ℕ) → (r ≡ 0 → ⊥) → unlessRefused r (enteredAt l (freePlace l) (nextFree l next) id target) l ≡ l
+        go : (r : ℕ) → (r ≡ 0 → ⊥)
+            → leftBy (answeredBy r next (nextFree l next) (headerLength + length payload) .answer) l (enteredAt l (freePlace l) (nextFree l next) id target) ≡ l
         go zero h = absurd (h refl)
         go (suc r) h = refl
 
@@ -84,12 +86,12 @@ module _ (own next kind id : ℕ) (l payload out : List ℕ) where
   pub written-so : sendRefusal l kind id payload (length out) ≡ 0
       → outputSent own next l kind id payload out ≡ over out 0 (messageBytes own operationDomain id (nextFree l next) payload)
   unfolding bytes-sent
-  written-so e = ap (λ (r : ℕ). unlessRefused r bytes-sent out) e
+  written-so e = ap (λ (r : ℕ). leftBy (answeredBy r next (nextFree l next) (headerLength + length payload) .answer) out bytes-sent) e
 
   pub output-kept : (numberGiven (sentOf next l kind id payload (length out) .answer) ≡ 0 → ⊥) → outputSent own next l kind id payload out ≡ out
   unfolding bytes-sent
   output-kept d = go (sendRefusal l kind id payload (length out)) (λ e. d (given-is l kind id payload (length out) next ∙ e))
     where
-      go : (r : ℕ) → (r ≡ 0 → ⊥) → unlessRefused r bytes-sent out ≡ out
+      go : (r : ℕ) → (r ≡ 0 → ⊥) → leftBy (answeredBy r next (nextFree l next) (headerLength + length payload) .answer) out bytes-sent ≡ out
       go zero h = absurd (h refl)
       go (suc r) h = refl

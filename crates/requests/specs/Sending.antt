@@ -7,7 +7,7 @@ use lib.ListN.{length}
 use Rattle.wire.specs.Bytes.{over}
 use Rattle.message.specs.Header.{headerLength}
 use Rattle.message.specs.Refusal.{writeRefusal}
-use Rattle.message.specs.Writing.{messageBytes, unlessRefused, outputAfter}
+use Rattle.message.specs.Writing.{messageBytes, outputAfter}
 use Rattle.pending.specs.declared.Slot.{Slot}
 use Rattle.pending.specs.declared.Slot.the-variants.{At, Nowhere}
 use Rattle.pending.specs.Places.{freePlace, entered, enteredAt}
@@ -51,26 +51,30 @@ answeredBy (suc r) next n written = refusedWith next (suc r)
 abbrev pub sentOf : ℕ → List ℕ → ℕ → ℕ → List ℕ → ℕ → Sending
 sentOf next l kind id payload room = answeredBy (sendRefusal l kind id payload room) next (nextFree l next) (headerLength + length payload)
 
--- the list and the output afterwards: a refusal leaves them as they were
-abbrev pub listSent : ℕ → List ℕ → ℕ → ℕ → ℕ → List ℕ → ℕ → List ℕ
-listSent next l kind id target payload room =
-    unlessRefused (sendRefusal l kind id payload room) (enteredAt l (freePlace l) (nextFree l next) id target) l
-
-abbrev pub outputSent : ℕ → ℕ → List ℕ → ℕ → ℕ → List ℕ → List ℕ → List ℕ
-outputSent own next l kind id payload out =
-    unlessRefused (sendRefusal l kind id payload (length out)) (over out 0 (messageBytes own operationDomain id (nextFree l next) payload)) out
-
--- by cases: the number that an answer gives back (0: the request was sent)
+-- by cases: the number that an answer gives back (0: the request was sent), and what a refusal leaves as it was
 abbrev pub numberGiven : Sent → ℕ
 numberGiven (Refused n) = n
 numberGiven (Under n written) = 0
+
+abbrev pub leftBy : {A : Type 0} → Sent → A → A → A
+leftBy (Refused n) was new = was
+leftBy (Under n written) was new = new
+
+-- the list and the output afterwards
+abbrev pub listSent : ℕ → List ℕ → ℕ → ℕ → ℕ → List ℕ → ℕ → List ℕ
+listSent next l kind id target payload room =
+    leftBy (sentOf next l kind id payload room .answer) l (enteredAt l (freePlace l) (nextFree l next) id target)
+
+abbrev pub outputSent : ℕ → ℕ → List ℕ → ℕ → ℕ → List ℕ → List ℕ → List ℕ
+outputSent own next l kind id payload out =
+    leftBy (sentOf next l kind id payload (length out) .answer) out (over out 0 (messageBytes own operationDomain id (nextFree l next) payload))
 
 -- the same where the kind is right and place k is free; no contract of a public function says these
 abbrev pub writtenOf : ℕ → List ℕ → ℕ → List ℕ → ℕ → Sending
 writtenOf next l id payload room = answeredBy (writeRefusal operationDomain id payload room) next (nextFree l next) (headerLength + length payload)
 
 abbrev pub listWritten : ℕ → List ℕ → ℕ → ℕ → ℕ → List ℕ → ℕ → List ℕ
-listWritten next l k id target payload room = unlessRefused (writeRefusal operationDomain id payload room) (entered l k (nextFree l next) id target) l
+listWritten next l k id target payload room = leftBy (writtenOf next l id payload room .answer) l (entered l k (nextFree l next) id target)
 
 abbrev pub outputWritten : ℕ → ℕ → List ℕ → ℕ → List ℕ → List ℕ → List ℕ
 outputWritten own next l id payload out = outputAfter own operationDomain id (nextFree l next) payload out

@@ -1,5 +1,6 @@
 pub mod Leaf
 pub mod Layout
+pub mod Checked
 pub mod Entries
 pub mod Operations
 pub mod Words

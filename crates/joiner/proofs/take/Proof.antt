@@ -26,13 +26,13 @@ take-spec =
     let looked = judged .before in
     let sought = looked .before in
     let stored = sought .before .before in
-    let heard = stored .before in
-    let start = heard .before .before .before in
+    let heading = stored .before in
+    let start = heading .before .before .before in
     let j = start .args .joiner in
     let rooms = start .args .rooms .now in
     let d = start .args .datagram .now in
     let w : length (j .channels) ≡ channelLimit = simp length-map at (start .good .0 .1 .1 .0 .1 .0 .1) in
-    moved-fits j rooms d w (heard .read .ensures) (sought .sender-of .ensures) (stored .words-of .ensures) (looked .look .ensures) (judged .judge .ensures)
+    moved-fits j rooms d w (heading .read .ensures) (sought .sender-of .ensures) (stored .words-of .ensures) (looked .look .ensures) (judged .judge .ensures)
     _ _ (found .moved .given .1))
     (λ c.
     let found = c .before .before .before .before .before .before in
@@ -40,26 +40,26 @@ take-spec =
     let looked = judged .before in
     let sought = looked .before in
     let stored = sought .before .before in
-    let heard = stored .before in
-    let start = heard .before .before .before in
+    let heading = stored .before in
+    let start = heading .before .before .before in
     let j = start .args .joiner in
     let rooms = start .args .rooms .now in
     let d = start .args .datagram .now in
     let w : length (j .channels) ≡ channelLimit = simp length-map at (start .good .0 .1 .1 .0 .1 .0 .1) in
-    moved-known j rooms d w (heard .read .ensures) (sought .sender-of .ensures) (stored .words-of .ensures) (looked .look .ensures) (judged .judge .ensures)
+    moved-known j rooms d w (heading .read .ensures) (sought .sender-of .ensures) (stored .words-of .ensures) (looked .look .ensures) (judged .judge .ensures)
     _ _ (found .moved .given .1))
     (λ c.
     let judged = c .before .before .before in
     let looked = judged .before in
     let sought = looked .before in
     let stored = sought .before .before in
-    let heard = stored .before in
-    let start = heard .before .before .before in
+    let heading = stored .before in
+    let start = heading .before .before .before in
     let j = start .args .joiner in
     let rooms = start .args .rooms .now in
     let d = start .args .datagram .now in
     let w : length (j .channels) ≡ channelLimit = simp length-map at (start .good .0 .1 .1 .0 .1 .0 .1) in
-    refused j rooms d w (heard .read .ensures) (sought .sender-of .ensures) (stored .words-of .ensures) (looked .look .ensures) (judged .judge .ensures)
+    refused j rooms d w (heading .read .ensures) (sought .sender-of .ensures) (stored .words-of .ensures) (looked .look .ensures) (judged .judge .ensures)
     _ (c .before .number .given .1))
     (λ c. search needs)
     (λ c.
@@ -68,11 +68,11 @@ take-spec =
     let looked = judged .before in
     let sought = looked .before in
     let stored = sought .before .before in
-    let heard = stored .before in
-    let start = heard .before .before .before in
+    let heading = stored .before in
+    let start = heading .before .before .before in
     let j = start .args .joiner in
     let rooms = start .args .rooms .now in
     let d = start .args .datagram .now in
     let w : length (j .channels) ≡ channelLimit = simp length-map at (start .good .0 .1 .1 .0 .1 .0 .1) in
-    moved j rooms d w (heard .read .ensures) (sought .sender-of .ensures) (stored .words-of .ensures) (looked .look .ensures) (judged .judge .ensures)
+    moved j rooms d w (heading .read .ensures) (sought .sender-of .ensures) (stored .words-of .ensures) (looked .look .ensures) (judged .judge .ensures)
     _ _ (found .moved .given .1) (c .before .before .write-piece .ensures)))

@@ -24,13 +24,13 @@ take-spec =
     let judged = c .before .before .before in
     let looked = judged .before in
     let sought = looked .before in
-    let heard = sought .before .before .before in
-    let start = heard .before .before .before in
+    let heading = sought .before .before .before in
+    let start = heading .before .before .before in
     let ws = start .args .state .now in
     let rooms = start .args .rooms .now in
     let d = start .args .datagram .now in
     let out = start .args .answer .now in
-    refused-all ws rooms d refl (heard .read .ensures) (sought .sender-of .ensures) (looked .look .ensures) (judged .judge .ensures)
+    refused-all ws rooms d refl (heading .read .ensures) (sought .sender-of .ensures) (looked .look .ensures) (judged .judge .ensures)
     _ (c .before .number .given .1) out)
     (λ c. search needs)
     (λ c.
@@ -41,11 +41,11 @@ take-spec =
     let judged = found .before .before in
     let looked = judged .before in
     let sought = looked .before in
-    let heard = sought .before .before .before in
-    let start = heard .before .before .before in
+    let heading = sought .before .before .before in
+    let start = heading .before .before .before in
     let ws = start .args .state .now in
     let rooms = start .args .rooms .now in
     let d = start .args .datagram .now in
     let out = start .args .answer .now in
-    moved-all ws rooms d refl (heard .read .ensures) (sought .sender-of .ensures) (looked .look .ensures) (judged .judge .ensures)
+    moved-all ws rooms d refl (heading .read .ensures) (sought .sender-of .ensures) (looked .look .ensures) (judged .judge .ensures)
     _ _ (found .at .given .1) out (stored .put-record .ensures) (written .write-piece .ensures) (told .put-outcome .ensures)))

@@ -2,7 +2,7 @@
 -- Assumes nothing.
 use borrow.Author.Needs.{needs}
 use Rattle.wire.proofs.MetCases.{met, met-left}
-use Rattle.binding.specs.Cutting.{cutRefusal}
+use Rattle.binding.specs.Made.{numberGiven}
 use Rattle.nyrkovash.specs.PieceCalls.{madeLeft}
 use Rattle.nyrkovash.proofs.messages.nyr_cut.Statement.{statement}
 use Rattle.nyrkovash.proofs.messages.nyr_cut.Tie as tie
@@ -15,6 +15,6 @@ nyr-cut-spec =
     (λ c. search needs)
     (λ c. search needs)
     (λ c. search needs)
-    (λ c. (search (met cutRefusal), (search needs, search (met-left madeLeft))))
+    (λ c. (search (met numberGiven), (search needs, search (met-left madeLeft))))
     (λ c. search needs)
-    (λ c. (search (met cutRefusal), (search needs, search (met-left madeLeft)))))
+    (λ c. (search (met numberGiven), (search needs, search (met-left madeLeft)))))

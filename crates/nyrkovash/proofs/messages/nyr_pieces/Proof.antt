@@ -2,7 +2,7 @@
 -- Assumes nothing.
 use borrow.Author.Needs.{needs}
 use Rattle.wire.proofs.MetCases.{met, met-left}
-use Rattle.binding.specs.Cutting.{countRefusal}
+use Rattle.binding.specs.Counted.{numberGiven}
 use Rattle.nyrkovash.specs.PieceCalls.{countLeft}
 use Rattle.nyrkovash.proofs.messages.nyr_pieces.Statement.{statement}
 use Rattle.nyrkovash.proofs.messages.nyr_pieces.Tie as tie
@@ -14,5 +14,5 @@ nyr-pieces-spec =
     (λ c κs. search needs)
     (λ c. search needs)
     (λ c. search needs)
-    (λ c. (search (met countRefusal), search (met-left countLeft)))
-    (λ c. (search (met countRefusal), search (met-left countLeft))))
+    (λ c. (search (met numberGiven), search (met-left countLeft)))
+    (λ c. (search (met numberGiven), search (met-left countLeft))))

@@ -1,0 +1,18 @@
+-- What the call for one message answers, by cases: 01's number, how many reply bytes were written, and what a refusal leaves as it
+-- was.
+use Prim.Native.Nat.{ℕ}
+use Rattle.platform.specs.declared.Noting.{Noting}
+use Rattle.platform.specs.declared.Noting.the-variants.{Refused, Noted}
+
+-- 0 where nothing is refused
+abbrev pub numberGiven : Noting → ℕ
+numberGiven (Refused n) = n
+numberGiven (Noted h x n) = 0
+
+abbrev pub bytesIn : Noting → ℕ
+bytesIn (Refused n) = 0
+bytesIn (Noted h x n) = n
+
+abbrev pub leftBy : {A : Type 0} → Noting → A → A → A
+leftBy (Refused n) was new = was
+leftBy (Noted h x n) was new = new
