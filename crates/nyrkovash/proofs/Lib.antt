@@ -1,3 +1,3 @@
-mod Words
+pub mod Words
 mod Calling
 mod Giving

@@ -32,7 +32,7 @@ state-is f h = go (eqb f 0) refl
 
 -- a platform message that nothing refuses: its kind is its ID, and its value the field of its payload
 module _ (i : ℕ) (p : List ℕ) (e : contentsRefusal platformDomain i p ≡ 0) where
-  id-known : (i ≡ 0 → ⊥) × (i ≤ 4)
+  pub id-known : (i ≡ 0 → ⊥) × (i ≤ 4)
   id-known =
       let n = neither (eqb i 0) (ltb 4 i) (passed (reservedID i) 6 _ e .0) in
       (eqb-false i 0 (n .0), ltb-false 4 i (n .1))

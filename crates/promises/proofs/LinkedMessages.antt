@@ -24,7 +24,7 @@ use Rattle.message.specs.Writing as writes
 use Rattle.message.proofs.Accepted.{Readable, readable, Writable, writable, admits}
 use Rattle.platform.proofs.Unchanged.{payload-stands}
 use Rattle.nyrkovash.specs.MessageCalls.{readLeft, writeLeft}
-use Rattle.nyrkovash.proofs.Words.{kind-is-id, value-is-field}
+use Rattle.nyrkovash.proofs.Words.{id-known, kind-is-id, value-is-field}
 use Rattle.promises.specs.Headers.{ReadsAs}
 use Rattle.promises.specs.LinkedMessages.{kindSent, valueSent, IsRead, Wrote, WriteThenRead, WasRead, ReadThenWrite, IsWritten, EachIsWritten}
 use Rattle.promises.specs.LinkedMessages.{LinkedMessages}
@@ -111,7 +111,7 @@ read-zero (suc r) x e = absurd (suc-ne-zero r e)
 fields-told : (d i : ℕ) (p : List ℕ) → d < 2 → contentsRefusal d i p ≡ 0
     → (cond (eqb (kindSent d i) 5) 1 0 ≡ d) × (cond (eqb (kindSent d i) 5) (valueSent d i p) (kindSent d i) ≡ i)
 fields-told zero i p h e =
-    let l : i ≤ 4 = ids-known i p e .1 in
+    let l : i ≤ 4 = id-known i p e .1 in
     let f : eqb i 5 ≡ false = ne-eqb i 5 (λ (z : i ≡ 5). omega arith) in
     (ap (λ (b : Bool). cond {A = ℕ} b 1 0) f, ap (λ (b : Bool). cond b (number 2 p 0) i) f)
 fields-told (suc zero) i p h e = (refl, refl)

@@ -36,7 +36,7 @@ use Rattle.platform.specs.declared.Noting.{Noting}
 use Rattle.platform.specs.declared.Noting.the-variants.{Noted}
 use Rattle.platform.specs.declared.reactions.Reaction.{Reaction}
 use Rattle.platform.specs.Replies.{allData, owedLength}
-use Rattle.platform.specs.Reaction.{operationFor, isData, foundData, noData, onPullAll, onPullOne, onPull, onOperation, reactionTo}
+use Rattle.platform.specs.Reaction.{operationFor, foundData, onPullAll, onPullOne, onPull, onOperation, reactionTo}
 use Rattle.platform.specs.Receiving.{freshStanding, refused, taken, answered, receivedOf, leftOf, sectionsOutcome, sectionsOutput}
 use Rattle.platform.specs.Noting.{numberGiven}
 use Rattle.platform_words.specs.Words.{standingIn, standingWords}
@@ -46,7 +46,7 @@ use Rattle.promises.specs.Platforms.{stateAfter, Receives, Notes}
 use Rattle.promises.specs.LinkedReplies.{UpIs, heardFor, Comes, owedBytes, Says, Answered, LinkedReplies}
 use Rattle.promises.proofs.Headers.{was-read}
 use Rattle.promises.proofs.Lookups.{accepted-find}
-use Rattle.promises.proofs.Reacting.{X, status-heard}
+use Rattle.promises.proofs.Reacting.{X, status-heard, Pull, all-of-none, all-of-some, one-entry, no-entry, pulled}
 use Rattle.promises.proofs.Replying.{the, received-is, its-length, notes, too-short}
 use Rattle.promises.proofs.Platforms.{states-are}
 use Rattle.promises.proofs.Unique.{unique}
@@ -66,20 +66,15 @@ module _ (own : ℕ) (t : List ℕ) (s : Sections) (p : Standing) (m : List ℕ)
   module _ (scan : (id : ℕ) → lookedUp t s id ≡ operationOf t s id) where
     on-pull : (id : ℕ) → HeardSo (message.VersionedDataPull id)
     unfolding reactionTo operationFor onPull onPullAll onPullOne foundData
-    on-pull id = go (eqb id allData) refl (noData t s) refl (operationOf t s id) refl (scan id)
+    on-pull id = go (pulled t s id (scan id))
       where
-        one : (b : Bool) (i : ℕ) → eqb id allData ≡ false → operationOf t s id ≡ found.At i → lookedUp t s id ≡ operationOf t s id
-            → isData t s i ≡ b → HeardSo (message.VersionedDataPull id)
-        one true i e f g d = rw (e, g, f, d)
-        one false i e f g d = rw (e, g, f, d)
-
-        go : (a : Bool) → eqb id allData ≡ a → (b : Bool) → noData t s ≡ b → (x : Found) → operationOf t s id ≡ x → lookedUp t s id
-            ≡ operationOf t s id → HeardSo (message.VersionedDataPull id)
-        go true e true d x f g =
+        go : Pull t s id → HeardSo (message.VersionedDataPull id)
+        go (all-of-none e d) =
             rw (e, d) (ap (λ (k : ℕ). 6 ∷ k ∷ h .platform ∷ h .sequence ∷ 0 ∷ 0 ∷ 0 ∷ n ∷ []) (sym (eqb-true id allData e)))
-        go true e false d x f g = rw (e, d)
-        go false e b d (found.At i) f g = one (isData t s i) i e f g refl
-        go false e b d found.Nothing f g = rw (e, g, f)
+        go (all-of-some e d) = rw (e, d)
+        go (one-entry i e f g true d) = rw (e, g, f, d)
+        go (one-entry i e f g false d) = rw (e, g, f, d)
+        go (no-entry e f g) = rw (e, g, f)
 
     on-operation : HeardSo message.Operation
     unfolding reactionTo operationFor onOperation

@@ -42,6 +42,24 @@ either-way : {a : Bool} (b : Bool) → a ≡ true → (b || a) ≡ true
 either-way true e = refl
 either-way false e = e
 
+-- what a pull can ask for, where the look-up finds the operation of each ID: all versioned data, of which there is none or some; an
+-- entry, which is versioned data or not; an ID that no entry bears
+pub data Pull (t : List ℕ) (s : Sections) (id : ℕ) : Type 0 where
+  all-of-none : eqb id allData ≡ true → noData t s ≡ true → Pull t s id
+  all-of-some : eqb id allData ≡ true → noData t s ≡ false → Pull t s id
+  one-entry : (i : ℕ) → eqb id allData ≡ false → operationOf t s id ≡ found.At i → lookedUp t s id ≡ operationOf t s id →
+      (b : Bool) → isData t s i ≡ b → Pull t s id
+  no-entry : eqb id allData ≡ false → operationOf t s id ≡ found.Nothing → lookedUp t s id ≡ operationOf t s id → Pull t s id
+
+pub pulled : (t : List ℕ) (s : Sections) (id : ℕ) → lookedUp t s id ≡ operationOf t s id → Pull t s id
+pulled t s id g = go (eqb id allData) refl (noData t s) refl (operationOf t s id) refl
+  where
+    go : (a : Bool) → eqb id allData ≡ a → (b : Bool) → noData t s ≡ b → (x : Found) → operationOf t s id ≡ x → Pull t s id
+    go true e true d x f = all-of-none e d
+    go true e false d x f = all-of-some e d
+    go false e b d (found.At i) f = one-entry i e f g (isData t s i) refl
+    go false e b d found.Nothing f = no-entry e f g
+
 -- a state that is as it was said already, and one that is turned
 module _ (own : ℕ) (s : States) (k who : ℕ) where
   as-it-was : (b : Bool) → isUp own s who ≡ b → isUp own s k ≡ cond (eqb k who) b (isUp own s k)
@@ -175,23 +193,10 @@ module _ (own : ℕ) (t : List ℕ) (s : Sections) (p : Standing) (h : Header) (
 
       on-pull : (id : ℕ) → id < 2 ^ 32 → Reacts (message.VersionedDataPull id)
       unfolding reactionTo operationFor onPull onPullAll onPullOne foundData
-      on-pull id l = go (eqb id allData) refl (noData t s) refl (operationOf t s id) refl (scan id)
+      on-pull id l = go (pulled t s id (scan id))
         where
-          one : (b : Bool) (i : ℕ) → eqb id allData ≡ false → operationOf t s id ≡ found.At i → lookedUp t s id ≡ operationOf t s id
-              → isData t s i ≡ b → Reacts (message.VersionedDataPull id)
-          one true i e f g d = record
-              { owed-is = rw (e, g, f, d); long = rw (e, g, f, d); wide = rw (e, g, f, d) tt; next = rw (e, g, f, d); states = λ k l. rw (e, g, f, d) refl }
-          one false i e f g d = record {
-            owed-is = rw (e, g, f, d);
-            long = rw (e, g, f, d);
-            wide = rw (e, g, f, d) (record { number = hq; field = l }, tt);
-            next = rw (e, g, f, d);
-            states = λ k l. rw (e, g, f, d) refl;
-          }
-
-          go : (a : Bool) → eqb id allData ≡ a → (b : Bool) → noData t s ≡ b → (x : Found) → operationOf t s id ≡ x → lookedUp t s id
-              ≡ operationOf t s id → Reacts (message.VersionedDataPull id)
-          go true e true d x f g =
+          go : Pull t s id → Reacts (message.VersionedDataPull id)
+          go (all-of-none e d) =
               let q : id ≡ allData = eqb-true id allData e in
               record {
                 owed-is = rw (e, d) (ap (λ (n : ℕ). record { number = h .sequence; means = message.UnknownOperation n } ∷ []) (sym q));
@@ -200,9 +205,17 @@ module _ (own : ℕ) (t : List ℕ) (s : Sections) (p : Standing) (h : Header) (
                 next = rw (e, d);
                 states = λ k l. rw (e, d) refl;
               }
-          go true e false d x f g = record { owed-is = rw (e, d); long = rw (e, d); wide = rw (e, d) tt; next = rw (e, d); states = λ k l. rw (e, d) refl }
-          go false e b d (found.At i) f g = one (isData t s i) i e f g refl
-          go false e b d found.Nothing f g = record {
+          go (all-of-some e d) = record { owed-is = rw (e, d); long = rw (e, d); wide = rw (e, d) tt; next = rw (e, d); states = λ k l. rw (e, d) refl }
+          go (one-entry i e f g true d) = record
+              { owed-is = rw (e, g, f, d); long = rw (e, g, f, d); wide = rw (e, g, f, d) tt; next = rw (e, g, f, d); states = λ k l. rw (e, g, f, d) refl }
+          go (one-entry i e f g false d) = record {
+            owed-is = rw (e, g, f, d);
+            long = rw (e, g, f, d);
+            wide = rw (e, g, f, d) (record { number = hq; field = l }, tt);
+            next = rw (e, g, f, d);
+            states = λ k l. rw (e, g, f, d) refl;
+          }
+          go (no-entry e f g) = record {
             owed-is = rw (e, g, f);
             long = rw (e, g, f);
             wide = rw (e, g, f) (record { number = hq; field = l }, tt);

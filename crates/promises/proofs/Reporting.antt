@@ -2,11 +2,10 @@
 -- Assumes nothing.
 use Prim.Native.Nat.{ℕ, _-_, _≤_, _<_}
 use mathlib.Core.Path.{_≡_, refl, sym, ap, ap₂, subst, _∙_}
-use mathlib.Core.Bool.{Bool, true, false}
+use mathlib.Core.Bool.{true, false}
 use mathlib.Core.List.{List}
 use native.Mathlib.Omega.{arith}
 use borrow.Author.Tests.{eqb-true, eqb-false, not-true, not-false}
-use lib.Dec.{eqb}
 use lib.ListN.{length, drop, length-drop}
 use lib.Seq.{take-all}
 use Rattle.wire.proofs.Runs.{part-in}
@@ -30,7 +29,7 @@ use Rattle.platform.specs.Reaction.{operationFor, isData, notData, noData, onPu
 use Rattle.platform.specs.Heard.{payloadHeard}
 use Rattle.promises.specs.Reports.{HasID, IsVersioned, Pulled, Operated, Reports, all, none-of-all, one, not-versioned, in-table, not-in-table}
 use Rattle.promises.proofs.Rules32.{some-below}
-use Rattle.promises.proofs.Reacting.{X, status-heard}
+use Rattle.promises.proofs.Reacting.{X, status-heard, Pull, all-of-none, all-of-some, one-entry, no-entry, pulled}
 
 module _ (t : List ℕ) (s : Sections) where
   -- versioned data
@@ -84,25 +83,19 @@ module _ (t : List ℕ) (s : Sections) where
 
       of-pull : (id : ℕ) → Pulled t s id (its (message.VersionedDataPull id) .heard)
       unfolding reactionTo operationFor onPull onPullAll onPullOne
-      of-pull id = go (eqb id allData) refl (noData t s) refl (operationOf t s id) refl (scan id)
+      of-pull id = go (pulled t s id (scan id))
         where
-          at-one : (b : Bool) (i : ℕ) → eqb id allData ≡ false → operationOf t s id ≡ found.At i → lookedUp t s id ≡ operationOf t s id
-              → isData t s i ≡ b → Pulled t s id (its (message.VersionedDataPull id) .heard)
-          at-one true i e f g d = one (eqb-false id allData e) i (has id i f) (data-is i d) (rw (e, g, f, d))
-          at-one false i e f g d =
-              not-versioned (eqb-false id allData e)
-              (λ j k v. not-data i d (subst (IsVersioned t s) (same id j i k (has id i f)) v)) (rw (e, g, f, d))
-
-          go : (a : Bool) → eqb id allData ≡ a → (b : Bool) → noData t s ≡ b → (x : Found) → operationOf t s id ≡ x → lookedUp t s id
-              ≡ operationOf t s id → Pulled t s id (its (message.VersionedDataPull id) .heard)
-          go true e true d x f g =
+          go : Pull t s id → Pulled t s id (its (message.VersionedDataPull id) .heard)
+          go (all-of-none e d) =
               none-of-all (eqb-true id allData e) (no-data d) (rw (e, d) (ap heard.NotVersionedData (sym (eqb-true id allData e))))
-          go true e false d x f g =
+          go (all-of-some e d) =
               let r : (i : ℕ) × (i < s .operations .count) × IsVersioned t s i = some-data d in
               all (eqb-true id allData e) (r .0) (r .1) (r .2) (rw (e, d))
-          go false e b d (found.At i) f g = at-one (isData t s i) i e f g refl
-          go false e b d found.Nothing f g =
-              not-versioned (eqb-false id allData e) (λ i k v. has-not id f i k) (rw (e, g, f))
+          go (one-entry i e f g true d) = one (eqb-false id allData e) i (has id i f) (data-is i d) (rw (e, g, f, d))
+          go (one-entry i e f g false d) =
+              not-versioned (eqb-false id allData e)
+              (λ j k v. not-data i d (subst (IsVersioned t s) (same id j i k (has id i f)) v)) (rw (e, g, f, d))
+          go (no-entry e f g) = not-versioned (eqb-false id allData e) (λ i k v. has-not id f i k) (rw (e, g, f))
 
       of-operation : Operated t s (h .id) m (its message.Operation .heard)
       unfolding reactionTo operationFor onOperation

@@ -7,6 +7,7 @@ use mathlib.Core.List.{List, [], _∷_, _++_}
 use native.Mathlib.Omega.{arith}
 use lib.ListN.{length}
 use Rattle.channel.specs.Channel.{missedOf, keeping, notedOf, begunOf, followedOf, placedOf, steppedOf}
+use Rattle.wire.specs.All.{allBelow}
 use Rattle.joiner.specs.Setup.{goodSizes, good, freshOf, setupOf}
 use Rattle.joiner.specs.Take.{sentTo, headingBy, judgedOf, takenBy, takenOf, putBy, roomsBy, roomsAfter, messageOf}
 use Rattle.joiner.specs.JoinerWords.{joinerIn, wordsOf}
@@ -24,43 +25,43 @@ use Rattle.promises.proofs.Linked.{as-a-joiner}
 
 other-slice : Meets (answering otherSlice) → ⊥
 unfolding missedOf keeping notedOf begunOf followedOf placedOf steppedOf goodSizes good freshOf setupOf sentTo headingBy judgedOf
-    takenBy takenOf putBy roomsBy roomsAfter messageOf joinerIn wordsOf setupWords takeNumber takeWords takeRooms takeAnswer
+    takenBy takenOf putBy roomsBy roomsAfter messageOf allBelow joinerIn wordsOf setupWords takeNumber takeWords takeRooms takeAnswer
 other-slice d =
     let e : _≡_ {A = ℕ} 0x21 0xAA = ap firstByte (kept (linkedBy (answering otherSlice) [] []) wraps small-wraps (d [] [])) in absurd (omega (arith, e))
 
 start-for-bytes : Meets (answering startForBytes) → ⊥
 unfolding missedOf keeping notedOf begunOf followedOf placedOf steppedOf goodSizes good freshOf setupOf sentTo headingBy judgedOf
-    takenBy takenOf putBy roomsBy roomsAfter messageOf joinerIn wordsOf setupWords takeNumber takeWords takeRooms takeAnswer
+    takenBy takenOf putBy roomsBy roomsAfter messageOf allBelow joinerIn wordsOf setupWords takeNumber takeWords takeRooms takeAnswer
 start-for-bytes d =
     let e : _≡_ {A = ℕ} 0 2 = ap total (kept (linkedBy (answering startForBytes) [] []) wraps small-wraps (d [] [])) in absurd (omega (arith, e))
 
 from-the-start : Meets (answering fromTheStart) → ⊥
 unfolding missedOf keeping notedOf begunOf followedOf placedOf steppedOf goodSizes good freshOf setupOf sentTo headingBy judgedOf
-    takenBy takenOf putBy roomsBy roomsAfter messageOf joinerIn wordsOf setupWords takeNumber takeWords takeRooms takeAnswer
+    takenBy takenOf putBy roomsBy roomsAfter messageOf allBelow joinerIn wordsOf setupWords takeNumber takeWords takeRooms takeAnswer
 from-the-start d =
     let e : _≡_ {A = ℕ} 0x31 0xAA = ap firstByte (kept (linkedBy (answering fromTheStart) [] []) two small-two (d [] [])) in absurd (omega (arith, e))
 
 never-two : Meets (answering neverTwo) → ⊥
 unfolding missedOf keeping notedOf begunOf followedOf placedOf steppedOf goodSizes good freshOf setupOf sentTo headingBy judgedOf
-    takenBy takenOf putBy roomsBy roomsAfter messageOf joinerIn wordsOf setupWords takeNumber takeWords takeRooms takeAnswer
+    takenBy takenOf putBy roomsBy roomsAfter messageOf allBelow joinerIn wordsOf setupWords takeNumber takeWords takeRooms takeAnswer
 never-two d =
     let e : _≡_ {A = ℕ} 0 2 = ap length (kept (linkedBy (answering neverTwo) [] []) two small-two (d [] [])) in absurd (omega (arith, e))
 
 state-left : Meets stateLeft → ⊥
 unfolding missedOf keeping notedOf begunOf followedOf placedOf steppedOf goodSizes good freshOf setupOf sentTo headingBy judgedOf
-    takenBy takenOf putBy roomsBy roomsAfter messageOf joinerIn wordsOf setupWords takeNumber takeWords takeRooms takeAnswer
+    takenBy takenOf putBy roomsBy roomsAfter messageOf allBelow joinerIn wordsOf setupWords takeNumber takeWords takeRooms takeAnswer
 state-left d =
     let e : _≡_ {A = ℕ} 0 1 = ap length (kept (linkedBy stateLeft [] []) wraps small-wraps (d [] [])) in absurd (omega (arith, e))
 
 rooms-left : Meets roomsLeft → ⊥
 unfolding missedOf keeping notedOf begunOf followedOf placedOf steppedOf goodSizes good freshOf setupOf sentTo headingBy judgedOf
-    takenBy takenOf putBy roomsBy roomsAfter messageOf joinerIn wordsOf setupWords takeNumber takeWords takeRooms takeAnswer
+    takenBy takenOf putBy roomsBy roomsAfter messageOf allBelow joinerIn wordsOf setupWords takeNumber takeWords takeRooms takeAnswer
 rooms-left d =
     let e : _≡_ {A = ℕ} 0 0xAA = ap firstByte (kept (linkedBy roomsLeft [] []) wraps small-wraps (d [] [])) in absurd (omega (arith, e))
 
 not-set-up : Meets notSetUp → ⊥
 unfolding missedOf keeping notedOf begunOf followedOf placedOf steppedOf goodSizes good freshOf setupOf sentTo headingBy judgedOf
-    takenBy takenOf putBy roomsBy roomsAfter messageOf joinerIn wordsOf setupWords takeNumber takeWords takeRooms takeAnswer
+    takenBy takenOf putBy roomsBy roomsAfter messageOf allBelow joinerIn wordsOf setupWords takeNumber takeWords takeRooms takeAnswer
 not-set-up d =
     let e : _≡_ {A = ℕ} 0 2 = ap length (kept (linkedBy notSetUp [] []) two small-two (d [] [])) in absurd (omega (arith, e))
 
@@ -149,7 +150,7 @@ module _ (C : Calls) where
 
 first-only : DeliversFor (contractsOf firstOnly) → ⊥
 unfolding missedOf keeping notedOf begunOf followedOf placedOf steppedOf goodSizes good freshOf setupOf sentTo headingBy judgedOf
-    takenBy takenOf putBy roomsBy roomsAfter messageOf joinerIn wordsOf setupWords takeNumber takeWords takeRooms takeAnswer from-setup
+    takenBy takenOf putBy roomsBy roomsAfter messageOf allBelow joinerIn wordsOf setupWords takeNumber takeWords takeRooms takeAnswer from-setup
 first-only d =
     let a = d both-ids 24 (room 48) senders mix (granted-back both-ids 24 (room 48) senders mix granted-mix) in
     let e : _≡_ {A = ℕ} 0 1 = ap length (a .delivered (from-setup firstOnly both-ids 24 (room 48) mix) 1 (omega arith)) in
