@@ -15,10 +15,10 @@ use Rattle.channel.specs.declared.Step.{Step}
 use Rattle.channel.specs.Channel.{missedOf, repeated, keeping, notedOf, begunOf, followedOf, placedOf, steppedOf}
 use Rattle.joiner.specs.View.{View, leading, heldBy, givenBy, viewAfter, viewGiven}
 use Rattle.promises.specs.Traffic.{Datagram}
-use Rattle.promises.proofs.Machine.{Channel, Event, kept, moved, deliveries}
+use Rattle.promises.proofs.Machine.{Memory, Event, kept, moved, deliveries}
 use Rattle.promises.proofs.Apart.{given, viewDelivers}
 
-abbrev pub machine : View → Channel
+abbrev pub machine : View → Memory
 machine v = record { seen = v .channel .seen; last = v .channel .last; held = v .bytes }
 
 abbrev pub eventIn : Datagram → Event
@@ -101,4 +101,4 @@ same-deliveries room v [] m = refl
 same-deliveries room v (d ∷ ds) m =
     let a : Agrees room v (partIn d) (counterIn d) (pieceIn d) = agrees room v (partIn d) (counterIn d) (pieceIn d) m in
     ap₂ _++_ (a .delivered) (same-deliveries room (viewAfter room v d) ds (a .matched)
-    ∙ ap (λ (x : Channel). deliveries (room .size) x (map eventIn ds)) (a .channel))
+    ∙ ap (λ (x : Memory). deliveries (room .size) x (map eventIn ds)) (a .channel))

@@ -15,15 +15,15 @@ use Rattle.binding.specs.declared.MessagePart.the-variants.{Begin, Middle, End,
 use Rattle.binding.specs.Header.{counters, largestPiece}
 use Rattle.promises.specs.Senders.{Piece, Message, Sent, sentFrom, sentBy, after, arrived, lossesWithin, together}
 use Rattle.promises.specs.Senders.{allArrived, completeOf, goodPieces, goodMessage, goodMessages}
-use Rattle.promises.proofs.Machine.{Channel, Moved, at, followed, placed, deliveries}
+use Rattle.promises.proofs.Machine.{Memory, Passage, at, followed, placed, deliveries}
 use Rattle.promises.proofs.OneChannel.{Stands, standsAt, eventsOf, slot-lost, slot-arrived, losses-lost, losses-arrived}
 use Rattle.promises.proofs.OneChannel.{after-below, arrives-here, lost-here, stands-next}
 
 -- step 5 with nothing to follow, and with h to follow where there is room
-followed-none : (R c : ℕ) (h q : List ℕ) (joined : Moved) → eqb (length h) 0 ≡ true → followed R c h q joined ≡ at c [] []
+followed-none : (R c : ℕ) (h q : List ℕ) (joined : Passage) → eqb (length h) 0 ≡ true → followed R c h q joined ≡ at c [] []
 followed-none R c h q joined e = yes-if (at c [] []) _ e
 
-followed-held : (R c : ℕ) (h q : List ℕ) (joined : Moved) → eqb (length h) 0 ≡ false → length h + length q ≤ R → followed R c h q joined ≡ joined
+followed-held : (R c : ℕ) (h q : List ℕ) (joined : Passage) → eqb (length h) 0 ≡ false → length h + length q ≤ R → followed R c h q joined ≡ joined
 followed-held R c h q joined e f = no-if (at c [] []) _ e ∙ yes-le joined (at c [] []) (length h + length q) R f
 
 -- what is still owed for a message of which h is held and ps are to come
@@ -59,17 +59,17 @@ owed-end h e = yes-if _ [] (ap (λ (b : Bool). not b && true) e) ∙ ap (λ (u :
 -- the statement for the messages still to come, from a channel that has nothing to go on with
 abbrev pub Delivers : ℕ → List Message → Type 0
 Delivers R ms =
-    (v : Channel) (c g : ℕ) → Stands v c g [] → c < counters → lossesWithin (v .seen) g (sentBy ms) ≡ true
+    (v : Memory) (c g : ℕ) → Stands v c g [] → c < counters → lossesWithin (v .seen) g (sentBy ms) ≡ true
     → deliveries R v (eventsOf c (sentBy ms)) ≡ completeOf ms
 
 abbrev sent : MessagePart → Piece → Sent
 sent m p = record { mark = m; piece = p }
 
 -- a piece and what follows it, by what becomes of the piece: it is lost, or it arrives and leaves h′ held
-module _ (R : ℕ) (m : MessagePart) (p : Piece) (v : Channel) (c g : ℕ) (h : List ℕ) (st : Stands v c g h) (b : c < counters)
+module _ (R : ℕ) (m : MessagePart) (p : Piece) (v : Memory) (c g : ℕ) (h : List ℕ) (st : Stands v c g h) (b : c < counters)
     (ss : List Sent) (l : lossesWithin (v .seen) g (sent m p ∷ ss) ≡ true) where
   abbrev Onwards : List ℕ → List (List ℕ) → Type 0
-  Onwards h′ rest = (v : Channel) (c g : ℕ) → Stands v c g h′ → c < counters → lossesWithin (v .seen) g ss ≡ true → deliveries R v (eventsOf c ss) ≡ rest
+  Onwards h′ rest = (v : Memory) (c g : ℕ) → Stands v c g h′ → c < counters → lossesWithin (v .seen) g ss ≡ true → deliveries R v (eventsOf c ss) ≡ rest
 
   if-lost : (rest : List (List ℕ)) → arrived p ≡ false → Onwards [] rest → deliveries R v (eventsOf c (sent m p ∷ ss)) ≡ rest
   if-lost rest a go =
@@ -96,7 +96,7 @@ module _ (R : ℕ) (ms : List Message) (K : Delivers R ms) where
   -- what is to be shown of the pieces behind a message's first
   abbrev Behind : List Piece → List ℕ → Type 0
   Behind ps h =
-      length h + length (together ps) ≤ R → (v : Channel) (c g : ℕ) → Stands v c g h → c < counters
+      length h + length (together ps) ≤ R → (v : Memory) (c g : ℕ) → Stands v c g h → c < counters
       → lossesWithin (v .seen) g (sentFrom false ps ++ sentBy ms) ≡ true → deliveries R v (eventsOf c (sentFrom false ps ++ sentBy ms))
       ≡ owed h ps ++ completeOf ms
 
@@ -138,7 +138,7 @@ module _ (R : ℕ) (ms : List Message) (K : Delivers R ms) where
   -- a whole message
   abbrev Message-delivered : Message → Type 0
   Message-delivered m =
-      (v : Channel) (c g : ℕ) → Stands v c g [] → c < counters → lossesWithin (v .seen) g (sentFrom true m ++ sentBy ms) ≡ true
+      (v : Memory) (c g : ℕ) → Stands v c g [] → c < counters → lossesWithin (v .seen) g (sentFrom true m ++ sentBy ms) ≡ true
       → deliveries R v (eventsOf c (sentFrom true m ++ sentBy ms)) ≡ completeOf (m ∷ ms)
 
   one-piece : (p : Piece) → Message-delivered (p ∷ [])

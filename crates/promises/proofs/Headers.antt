@@ -27,7 +27,7 @@ use Rattle.message.proofs.Accepted.{readable, admits}
 use Rattle.message.proofs.RoundTrip.{reads-back, payload-back, same-bytes, writes-again}
 use Rattle.platform.proofs.Unchanged.{payload-stands}
 use Rattle.binding.proofs.Headers.{header-back, piece-back, bytes-back}
-use Rattle.promises.specs.Headers.{ReadsAs, Addressed, WrittenThenRead, ReadThenWritten, IsSentAs, EachMessage, HeaderThenRead, HeaderReadThenWritten}
+use Rattle.promises.specs.Headers.{ReadsAs, FromAnother, WrittenThenRead, ReadThenWritten, IsSentAs, EachMessage, HeaderThenRead, HeaderReadThenWritten}
 
 -- what an answer says of the refusal behind it
 pub not-refused : (r k n : ℕ) → writes.answered r k ≡ writing.Written n → (r ≡ 0) × (n ≡ k)
@@ -49,7 +49,7 @@ module _ (own domain id seq : ℕ) (payload out : List ℕ) (w : writeRefusal do
       let b : List ℕ = messageBytes own domain id seq payload in
       ap (take (headerLength + length payload)) written-out ∙ take-at b (drop (0 + length b) out) (headerLength + length payload) (omega arith)
 
-  as-read : (reader : ℕ) → Addressed own reader id seq
+  as-read : (reader : ℕ) → FromAnother own reader id seq
       → ReadsAs reader (take (headerLength + length payload) (outputAfter own domain id seq payload out))
       (headerFor own domain id seq payload) (messageOf domain id (number 2 payload 0)) payload
   as-read reader a =

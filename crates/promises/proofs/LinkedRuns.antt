@@ -38,7 +38,7 @@ use Rattle.joiner.proofs.Stored.{stored-at, stored-joiner, is-joiner}
 use Rattle.joiner.proofs.Standing.{standing-good}
 use Rattle.joiner.proofs.Lookups.{senders-length}
 use Rattle.promises.specs.Traffic.{Datagram, handedBack}
-use Rattle.promises.specs.Linked.{messageIn, outcomeFrom, Lying, lyingIn}
+use Rattle.promises.specs.Linked.{messageIn, outcomeFrom, ChannelLent, lyingIn}
 use Rattle.promises.proofs.Apart.{Underway}
 
 -- a refusal has a number
@@ -162,7 +162,7 @@ seen-word w h = go (eqb w 1) refl
     go true e = sym (eqb-true w 1 e)
     go false e = let n : ¬ (w ≡ 1) = eqb-false w 1 e in omega (arith, n)
 
-abbrev pub lyingBy : View → Lying
+abbrev pub lyingBy : View → ChannelLent
 lyingBy v = record { words = recordWords (v .channel); bytes = v .bytes }
 
 pub lying-is : (ids : List ℕ) (R k : ℕ) (ws rooms : List ℕ) → k < length ids → Underway ids R (joinerIn ws) rooms

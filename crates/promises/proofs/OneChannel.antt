@@ -16,22 +16,22 @@ use Rattle.wire.proofs.Cond.{yes-if, no-if, no-eq, both}
 use Rattle.binding.specs.declared.MessagePart.{MessagePart}
 use Rattle.binding.specs.Header.{counters}
 use Rattle.promises.specs.Senders.{Sent, after, arrived, mostLost, lossesWithin}
-use Rattle.promises.proofs.Machine.{Channel, Moved, at, missed, kept, placed, moved, Event, deliveries}
+use Rattle.promises.proofs.Machine.{Memory, Passage, at, missed, kept, placed, moved, Event, deliveries}
 
 -- where the channel stands before the datagram with counter c, with h to go on with: either something was seen and g were lost
 -- since, in which case c is as many counters further, or nothing was seen and nothing is held
-pub record After (v : Channel) (c g : ℕ) (h : List ℕ) : Type 0 where
+pub record After (v : Memory) (c g : ℕ) (h : List ℕ) : Type 0 where
   pub seen : v .seen ≡ true
   pub below : v .last < counters
   pub next : c ≡ (v .last + 1 + g) % counters
   pub hold : cond (eqb g 0) (v .held) [] ≡ h
 
-pub record Fresh (v : Channel) (h : List ℕ) : Type 0 where
+pub record Fresh (v : Memory) (h : List ℕ) : Type 0 where
   pub unseen : v .seen ≡ false
   pub empty : v .held ≡ []
   pub hold : h ≡ []
 
-abbrev pub Stands : Channel → ℕ → ℕ → List ℕ → Type 0
+abbrev pub Stands : Memory → ℕ → ℕ → List ℕ → Type 0
 Stands v c g h = After v c g h ⊎ Fresh v h
 
 -- the two facts modulo M
@@ -43,7 +43,7 @@ gap l g a b = omega arith
 
 -- a datagram that arrives: it is no repeat, and what it goes on with is h
 module _ (R : ℕ) (p : MessagePart) (c g : ℕ) (h q : List ℕ) where
-  arrives-after : (v : Channel) → After v c g h → g ≤ mostLost → moved R v p c q ≡ placed R p c h q
+  arrives-after : (v : Memory) → After v c g h → g ≤ mostLost → moved R v p c q ≡ placed R p c h q
   arrives-after v a b =
       let l = v .last in
       let new : eqb c l ≡ false = ne-eqb c l (λ e. not-again l g (a .below) b (sym (a .next) ∙ e)) in
@@ -52,30 +52,30 @@ module _ (R : ℕ) (p : MessagePart) (c g : ℕ) (h q : List ℕ) where
       let k : kept v c ≡ h = ap (λ (n : ℕ). cond (eqb n 0) (v .held) []) lost ∙ a .hold in
       no-if _ (placed R p c (kept v c) q) (ap₂ _&&_ (a .seen) new) ∙ ap (λ (u : List ℕ). placed R p c u q) k
 
-  arrives-fresh : (v : Channel) → Fresh v h → moved R v p c q ≡ placed R p c h q
+  arrives-fresh : (v : Memory) → Fresh v h → moved R v p c q ≡ placed R p c h q
   arrives-fresh v f =
       let k : kept v c ≡ h =
       ap (λ (n : ℕ). cond (eqb n 0) (v .held) []) (no-if ((c + counters - (v .last + 1)) % counters) 0 (f .unseen)) ∙ f .empty ∙ sym (f .hold) in
       no-if _ (placed R p c (kept v c) q) (ap (λ (b : Bool). b && eqb c (v .last)) (f .unseen)) ∙ ap (λ (u : List ℕ). placed R p c u q) k
 
 -- what the losses that are allowed say at a datagram that arrives
-within : (v : Channel) (c g : ℕ) (h : List ℕ) → (not (v .seen) || leb g mostLost) ≡ true → Stands v c g h → (g ≤ mostLost) ⊎ Fresh v h
+within : (v : Memory) (c g : ℕ) (h : List ℕ) → (not (v .seen) || leb g mostLost) ≡ true → Stands v c g h → (g ≤ mostLost) ⊎ Fresh v h
 within v c g h e (inl a) = inl (leb-true g mostLost (ap (λ (b : Bool). not b || leb g mostLost) (sym (a .seen)) ∙ e))
 within v c g h e (inr f) = inr f
 
-pub arrives-here : (R : ℕ) (p : MessagePart) (c g : ℕ) (h q : List ℕ) (v : Channel) → (not (v .seen) || leb g mostLost) ≡ true
+pub arrives-here : (R : ℕ) (p : MessagePart) (c g : ℕ) (h q : List ℕ) (v : Memory) → (not (v .seen) || leb g mostLost) ≡ true
     → Stands v c g h → moved R v p c q ≡ placed R p c h q
 arrives-here R p c g h q v e (inl a) = ⊎-elim (λ b. arrives-after R p c g h q v a b) (λ f. arrives-fresh R p c g h q v f) (within v c g h e (inl a))
 arrives-here R p c g h q v e (inr f) = arrives-fresh R p c g h q v f
 
 -- one that is lost leaves nothing to go on with
-pub lost-here : (v : Channel) (c g : ℕ) (h : List ℕ) → Stands v c g h → Stands v (after c) (suc g) []
+pub lost-here : (v : Memory) (c g : ℕ) (h : List ℕ) → Stands v c g h → Stands v (after c) (suc g) []
 lost-here v c g h (inl a) =
     inl (record { seen = a .seen; below = a .below; next = ap after (a .next) ∙ omega arith; hold = no-eq (v .held) [] (suc g) 0 (suc-ne-zero g) })
 lost-here v c g h (inr f) = inr (record { unseen = f .unseen; empty = f .empty; hold = refl })
 
 -- the channel after a datagram with counter c, and its repeats
-abbrev pub standsAt : ℕ → List ℕ → Channel
+abbrev pub standsAt : ℕ → List ℕ → Memory
 standsAt c h = record { seen = true; last = c; held = h }
 
 pub stands-next : (c : ℕ) (h : List ℕ) → c < counters → Stands (standsAt c h) (after c) 0 h
@@ -96,7 +96,7 @@ abbrev pub eventsOf : ℕ → List Sent → List Event
 eventsOf c [] = []
 eventsOf c (s ∷ ss) = replicate (s .piece .copies) (eventOf c s) ++ eventsOf (after c) ss
 
-module _ (R : ℕ) (v : Channel) (c g : ℕ) (s : Sent) (ss : List Sent) where
+module _ (R : ℕ) (v : Memory) (c g : ℕ) (s : Sent) (ss : List Sent) where
   copied : (n : ℕ) → s .piece .copies ≡ n → deliveries R v (eventsOf c (s ∷ ss)) ≡ deliveries R v (replicate n (eventOf c s) ++ eventsOf (after c) ss)
   copied n e = ap (λ (k : ℕ). deliveries R v (replicate k (eventOf c s) ++ eventsOf (after c) ss)) e
 
@@ -109,7 +109,7 @@ module _ (R : ℕ) (v : Channel) (c g : ℕ) (s : Sent) (ss : List Sent) where
       let n : ℕ = s .piece .copies - 1 in
       let k : s .piece .copies ≡ suc n = omega (arith, ltb-true 0 (s .piece .copies) e) in
       copied (suc n) k
-      ∙ ap (λ (x : Moved). x .delivered ++ deliveries R (x .channel) (replicate n (eventOf c s) ++ eventsOf (after c) ss)) m
+      ∙ ap (λ (x : Passage). x .delivered ++ deliveries R (x .channel) (replicate n (eventOf c s) ++ eventsOf (after c) ss)) m
       ∙ ap (λ (u : List (List ℕ)). out ++ u) (repeated R c h (s .piece .bytes) (s .mark) n (eventsOf (after c) ss))
 
   -- what the losses say behind it

@@ -33,9 +33,9 @@ use Rattle.platform.specs.declared.reactions.Heard.the-variants as heard
 use Rattle.platform.specs.declared.reactions.Reply.{Reply}
 use Rattle.platform.specs.declared.reactions.Reaction.{Reaction}
 use Rattle.states.proofs.Ups.{noted-there, noted-elsewhere}
-use Rattle.promises.specs.Platforms.{Owed, noNews, owedFor, stateAfter, nextAfter, replyLength}
+use Rattle.promises.specs.Platforms.{OwedReply, noNews, owedFor, stateAfter, nextAfter, replyLength}
 
-abbrev pub said : Reply → Owed
+abbrev pub said : Reply → OwedReply
 said r = record { number = replyNumber r; means = meant r }
 
 either-way : {a : Bool} (b : Bool) → a ≡ true → (b || a) ≡ true

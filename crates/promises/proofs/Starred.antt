@@ -30,13 +30,13 @@ use Rattle.walk.specs.Walk.{answer, left, next, through, item, counted, walk, t
 use Rattle.unpack.specs.Reading.{reader}
 use Rattle.pack.specs.Writing.{writer}
 use Rattle.payload.specs.Calls.{answered, answeredType, answeredIn, leftBy, leftIn, answeredIf, leftIf}
-use Rattle.promises.specs.Cases.{Cut, CutAs, CutsInto}
+use Rattle.promises.specs.Cases.{CutPiece, CutAs, CutsInto}
 use Rattle.promises.specs.Starred.{Starred}
 
 -- one piece, by the message's length alone
 module _ (msg : List ℕ) (m s sender first i n : ℕ) (e : length msg ≡ m) (w : Cuttable m s) (hs : sender < 4096) (hf : first < 65536)
     (l : i < pieceCount m s) (b : min s (m - i * s) ≡ n) where
-  abbrev it : Cut
+  abbrev it : CutPiece
   it = record { mark = partOfPiece (pieceCount m s) i; counter = counterOf first i; bytes = n }
 
   size : length (pieceAt msg s i) ≡ n

@@ -22,7 +22,7 @@ use Rattle.joiner.proofs.Judging.{Good, good-says}
 use Rattle.joiner.proofs.Standing.{good-is}
 use Rattle.joiner.proofs.Accepted.{fresh-good, good-fresh}
 use Rattle.promises.specs.Checks.{_when_, Answers, none}
-use Rattle.promises.specs.Order.{CanSetUp, Sound, takeChecks, itsChannel, moved, keptWith, fresh, notSetUp}
+use Rattle.promises.specs.Order.{CanSetUp, GoodJoiner, takeChecks, itsChannel, moved, keptWith, fresh, notSetUp}
 use Rattle.promises.proofs.Checks.{Decides, not-decides, decides-same, unless, unless-then}
 use Rattle.promises.proofs.Order.{inside, version-decides}
 
@@ -57,7 +57,7 @@ setup-in-order ids R buffer =
 
 -- a joiner that is handed in
 module _ (j : Joiner) (buffer : ℕ) (w : length (j .channels) ≡ channelLimit) where
-  sound : Good j buffer → Sound j buffer
+  sound : Good j buffer → GoodJoiner j buffer
   sound g =
       let l : length (sendersOf j) ≡ j .count = senders-length j (g .sizes .few) w in
       let at : (k : ℕ) → k < j .count → getD (sendersOf j) k 0 ≡ channelAt j k .sender = senders-at j (g .sizes .few) w in
@@ -74,7 +74,7 @@ module _ (j : Joiner) (buffer : ℕ) (w : length (j .channels) ≡ channelLimit)
         once = λ a b h k e. distinct-says (sendersOf j) (g .once) a b h (omega (arith, l)) (at a (omega arith) ∙ e ∙ sym (at b k));
       }
 
-  well : Sound j buffer → Good j buffer
+  well : GoodJoiner j buffer → Good j buffer
   well s =
       let l : length (sendersOf j) ≡ j .count = senders-length j (s .few) w in
       let at : (k : ℕ) → k < j .count → getD (sendersOf j) k 0 ≡ channelAt j k .sender = senders-at j (s .few) w in
@@ -84,7 +84,7 @@ module _ (j : Joiner) (buffer : ℕ) (w : length (j .channels) ≡ channelLimit)
         once = is-distinct (sendersOf j) (λ a b h k e. s .once a b h (omega (arith, l)) (sym (at a (omega (arith, l))) ∙ e ∙ at b (omega (arith, l))));
       }
 
-  good-decides : Decides (good j buffer) (Sound j buffer)
+  good-decides : Decides (good j buffer) (GoodJoiner j buffer)
   good-decides = record { yes-is = λ e. sound (good-says j buffer w e); no-is = λ e s. clash e (good-is j buffer w (well s)) }
 
   -- 23, where the joiner is good

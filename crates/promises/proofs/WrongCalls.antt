@@ -12,7 +12,7 @@ use Rattle.joiner.specs.Setup.{goodSizes, good, freshOf, setupOf}
 use Rattle.joiner.specs.Take.{sentTo, headingBy, judgedOf, takenBy, takenOf, putBy, roomsBy, roomsAfter, messageOf}
 use Rattle.joiner.specs.JoinerWords.{joinerIn, wordsOf}
 use Rattle.joiner.specs.Calls.{setupNumber, setupWords, takeNumber, takeWords, takeRooms, takeAnswer}
-use Rattle.promises.specs.WrongCalls.{Calls, linkedBy, Meets, answering, otherSlice, startForBytes, fromTheStart, neverTwo}
+use Rattle.promises.specs.WrongCalls.{InWords, linkedBy, Meets, answering, otherSlice, startForBytes, fromTheStart, neverTwo}
 use Rattle.promises.specs.WrongCalls.{stateLeft, roomsLeft, notSetUp, refusesSetups, refusesDatagrams, saysNothing, contractsOf, firstOnly, NoWrongCall}
 use Rattle.promises.specs.Cases.{sender, ids, room}
 use Rattle.promises.specs.Senders.{arrives}
@@ -123,7 +123,7 @@ says-nothing d =
     absurd (omega (arith, e))
 
 -- the run of calls that a contract says all of
-module _ (C : Calls) where
+module _ (C : InWords) where
   abbrev leftBy : List ℕ → List ℕ → Datagram → TakeLeft
   leftBy ws rooms d = record { state = C .state ws rooms d; rooms = C .rooms ws rooms d; answer = C .answer ws rooms d [] }
 

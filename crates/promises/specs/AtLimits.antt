@@ -26,14 +26,14 @@ use Rattle.platform.specs.Receiving.{freshStanding, receivedOf}
 use Rattle.platform.specs.Noting.{numberGiven}
 use Rattle.promises.specs.Checks.{Gives}
 use Rattle.promises.specs.Demand1.{receiveChecks, ReceiveInOrder}
-use Rattle.promises.specs.Headers.{Addressed, HeaderThenRead}
+use Rattle.promises.specs.Headers.{FromAnother, HeaderThenRead}
 use Rattle.promises.specs.CutAndJoined.{Cut}
 use Rattle.promises.specs.Payloads.{Known}
 use Rattle.promises.specs.Platforms.{StatesAre, Receives, Starts}
 
 pub record AtLimits : Type 1 where
   -- platform 255, and an ID and a sequence number of 32 bits; two platforms, likewise
-  pub addressed : Addressed 255 0 0xFFFFFFFF 0xFFFFFFFF
+  pub addressed : FromAnother 255 0 0xFFFFFFFF 0xFFFFFFFF
   pub starts : (p q : Standing) → p .next ≡ 0xFFFFFFFF → q .next ≡ 0xFFFFFFFF → Starts 255 254 p q 0xFFFFFFFF
   pub receives : (t : List ℕ) (s : Sections) (p : Standing) (m : List ℕ) (h : Header) (kind : Message) (start len : ℕ) →
       p .next ≡ 0xFFFFFFFF → Octets m → checked t ≡ Table s → readOf 255 m ≡ Read h kind start len → Receives 255 t s p m h kind

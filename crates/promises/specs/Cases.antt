@@ -61,7 +61,7 @@ pub record Arrival : Type 0 where
   pub piece : List ℕ
 
 -- a piece that a message is cut into: its mark, its counter, its length
-pub record Cut : Type 0 where
+pub record CutPiece : Type 0 where
   pub mark : MessagePart
   pub counter : ℕ
   pub bytes : ℕ
@@ -73,26 +73,26 @@ pub data Case : Type 0 where
   packs : ℕ → List ℕ → List ℕ → Case
   pack-refused : ℕ → List ℕ → ℕ → Case
   -- a message of m bytes at piece size s gives these pieces, whose counters start at the third number
-  cuts : ℕ → ℕ → ℕ → List Cut → Case
+  cuts : ℕ → ℕ → ℕ → List CutPiece → Case
   -- in a room of R bytes, from fresh, the datagrams have these outcomes, and these messages are delivered
   joins : ℕ → List Arrival → List Outcome → List (List ℕ) → Case
 
 -- piece i, cut into any output that is long enough: the call answers the datagram's length; its header reads back as this mark,
 -- sender and counter; and behind it stand the message's bytes from i times s on
-pub record CutAs (msg : List ℕ) (s sender first i : ℕ) (c : Cut) (out : List ℕ) : Type 0 where
+pub record CutAs (msg : List ℕ) (s sender first i : ℕ) (c : CutPiece) (out : List ℕ) : Type 0 where
   pub made : madeOf msg s sender first i (length out) ≡ made.Datagram (4 + c .bytes)
   pub header : headingIn (take (4 + c .bytes) (cutInto msg s sender first i out))
       ≡ Piece (record { part = c .mark; sender = sender; counter = c .counter })
   pub piece : pieceIn (take (4 + c .bytes) (cutInto msg s sender first i out)) ≡ take s (drop (i * s) msg)
 
 -- the pieces from piece i on
-abbrev pub AreCut : List ℕ → ℕ → ℕ → ℕ → ℕ → List Cut → Type 0
+abbrev pub AreCut : List ℕ → ℕ → ℕ → ℕ → ℕ → List CutPiece → Type 0
 AreCut msg s sender first i [] = Unit {0}
 AreCut msg s sender first i (c ∷ cs) =
     ((out : List ℕ) → 4 + c .bytes ≤ length out → CutAs msg s sender first i c out) × AreCut msg s sender first (suc i) cs
 
 -- every message of m bytes of every sender: so many pieces are counted, and these are cut
-pub record CutsInto (m s first : ℕ) (ps : List Cut) : Type 0 where
+pub record CutsInto (m s first : ℕ) (ps : List CutPiece) : Type 0 where
   pub counted : countedOf m s ≡ Pieces (length ps)
   pub cut : (msg : List ℕ) → length msg ≡ m → (sender : ℕ) → sender < 4096 → AreCut msg s sender first 0 ps
 

@@ -25,7 +25,7 @@ pub record ReadsAs (reader : ℕ) (s : List ℕ) (header : Header) (kind : Messa
   pub payload : payloadOf s (readOf reader s) ≡ its-payload
 
 -- the numbers of a message are as wide as their fields, and the reader is not its sender
-pub record Addressed (own reader id seq : ℕ) : Type 0 where
+pub record FromAnother (own reader id seq : ℕ) : Type 0 where
   pub platform : own < 256
   pub other : own ≡ reader → ⊥
   pub id-fits : id < 2 ^ 32
@@ -34,7 +34,7 @@ pub record Addressed (own reader id seq : ℕ) : Type 0 where
 -- "A written message .. reads back the same at any platform but its sender"
 abbrev pub WrittenThenRead : Type 0
 WrittenThenRead =
-    (own reader domain id seq n : ℕ) (payload out : List ℕ) → Addressed own reader id seq
+    (own reader domain id seq n : ℕ) (payload out : List ℕ) → FromAnother own reader id seq
     → writeOf domain id payload (length out) ≡ Written n
     → ReadsAs reader (take n (outputAfter own domain id seq payload out)) (headerFor own domain id seq payload)
     (messageOf domain id (number 2 payload 0)) payload
@@ -49,7 +49,7 @@ ReadThenWritten =
 -- a message of this domain, ID and payload is written wherever there is room, and reads back as this kind
 abbrev pub IsSentAs : ℕ → ℕ → List ℕ → Message → Type 0
 IsSentAs domain id payload kind =
-    (own reader seq : ℕ) (out : List ℕ) → Addressed own reader id seq → 20 + length payload ≤ length out
+    (own reader seq : ℕ) (out : List ℕ) → FromAnother own reader id seq → 20 + length payload ≤ length out
     → (writeOf domain id payload (length out) ≡ Written (20 + length payload))
     × ReadsAs reader (take (20 + length payload) (outputAfter own domain id seq payload out)) (headerFor own domain id seq payload) kind payload
 

@@ -152,18 +152,18 @@ roomsIn rooms [] = rooms
 roomsIn rooms (c ∷ cs) = roomsIn (c .left .rooms) cs
 
 -- channel k in what was lent: its four words (sender ID, seen, last counter, bytes held), and the bytes that its room holds
-pub record Lying : Type 0 where
+pub record ChannelLent : Type 0 where
   pub words : List ℕ
   pub bytes : List ℕ
 
-abbrev pub lyingIn : ℕ → ℕ → List ℕ → List ℕ → Lying
+abbrev pub lyingIn : ℕ → ℕ → List ℕ → List ℕ → ChannelLent
 lyingIn R k ws rooms =
     let p = 2 + 4 * k in
     let held = getD ws (p + 3) 0 in
     record { words = getD ws p 0 ∷ getD ws (p + 1) 0 ∷ getD ws (p + 2) 0 ∷ held ∷ []; bytes = bytesAt rooms (k * R) held }
 
 -- two traffics with the same datagrams of channel k in the same order, genuine or not, and any bytes in the rooms at the start
-pub record Alike (ids : List ℕ) (R : ℕ) (rooms rooms′ : List ℕ) (k : ℕ) (one other : List Datagram) : Type 0 where
+pub record AlikeRuns (ids : List ℕ) (R : ℕ) (rooms rooms′ : List ℕ) (k : ℕ) (one other : List Datagram) : Type 0 where
   pub set-up : CanSetUp ids R (length rooms)
   pub as-long : length rooms′ ≡ length rooms
   pub known : k < length ids
@@ -171,7 +171,7 @@ pub record Alike (ids : List ℕ) (R : ℕ) (rooms rooms′ : List ℕ) (k : ℕ
   pub bytes : AreBytes one
   pub bytes′ : AreBytes other
 
-pub record Same {ids : List ℕ} {R : ℕ} {rooms rooms′ : List ℕ} {one other : List Datagram} (k : ℕ) (x : SetUpAndRun nyr ids R rooms one)
+pub record SameRuns {ids : List ℕ} {R : ℕ} {rooms rooms′ : List ℕ} {one other : List Datagram} (k : ℕ) (x : SetUpAndRun nyr ids R rooms one)
     (y : SetUpAndRun nyr ids R rooms′ other) : Type 0 where
   pub delivered : deliveredIn ids k (x .calls) ≡ deliveredIn ids k (y .calls)
   pub outcomes : outcomesIn ids k (x .calls) ≡ outcomesIn ids k (y .calls)
@@ -180,5 +180,5 @@ pub record Same {ids : List ℕ} {R : ℕ} {rooms rooms′ : List ℕ} {one othe
 -- "and the mix makes no difference"
 abbrev pub MixMakesNoDifference : Type 0
 MixMakesNoDifference =
-    (ids : List ℕ) (R : ℕ) (rooms rooms′ : List ℕ) (k : ℕ) (one other : List Datagram) → Alike ids R rooms rooms′ k one other
-    → (x : SetUpAndRun nyr ids R rooms one) (y : SetUpAndRun nyr ids R rooms′ other) → Same k x y
+    (ids : List ℕ) (R : ℕ) (rooms rooms′ : List ℕ) (k : ℕ) (one other : List Datagram) → AlikeRuns ids R rooms rooms′ k one other
+    → (x : SetUpAndRun nyr ids R rooms one) (y : SetUpAndRun nyr ids R rooms′ other) → SameRuns k x y

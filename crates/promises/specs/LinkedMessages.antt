@@ -86,13 +86,13 @@ pub record CanBeCut (msg : List ℕ) (s sender first : ℕ) : Type 0 where
   pub counter-fits : first < 65536
 
 -- a call of this promise was made, and of it this is so
-pub data Made {K : Type 0} {A E : K → Type 0} (post so : (k : K) → A k → ℕ → E k → Type 0) : Type 0 where
-  call : (k : K) (a : A k) (n : ℕ) (e : E k) → post k a n e → so k a n e → Made post so
+pub data CallMade {K : Type 0} {A E : K → Type 0} (post so : (k : K) → A k → ℕ → E k → Type 0) : Type 0 where
+  call : (k : K) (a : A k) (n : ℕ) (e : E k) → post k a n e → so k a n e → CallMade post so
 
 -- the datagram of piece i as a call wrote it, with number 0, at the start of its output
 abbrev pub IsCut : List ℕ → ℕ → ℕ → ℕ → ℕ → Datagram → Type 0
 IsCut msg s sender first i d =
-    Made nyr-cut (λ k a n e. (now (a .0) ≡ msg) × (a .1 .0 ≡ s) × (a .1 .1 .0 ≡ sender) × (a .1 .1 .1 .0 ≡ first) × (a .1 .1 .1 .1 .0 ≡ i)
+    CallMade nyr-cut (λ k a n e. (now (a .0) ≡ msg) × (a .1 .0 ≡ s) × (a .1 .1 .0 ≡ sender) × (a .1 .1 .1 .0 ≡ first) × (a .1 .1 .1 .1 .0 ≡ i)
     × (n ≡ 0) × (d ≡ take (now (e .1 .1 .1 .1 .1 .1 .0)) (now (e .1 .1 .1 .1 .1 .0))))
 
 -- the datagrams from piece i on

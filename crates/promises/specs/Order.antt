@@ -76,7 +76,7 @@ cutChecks msg s sender first i room =
     ∷ []
 
 -- a joiner that is handed in, over a buffer of so many bytes
-pub record Sound (j : Joiner) (buffer : ℕ) : Type 0 where
+pub record GoodJoiner (j : Joiner) (buffer : ℕ) : Type 0 where
   pub some : 1 ≤ j .count
   pub few : j .count ≤ 32
   pub wide : 24 ≤ j .room
@@ -89,7 +89,7 @@ pub record Sound (j : Joiner) (buffer : ℕ) : Type 0 where
 
 abbrev pub takeChecks : Joiner → ℕ → List ℕ → List Check
 takeChecks j buffer d =
-    20 when (¬ (Sound j buffer))
+    20 when (¬ (GoodJoiner j buffer))
     ∷ (headerChecks d ++ (23 when ((k : ℕ) → k < j .count → ¬ (channelAt j k .sender ≡ datagramSender d)) ∷ []))
 
 -- what a datagram that is not refused comes to: the step of the channel whose sender ID it bears

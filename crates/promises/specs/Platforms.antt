@@ -40,7 +40,7 @@ pub record StatesAre : Type 0 where
   pub counted : (own : ℕ) (s : States) → own < 256 → Words s → howManyUp own s ≡ countBelow (isUp own s) 256
 
 -- a reply: its sequence number, and what it means
-pub record Owed : Type 0 where
+pub record OwedReply : Type 0 where
   pub number : ℕ
   pub means : Message
 
@@ -62,7 +62,7 @@ noNews own p h = isUp own (p .states) (h .platform) || leb 256 (h .platform)
 
 -- what is owed for a message of each kind: "The pair at DOWN to UP take the platform's next two own numbers", and "a reply to a
 -- request, a pull or an operation repeats its sequence number"
-abbrev pub owedFor : ℕ → List ℕ → Sections → Standing → Header → Message → List Owed
+abbrev pub owedFor : ℕ → List ℕ → Sections → Standing → Header → Message → List OwedReply
 owedFor own t s p h (message.PlatformStatus Up) =
     cond (noNews own p h) []
     (record { number = p .next; means = message.PlatformStatus Up }
@@ -96,14 +96,14 @@ nextAfter own p h message.Operation = p .next
 abbrev pub replyLength : ℕ
 replyLength = 24
 
-pub record HeardAs (reader own : ℕ) (b : List ℕ) (o : Owed) : Type 0 where
+pub record HeardAs (reader own : ℕ) (b : List ℕ) (o : OwedReply) : Type 0 where
   pub header : Header
   pub reads : readOf reader b ≡ Read header (o .means) 20 4
   pub sender : header .platform ≡ own
   pub number : header .sequence ≡ o .number
 
 -- just these replies, one behind another
-abbrev pub AreReplies : ℕ → ℕ → List ℕ → List Owed → Type 0
+abbrev pub AreReplies : ℕ → ℕ → List ℕ → List OwedReply → Type 0
 AreReplies reader own b [] = b ≡ []
 AreReplies reader own b (o ∷ os) = HeardAs reader own (take replyLength b) o × AreReplies reader own (drop replyLength b) os
 

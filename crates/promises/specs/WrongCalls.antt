@@ -13,14 +13,14 @@ use Rattle.promises.specs.Demand3.{Demand3For}
 use Rattle.promises.specs.Linked.{Contracts, nyr, DeliversFor, outcomeFrom, linked}
 
 -- a set-up and a take in words, ours or any other
-pub record Calls : Type 0 where
+pub record InWords : Type 0 where
   pub setup : List ℕ → ℕ → ℕ → List ℕ → List ℕ
   pub number : List ℕ → List ℕ → Datagram → ℕ
   pub state : List ℕ → List ℕ → Datagram → List ℕ
   pub rooms : List ℕ → List ℕ → Datagram → List ℕ
   pub answer : List ℕ → List ℕ → Datagram → List ℕ → List ℕ
 
-abbrev pub linkedBy : Calls → List ℕ → List ℕ → Joining
+abbrev pub linkedBy : InWords → List ℕ → List ℕ → Joining
 linkedBy C was out =
     record {
       State = List ℕ;
@@ -29,14 +29,14 @@ linkedBy C was out =
           record { outcome = outcomeFrom (C .number ws rooms d) (C .answer ws rooms d out); state = C .state ws rooms d; rooms = C .rooms ws rooms d };
     }
 
-abbrev pub Meets : Calls → Type 0
+abbrev pub Meets : InWords → Type 0
 Meets C = (was out : List ℕ) → Demand3For (linkedBy C was out)
 
-abbrev pub ourCalls : Calls
+abbrev pub ourCalls : InWords
 ourCalls = record { setup = setupWords; number = takeNumber; state = takeWords; rooms = takeRooms; answer = takeAnswer }
 
 -- with another answer: its words are outcome, missed, bytes, slice, start
-abbrev pub answering : (List ℕ → List ℕ) → Calls
+abbrev pub answering : (List ℕ → List ℕ) → InWords
 answering f =
     record { setup = setupWords; number = takeNumber; state = takeWords; rooms = takeRooms; answer = λ ws rooms d out. f (takeAnswer ws rooms d out) }
 
@@ -57,13 +57,13 @@ abbrev pub neverTwo : List ℕ → List ℕ
 neverTwo w = 3 ∷ getD w 1 0 ∷ getD w 2 0 ∷ getD w 3 0 ∷ getD w 4 0 ∷ []
 
 -- the record is not written back; the piece is not put into its room; nothing is set up
-abbrev pub stateLeft : Calls
+abbrev pub stateLeft : InWords
 stateLeft = record { setup = setupWords; number = takeNumber; state = λ ws rooms d. ws; rooms = takeRooms; answer = takeAnswer }
 
-abbrev pub roomsLeft : Calls
+abbrev pub roomsLeft : InWords
 roomsLeft = record { setup = setupWords; number = takeNumber; state = takeWords; rooms = λ ws rooms d. rooms; answer = takeAnswer }
 
-abbrev pub notSetUp : Calls
+abbrev pub notSetUp : InWords
 notSetUp = record { setup = λ ids R b was. was; number = takeNumber; state = takeWords; rooms = takeRooms; answer = takeAnswer }
 
 -- contracts that refuse every set-up (20) or every datagram (23), or that say nothing of what `take` does
@@ -81,7 +81,7 @@ abbrev pub saysNothing : Contracts
 saysNothing = record { SetsUp = nyr .SetsUp; Takes = λ x n l. n ≡ n }
 
 -- contracts that say just what these calls do, and calls that refuse all but the first channel's datagrams (23)
-abbrev pub contractsOf : Calls → Contracts
+abbrev pub contractsOf : InWords → Contracts
 contractsOf C =
     record {
       SetsUp = λ x n l. (n ≡ setupNumber (x .ids) (x .room) (x .rooms)) × (l ≡ C .setup (x .ids) (x .room) (x .rooms) (x .state));
@@ -96,7 +96,7 @@ contractsOf C =
 abbrev pub isFirst : List ℕ → Datagram → Bool
 isFirst ws d = eqb (getD ws 2 0) (senderIn d)
 
-abbrev pub firstOnly : Calls
+abbrev pub firstOnly : InWords
 firstOnly =
     record {
       setup = setupWords;

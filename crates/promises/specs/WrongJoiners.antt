@@ -69,7 +69,7 @@ firstOnly =
     }
 
 -- a repeated datagram gets the last answer again
-pub record Answered : Type 0 where
+pub record LastSaid : Type 0 where
   pub joiner : Joiner
   pub last : Outcome
 
@@ -81,14 +81,14 @@ lastAgain o (Held m n) = Held m n
 lastAgain o (Stray m) = Stray m
 lastAgain o (TooLong m) = TooLong m
 
-abbrev pub answeredAgain : Outcome → Took Joiner → Took Answered
+abbrev pub answeredAgain : Outcome → Took Joiner → Took LastSaid
 answeredAgain o t =
     record { outcome = lastAgain o (t .outcome); state = record { joiner = t .state; last = lastAgain o (t .outcome) }; rooms = t .rooms }
 
 abbrev pub againAnswered : Joining
 againAnswered =
     record {
-      State = Answered;
+      State = LastSaid;
       start = λ ids R rooms. record { joiner = fresh ids R rooms; last = Repeated };
       take = λ s rooms d. answeredAgain (s .last) (ourJoining .take (s .joiner) rooms d);
     }
