@@ -27,6 +27,7 @@ pub mod WrongTurns
 pub mod Starred
 pub mod Unique
 pub mod UniqueCalls
+pub mod UniqueOperations
 pub mod ExportsKeep
 mod LinkedRuns
 pub mod Linked

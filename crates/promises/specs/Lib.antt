@@ -20,6 +20,7 @@ pub mod WrongTurns
 pub mod Starred
 pub mod Unique
 pub mod UniqueCalls
+pub mod UniqueOperations
 pub mod ExportsKeep
 pub mod InNumbers
 pub mod Linked
