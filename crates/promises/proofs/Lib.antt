@@ -34,6 +34,7 @@ pub mod Unique
 pub mod UniqueCalls
 pub mod UniqueRequests
 pub mod Requests
+pub mod UniqueOperations
 pub mod ExportsKeep
 mod LinkedRuns
 pub mod Linked

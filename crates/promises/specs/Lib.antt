@@ -25,6 +25,7 @@ pub mod Unique
 pub mod UniqueCalls
 pub mod UniqueRequests
 pub mod Requests
+pub mod UniqueOperations
 pub mod ExportsKeep
 pub mod InNumbers
 pub mod Linked

@@ -1,0 +1,5 @@
+pub mod Places
+pub mod Passing
+pub mod Laying
+pub mod Halving
+pub mod WhereIDsRise

@@ -1,0 +1,15 @@
+-- `operations::entries::response_at` meets its contract: only a wide entry has it.
+-- Assumes nothing.
+use borrow.Author.Needs.{needs}
+use Rattle.operations.proofs.Places.{responds-with, no-response}
+use Rattle.operations.proofs.entries.response_at.Statement.{statement}
+use Rattle.operations.proofs.entries.response_at.Tie as tie
+
+pub response-at-spec : {M : Type 1} → statement M
+response-at-spec =
+    tie.close
+    (tie.spec
+    (λ c κs. search needs)
+    (λ c κs. search needs)
+    (λ c. search responds-with)
+    (λ c. search no-response))

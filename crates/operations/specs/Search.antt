@@ -1,0 +1,66 @@
+-- 02, 4: an operation looked up by its ID, by halving over an index: a word for each operation, in ID order. Where the IDs rise and the
+-- index is the table's, what is found is the operation of that ID (`found-first` of proofs/WhereIDsRise); with any index it is an entry
+-- that bears the ID and lies within the bytes, or none (`found-bears` of proofs/Halving).
+use Prim.Native.Nat.{ℕ, zero, suc, _+_, _*_, _/_, _%_}
+use mathlib.Core.Bool.{cond, _&&_}
+use mathlib.Core.List.{List}
+use lib.Dec.{ltb, leb, eqb}
+use lib.ListN.{length, getD, set}
+use Rattle.wire.specs.Bytes.{number}
+use Rattle.operations.specs.declared.Sought.{Sought}
+use Rattle.operations.specs.declared.Sought.the-variants.{At, Nowhere}
+use Rattle.operations.specs.Entries.{opWidth, opPlace, idAt}
+
+-- an ID and a place in one word
+abbrev pub half : ℕ
+half = 4294967296
+
+unfoldable pub indexWord : List ℕ → ℕ → ℕ → ℕ
+indexWord t first i = idAt t first i * half + opPlace t first i
+
+-- the words of n entries are laid, as far as there is room; the rest stays
+unfoldable pub indexed : List ℕ → ℕ → ℕ → List ℕ → List ℕ
+indexed t first zero words = words
+indexed t first (suc n) words = set (indexed t first n words) n (indexWord t first n)
+
+-- the ID and the place that the m-th word says; a word that is not there is 0
+abbrev pub idIn : List ℕ → ℕ → ℕ
+idIn index m = getD index m 0 / half
+
+abbrev pub placeIn : List ℕ → ℕ → ℕ
+placeIn index m = getD index m 0 % half
+
+-- what the index says is held against the bytes: the whole entry lies within them, and bears the ID
+unfoldable pub borne : List ℕ → ℕ → ℕ → ℕ → Sought
+borne t id m p = cond (leb (p + opWidth t p) (length t) && eqb (number 2 t p) id) (At m p) Nowhere
+
+abbrev pub middle : ℕ → ℕ → ℕ
+middle low high = (low + high) / 2
+
+-- the ID among the entries from low on and below high, in at most n looks: the middle one bears it, or it is above or below that
+unfoldable pub halved : List ℕ → List ℕ → ℕ → ℕ → ℕ → ℕ → Sought
+halved t index id zero low high = Nowhere
+halved t index id (suc n) low high =
+    cond (ltb low high)
+    (cond (eqb (idIn index (middle low high)) id) (borne t id (middle low high) (placeIn index (middle low high)))
+    (cond (ltb (idIn index (middle low high)) id) (halved t index id n (middle low high + 1) high) (halved t index id n low (middle low high))))
+    Nowhere
+
+-- a count has 16 bits, so that 16 looks are enough
+abbrev pub mostLooks : ℕ
+mostLooks = 16
+
+unfoldable pub soughtIn : List ℕ → List ℕ → ℕ → ℕ → Sought
+soughtIn t index count id = halved t index id mostLooks 0 count
+
+-- the first of the entries below n that bears the ID, by a plain scan; the operation of an ID is the first of all
+abbrev pub orElse : Sought → Sought → Sought
+orElse (At i p) y = At i p
+orElse Nowhere y = y
+
+unfoldable pub firstBelow : List ℕ → ℕ → ℕ → ℕ → Sought
+firstBelow t first id zero = Nowhere
+firstBelow t first id (suc n) = orElse (firstBelow t first id n) (cond (eqb (idAt t first n) id) (At n (opPlace t first n)) Nowhere)
+
+unfoldable pub operationOf : List ℕ → ℕ → ℕ → ℕ → Sought
+operationOf t first count id = firstBelow t first id count
