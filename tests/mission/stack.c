@@ -130,6 +130,11 @@ static void how_many_up(void)
     number = nyr_how_many_up(1, &platform) & 0;
 }
 
+static void library_version(void)
+{
+    number = nyr_library_version() & 0;
+}
+
 /* The bounds of include/nyrkovash.h. */
 static const struct bound {
     const char *name;
@@ -151,7 +156,8 @@ static const struct bound {
               {"nyr_receive", receive, 4096},
               {"nyr_receive_in", receive_in, 4096},
               {"nyr_is_up", is_up, 256},
-              {"nyr_how_many_up", how_many_up, 256}};
+              {"nyr_how_many_up", how_many_up, 256},
+              {"nyr_library_version", library_version, 256}};
 
 static size_t taken[sizeof bounds / sizeof *bounds];
 static int failed;
@@ -369,6 +375,7 @@ static void messages(void)
     }
     measure(is_up, 0);
     measure(how_many_up, 0);
+    measure(library_version, 0);
 }
 
 int main(int argc, char **argv)
