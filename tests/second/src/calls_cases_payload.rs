@@ -41,7 +41,7 @@ pub const CASES: &[Worked] = &[
                 000F 0002 | 00000020 0001 00000008 00000000 0000 0000 0002 00000005 0000 FFFF 00000006 0001 0000 | 00000001 07 \
                 000F 0002 | 00000020 0001 00000008 00000000 0000 0000 0002 00000005 0000 FFFF 00000006 0001 0000 | 00000004 FFFFFFFF \
                 000F 0002 | 00000002 0000 | 00000001 05",
-        lines: "0 entry 0 65535\n1 entry 1 0\n2 none\n3 none\n4 refused 31\n",
+        lines: "0 entry 0 65535 65535\n1 entry 1 0 65535\n2 none\n3 none\n4 refused 31\n",
     },
     Worked {
         name: "starred payloads to words",

@@ -34,9 +34,12 @@ pub mod message;
 pub mod payload;
 #[cfg(test)]
 mod payload_tests;
+pub mod pending;
 pub mod platform;
 #[cfg(test)]
 mod platform_tests;
+#[cfg(test)]
+mod requests_tests;
 pub mod take;
 pub mod types;
 #[cfg(test)]
@@ -60,11 +63,16 @@ pub mod calls_tables;
 pub mod calls_values;
 
 // Files of calls worked out by hand, and one call of each code at every edge.
+#[macro_use]
+mod calls_cases_parts;
 pub mod calls_cases;
 pub mod calls_cases_bad;
 pub mod calls_cases_joining;
+pub mod calls_cases_lists;
 pub mod calls_cases_payload;
 pub mod calls_cases_platform;
+pub mod calls_cases_requests;
+pub mod calls_cases_wide;
 pub mod calls_every;
 
 // The comparison with `answers`.
