@@ -56,9 +56,13 @@ pub mod calls_compose;
 pub mod calls_cutting;
 pub mod calls_damage;
 pub mod calls_joiners;
+pub mod calls_ledger;
+pub mod calls_lists;
 pub mod calls_messages;
+pub mod calls_operations;
 pub mod calls_payloads;
 pub mod calls_platforms;
+pub mod calls_requests;
 pub mod calls_tables;
 pub mod calls_values;
 
