@@ -31,6 +31,8 @@ pub mod run;
 // Models of the other calls.
 pub mod cutting;
 pub mod message;
+#[cfg(test)]
+mod message_tests;
 pub mod payload;
 #[cfg(test)]
 mod payload_tests;
