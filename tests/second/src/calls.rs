@@ -216,7 +216,7 @@ mod tests {
             ("14 bytes", 400),
             ("15 entry", 400),
             ("15 none", 400),
-            ("8 response", 200),
+            ("8 response", 150),
             ("20 sent", 800),
             ("21 cancelled", 100),
             ("21 not pending", 100),

@@ -35,6 +35,11 @@ pub const CASES: &[Worked] = &[
             hear!("00000018 EC0A0200 00000000 00000001 00000004 00000009 00000001", "2F"),
             hear!("00000018 EC0A0200 00000000 00000001 00000004 00000009 00000001", "30"),
             send!("00000007", "00000000", "00000000", "14"),
+            // Behind a request numbered FFFFFFFF it takes 0 and 1.
+            handed_in!("FFFFFFFF", "00000000"),
+            send!("00000007", "00000000", "00000000", "14"),
+            hear!("00000018 EC0A0200 00000000 00000001 00000004 00000009 00000001", "30"),
+            send!("00000007", "00000000", "00000000", "14"),
         ),
         lines: "0 platform 1\n1 status up from 0 owed {EC0A0200 00000001 00000001 00000004 00000005 00000001 \
                 EC0A0200 00000001 00000004 00000004 00000006 FFFFFFFF}\n\
@@ -44,7 +49,11 @@ pub const CASES: &[Worked] = &[
                 6 response 7 from 0 seq 6\n7 platform 1\n8 refused 10\n\
                 9 status up from 0 owed {EC0A0200 00000001 00000001 00000004 FFFFFFFF 00000001 \
                 EC0A0200 00000001 00000004 00000004 00000000 FFFFFFFF}\n\
-                10 sent 1 {EC0A0201 00000001 00000007 00000000 00000001}\n",
+                10 sent 1 {EC0A0201 00000001 00000007 00000000 00000001}\n\
+                11 platform 1\n12 sent 4294967295 {EC0A0201 00000001 00000007 00000000 FFFFFFFF}\n\
+                13 status up from 0 owed {EC0A0200 00000001 00000001 00000004 00000000 00000001 \
+                EC0A0200 00000001 00000004 00000004 00000001 FFFFFFFF}\n\
+                14 sent 2 {EC0A0201 00000001 00000007 00000000 00000002}\n",
     },
     Worked {
         // One byte short: neither the list nor the next number moves.

@@ -36,6 +36,10 @@ impl Ledger {
         }
     }
 
+    pub fn is_up(&self, platform: u32) -> bool {
+        self.up.contains(&platform)
+    }
+
     /// A request under an ID of this kind in its table, 2 or another or none.
     pub fn send(&mut self, kind: Option<u16>, request: Fields, target: u32, room: u64) -> String {
         if kind != Some(2) {

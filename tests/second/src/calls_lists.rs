@@ -46,16 +46,30 @@ pub fn words(rng: &mut Prng, ledger: &Ledger, ids: &[u32]) -> Vec<u64> {
     words
 }
 
-/// Numbers twice, targets that no platform has, and words that are nothing at all.
-pub fn forge(rng: &mut Prng, words: &mut [u64], ids: &[u32]) {
+/// Numbers twice, targets that no platform has, and words that are nothing at all. Behind it the
+/// ledger tells no more what is pending, only what is worth asking for.
+pub fn forge(rng: &mut Prng, words: &mut [u64], ledger: &mut Ledger, ids: &[u32]) {
     for _ in 0..rng.from_to(1, 6) {
-        let (at, other) = (rng.below(64), rng.below(64));
+        let used = (0..64).filter(|place| words[*place] >> 32 != 0);
+        let used: Vec<usize> = used.chain([rng.below(64)]).collect();
+        let (at, other) = (rng.below(64), rng.pick(&used));
         match rng.below(6) {
-            0 | 1 => words[at] = words[other],
-            2 => words[at] = words[other] >> 32 << 32 | u64::from(rng.pick(ids)),
-            3 => words[64 + at] |= 1 << rng.from_to(32, 63),
+            0 => words[at] = words[other],
+            1 | 2 => words[at] = words[other] >> 32 << 32 | u64::from(rng.pick(ids)),
+            3 => words[64 + other] |= 1 << rng.from_to(32, 63),
             4 => words[64 + at] = words[64 + other],
             _ => (words[at], words[64 + at]) = (rng.draw(), rng.draw()),
+        }
+    }
+    ledger.pending.clear();
+    for place in (0..64).rev().filter(|place| words[*place] >> 32 != 0) {
+        let (number, id) = ((words[place] >> 32) as u32, words[place] as u32);
+        // A place behind one with the same number: asked for when the first is gone.
+        if let Some((id, target)) = ledger
+            .pending
+            .insert(number, (id, words[64 + place] as u32))
+        {
+            ledger.past.push((number, id, target));
         }
     }
 }

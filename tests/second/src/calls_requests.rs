@@ -50,11 +50,16 @@ impl Asking {
 
     /// The next call of the conversation.
     pub fn step(&mut self, rng: &mut Prng) -> Step {
-        let (call, told) = match rng.below(60) {
+        // The number behind 0xFFFFFFFF: the pair takes it, and a request does not.
+        let turn = match self.ledger.next {
+            0 if rng.chance(1, 2) => 50,
+            _ => rng.below(60),
+        };
+        let (call, told) = match turn {
             0 => self.start(rng),
             1 => self.handed_in(rng),
-            2 => self.forge(rng),
-            3..=22 => self.send(rng),
+            2 | 3 => self.forge(rng),
+            4..=22 => self.send(rng),
             23..=38 => self.answer(rng),
             39..=43 => self.cancel(rng),
             44..=49 => self.ask(rng),
@@ -108,7 +113,7 @@ impl Asking {
         self.ledger = calls_lists::ledger(rng, &self.ids, &self.others);
         self.forged = true;
         let mut words = calls_lists::words(rng, &self.ledger, &self.ids);
-        calls_lists::forge(rng, &mut words, &self.ids);
+        calls_lists::forge(rng, &mut words, &mut self.ledger, &self.ids);
         (calls_lists::hand_in(rng, &self.ledger, &words), None)
     }
 
@@ -205,7 +210,9 @@ impl Asking {
     /// Up and down of whom we asked: the pair draws from the same numbers.
     fn status(&mut self, rng: &mut Prng) -> Step {
         let from = rng.pick(&self.others);
-        let (up, room) = (rng.chance(2, 3), rng.pick(&[48, 48, 48, 47, 0]));
+        // Mostly a change.
+        let up = self.ledger.is_up(from) != rng.chance(3, 4);
+        let room = rng.pick(&[48, 48, 48, 47, 0]);
         let field = u32::from(up).to_be_bytes().to_vec();
         let message = Fields::new(0, from, 1, 9, field).bytes();
         let table = self.tables[0].bytes();
