@@ -270,7 +270,8 @@ linked-payloads =
           let b = now (a .1 .1 .1 .0) in
           let words = now (a .1 .1 .1 .1 .0) in
           let was = now (a .1 .1 .1 .1 .1 .0) in (
-            as-told (unpacked t i b (length words)) was (unpack-same t s (now (a .1 .0)) index i h f b words) (unpack-numbered t i b (length words)) (p .0) (p .1 .1),
+            as-told (unpacked t i b (length words)) was (unpack-same t s (now (a .1 .0)) index i h f b words) (unpack-numbered t i b (length words))
+                (p .0) (p .1 .1),
             p .1 .0 ∙ words-same t s (now (a .1 .0)) index i h f b words,
           );
     }

@@ -2,7 +2,7 @@
 -- Assumes nothing.
 use Prim.Native.Nat.{ℕ, _+_, _*_, _^_, _≤_, _<_}
 use mathlib.Core.Path.{_≡_, refl, sym, ap, ap₂, subst, _∙_}
-use mathlib.Core.Bool.{Bool, true, false, _||_}
+use mathlib.Core.Bool.{Bool, true, false}
 use mathlib.Core.Logic.{_⊎_, ⊎-elim}
 use mathlib.Core.List.{List}
 use native.Mathlib.Omega.{arith}
@@ -15,7 +15,6 @@ use Rattle.table.specs.declared.Sections.{Sections}
 use Rattle.table.specs.declared.Checked.the-variants.{Table}
 use Rattle.types.specs.Table.{checked}
 use Rattle.types.proofs.Accepted.{Accepted, accepted, ids-rise}
-use Rattle.operations.specs.declared.Operation.{Operation}
 use Rattle.operations.specs.declared.Sought.{Sought}
 use Rattle.operations.specs.declared.Sought.the-variants.{At, Nowhere}
 use Rattle.operations.specs.Entries.{opPlace, kindAt, responseAt, operationAt, idAt}
@@ -25,8 +24,8 @@ use Rattle.operations.proofs.Places.{place-most}
 use Rattle.operations.proofs.Laying.{word-laid, word-kept, length-indexed, place-in}
 use Rattle.operations.proofs.Halving.{found-bears}
 use Rattle.operations.proofs.WhereIDsRise.{laid-first, laid-none, laid-nowhere}
-use Rattle.promises.specs.Rules32.{placeOf, idOf, operationKind, operationType, responseType}
-use Rattle.promises.specs.Lookups.{laid, lookedUp, Laid, Says, LooksUp, Lookups}
+use Rattle.promises.specs.Rules32.{operationPlace, idOf, operationKind}
+use Rattle.promises.specs.Lookups.{laid, lookedUp, IndexIs, EntrySays, LooksUp, Lookups}
 use Rattle.promises.proofs.OperationRules.{place-is, id-is}
 
 -- the words of the index
@@ -34,11 +33,11 @@ module _ (t : List ℕ) (s : Sections) (words : List ℕ) (room : s .operations 
   its-word : (i : ℕ) → i < s .operations .count → getD (laid t s words) i 0 ≡ indexWord t (s .operations .at) i
   its-word i l = word-laid t (s .operations .at) words (s .operations .count) i l (omega arith)
 
-  in-numbers : (i : ℕ) → indexWord t (s .operations .at) i ≡ idOf t s i * 2 ^ 32 + placeOf t s i
+  in-numbers : (i : ℕ) → indexWord t (s .operations .at) i ≡ idOf t s i * 2 ^ 32 + operationPlace t s i
   unfolding indexWord
   in-numbers i = ap₂ (λ (a b : ℕ). a * half + b) (id-is t s i) (place-is t s i)
 
-  is-laid : Laid t s words
+  is-laid : IndexIs t s words
   is-laid =
       record {
         word = λ i l. its-word i l ∙ in-numbers i;
@@ -48,7 +47,7 @@ module _ (t : List ℕ) (s : Sections) (words : List ℕ) (room : s .operations 
 
 -- the entry that stands where the i-th does
 module _ (t : List ℕ) (s : Sections) (i : ℕ) where
-  says : Says t s i (operationAt t (placeOf t s i))
+  says : EntrySays t s i (operationAt t (operationPlace t s i))
   unfolding operationAt kindAt responseAt
   says =
       record {
@@ -104,24 +103,24 @@ module _ (t : List ℕ) (s : Sections) (words : List ℕ) (id : ℕ) (e : checke
   then-none f =
       laid-none t (s .operations .at) id (s .operations .count) rises words room inside starts-low few (λ i l q. f i l (sym (id-is t s i) ∙ q))
 
-  bears : (i p : ℕ) → lookedUp t s words id ≡ At i p → (i < s .operations .count) × (p ≡ placeOf t s i) × (idOf t s i ≡ id)
+  bears : (i p : ℕ) → lookedUp t s words id ≡ At i p → (i < s .operations .count) × (p ≡ operationPlace t s i) × (idOf t s i ≡ id)
   bears i p f =
       let b = found-bears t (laid t s words) id (s .operations .count) i p f in
       let low : opPlace t (s .operations .at) i < half = omega (arith, b .0, place-most t (s .operations .at) i, starts-low, few) in
       let q : placeIn (laid t s words) i ≡ opPlace t (s .operations .at) i =
       place-in t (s .operations .at) (laid t s words) i (its-word t s words room i (b .0)) low in
-      let place : p ≡ placeOf t s i = b .1 ∙ q ∙ place-is t s i in
+      let place : p ≡ operationPlace t s i = b .1 ∙ q ∙ place-is t s i in
       (b .0, place, ap (number 2 t) (sym place) ∙ b .2)
 
-  each : (i : ℕ) → i < s .operations .count → idOf t s i ≡ id → lookedUp t s words id ≡ At i (placeOf t s i)
+  each : (i : ℕ) → i < s .operations .count → idOf t s i ≡ id → lookedUp t s words id ≡ At i (operationPlace t s i)
   each i l q = go (lookedUp t s words id) refl
     where
-      go : (x : Sought) → lookedUp t s words id ≡ x → x ≡ At i (placeOf t s i)
+      go : (x : Sought) → lookedUp t s words id ≡ x → x ≡ At i (operationPlace t s i)
       go Nowhere f = absurd (none-bears f i l q)
       go (At j p) f =
           let b = bears j p f in
           let same : j ≡ i = same-entry t s rises j i (b .0) l (b .2 ∙ sym q) in
-          ap₂ At same (b .1 ∙ ap (placeOf t s) same)
+          ap₂ At same (b .1 ∙ ap (operationPlace t s) same)
 
   looks-up : LooksUp t s words id
   looks-up =
@@ -129,7 +128,7 @@ module _ (t : List ℕ) (s : Sections) (words : List ℕ) (id : ℕ) (e : checke
         first = accepted-find;
         each = each;
         bears = bears;
-        says = λ i p f. subst (λ (q : ℕ). Says t s i (operationAt t q)) (sym (bears i p f .1)) (says t s i);
+        says = λ i p f. subst (λ (q : ℕ). EntrySays t s i (operationAt t q)) (sym (bears i p f .1)) (says t s i);
         none = (none-bears, then-none);
       }
 

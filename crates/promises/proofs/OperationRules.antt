@@ -1,7 +1,7 @@
 -- What a check tests of an operation is the papers' rule for it; and where the operations stand, in their numbers.
 -- Assumes nothing.
 use Prim.Native.Nat.{ℕ, zero, suc, _+_, _-_, _≤_, _<_}
-use mathlib.Core.Path.{_≡_, refl, sym, ap, subst, _∙_}
+use mathlib.Core.Path.{_≡_, refl, sym, ap, subst}
 use mathlib.Core.Bool.{Bool, true, false, cond, _&&_, _||_}
 use mathlib.Core.Logic.{_⊎_, inl, inr, ⊎-elim}
 use mathlib.Core.List.{List}
@@ -12,13 +12,13 @@ use Rattle.wire.specs.Bytes.{number}
 use Rattle.table.specs.declared.Sections.{Sections}
 use Rattle.operations.specs.Entries.{widthOf, kindAt, opWidth, opPlace, responseAt, operationAt, idAt}
 use Rattle.operations.specs.Rules.{fieldsOk, operationOk}
-use Rattle.promises.specs.Rules32.{placeOf, idOf, operationKind, operationType, responseType}
+use Rattle.promises.specs.Rules32.{operationPlace, idOf, operationKind, operationType, responseType}
 use Rattle.promises.specs.Rules32.{TypeOrNone, its-type, none, Carries, a-type, nothing, a-request, OperationKeeps}
 use Rattle.promises.proofs.Checks.{Decides, lt-decides, le-decides, eq-decides, or-decides, and-decides, decides-same}
 
 -- where the n-th stands, and its ID
 module _ (t : List ℕ) (s : Sections) where
-  pub place-is : (n : ℕ) → opPlace t (s .operations .at) n ≡ placeOf t s n
+  pub place-is : (n : ℕ) → opPlace t (s .operations .at) n ≡ operationPlace t s n
   unfolding opPlace opWidth widthOf kindAt
   place-is zero = refl
   place-is (suc n) = ap (λ (p : ℕ). p + opWidth t p) (place-is n)
@@ -121,7 +121,7 @@ module _ (s : Sections) where
 
 -- the whole rule
 module _ (t : List ℕ) (s : Sections) (i : ℕ) where
-  fields-are : fieldsOk (s .types .count) (operationAt t (placeOf t s i))
+  fields-are : fieldsOk (s .types .count) (operationAt t (operationPlace t s i))
       ≡ (ltb (idOf t s i) 0xFFFFFFFF && carried s (operationKind t s i) (operationType t s i) (responseType t s i))
   unfolding fieldsOk operationAt kindAt responseAt
   fields-are = refl

@@ -6,7 +6,7 @@ use mathlib.Core.Bool.{Bool, true, false, not, cond, _&&_, _||_}
 use mathlib.Core.Logic.{_⊎_, inl, inr, ⊎-elim}
 use mathlib.Core.List.{List, [], _∷_, _++_}
 use native.Mathlib.Omega.{arith}
-use borrow.Author.Tests.{leb-false, leb-true, ltb-true, ltb-false, eqb-true, eqb-false, le-ltb}
+use borrow.Author.Tests.{leb-false, leb-true, ltb-true, ltb-false, eqb-true, eqb-false}
 use lib.Dec.{eqb, ltb}
 use lib.ListN.{length}
 use Rattle.table.specs.declared.Section.{Section}
@@ -25,8 +25,8 @@ use Rattle.types.specs.Sizes.{mostBytes, largest, sizeFits}
 use Rattle.types.specs.Table.{entriesOk, sizesOk, judged, judging, checked}
 use Rattle.wire.proofs.AllBelow.{at-below}
 use Rattle.promises.specs.Checks.{Check, _when_, Answers, Outside, none, this, next, below, above}
-use Rattle.promises.specs.Rules32.{placeOf, operationKind}
-use Rattle.promises.specs.TableOrder.{sectionsIn, sectionChecks, CutShort, a-request, tableEnd, BreaksARule, IsTooLarge, tableChecks, TableInOrder}
+use Rattle.promises.specs.Rules32.{operationPlace, operationKind}
+use Rattle.promises.specs.TableOrder.{sectionsIn, sectionChecks, IsCutShort, a-request, tableEnd, BreaksARule, IsTooLarge, tableChecks, TableInOrder}
 use Rattle.promises.proofs.Checks.{Decides, lt-decides, eq-decides, or-decides, decides-same, by, unless, then}
 use Rattle.promises.proofs.OperationRules.{place-is, operation-decides}
 use Rattle.promises.proofs.Rules32.{some-below, type-decides}
@@ -119,7 +119,7 @@ module _ (t : List ℕ) (s : Sections) where
 -- the operations: an entry is cut short just where the last one ends past the bytes
 module _ (t : List ℕ) (s : Sections) where
   -- the n-th entry ends past the bytes: it lacks some of its 8 or, where its kind is 2 or 3, 10
-  cut-here : (n : ℕ) → n < s .operations .count → length t < opPlace t (s .operations .at) n + opWidth t (opPlace t (s .operations .at) n) → CutShort t s
+  cut-here : (n : ℕ) → n < s .operations .count → length t < opPlace t (s .operations .at) n + opWidth t (opPlace t (s .operations .at) n) → IsCutShort t s
   unfolding opWidth widthOf kindAt
   cut-here n l h = go (eqb (operationKind t s n) 2 || eqb (operationKind t s n) 3) refl
     where
@@ -127,28 +127,28 @@ module _ (t : List ℕ) (s : Sections) where
       asked = or-decides (eqb (operationKind t s n) 2) (eqb (operationKind t s n) 3) (eq-decides (operationKind t s n) 2)
           (eq-decides (operationKind t s n) 3) .yes-is
 
-      at : length t < placeOf t s n + opWidth t (placeOf t s n)
+      at : length t < operationPlace t s n + opWidth t (operationPlace t s n)
       at = subst (λ (p : ℕ). length t < p + opWidth t p) (place-is t s n) h
 
-      go : (b : Bool) → (eqb (operationKind t s n) 2 || eqb (operationKind t s n) 3) ≡ b → CutShort t s
-      go true e = a-request n l (asked e) (subst (λ (b : Bool). length t < placeOf t s n + cond b 10 8) e at)
-      go false e = CutShort.an-operation n l (subst (λ (b : Bool). length t < placeOf t s n + cond b 10 8) e at)
+      go : (b : Bool) → (eqb (operationKind t s n) 2 || eqb (operationKind t s n) 3) ≡ b → IsCutShort t s
+      go true e = a-request n l (asked e) (subst (λ (b : Bool). length t < operationPlace t s n + cond b 10 8) e at)
+      go false e = IsCutShort.an-operation n l (subst (λ (b : Bool). length t < operationPlace t s n + cond b 10 8) e at)
 
-  some-cut : s .operations .at ≤ length t → (n : ℕ) → n ≤ s .operations .count → length t < opPlace t (s .operations .at) n → CutShort t s
+  some-cut : s .operations .at ≤ length t → (n : ℕ) → n ≤ s .operations .count → length t < opPlace t (s .operations .at) n → IsCutShort t s
   unfolding opPlace
   some-cut a zero l h = absurd (omega arith)
   some-cut a (suc n) l h = go (λ c. some-cut a n (omega arith) c) (ltb (length t) (opPlace t (s .operations .at) n)) refl
     where
-      go : (length t < opPlace t (s .operations .at) n → CutShort t s) → (b : Bool) → ltb (length t) (opPlace t (s .operations .at) n) ≡ b → CutShort t s
+      go : (length t < opPlace t (s .operations .at) n → IsCutShort t s) → (b : Bool) → ltb (length t) (opPlace t (s .operations .at) n) ≡ b → IsCutShort t s
       go before true e = before (ltb-true (length t) (opPlace t (s .operations .at) n) e)
       go before false e = cut-here n (omega arith) h
 
-  has-ten : (i : ℕ) → (operationKind t s i ≡ 2) ⊎ (operationKind t s i ≡ 3) → opWidth t (placeOf t s i) ≡ 10
+  has-ten : (i : ℕ) → (operationKind t s i ≡ 2) ⊎ (operationKind t s i ≡ 3) → opWidth t (operationPlace t s i) ≡ 10
   unfolding opWidth widthOf kindAt
   has-ten i k = ⊎-elim (λ (e : operationKind t s i ≡ 2). rw e refl) (λ (e : operationKind t s i ≡ 3). rw e refl) k
 
-  none-cut : operationsEnd t s ≤ length t → ¬ (CutShort t s)
-  none-cut h (CutShort.an-operation i l c) =
+  none-cut : operationsEnd t s ≤ length t → ¬ (IsCutShort t s)
+  none-cut h (IsCutShort.an-operation i l c) =
       omega (arith, h, c, place-is t s i, width-least t (opPlace t (s .operations .at) i), entry-within t (s .operations .at) i (s .operations .count) l)
   none-cut h (a-request i l k c) =
       let w : opWidth t (opPlace t (s .operations .at) i) ≡ 10 = ap (opWidth t) (place-is t s i) ∙ has-ten i k in
@@ -162,18 +162,18 @@ module _ (t : List ℕ) (s : Sections) where
 
   -- what is answered behind their count
   ended-in-order : s .operations .at ≤ length t
-      → Answers Refused (Table s) (30 when CutShort t s ∷ 30 when (tableEnd t s < length t) ∷ [])
+      → Answers Refused (Table s) (30 when IsCutShort t s ∷ 30 when (tableEnd t s < length t) ∷ [])
       (cond (ltb (length t) (sectionEnd operationWidth (s .operations))) (Refused 30) (ended t s))
   unfolding ended
   ended-in-order a =
       go (ltb (length t) (sectionEnd operationWidth (s .operations))) refl (eqb (operationsEnd t s) (length t)) refl (ltb (length t) (operationsEnd t s)) refl
     where
-      cut : length t < operationsEnd t s → CutShort t s
+      cut : length t < operationsEnd t s → IsCutShort t s
       cut h = some-cut a (s .operations .count) (omega arith) h
 
       go : (b : Bool) → ltb (length t) (sectionEnd operationWidth (s .operations)) ≡ b → (c : Bool) → eqb (operationsEnd t s) (length t) ≡ c
           → (d : Bool) → ltb (length t) (operationsEnd t s) ≡ d
-          → Answers Refused (Table s) (30 when CutShort t s ∷ 30 when (tableEnd t s < length t) ∷ [])
+          → Answers Refused (Table s) (30 when IsCutShort t s ∷ 30 when (tableEnd t s < length t) ∷ [])
           (cond b (Refused 30) (cond c (Table s) (Refused 30)))
       go true eb c ec d ed =
           this (cut (omega (arith, ltb-true (length t) (sectionEnd operationWidth (s .operations)) eb, least (s .operations .count))))
@@ -191,7 +191,7 @@ module _ (t : List ℕ) (s : Sections) where
 -- the section of the operations, whose count stands at p
 abbrev operationChecks : List ℕ → ℕ → Sections → List Check
 operationChecks t p s =
-    30 when (length t < p + 2) ∷ 31 when (1024 < s .operations .count) ∷ 30 when CutShort t s ∷ 30 when (tableEnd t s < length t) ∷ []
+    30 when (length t < p + 2) ∷ 31 when (1024 < s .operations .count) ∷ 30 when IsCutShort t s ∷ 30 when (tableEnd t s < length t) ∷ []
 
 operations-in-order : (t : List ℕ) (p : ℕ) (types members values : Section)
     → let s : Sections = record { types = types; members = members; values = values; operations = counted t p } in

@@ -13,7 +13,7 @@ use Rattle.operations.specs.declared.Sought.{Sought}
 use Rattle.operations.specs.declared.Sought.the-variants.{At, Nowhere}
 use Rattle.operations.specs.Entries.{operationAt}
 use Rattle.operations.specs.Search.{indexed, soughtIn, operationOf}
-use Rattle.promises.specs.Rules32.{placeOf, idOf, operationKind, operationType, responseType}
+use Rattle.promises.specs.Rules32.{operationPlace, idOf, operationKind, operationType, responseType}
 
 -- the index in lent words; and an ID looked up by it
 abbrev pub laid : List ℕ → Sections → List ℕ → List ℕ
@@ -23,13 +23,13 @@ abbrev pub lookedUp : List ℕ → Sections → List ℕ → ℕ → Sought
 lookedUp t s words id = soughtIn t (laid t s words) (s .operations .count) id
 
 -- a word for each operation, its ID and the byte at which its entry stands; the words behind them stay
-pub record Laid (t : List ℕ) (s : Sections) (words : List ℕ) : Type 0 where
-  pub word : (i : ℕ) → i < s .operations .count → getD (laid t s words) i 0 ≡ idOf t s i * 2 ^ 32 + placeOf t s i
+pub record IndexIs (t : List ℕ) (s : Sections) (words : List ℕ) : Type 0 where
+  pub word : (i : ℕ) → i < s .operations .count → getD (laid t s words) i 0 ≡ idOf t s i * 2 ^ 32 + operationPlace t s i
   pub behind : (i : ℕ) → s .operations .count ≤ i → getD (laid t s words) i 0 ≡ getD words i 0
   pub long : length (laid t s words) ≡ length words
 
 -- what an entry says: a response type where it has one, and 0xFFFF otherwise
-pub record Says (t : List ℕ) (s : Sections) (i : ℕ) (o : Operation) : Type 0 where
+pub record EntrySays (t : List ℕ) (s : Sections) (i : ℕ) (o : Operation) : Type 0 where
   pub id : o .id ≡ idOf t s i
   pub kind : o .kind ≡ operationKind t s i
   pub carries : o .carries ≡ operationType t s i
@@ -40,15 +40,15 @@ pub record LooksUp (t : List ℕ) (s : Sections) (words : List ℕ) (id : ℕ) :
   -- the first that a plain scan meets
   pub first : lookedUp t s words id ≡ operationOf t (s .operations .at) (s .operations .count) id
   -- each entry is found by its ID, with its number and its place, and what is found bears the ID and is one of them
-  pub each : (i : ℕ) → i < s .operations .count → idOf t s i ≡ id → lookedUp t s words id ≡ At i (placeOf t s i)
-  pub bears : (i p : ℕ) → lookedUp t s words id ≡ At i p → (i < s .operations .count) × (p ≡ placeOf t s i) × (idOf t s i ≡ id)
-  pub says : (i p : ℕ) → lookedUp t s words id ≡ At i p → Says t s i (operationAt t p)
+  pub each : (i : ℕ) → i < s .operations .count → idOf t s i ≡ id → lookedUp t s words id ≡ At i (operationPlace t s i)
+  pub bears : (i p : ℕ) → lookedUp t s words id ≡ At i p → (i < s .operations .count) × (p ≡ operationPlace t s i) × (idOf t s i ≡ id)
+  pub says : (i p : ℕ) → lookedUp t s words id ≡ At i p → EntrySays t s i (operationAt t p)
   -- none exactly where no entry bears the ID
   pub none : (lookedUp t s words id ≡ Nowhere) ↔ ((i : ℕ) → i < s .operations .count → ¬ (idOf t s i ≡ id))
 
 -- 1,024 words have room for the index of any table
 pub record Lookups : Type 0 where
   pub enough : (t : List ℕ) (s : Sections) → checked t ≡ Table s → s .operations .count ≤ 1024
-  pub index : (t : List ℕ) (s : Sections) (words : List ℕ) → s .operations .count ≤ length words → Laid t s words
+  pub index : (t : List ℕ) (s : Sections) (words : List ℕ) → s .operations .count ≤ length words → IndexIs t s words
   pub looks-up : (t : List ℕ) (s : Sections) (words : List ℕ) (id : ℕ) → checked t ≡ Table s → s .operations .count ≤ length words
       → LooksUp t s words id

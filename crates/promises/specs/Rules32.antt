@@ -34,24 +34,24 @@ valueIn t s k = number 3 t (s .values .at + 8 * k)
 
 -- an operation: "32-bit ID, 16-bit kind, 16-bit type", 8 bytes; and kinds 2 and 3, "whose entries are followed by a 16-bit response
 -- type", 10. So where the i-th stands goes by the kinds of those before it
-abbrev pub bytesFor : ℕ → ℕ
-bytesFor kind = cond (eqb kind 2 || eqb kind 3) 10 8
+abbrev pub operationBytes : ℕ → ℕ
+operationBytes kind = cond (eqb kind 2 || eqb kind 3) 10 8
 
-abbrev pub placeOf : List ℕ → Sections → ℕ → ℕ
-placeOf t s zero = s .operations .at
-placeOf t s (suc i) = placeOf t s i + bytesFor (number 1 t (placeOf t s i + 4))
+abbrev pub operationPlace : List ℕ → Sections → ℕ → ℕ
+operationPlace t s zero = s .operations .at
+operationPlace t s (suc i) = operationPlace t s i + operationBytes (number 1 t (operationPlace t s i + 4))
 
 abbrev pub idOf : List ℕ → Sections → ℕ → ℕ
-idOf t s i = number 2 t (placeOf t s i)
+idOf t s i = number 2 t (operationPlace t s i)
 
 abbrev pub operationKind : List ℕ → Sections → ℕ → ℕ
-operationKind t s i = number 1 t (placeOf t s i + 4)
+operationKind t s i = number 1 t (operationPlace t s i + 4)
 
 abbrev pub operationType : List ℕ → Sections → ℕ → ℕ
-operationType t s i = number 1 t (placeOf t s i + 6)
+operationType t s i = number 1 t (operationPlace t s i + 6)
 
 abbrev pub responseType : List ℕ → Sections → ℕ → ℕ
-responseType t s i = number 1 t (placeOf t s i + 8)
+responseType t s i = number 1 t (operationPlace t s i + 8)
 
 -- "0 base (of is the code)", 0 to 12; "Unused fields are 0"
 pub record BaseRule (of first count : ℕ) : Type 0 where
