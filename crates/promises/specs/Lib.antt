@@ -24,6 +24,7 @@ pub mod AtLimits
 pub mod Unique
 pub mod UniqueCalls
 pub mod UniqueRequests
+pub mod UniquePlatforms
 pub mod Requests
 pub mod UniqueOperations
 pub mod Lookups
