@@ -1,18 +1,18 @@
 -- A platform in its words: what reading and writing show, and that the words of a platform read back as that platform.
 -- Assumes nothing.
 use Prim.Native.Nat.{ℕ, _%_, _^_, _≤_, _<_}
-use mathlib.Core.Path.{_≡_, refl, ap, _∙_}
+use mathlib.Core.Path.{_≡_, ap, _∙_}
 use mathlib.Core.Bool.{Bool, true, false}
 use mathlib.Core.List.{List, [], _∷_, _++_}
 use native.Mathlib.Nat.{mod-eq-of-lt}
-use native.Mathlib.Omega.{arith}
 use lib.ListN.{length, getD, set, replicate}
+use lib.Seq.{sets-eq}
 use Rattle.states.specs.declared.States.{States}
 use Rattle.platform.specs.declared.reactions.Standing.{Standing}
 use Rattle.states.specs.States.{isUp, howManyUp}
 use Rattle.pending.specs.PlainMap.{freshList}
 use Rattle.platform.specs.Receiving.{freshStanding}
-use Rattle.platform_words.specs.StateCalls.{upNumber}
+use Rattle.platform_words.specs.StateCalls.{freshWords, upNumber}
 use Rattle.platform_words.specs.Words.{standingLength, statesIn, nextIn, standingIn, pendingIn, standingWords}
 
 module _ (ws : List ℕ) where
@@ -38,16 +38,11 @@ module _ (ws : List ℕ) where
 -- the first words written, one by one
 pub put-words : (ws : List ℕ) (a b c d e : ℕ) → standingLength ≤ length ws
     → set (set (set (set (set ws 0 a) 1 b) 2 c) 3 d) 4 e ≡ a ∷ b ∷ c ∷ d ∷ e ∷ pendingIn ws
-put-words [] a b c d e h = absurd (omega arith)
-put-words (x ∷ []) a b c d e h = absurd (omega arith)
-put-words (x ∷ y ∷ []) a b c d e h = absurd (omega arith)
-put-words (x ∷ y ∷ z ∷ []) a b c d e h = absurd (omega arith)
-put-words (x ∷ y ∷ z ∷ v ∷ []) a b c d e h = absurd (omega arith)
-put-words (x ∷ y ∷ z ∷ v ∷ w ∷ ws) a b c d e h = refl
+put-words ws a b c d e h = sets-eq (a ∷ b ∷ c ∷ d ∷ e ∷ []) ws 0 h
 
 -- a fresh one
 pub fresh-words : {x : List ℕ} {p : Standing} (own : ℕ) → p ≡ freshStanding own → x ≡ standingWords p ++ pendingIn (replicate 133 0)
-    → x ≡ standingWords (freshStanding own) ++ freshList
+    → x ≡ freshWords own
 fresh-words own e f = f ∙ ap (λ (q : Standing). standingWords q ++ freshList) e
 
 -- the words of a platform, whatever stands behind them, read back as that platform

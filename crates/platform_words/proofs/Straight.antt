@@ -52,7 +52,8 @@ module _ {f : Sought} (t : List ℕ) where
     pub not-sent : (k ≡ sentKind → ⊥) → sought.At i p ≡ unlessSent t f
     unfolding isSent
     not-sent z =
-        sym (ap (unlessSent t) ef ∙ no-if {A = Sought} sought.Nowhere (sought.At i p) (ne-eqb (kindAt t p) sentKind (λ (y : kindAt t p ≡ sentKind). z (ek ∙ y))))
+        let d : kindAt t p ≡ sentKind → ⊥ = λ y. z (ek ∙ y) in
+        sym (ap (unlessSent t) ef ∙ no-if {A = Sought} sought.Nowhere (sought.At i p) (ne-eqb (kindAt t p) sentKind d))
 
   pub none-there : f ≡ sought.Nowhere → sought.Nowhere ≡ unlessSent t f
   unfolding isSent

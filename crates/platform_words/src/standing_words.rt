@@ -8,10 +8,8 @@ ghost use mathlib.Core.List.{_++_};
 ghost use Prim.Native.Nat.{_≤_};
 ghost use lib.ListN.{length};
 ghost use Rattle.states.specs.States.{howManyUp};
-ghost use Rattle.pending.specs.PlainMap.{freshList};
-ghost use Rattle.platform.specs.Receiving.{freshStanding};
 ghost use Rattle.platform_words.specs.Words.{standingLength, statesIn, nextIn, standingIn, pendingIn, standingWords};
-ghost use Rattle.platform_words.specs.StateCalls.{upNumber};
+ghost use Rattle.platform_words.specs.StateCalls.{freshWords, upNumber};
 
 // How many words a platform is.
 pub const PLATFORM_WORDS: usize = 133;
@@ -28,7 +26,7 @@ const NUMBERS: u64 = 4294967296;
 // A fresh platform: nothing is pending.
 pub fn fresh(own: u8, platform: &mut [u64; PLATFORM_WORDS]) -> u32
     ensures { λ r. ⌜ r ≡ 0 ⌝ }
-    ensures { λ _. ⌜ now (platform .exit) ≡ standingWords (freshStanding own) ++ freshList ⌝ }
+    ensures { λ _. ⌜ now (platform .exit) ≡ freshWords own ⌝ }
 {
     *platform = [0u64; PLATFORM_WORDS];
     let standing = platform::fresh(Own { platform: own });
