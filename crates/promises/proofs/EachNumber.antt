@@ -11,11 +11,12 @@ use Rattle.joiner.specs.Setup.{goodSizes, good, freshOf, setupOf}
 use Rattle.joiner.specs.Take.{sentTo, headingBy, judgedOf, takenBy, takenOf, putBy, roomsBy, roomsAfter, messageOf}
 use Rattle.wire.specs.All.{allBelow, above}
 use Rattle.table.specs.Layout.{sectionAt, after, ended, afterValues, afterMembers, afterTypes, sectionsOf, liesIn, within}
-use Rattle.table.specs.Entries.{typeAt, memberAt, valueAt, idAt, operationAt}
+use Rattle.table.specs.Entries.{typeAt, memberAt, valueAt}
 use Rattle.table.specs.Leaf.{base, bytesOf, inSigned, finite, isValue, width, allowed}
 use Rattle.table.specs.Fields.{fieldsOk}
 use Rattle.types.specs.Rules.{memberOk, membersOk, pointedOk, typeOk}
-use Rattle.types.specs.Operations.{fieldsOk as operationFields, operationOk}
+use Rattle.operations.specs.Entries.{widthOf, kindAt, opWidth, opPlace, responseAt, operationAt, idAt}
+use Rattle.operations.specs.Rules.{fieldsOk as operationFields, operationOk, operationsOk}
 use Rattle.types.specs.Sizes.{sumOf, sumFrom, sizeOf, sizes, largest, sizeFits}
 use Rattle.types.specs.Table.{entriesOk, sizesOk, judged, judging, checked}
 use Rattle.leaf.specs.Forms.{truth, extended, wordOf, form, wordAt, formOf}
@@ -43,8 +44,8 @@ one-call : (numberGiven (receivedOf 1 wholeTable (freshStanding 1) status 47 .an
     × (numberGiven (sectionsOutcome 1 [] (sectionsIn wholeTable) (freshStanding 1) status 48 .answer) ≡ 30)
     × (numberGiven (sectionsOutcome 1 wholeTable (sectionsIn wholeTable) (freshStanding 1) status 47 .answer) ≡ 10)
 unfolding allBelow above sectionAt after ended afterValues afterMembers afterTypes sectionsOf liesIn within typeAt memberAt
-    valueAt idAt operationAt base bytesOf inSigned finite isValue width allowed fieldsOk memberOk membersOk pointedOk typeOk
-    operationFields operationOk sizeOf sizes largest sizeFits entriesOk sizesOk judged judging checked operationFor operationIn
+    valueAt opPlace base bytesOf inSigned finite isValue width allowed fieldsOk memberOk membersOk pointedOk typeOk
+    operationsOk sizeOf sizes largest sizeFits entriesOk sizesOk judged judging checked operationFor operationIn
     cameUp onState onStatus reactionTo outcomeOf receivedBy receivedOf sectionsOutcome bitOf isUp turned
     states.wordOf withWord platform.answered sumOf sumFrom withOwn
 one-call = (refl, refl, refl)
@@ -52,8 +53,9 @@ one-call = (refl, refl, refl)
 pub each-number : EachNumber
 unfolding missedOf keeping notedOf begunOf followedOf placedOf steppedOf goodSizes good freshOf setupOf sentTo headingBy judgedOf
     takenBy takenOf putBy roomsBy roomsAfter messageOf allBelow above sectionAt after ended afterValues afterMembers afterTypes
-    sectionsOf liesIn within typeAt memberAt valueAt idAt operationAt base bytesOf inSigned finite isValue width allowed fieldsOk
-    memberOk membersOk pointedOk typeOk operationFields operationOk sizeOf sizes largest sizeFits entriesOk sizesOk judged judging checked truth
+    sectionsOf liesIn within typeAt memberAt valueAt widthOf kindAt opWidth opPlace responseAt operationAt idAt base bytesOf inSigned finite isValue
+    width allowed fieldsOk memberOk membersOk pointedOk typeOk operationFields operationOk operationsOk sizeOf sizes largest sizeFits entriesOk
+    sizesOk judged judging checked truth
     extended wordOf form wordAt formOf choice byKind look elementsOf treeOf trees tree answer left next through item counted walk
     typeWalk reader writer answered answeredType answeredIn leftBy leftIn answeredIf leftIf
 each-number = record {
@@ -72,7 +74,7 @@ each-number = record {
   pieces = refl and refl and refl and refl and tt;
   cut = refl and refl and refl and refl and tt;
   table-checks = refl and refl and refl and refl and refl and refl and refl and refl and refl and refl and refl and refl and refl and refl and refl
-      and refl and refl and tt;
+      and refl and refl and refl and refl and refl and refl and refl and refl and refl and refl and refl and refl and refl and refl and tt;
   unpack = refl and refl and refl and refl and refl and refl and tt;
   pack = refl and refl and refl and refl and refl and refl and tt;
   on-sections = refl and refl and tt;

@@ -9,7 +9,7 @@ pub mod Headers
 pub mod CutAndJoined
 pub mod Payloads
 pub mod OneCodec
-mod Lookups
+pub mod Lookups
 mod Reacting
 mod Replying
 pub mod Platforms
@@ -49,6 +49,7 @@ pub mod Numbers
 mod Reporting
 pub mod WrongReports
 mod EnumWords
+mod OperationRules
 pub mod Rules32
 pub mod WrongChecks
 pub mod Sizes33

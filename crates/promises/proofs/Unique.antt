@@ -2,7 +2,7 @@
 -- Assumes nothing.
 use mathlib.Core.Path.{_≡_, sym, _∙_}
 use Rattle.platform.proofs.Unique.{same-outcome, same-output}
-use Rattle.promises.proofs.Lookups.{accepted-find}
+use Rattle.promises.proofs.Lookups.{lookups}
 use Rattle.promises.specs.Unique.{WireUnique, MessageUnique, BindingUnique, ChannelUnique, JoinerUnique, TableUnique}
 use Rattle.promises.specs.Unique.{LeafUnique, TypesUnique, WalkUnique, UnpackUnique, PackUnique, PayloadUnique}
 use Rattle.promises.specs.Unique.{StatesUnique, PlatformUnique, PlatformWordsUnique, RecordingUnique, OnAccepted, Unique}
@@ -83,10 +83,8 @@ table =
       is-type = λ k a z z′ e e′ p q. p ∙ sym q;
       member-at = λ k a z z′ e e′ p q. p ∙ sym q;
       value-at = λ k a z z′ e e′ p q. p ∙ sym q;
-      operation-at = λ k a z z′ e e′ p q. p ∙ sym q;
       within = λ k a z z′ e e′ p q. p ∙ sym q;
       fields-ok = λ k a z z′ e e′ p q. p ∙ sym q;
-      find = λ k a z z′ e e′ p q. p ∙ sym q;
       read = λ k a z z′ e e′ p q. p ∙ sym q;
       type-place = λ k a z z′ e e′ p q. p ∙ sym q;
       member-place = λ k a z z′ e e′ p q. p ∙ sym q;
@@ -207,7 +205,7 @@ recording =
 on-accepted : OnAccepted
 on-accepted =
     record {
-      find = accepted-find;
+      find = lookups;
       receive-checked = λ own t s p m room e. same-outcome own t s p m e room;
       receive-checked-out = λ own t s p m out e. same-output own t s p m e out;
     }

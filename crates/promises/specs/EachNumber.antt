@@ -57,6 +57,16 @@ types = 0 ∷ 1 ∷ 0 ∷ 0 ∷ 0 ∷ 8 ∷ 0 ∷ 0 ∷ 0 ∷ 0 ∷ []
 abbrev pub noEntry : List ℕ
 noEntry = 0 ∷ 0 ∷ []
 
+-- and with this section of operations: an entry with an ID, a kind and a type, and one with a response type behind them
+abbrev pub operationsOf : List ℕ → List ℕ
+operationsOf section = types ++ (noEntry ++ (noEntry ++ section))
+
+abbrev pub narrow : ℕ → ℕ → ℕ → List ℕ
+narrow id kind type = bytes 2 id ++ (bytes 1 kind ++ bytes 1 type)
+
+abbrev pub wide : ℕ → ℕ → ℕ → ℕ → List ℕ
+wide id kind type response = narrow id kind type ++ bytes 1 response
+
 -- a joiner of one channel, with its record; and a whole message on channel 5
 abbrev pub joinerOf : ℕ → ℕ → ℕ → ℕ → Joiner
 joinerOf R sender last held = changed (freshOf (5 ∷ []) R) 0 (record { sender = sender; seen = true; last = last; held = held })
@@ -139,13 +149,27 @@ pub record EachNumber : Type 0 where
       ∷ 30 for (types ++ (noEntry ++ (0 ∷ [])))
       ∷ 31 for (types ++ (noEntry ++ (4 ∷ 1 ∷ [])))
       ∷ 30 for (types ++ (noEntry ++ (0 ∷ 1 ∷ 0 ∷ [])))
-      ∷ 30 for (types ++ (noEntry ++ (noEntry ++ (0 ∷ []))))
-      ∷ 31 for (types ++ (noEntry ++ (noEntry ++ (4 ∷ 1 ∷ []))))
-      ∷ 30 for (types ++ (noEntry ++ (noEntry ++ (0 ∷ 1 ∷ 0 ∷ []))))
-      ∷ 30 for (types ++ (noEntry ++ (noEntry ++ (noEntry ++ (0 ∷ [])))))
-      -- a type; an operation of kind 2; 65,535 double64
+      ∷ 30 for operationsOf (0 ∷ [])
+      ∷ 31 for operationsOf (4 ∷ 1 ∷ [])
+      -- a versioned data that lacks a byte of its 8; a request that has 8, and lacks one of its 10
+      ∷ 30 for operationsOf (0 ∷ 1 ∷ (bytes 2 1 ++ (bytes 1 1 ++ (0 ∷ []))))
+      ∷ 30 for operationsOf (0 ∷ 1 ∷ (bytes 2 1 ++ (bytes 1 2 ++ (bytes 1 0 ++ (0 ∷ [])))))
+      ∷ 30 for operationsOf (0 ∷ 1 ∷ (bytes 2 1 ++ (bytes 1 3 ++ (bytes 1 0 ++ (0 ∷ [])))))
+      -- bytes after no operation; and after one whose kind has no response type
+      ∷ 30 for operationsOf (0 ∷ 0 ∷ 0 ∷ [])
+      ∷ 30 for operationsOf (0 ∷ 1 ∷ (narrow 1 1 0 ++ bytes 1 0))
+      ∷ 30 for operationsOf (0 ∷ 1 ∷ (narrow 1 4 0 ++ bytes 1 0))
+      -- a type; an operation's kind, its type, its response type, and its ID; 65,535 double64
       ∷ 32 for brokenTable
-      ∷ 32 for (types ++ (noEntry ++ (noEntry ++ (0 ∷ 1 ∷ 0 ∷ 0 ∷ 0 ∷ 1 ∷ 0 ∷ 2 ∷ 0 ∷ 0 ∷ []))))
+      ∷ 32 for operationsOf (0 ∷ 1 ∷ narrow 1 4 0)
+      ∷ 32 for operationsOf (0 ∷ 1 ∷ narrow 1 0 1)
+      ∷ 32 for operationsOf (0 ∷ 1 ∷ narrow 1 1 0xFFFF)
+      ∷ 32 for operationsOf (0 ∷ 1 ∷ wide 1 2 1 0)
+      ∷ 32 for operationsOf (0 ∷ 1 ∷ wide 1 2 0 1)
+      ∷ 32 for operationsOf (0 ∷ 1 ∷ wide 1 3 1 0)
+      ∷ 32 for operationsOf (0 ∷ 1 ∷ wide 1 3 0 1)
+      ∷ 32 for operationsOf (0 ∷ 1 ∷ narrow 0xFFFFFFFF 0 0)
+      ∷ 32 for operationsOf (0 ∷ 2 ∷ (wide 7 2 0 0 ++ narrow 7 0 0))
       ∷ 33 for
       (0 ∷ 2 ∷ 0 ∷ 0 ∷ 0 ∷ 12 ∷ 0 ∷ 0 ∷ 0 ∷ 0 ∷ 0 ∷ 3 ∷ 0 ∷ 0 ∷ 0 ∷ 0 ∷ 0xFF ∷ 0xFF ∷ noEntry ++ (noEntry ++ noEntry))
       ∷ [])

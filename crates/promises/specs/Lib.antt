@@ -26,6 +26,7 @@ pub mod UniqueCalls
 pub mod UniqueRequests
 pub mod Requests
 pub mod UniqueOperations
+pub mod Lookups
 pub mod ExportsKeep
 pub mod InNumbers
 pub mod Linked

@@ -9,12 +9,11 @@ use mathlib.Core.List.{List}
 use denote.Ref.{now}
 use Rattle.table.specs.declared.Sections.{Sections}
 use Rattle.table.specs.declared.Checked.the-variants.{Table}
-use Rattle.table.specs.Operations.{operationOf}
 use Rattle.types.specs.Table.{checked}
 use Rattle.platform.specs.declared.reactions.Standing.{Standing}
-use Rattle.table.specs.Search.{lookedUp}
 use Rattle.platform.specs.Receiving.{receivedOf, leftOf, sectionsOutcome, sectionsOutput}
 use Rattle.recording.specs.Play.{stateOf}
+use Rattle.promises.specs.Lookups.{Lookups}
 use Rattle.wire.proofs.u8_at.Reads.{Post as wire-u8-at}
 use Rattle.wire.proofs.u16_at.Reads.{Post as wire-u16-at}
 use Rattle.wire.proofs.u32_at.Reads.{Post as wire-u32-at}
@@ -56,10 +55,8 @@ use Rattle.table.proofs.entries.type_at.Reads.{Post as table-entries-type-at}
 use Rattle.table.proofs.entries.is_type.Reads.{Post as table-entries-is-type}
 use Rattle.table.proofs.entries.member_at.Reads.{Post as table-entries-member-at}
 use Rattle.table.proofs.entries.value_at.Reads.{Post as table-entries-value-at}
-use Rattle.table.proofs.entries.operation_at.Reads.{Post as table-entries-operation-at}
 use Rattle.table.proofs.within.Reads.{Post as table-within}
 use Rattle.table.proofs.fields_ok.Reads.{Post as table-fields-ok}
-use Rattle.table.proofs.find.Reads.{Post as table-find}
 use Rattle.table.proofs.read.Reads.{Post as table-read}
 use Rattle.table.proofs.layout.type_place.Reads.{Post as table-layout-type-place}
 use Rattle.table.proofs.layout.member_place.Reads.{Post as table-layout-member-place}
@@ -178,10 +175,8 @@ pub record TableUnique : Type 0 where
   pub is-type : Answer table-entries-is-type
   pub member-at : Answer table-entries-member-at
   pub value-at : Answer table-entries-value-at
-  pub operation-at : Answer table-entries-operation-at
   pub within : Answer table-within
   pub fields-ok : Answer table-fields-ok
-  pub find : Answer table-find
   pub read : Answer table-read
   pub type-place : Answer table-layout-type-place
   pub member-place : Answer table-layout-member-place
@@ -271,7 +266,7 @@ pub record RecordingUnique : Type 0 where
 -- docs/DECISIONS.md, 20: on a table that `check` accepts, what is found is the operation of that ID, the first that a plain scan
 -- meets, or none where there is none; and the call on sections answers and leaves what the call on the bytes does
 pub record OnAccepted : Type 0 where
-  pub find : (t : List ℕ) (s : Sections) (id : ℕ) → checked t ≡ Table s → lookedUp t s id ≡ operationOf t s id
+  pub find : Lookups
   pub receive-checked : (own : ℕ) (t : List ℕ) (s : Sections) (p : Standing) (m : List ℕ) (room : ℕ) →
       checked t ≡ Table s → sectionsOutcome own t s p m room ≡ receivedOf own t p m room
   pub receive-checked-out : (own : ℕ) (t : List ℕ) (s : Sections) (p : Standing) (m out : List ℕ) →
