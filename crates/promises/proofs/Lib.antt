@@ -4,12 +4,15 @@ mod TakeOrder
 pub mod TableOrder
 mod NumbersInOrder
 pub mod PayloadOrder
+mod ReceiveOrder
 pub mod Demand1
 pub mod Headers
 pub mod CutAndJoined
 pub mod Payloads
 pub mod OneCodec
 pub mod Lookups
+mod ByID
+mod Kind2
 mod Reacting
 mod Replying
 pub mod Platforms
@@ -49,6 +52,8 @@ pub mod LinkedReplies
 pub mod Numbers
 mod Reporting
 pub mod WrongReports
+pub mod Responses
+pub mod WrongResponses
 mod EnumWords
 mod OperationRules
 pub mod Rules32

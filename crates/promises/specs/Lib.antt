@@ -37,7 +37,9 @@ pub mod LinkedMessages
 pub mod LinkedReplies
 pub mod Numbers
 pub mod Reports
+pub mod Responses
 pub mod WrongReports
+pub mod WrongResponses
 pub mod Rules32
 pub mod WrongChecks
 pub mod Sizes33
