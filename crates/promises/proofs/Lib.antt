@@ -34,6 +34,10 @@ pub mod Unique
 pub mod UniqueCalls
 pub mod UniqueRequests
 pub mod Requests
+mod RequestTables
+mod RequestReceipts
+mod NewRequest
+pub mod AskedAndAnswered
 pub mod UniqueOperations
 pub mod ExportsKeep
 mod LinkedRuns

@@ -25,6 +25,9 @@ pub mod Unique
 pub mod UniqueCalls
 pub mod UniqueRequests
 pub mod Requests
+pub mod RequestCalls
+pub mod RequestRuns
+pub mod AskedAndAnswered
 pub mod UniqueOperations
 pub mod ExportsKeep
 pub mod InNumbers
