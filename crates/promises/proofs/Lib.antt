@@ -38,6 +38,9 @@ mod RequestTables
 mod RequestReceipts
 mod NewRequest
 pub mod AskedAndAnswered
+mod RequestsAlong
+mod OneRequestRun
+pub mod RequestRuns
 pub mod UniqueOperations
 pub mod ExportsKeep
 mod LinkedRuns
