@@ -41,6 +41,7 @@ pub mod AskedAndAnswered
 mod RequestsAlong
 mod OneRequestRun
 pub mod RequestRuns
+pub mod WrongListings
 pub mod UniqueOperations
 pub mod ExportsKeep
 mod LinkedRuns

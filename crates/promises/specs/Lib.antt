@@ -28,6 +28,7 @@ pub mod Requests
 pub mod RequestCalls
 pub mod RequestRuns
 pub mod AskedAndAnswered
+pub mod WrongListings
 pub mod UniqueOperations
 pub mod ExportsKeep
 pub mod InNumbers
