@@ -38,6 +38,14 @@ pub mod UniqueCalls
 pub mod UniqueRequests
 pub mod UniquePlatforms
 pub mod Requests
+mod RequestTables
+mod RequestReceipts
+mod NewRequest
+pub mod AskedAndAnswered
+mod RequestsAlong
+mod OneRequestRun
+pub mod RequestRuns
+pub mod WrongListings
 pub mod UniqueOperations
 pub mod ExportsKeep
 mod LinkedRuns

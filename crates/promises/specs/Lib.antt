@@ -26,6 +26,10 @@ pub mod UniqueCalls
 pub mod UniqueRequests
 pub mod UniquePlatforms
 pub mod Requests
+pub mod RequestCalls
+pub mod RequestRuns
+pub mod AskedAndAnswered
+pub mod WrongListings
 pub mod UniqueOperations
 pub mod Lookups
 pub mod ExportsKeep
