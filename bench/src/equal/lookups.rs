@@ -106,7 +106,7 @@ fn halved(table: &[u8], s: &Sections, id: u32) -> Option<(usize, Operation)> {
         let middle = (low + high) / 2;
         let here = s.index[middle];
         if here.id == id {
-            let found = Operation::at(table, here.at as usize)?;
+            let found = Operation::first(table.get(here.at as usize..)?)?;
             return (found.id == id).then(|| (middle, found));
         }
         if here.id < id {

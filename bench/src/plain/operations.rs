@@ -34,21 +34,32 @@ fn width(kind: u16) -> usize {
     }
 }
 
-/// The kind of the entry there, 0 where it is cut off.
-fn kind(bytes: &[u8], at: usize) -> u16 {
-    bytes.get(at + 4..at + 6).map_or(0, |kind| be16(kind, 0))
+/// The kind of the entry at the bytes' start, 0 where it is cut off.
+fn kind(bytes: &[u8]) -> u16 {
+    bytes.get(4..6).map_or(0, |kind| be16(kind, 0))
 }
 
-/// Where the operations end that start there.
-pub fn end(bytes: &[u8], at: usize, count: usize) -> usize {
-    (0..count).fold(at, |at, _| at + width(kind(bytes, at)))
+/// What stands behind the entry at the bytes' start.
+fn behind(bytes: &[u8]) -> Option<&[u8]> {
+    bytes.get(width(kind(bytes))..)
+}
+
+/// Whether so many operations stand there, and nothing behind them.
+pub fn end_with(mut bytes: &[u8], count: usize) -> bool {
+    for _ in 0..count {
+        match behind(bytes) {
+            Some(rest) => bytes = rest,
+            None => return false,
+        }
+    }
+    bytes.is_empty()
 }
 
 impl Operation {
-    /// The entry there, if all of it lies within the bytes.
-    pub fn at(bytes: &[u8], at: usize) -> Option<Operation> {
-        let kind = kind(bytes, at);
-        let entry = bytes.get(at..at + width(kind))?;
+    /// The entry at the bytes' start, if all of it is there.
+    pub fn first(bytes: &[u8]) -> Option<Operation> {
+        let kind = kind(bytes);
+        let entry = bytes.get(..width(kind))?;
         Some(Operation {
             id: be32(entry, 0),
             kind,
@@ -74,6 +85,23 @@ impl Operation {
     }
 }
 
+/// So many operations, one behind another, as far as they are whole.
+struct Entries<'a> {
+    left: usize,
+    rest: &'a [u8],
+}
+
+impl Iterator for Entries<'_> {
+    type Item = Operation;
+
+    fn next(&mut self) -> Option<Operation> {
+        self.left = self.left.checked_sub(1)?;
+        let operation = Operation::first(self.rest)?;
+        self.rest = &self.rest[width(operation.kind)..];
+        Some(operation)
+    }
+}
+
 /// The operations of a table and their index.
 #[derive(Clone, Copy)]
 pub struct Operations<'a> {
@@ -83,55 +111,56 @@ pub struct Operations<'a> {
 }
 
 impl<'a> Operations<'a> {
-    /// One behind another, each with where it stands.
-    fn entries(&self) -> impl Iterator<Item = (usize, Operation)> + 'a {
-        let (bytes, mut at) = (self.bytes, self.section.at);
-        let next = move || {
-            let here = at;
-            let operation = Operation::at(bytes, here)?;
-            at += width(operation.kind);
-            Some((here, operation))
-        };
-        std::iter::from_fn(next).take(self.section.count)
+    fn bytes(&self) -> &'a [u8] {
+        self.bytes.get(self.section.at..).unwrap_or(&[])
+    }
+
+    fn entries(&self) -> Entries<'a> {
+        Entries {
+            left: self.section.count,
+            rest: self.bytes(),
+        }
     }
 
     pub fn are_good(&self, types: usize) -> bool {
         let mut last = None;
-        self.entries().all(|(_, operation)| {
-            let rises = last.map_or(true, |last| last < operation.id);
+        for operation in self.entries() {
+            if last >= Some(operation.id) || !operation.is_good(types) {
+                return false;
+            }
             last = Some(operation.id);
-            rises && operation.is_good(types)
-        })
+        }
+        true
     }
 
     pub fn lay_index(&self, index: &mut [Place]) {
-        for (place, (at, operation)) in index.iter_mut().zip(self.entries()) {
-            *place = Place {
-                id: operation.id,
-                at: at as u32,
-            };
+        let mut at = self.section.at;
+        for (place, Operation { id, kind, .. }) in index.iter_mut().zip(self.entries()) {
+            *place = Place { id, at: at as u32 };
+            at += width(kind);
         }
     }
 
     /// The operation of the ID, with its number. The index may be another table's: the entry itself has to bear the ID.
     pub fn find(&self, id: u32) -> Option<(usize, Operation)> {
         let number = self.index.binary_search_by_key(&id, |p| p.id).ok()?;
-        let found = Operation::at(self.bytes, self.index[number].at as usize)?;
+        let entry = self.bytes.get(self.index[number].at as usize..)?;
+        let found = Operation::first(entry)?;
         (found.id == id).then(|| (number, found))
     }
 
     /// The same by the bytes alone, from the first entry on: what there is without an index.
     pub fn scan(&self, id: u32) -> Option<(usize, Operation)> {
-        let entries = self.entries().map(|(_, operation)| operation);
-        entries.enumerate().find(|(_, found)| found.id == id)
+        self.entries().enumerate().find(|(_, found)| found.id == id)
     }
 
+    /// Whether any is versioned data.
     pub fn has_data(&self) -> bool {
-        let mut at = self.section.at;
+        let mut rest = self.bytes();
         (0..self.section.count).any(|_| {
-            let kind = kind(self.bytes, at);
-            at += width(kind);
-            kind == DATA
+            let is_data = kind(rest) == DATA;
+            rest = behind(rest).unwrap_or(&[]);
+            is_data
         })
     }
 }

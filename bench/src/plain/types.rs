@@ -253,7 +253,7 @@ fn bounds(bytes: &[u8]) -> Result<Bounds, u32> {
     let members = section(types.end(8), 2, 0, MOST)?;
     let values = section(members.end(2), 8, 0, MOST)?;
     let operations = section(values.end(8), 8, 0, operations::MOST)?;
-    if operations::end(bytes, operations.at, operations.count) != bytes.len() {
+    if !operations::end_with(&bytes[operations.at..], operations.count) {
         return Err(30);
     }
     Ok(Bounds {
