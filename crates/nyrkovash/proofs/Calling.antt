@@ -19,7 +19,7 @@ use Rattle.operations.specs.declared.Sought.the-variants.{At, Nowhere}
 use Rattle.operations.specs.Entries.{operationAt}
 use Rattle.operations.specs.Search.{indexed, soughtIn}
 use Rattle.types.specs.Table.{checked}
-use Rattle.platform_words.proofs.Behind.{lent-behind, back-behind}
+use Rattle.platform_words.proofs.Behind.{lent-behind, back-by}
 use Rattle.nyrkovash.specs.TableCalls.{sectionsWords, sectionsLeft, checkAnswer, operationWords, foundWords, findNumber, findAnswer}
 
 -- `put_bounds`: the first words, one by one
@@ -31,10 +31,9 @@ bounds-put ws a b c d e f g h l = sets-eq (a ∷ b ∷ c ∷ d ∷ e ∷ f ∷ g
 pub index-laid : {x last : List ℕ} (t ws : List ℕ) (s : Sections) → x ≡ wordsOf s ++ indexIn ws
     → last ≡ indexed t (s .operations .at) (s .operations .count) (take (length x - 8) (drop 8 x))
     → putMid 8 (length x - 8) x last ≡ sectionsWords t ws s
-index-laid {x} {last} t ws s ex el =
-    back-behind boundsWords x last
-    ∙ ap₂ (λ (y z : List ℕ). y ++ z) (ap (take boundsWords) ex)
-    (el ∙ ap (indexed t (s .operations .at) (s .operations .count)) (lent-behind boundsWords x ∙ ap (drop boundsWords) ex))
+index-laid {x} t ws s ex el =
+    let lay : List ℕ → List ℕ = indexed t (s .operations .at) (s .operations .count) in
+    back-by boundsWords x lay el ∙ ap (λ (y : List ℕ). take boundsWords y ++ lay (drop boundsWords y)) ex
 
 -- `check_table`
 pub met-sections : {x : List ℕ} {r : Checked} (t was : List ℕ) (v : Checked) → r ≡ checked t → r ≡ v → x ≡ sectionsLeft t was v → x ≡ checkAnswer t was

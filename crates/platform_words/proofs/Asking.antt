@@ -88,19 +88,22 @@ module _ {nx : ℕ} (ws payload : List ℕ) (kind id : ℕ) (en : nx ≡ nextIn 
           ∙ ap (λ (y : Sending). wordsSent y ws id target) sent-is
 
     -- the number and the answer, at the case that was met
+    met-sent : {B : Type 0} (F : Sent → B) (v : Sent) → o .answer ≡ v → F v ≡ F (sentOf (nextIn ws) (pendingIn ws) kind id payload room .answer)
+    met-sent F v e = ap F (sym e ∙ ap (λ (y : Sending). y .answer) sent-is)
+
     pub refused-number : (n : ℕ) → o .answer ≡ Refused n → n ≡ numberGiven (sentOf (nextIn ws) (pendingIn ws) kind id payload room .answer)
-    refused-number n e = ap numberGiven (sym e) ∙ ap (λ (y : Sending). numberGiven (y .answer)) sent-is
+    refused-number n e = met-sent numberGiven (Refused n) e
 
     pub refused-sent : (n : ℕ) (was : List ℕ) → o .answer ≡ Refused n
         → was ≡ sentWords (sentOf (nextIn ws) (pendingIn ws) kind id payload room .answer) was
-    refused-sent n was e = ap (λ (a : Sent). sentWords a was) (sym e) ∙ ap (λ (y : Sending). sentWords (y .answer) was) sent-is
+    refused-sent n was e = met-sent (λ (a : Sent). sentWords a was) (Refused n) e
 
     pub sent-number : (n written : ℕ) → o .answer ≡ Under n written → 0 ≡ numberGiven (sentOf (nextIn ws) (pendingIn ws) kind id payload room .answer)
-    sent-number n written e = ap numberGiven (sym e) ∙ ap (λ (y : Sending). numberGiven (y .answer)) sent-is
+    sent-number n written e = met-sent numberGiven (Under n written) e
 
     pub sent-told : (n written : ℕ) (was : List ℕ) → o .answer ≡ Under n written
         → written ∷ n ∷ [] ≡ sentWords (sentOf (nextIn ws) (pendingIn ws) kind id payload room .answer) was
-    sent-told n written was e = ap (λ (a : Sent). sentWords a was) (sym e) ∙ ap (λ (y : Sending). sentWords (y .answer) was) sent-is
+    sent-told n written was e = met-sent (λ (a : Sent). sentWords a was) (Under n written) e
 
 -- `send`: the sections lie in the table, or not
 module _ {s : Sections} {b : Bool} (ws t ss payload : List ℕ) (id : ℕ) (es : s ≡ sectionsIn ss) (eb : b ≡ within t s) where

@@ -19,6 +19,11 @@ module _ (a : ℕ) (ws : List ℕ) where
   back-behind last =
       ap (λ (u : List ℕ). take a ws ++ (last ++ u)) (drop-of-length-le (drop a ws) long) ∙ ap (λ (u : List ℕ). take a ws ++ u) (append-nil last)
 
+  -- what a call made of the part
+  pub back-by : {last : List ℕ} (F : List ℕ → List ℕ) → last ≡ F (take (length ws - a) (drop a ws))
+      → putMid a (length ws - a) ws last ≡ take a ws ++ F (drop a ws)
+  back-by {last} F e = back-behind last ∙ ap (λ (l : List ℕ). take a ws ++ l) (e ∙ ap F lent-behind)
+
   -- the two parts of it
   module _ (h : a ≤ length ws) (last : List ℕ) where
     pub front-back : take a (take a ws ++ last) ≡ take a ws

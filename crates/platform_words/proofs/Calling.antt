@@ -13,16 +13,14 @@ use Rattle.platform.specs.Noting.{numberGiven}
 use Rattle.platform_words.specs.Words.{platformWords, standingLength, standingIn, pendingIn}
 use Rattle.platform_words.specs.HeardWords.{heardAfter, platformAfter}
 use Rattle.platform_words.specs.TableCalls.{outcomeWith, receiveNumber, receiveWords, receiveOutput, receiveHeard}
-use Rattle.platform_words.proofs.Behind.{lent-behind, back-behind}
+use Rattle.platform_words.proofs.Behind.{lent-behind, back-by}
 use Rattle.platform_words.proofs.Telling.{told-behind}
 
 -- `taken`: the list is lent by itself
 module _ (own : ℕ) (ws t m : List ℕ) where
   pub taken-list : {last : List ℕ} → last ≡ listAfter own t (take (length ws - 5) (drop 5 ws)) m
       → putMid 5 (length ws - 5) ws last ≡ take standingLength ws ++ listAfter own t (pendingIn ws) m
-  taken-list {last} e =
-      back-behind standingLength ws last
-      ∙ ap (λ (l : List ℕ). take standingLength ws ++ l) (e ∙ ap (λ (l : List ℕ). listAfter own t l m) (lent-behind standingLength ws))
+  taken-list e = back-by standingLength ws (λ (l : List ℕ). listAfter own t l m) e
 
   module _ {p : Standing} (out : List ℕ) (ep : p ≡ standingIn ws) where
     pub taken-outcome : {o : Received} → o ≡ receivedOf own t p (take (length ws - 5) (drop 5 ws)) m (length out) → o ≡ outcomeWith own ws t m out

@@ -13,7 +13,7 @@ use Rattle.pending.specs.Free.{isPending}
 use Rattle.pending.specs.Answers.{awaitedOf, cancelled}
 use Rattle.platform_words.specs.Words.{standingLength, pendingIn}
 use Rattle.platform_words.specs.PendingCalls.{cancelCount, cancelWords, askedWords, awaitedWords}
-use Rattle.platform_words.proofs.Behind.{lent-behind, back-behind}
+use Rattle.platform_words.proofs.Behind.{lent-behind, back-by}
 
 module _ (ws : List ℕ) (n : ℕ) where
   -- `cancel_in`: the list is lent by itself
@@ -21,9 +21,7 @@ module _ (ws : List ℕ) (n : ℕ) where
   given-up e = e ∙ ap (λ (l : List ℕ). isPending l n) (lent-behind standingLength ws)
 
   pub place-freed : {last : List ℕ} → last ≡ cancelled (take (length ws - 5) (drop 5 ws)) n → putMid 5 (length ws - 5) ws last ≡ cancelWords ws n
-  place-freed {last} e =
-      back-behind standingLength ws last
-      ∙ ap (λ (l : List ℕ). take standingLength ws ++ l) (e ∙ ap (λ (l : List ℕ). cancelled l n) (lent-behind standingLength ws))
+  place-freed e = back-by standingLength ws (λ (l : List ℕ). cancelled l n) e
 
   -- `cancel`
   module _ {r : Bool} (e : r ≡ isPending (pendingIn ws) n) where

@@ -39,7 +39,7 @@ use Rattle.platform_words.specs.Words.{standingLength, standingIn, pendi
 use Rattle.platform_words.specs.HeardWords.{heardAfter, platformAfter}
 use Rattle.platform_words.specs.Within.{outcomeWithin, numberWithin, wordsWithin, outputWithin, heardWithin}
 use Rattle.platform_words.specs.Within.{unlessSent, operationHeard, operationWords}
-use Rattle.platform_words.proofs.Behind.{lent-behind, back-behind}
+use Rattle.platform_words.proofs.Behind.{lent-behind, back-by}
 use Rattle.platform_words.proofs.Telling.{told-behind}
 
 -- `unless_sent`
@@ -187,9 +187,7 @@ module _ {o : Received} (own : ℕ) (ws t : List ℕ) (s : Sections) (index m ou
 module _ (own : ℕ) (ws t : List ℕ) (s : Sections) (index m : List ℕ) where
   pub taken-list : {last : List ℕ} → last ≡ listIn own t s index (take (length ws - 5) (drop 5 ws)) m
       → putMid 5 (length ws - 5) ws last ≡ take standingLength ws ++ listIn own t s index (pendingIn ws) m
-  taken-list {last} e =
-      back-behind standingLength ws last
-      ∙ ap (λ (l : List ℕ). take standingLength ws ++ l) (e ∙ ap (λ (l : List ℕ). listIn own t s index l m) (lent-behind standingLength ws))
+  taken-list e = back-by standingLength ws (λ (l : List ℕ). listIn own t s index l m) e
 
   module _ {p : Standing} (out : List ℕ) (ep : p ≡ standingIn ws) where
     pub taken-outcome : {o : Received} → o ≡ outcomeIn own t s index p (take (length ws - 5) (drop 5 ws)) m (length out)
