@@ -23,8 +23,8 @@ use Rattle.platform_words.specs.HeardWords.{answerWords, notedWords, heardAfter
 use Rattle.platform_words.specs.PendingCalls.{askedWords}
 use Rattle.promises.specs.Reports.{IsSent}
 use Rattle.promises.specs.Platforms.{ourReceiving}
-use Rattle.promises.specs.Responses.{Arrives, IsAwaited, DeliversBy, RefusesBy}
-use Rattle.promises.specs.LinkedResponses.{TellsResponse, TellsNothing, Told, askedIs, LinkedResponses}
+use Rattle.promises.specs.Responses.{ComesUnder, IsAwaited, DeliversBy, RefusesBy}
+use Rattle.promises.specs.LinkedResponses.{TellsResponse, TellsNothing, TellsOf, askedIs, LinkedResponses}
 use Rattle.promises.proofs.Responses.{responses}
 use Rattle.promises.proofs.LinkedReplies.{up-is, outcome-same, output-same, list-same}
 
@@ -33,7 +33,7 @@ asked-so (Of id target) = refl
 asked-so Nothing = refl
 
 -- a message that comes to a platform in words
-module _ (own : ℕ) (ws t : List ℕ) (s : Sections) (m out : List ℕ) (h : Header) (i : ℕ) (ho : own < 256) (c : Arrives own t s m h i) (k : IsSent t s i) where
+module _ (own : ℕ) (ws t : List ℕ) (s : Sections) (m out : List ℕ) (h : Header) (i : ℕ) (ho : own < 256) (c : ComesUnder own t s m h i) (k : IsSent t s i) where
   abbrev p : Standing
   p = standingIn ws
 
@@ -71,7 +71,7 @@ module _ (own : ℕ) (ws t : List ℕ) (s : Sections) (m out : List ℕ) (h : He
           heard-stays = eh ∙ ap (λ (u : Noting). answerWords u was) a;
         }
 
-    told : Told own ws m out was h i n after left heard
+    told : TellsOf own ws m out was h i n after left heard
     told = record { response = tells; any-other = tells-nothing }
 
 pub linked-responses : LinkedResponses

@@ -17,7 +17,7 @@ use Rattle.nyrkovash.proofs.nyr_receive.Reads.{Post as nyr-receive}
 use Rattle.nyrkovash.proofs.nyr_receive_in.Reads.{Post as nyr-receive-in}
 use Rattle.nyrkovash.proofs.nyr_pending.Reads.{Post as nyr-pending}
 use Rattle.promises.specs.Reports.{IsSent}
-use Rattle.promises.specs.Responses.{Arrives, IsAwaited}
+use Rattle.promises.specs.Responses.{ComesUnder, IsAwaited}
 use Rattle.promises.specs.LinkedPayloads.{Whenever}
 use Rattle.promises.specs.LinkedReplies.{UpIs, heardIs, CheckLeft}
 
@@ -38,7 +38,7 @@ pub record TellsNothing (ws out was : List ℕ) (n : ℕ) (after left heard : Li
   pub output : left ≡ out
   pub heard-stays : heard ≡ was
 
-pub record Told (own : ℕ) (ws m out was : List ℕ) (h : Header) (i n : ℕ) (after left heard : List ℕ) : Type 0 where
+pub record TellsOf (own : ℕ) (ws m out was : List ℕ) (h : Header) (i n : ℕ) (after left heard : List ℕ) : Type 0 where
   pub response : IsAwaited (drop 5 ws) h → TellsResponse own ws m out h i n after left heard
   pub any-other : ¬ (IsAwaited (drop 5 ws) h) → TellsNothing ws out was n after left heard
 
@@ -49,14 +49,14 @@ askedIs Nothing = 0 ∷ 0 ∷ 0 ∷ []
 
 pub record LinkedResponses : Type 0 where
   pub receive : (s : Sections) (h : Header) (i : ℕ) → Whenever nyr-receive (λ k a n e. a .0 < 256 →
-      Arrives (a .0) (now (a .1 .1 .0)) s (now (a .1 .1 .1 .0)) h i → IsSent (now (a .1 .1 .0)) s i →
-      Told (a .0) (now (a .1 .0)) (now (a .1 .1 .1 .0)) (now (a .1 .1 .1 .1 .0)) (now (a .1 .1 .1 .1 .1 .0)) h i n
+      ComesUnder (a .0) (now (a .1 .1 .0)) s (now (a .1 .1 .1 .0)) h i → IsSent (now (a .1 .1 .0)) s i →
+      TellsOf (a .0) (now (a .1 .0)) (now (a .1 .1 .1 .0)) (now (a .1 .1 .1 .1 .0)) (now (a .1 .1 .1 .1 .1 .0)) h i n
       (now (e .1 .0)) (now (e .1 .1 .1 .1 .0)) (now (e .1 .1 .1 .1 .1 .0)))
   -- with the words that the check left for the table
   pub receive-in : (s : Sections) (h : Header) (i : ℕ) (words : List ℕ) → Whenever nyr-receive-in (λ k a n e. a .0 < 256 →
-      Arrives (a .0) (now (a .1 .1 .0)) s (now (a .1 .1 .1 .1 .0)) h i → IsSent (now (a .1 .1 .0)) s i →
+      ComesUnder (a .0) (now (a .1 .1 .0)) s (now (a .1 .1 .1 .1 .0)) h i → IsSent (now (a .1 .1 .0)) s i →
       CheckLeft (now (a .1 .1 .0)) s words (now (a .1 .1 .1 .0)) →
-      Told (a .0) (now (a .1 .0)) (now (a .1 .1 .1 .1 .0)) (now (a .1 .1 .1 .1 .1 .0)) (now (a .1 .1 .1 .1 .1 .1 .0)) h i n
+      TellsOf (a .0) (now (a .1 .0)) (now (a .1 .1 .1 .1 .0)) (now (a .1 .1 .1 .1 .1 .0)) (now (a .1 .1 .1 .1 .1 .1 .0)) h i n
       (now (e .1 .0)) (now (e .1 .1 .1 .1 .1 .0)) (now (e .1 .1 .1 .1 .1 .1 .0)))
   -- and what `nyr_pending` tells of a number is what is pending under it
   pub pending : Whenever nyr-pending (λ k a n e. (n ≡ 0) × (now (e .1 .1 .0) ≡ askedIs (awaitedOf (drop 5 (now (a .0))) (a .1 .0))))
