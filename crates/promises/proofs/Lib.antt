@@ -57,6 +57,7 @@ pub mod LinkedPayloads
 pub mod LinkedPieces
 pub mod LinkedMessages
 pub mod LinkedReplies
+pub mod LinkedResponses
 pub mod Numbers
 mod Reporting
 pub mod WrongReports

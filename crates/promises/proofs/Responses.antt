@@ -31,13 +31,13 @@ use Rattle.platform.specs.Receiving.{outcomeOf, outputOf, listOf, indexOf, rece
 use Rattle.promises.specs.Rules32.{operationPlace}
 use Rattle.promises.specs.Reports.{IsSent, IsServed}
 use Rattle.promises.specs.Platforms.{ourReceiving}
-use Rattle.promises.specs.Responses.{Arrives, IsAwaited, DeliversBy, RefusesBy, Responses}
+use Rattle.promises.specs.Responses.{ComesUnder, IsAwaited, DeliversBy, RefusesBy, Responses}
 use Rattle.promises.proofs.ByID.{looked, there}
 use Rattle.promises.proofs.Kind2.{awaited-decides}
 use Rattle.promises.proofs.Reporting.{payload-part}
 use Rattle.promises.proofs.Replying.{its-payload}
 
-module _ (own : ℕ) (t : List ℕ) (s : Sections) (p : Standing) (l m out : List ℕ) (h : Header) (i : ℕ) (c : Arrives own t s m h i) where
+module _ (own : ℕ) (t : List ℕ) (s : Sections) (p : Standing) (l m out : List ℕ) (h : Header) (i : ℕ) (c : ComesUnder own t s m h i) where
   -- the entry is found, and by it the call goes
   abbrev its : Sought
   its = sought.At i (operationPlace t s i)

@@ -39,7 +39,7 @@ use Rattle.platform.specs.Receiving as platform
 use Rattle.promises.specs.Numbers.{operation}
 use Rattle.promises.specs.Reports.{IsSent}
 use Rattle.promises.specs.Platforms.{Receiving}
-use Rattle.promises.specs.Responses.{Arrives, IsAwaited, RespondsBy}
+use Rattle.promises.specs.Responses.{ComesUnder, IsAwaited, RespondsBy}
 use Rattle.promises.specs.WrongResponses.{Matching, outcomeBy, outcomeFor, listBy, listFor, matching, rightly, byNumber, anySender}
 use Rattle.promises.specs.WrongResponses.{leftInPlace, noneTaken, NoWrongResponse}
 use Rattle.promises.proofs.Numbers.{numbers}
@@ -104,8 +104,8 @@ unfolding allBelow above sectionAt after ended afterValues afterMembers afterTyp
     entriesOk sizesOk judged judging checked
 is-table = refl
 
-arrives : Arrives 1 t s operation h 1
-arrives =
+comes : ComesUnder 1 t s operation h 1
+comes =
     record {
       table = is-table;
       start = 20;
@@ -139,24 +139,24 @@ module _ (M : Matching) (l : List ℕ) where
   ours = receivedOf 1 t p l operation 0
 
   answers : matching M .outcome 1 t p l operation 0 ≡ cond (M .isIt l h) (delivered (sought.At 1 24) p h 20 2) (refused p 61)
-  unfolding isAnswer isSent kindAt arrives
+  unfolding isAnswer isSent kindAt comes
   answers =
       ap (λ (c : Checked). outcomeFor M c t p l (readOf 1 operation) ours) is-table
-      ∙ ap (λ (x : Reading). outcomeBy M t (operationIn t s (indexOf t s) x) p l x ours) (arrives .read)
+      ∙ ap (λ (x : Reading). outcomeBy M t (operationIn t s (indexOf t s) x) p l x ours) (comes .read)
       ∙ ap (λ (f : Sought). outcomeBy M t f p l (reading.Read h message.Operation 20 2) ours) its-operation
 
   leaves : matching M .list 1 t p l operation 0 ≡ cond (M .isIt l h) (M .freed l (h .sequence)) l
-  unfolding isAnswer isSent kindAt arrives
+  unfolding isAnswer isSent kindAt comes
   leaves =
       ap (λ (c : Checked). listFor M c t l (readOf 1 operation)) is-table
-      ∙ ap (λ (x : Reading). listBy M t (operationIn t s (indexOf t s) x) l x) (arrives .read)
+      ∙ ap (λ (x : Reading). listBy M t (operationIn t s (indexOf t s) x) l x) (comes .read)
       ∙ ap (λ (f : Sought). listBy M t f l (reading.Read h message.Operation 20 2)) its-operation
 
 -- one that delivers the message though platform 4 was asked
 delivers-any : (M : Matching) → M .isIt (asked 4) h ≡ true → RespondsBy (matching M) → ⊥
 delivers-any M e r =
     let a : numberGiven (matching M .outcome 1 t p (asked 4) operation 0 .answer) ≡ 61 =
-    ap numberGiven (r .any-other 1 t s p (asked 4) operation [] h 1 arrives sent not-awaited .answer) in
+    ap numberGiven (r .any-other 1 t s p (asked 4) operation [] h 1 comes sent not-awaited .answer) in
     let b : numberGiven (matching M .outcome 1 t p (asked 4) operation 0 .answer) ≡ 0 =
     ap (λ (x : Received). numberGiven (x .answer)) (answers M (asked 4)) ∙ rw e refl in
     omega arith
@@ -175,7 +175,7 @@ unfolding bearing
 left-in-place r =
     let X : Receiving = matching leftInPlace in
     let a : X .list 1 t p (asked 3) operation 0 ≡ cancelled (asked 3) (h .sequence)
-    = r .response 1 t s p (asked 3) operation [] h 1 arrives sent awaited .list in
+    = r .response 1 t s p (asked 3) operation [] h 1 comes sent awaited .list in
     let b : asked 3 ≡ cancelled (asked 3) (h .sequence) = sym (leaves leftInPlace (asked 3)) ∙ a in
     let c : _≡_ {A = ℕ} 0x050607080A0B0C0D 0 = ap (λ (l : List ℕ). getD l 0 0) b in
     omega arith
@@ -183,7 +183,7 @@ left-in-place r =
 none-taken : RespondsBy (matching noneTaken) → ⊥
 none-taken r =
     let a : numberGiven (matching noneTaken .outcome 1 t p (asked 3) operation 0 .answer) ≡ 0 =
-    ap numberGiven (r .response 1 t s p (asked 3) operation [] h 1 arrives sent awaited .answer) in
+    ap numberGiven (r .response 1 t s p (asked 3) operation [] h 1 comes sent awaited .answer) in
     let b : numberGiven (matching noneTaken .outcome 1 t p (asked 3) operation 0 .answer) ≡ 61 =
     ap (λ (x : Received). numberGiven (x .answer)) (answers noneTaken (asked 3)) in
     omega arith

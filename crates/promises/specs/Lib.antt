@@ -39,6 +39,7 @@ pub mod WrongCalls
 pub mod LinkedPayloads
 pub mod LinkedMessages
 pub mod LinkedReplies
+pub mod LinkedResponses
 pub mod Numbers
 pub mod Reports
 pub mod Responses

@@ -23,7 +23,7 @@ use Rattle.promises.specs.Reports.{HasID, IsSent, IsServed}
 use Rattle.promises.specs.Platforms.{Receiving, ourReceiving}
 
 -- a domain 1 message with this header, which the platform `own` reads, and entry i of its table bears the message's ID
-pub record Arrives (own : ℕ) (t : List ℕ) (s : Sections) (m : List ℕ) (h : Header) (i : ℕ) : Type 0 where
+pub record ComesUnder (own : ℕ) (t : List ℕ) (s : Sections) (m : List ℕ) (h : Header) (i : ℕ) : Type 0 where
   pub table : checked t ≡ Table s
   pub start : ℕ
   pub len : ℕ
@@ -52,16 +52,16 @@ pub record RefusesBy (X : Receiving) (own : ℕ) (t : List ℕ) (p : Standing) (
 
 pub record RespondsBy (X : Receiving) : Type 0 where
   pub response : (own : ℕ) (t : List ℕ) (s : Sections) (p : Standing) (l m out : List ℕ) (h : Header) (i : ℕ) →
-      Arrives own t s m h i → IsSent t s i → IsAwaited l h → DeliversBy X own t p l m out h i
+      ComesUnder own t s m h i → IsSent t s i → IsAwaited l h → DeliversBy X own t p l m out h i
   pub any-other : (own : ℕ) (t : List ℕ) (s : Sections) (p : Standing) (l m out : List ℕ) (h : Header) (i : ℕ) →
-      Arrives own t s m h i → IsSent t s i → ¬ (IsAwaited l h) → RefusesBy X own t p l m out
+      ComesUnder own t s m h i → IsSent t s i → ¬ (IsAwaited l h) → RefusesBy X own t p l m out
   -- "it is delivered once": where no number stands twice in the list, as over any calls from fresh, a second copy is refused
   pub once : (own : ℕ) (t : List ℕ) (s : Sections) (p : Standing) (l m out : List ℕ) (h : Header) (i : ℕ) →
-      Arrives own t s m h i → IsSent t s i → length l ≡ 128 → Once l → IsAwaited l h →
+      ComesUnder own t s m h i → IsSent t s i → length l ≡ 128 → Once l → IsAwaited l h →
       RefusesBy X own t p (X .list own t p l m (length out)) m out
   -- "A message with a kind 3 ID goes to its component as in 01"
   pub served : (own : ℕ) (t : List ℕ) (s : Sections) (p : Standing) (l m out : List ℕ) (h : Header) (i : ℕ) →
-      Arrives own t s m h i → IsServed t s i →
+      ComesUnder own t s m h i → IsServed t s i →
       X .outcome own t p l m (length out) .answer ≡ Noted h (heard.Operation i 20 (length m - 20)) 0
 
 abbrev pub Responses : Type 0
