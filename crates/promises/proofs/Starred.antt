@@ -59,7 +59,8 @@ module _ (msg : List ℕ) (m s sender first i n : ℕ) (e : length msg ≡ m) (w
       let front : take (4 + n) (cutInto msg s sender first i out) ≡ datagramOf msg s sender first i = made-front msg s sender first i out q in
       record {
         made = q;
-        header = ap headingIn front ∙ datagram-heading msg s sender first i cuttable-is hs there-is ∙ ap (λ (k : ℕ). Piece (headerOfPiece k s sender first i)) e;
+        header =
+            ap headingIn front ∙ datagram-heading msg s sender first i cuttable-is hs there-is ∙ ap (λ (k : ℕ). Piece (headerOfPiece k s sender first i)) e;
         piece = ap pieceIn front ∙ datagram-piece msg s sender first i;
       }
 

@@ -1,7 +1,7 @@
 -- Two outcomes that the promise of a function of request 1 allows are equal: each contract is an equation with a definition.
 -- Assumes nothing.
 use mathlib.Core.Path.{sym, _∙_}
-use Rattle.promises.specs.UniqueRequests.{PendingUnique, RequestsUnique, RequestWordsUnique, UniqueRequests}
+use Rattle.promises.specs.UniqueRequests.{PendingUnique, RequestsUnique, UniqueRequests}
 
 pending : PendingUnique
 pending =
@@ -27,19 +27,5 @@ requests =
       send-out = λ k a z z′ e e′ p q. p .1 .1 ∙ sym (q .1 .1);
     }
 
-in-words : RequestWordsUnique
-in-words =
-    record {
-      send = λ k a z z′ e e′ p q. p .0 ∙ sym (q .0);
-      send-platform = λ k a z z′ e e′ p q. p .1 .0 ∙ sym (q .1 .0);
-      send-out = λ k a z z′ e e′ p q. p .1 .1 .0 ∙ sym (q .1 .1 .0);
-      send-sent = λ k a z z′ e e′ p q. p .1 .1 .1 ∙ sym (q .1 .1 .1);
-      cancel = λ k a z z′ e e′ p q. p .0 ∙ sym (q .0);
-      cancel-platform = λ k a z z′ e e′ p q. p .1 .0 ∙ sym (q .1 .0);
-      cancel-cancelled = λ k a z z′ e e′ p q. p .1 .1 ∙ sym (q .1 .1);
-      awaited = λ k a z z′ e e′ p q. p .0 ∙ sym (q .0);
-      awaited-answer = λ k a z z′ e e′ p q. p .1 ∙ sym (q .1);
-    }
-
 pub unique-requests : UniqueRequests
-unique-requests = record { pending = pending; requests = requests; in-words = in-words }
+unique-requests = record { pending = pending; requests = requests }

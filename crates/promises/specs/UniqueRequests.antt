@@ -12,9 +12,6 @@ use Rattle.pending.proofs.cancel.Reads.{Post as pending-cancel}
 use Rattle.pending.proofs.awaited.Reads.{Post as pending-awaited}
 use Rattle.pending.proofs.take_response.Reads.{Post as pending-take-response}
 use Rattle.requests.proofs.send.Reads.{Post as requests-send}
-use Rattle.platform_words.proofs.send.Reads.{Post as platform-words-send}
-use Rattle.platform_words.proofs.cancel.Reads.{Post as platform-words-cancel}
-use Rattle.platform_words.proofs.awaited.Reads.{Post as platform-words-awaited}
 
 pub record PendingUnique : Type 0 where
   pub place-of : Answer pending-place-of
@@ -34,19 +31,6 @@ pub record RequestsUnique : Type 0 where
   pub send-list : Lent requests-send (λ k e. now (e .1 .1 .0))
   pub send-out : Lent requests-send (λ k e. now (e .1 .1 .1 .1 .1 .1 .1 .0))
 
--- in a platform's words
-pub record RequestWordsUnique : Type 0 where
-  pub send : Answer platform-words-send
-  pub send-platform : Lent platform-words-send (λ k e. now (e .1 .0))
-  pub send-out : Lent platform-words-send (λ k e. now (e .1 .1 .1 .1 .1 .1 .1 .0))
-  pub send-sent : Lent platform-words-send (λ k e. now (e .1 .1 .1 .1 .1 .1 .1 .1 .0))
-  pub cancel : Answer platform-words-cancel
-  pub cancel-platform : Lent platform-words-cancel (λ k e. now (e .0))
-  pub cancel-cancelled : Lent platform-words-cancel (λ k e. now (e .1 .1 .0))
-  pub awaited : Answer platform-words-awaited
-  pub awaited-answer : Lent platform-words-awaited (λ k e. now (e .1 .1 .0))
-
 pub record UniqueRequests : Type 0 where
   pub pending : PendingUnique
   pub requests : RequestsUnique
-  pub in-words : RequestWordsUnique

@@ -16,7 +16,8 @@ use Rattle.table.specs.declared.Part.the-variants.{Missing, Found}
 use Rattle.table.specs.declared.Checked.{Checked}
 use Rattle.table.specs.declared.Checked.the-variants.{Refused, Table}
 use Rattle.table.specs.Layout.{cutShort, typeWidth, memberWidth, valueWidth, operationWidth, mostTypes, mostMembers, mostValues, mostOperations}
-use Rattle.table.specs.Layout.{entryPlace, sectionEnd, operationsEnd, sectionAt, after, ended, afterTypes, afterMembers, afterValues, sectionsOf, liesIn, within}
+use Rattle.table.specs.Layout.{entryPlace, sectionEnd, operationsEnd, sectionAt, after, ended, afterTypes, afterMembers, afterValues, sectionsOf}
+use Rattle.table.specs.Layout.{liesIn, within}
 use Rattle.table.proofs.Places.{Holds, holds}
 
 -- the sections that were found: each lies behind the one before it, and the last operation ends where the bytes end
