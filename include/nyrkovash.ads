@@ -19,8 +19,8 @@ package Nyrkovash is
    type Nyr_Ids is array (Nyr_Size range <>) of Unsigned_16 with Convention => C;
    type Nyr_Words is array (Nyr_Size range <>) of Unsigned_64 with Convention => C;
 
-   Nyr_Library_Version : constant := 10_000;
-   Nyr_Library_Version_Text : constant String := "1.0.0";
+   Nyr_Library_Version : constant := 20_000;
+   Nyr_Library_Version_Text : constant String := "2.0.0";
 
    function Nyr_Linked_Version return Unsigned_32
      with Import, Convention => C, External_Name => "nyr_library_version";
@@ -55,6 +55,9 @@ package Nyrkovash is
    Nyr_Cannot_Cut : constant := 50;
    Nyr_No_Piece : constant := 51;
    Nyr_Datagram_Room : constant := 52;
+   Nyr_List_Full : constant := 60;
+   Nyr_Not_Awaited : constant := 61;
+   Nyr_No_Request : constant := 62;
 
    --  Limits and sizes.
 
@@ -68,6 +71,7 @@ package Nyrkovash is
    Nyr_Largest_Message : constant := 65_560;
    Nyr_Reply_Bytes : constant := 24;
    Nyr_Replies_Bytes : constant := 48;
+   Nyr_Most_Pending : constant := 64;
 
    --  Joining.
 
@@ -186,12 +190,12 @@ package Nyrkovash is
    --  Type tables.
 
    type Nyr_Sections is record
-      Words : Nyr_Words (0 .. 7);
+      Words : Nyr_Words (0 .. 1031);
    end record with Convention => C;
    for Nyr_Sections use record
-      Words at 0 range 0 .. 511;
+      Words at 0 range 0 .. 66_047;
    end record;
-   for Nyr_Sections'Size use 512;
+   for Nyr_Sections'Size use 66_048;
 
    Nyr_Types_At : constant := 0;
    Nyr_Types_Count : constant := 1;
@@ -203,19 +207,23 @@ package Nyrkovash is
    Nyr_Operations_Count : constant := 7;
 
    type Nyr_Operation is record
-      Found   : Unsigned_64;
-      Kind    : Unsigned_64;
-      Carries : Unsigned_64;
+      Found    : Unsigned_64;
+      Kind     : Unsigned_64;
+      Carries  : Unsigned_64;
+      Responds : Unsigned_64;
    end record with Convention => C;
    for Nyr_Operation use record
-      Found   at 0 range 0 .. 63;
-      Kind    at 8 range 0 .. 63;
-      Carries at 16 range 0 .. 63;
+      Found    at 0 range 0 .. 63;
+      Kind     at 8 range 0 .. 63;
+      Carries  at 16 range 0 .. 63;
+      Responds at 24 range 0 .. 63;
    end record;
-   for Nyr_Operation'Size use 192;
+   for Nyr_Operation'Size use 256;
 
    Nyr_Event : constant := 0;
    Nyr_Versioned_Data : constant := 1;
+   Nyr_Request_Sent : constant := 2;
+   Nyr_Request_Served : constant := 3;
    Nyr_No_Payload : constant := 16#FFFF#;
 
    function Nyr_Check_Table (Table : Nyr_Bytes; Table_Length : Nyr_Size;
@@ -253,14 +261,16 @@ package Nyrkovash is
    --  Platforms.
 
    type Nyr_Platform is record
-      Up   : Nyr_Words (0 .. 3);
-      Next : Unsigned_64;
+      Up      : Nyr_Words (0 .. 3);
+      Next    : Unsigned_64;
+      Pending : Nyr_Words (0 .. 127);
    end record with Convention => C;
    for Nyr_Platform use record
-      Up   at 0 range 0 .. 255;
-      Next at 32 range 0 .. 63;
+      Up      at 0 range 0 .. 255;
+      Next    at 32 range 0 .. 63;
+      Pending at 40 range 0 .. 8191;
    end record;
-   for Nyr_Platform'Size use 320;
+   for Nyr_Platform'Size use 8512;
 
    type Nyr_Heard is record
       Kind           : Unsigned_64;
@@ -292,6 +302,7 @@ package Nyrkovash is
    Nyr_Heard_Pull_None : constant := 6;
    Nyr_Heard_Operation : constant := 7;
    Nyr_Heard_Not_In_Table : constant := 8;
+   Nyr_Heard_Response : constant := 9;
 
    function Nyr_Start (Own : Unsigned_8; Platform : in out Nyr_Platform) return Unsigned_32
      with Import, Convention => C, External_Name => "nyr_start";
@@ -312,5 +323,43 @@ package Nyrkovash is
 
    function Nyr_How_Many_Up (Own : Unsigned_8; Platform : Nyr_Platform) return Unsigned_32
      with Import, Convention => C, External_Name => "nyr_how_many_up";
+
+   --  Requests.
+
+   type Nyr_Sent is record
+      Written  : Unsigned_64;
+      Sequence : Unsigned_64;
+   end record with Convention => C;
+   for Nyr_Sent use record
+      Written  at 0 range 0 .. 63;
+      Sequence at 8 range 0 .. 63;
+   end record;
+   for Nyr_Sent'Size use 128;
+
+   type Nyr_Awaited is record
+      Found  : Unsigned_64;
+      Id     : Unsigned_64;
+      Target : Unsigned_64;
+   end record with Convention => C;
+   for Nyr_Awaited use record
+      Found  at 0 range 0 .. 63;
+      Id     at 8 range 0 .. 63;
+      Target at 16 range 0 .. 63;
+   end record;
+   for Nyr_Awaited'Size use 192;
+
+   function Nyr_Send (Own : Unsigned_8; Platform : in out Nyr_Platform; Table : Nyr_Bytes; Table_Length : Nyr_Size;
+                      Sections : Nyr_Sections; Id : Unsigned_32; Target : Unsigned_32; Payload : Nyr_Bytes;
+                      Payload_Length : Nyr_Size; Output : in out Nyr_Bytes; Output_Length : Nyr_Size;
+                      Sent : in out Nyr_Sent) return Unsigned_32
+     with Import, Convention => C, External_Name => "nyr_send";
+
+   function Nyr_Cancel (Platform : in out Nyr_Platform; Sequence : Unsigned_32;
+                        Cancelled : in out Nyr_Size) return Unsigned_32
+     with Import, Convention => C, External_Name => "nyr_cancel";
+
+   function Nyr_Pending (Platform : Nyr_Platform; Sequence : Unsigned_32;
+                         Awaited : in out Nyr_Awaited) return Unsigned_32
+     with Import, Convention => C, External_Name => "nyr_pending";
 
 end Nyrkovash;

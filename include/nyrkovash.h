@@ -1,7 +1,7 @@
 /*
  * nyrkovash: UDP datagrams joined into ECOA ELI messages (Part 6, Issue 6), messages read and written, payloads
- * unpacked and packed by a type table, and the replies of platform start-up. Link libnyrkovash.a (x86-64), which
- * needs no library but C's.
+ * unpacked and packed by a type table, the replies of platform start-up, and requests that await their responses. Link
+ * libnyrkovash.a (x86-64), which needs no library but C's.
  *
  * Every call is total: no length, number, byte or state, right or wrong, makes it read or write outside what it was
  * lent. A call answers 0, or the number that refuses it, and then it has changed nothing. Where it answers 0 it has
@@ -34,8 +34,8 @@ extern "C" {
  * neither is so. So a program asks at its start, and goes on where the archive's first number is that of its header and
  * the whole is not less than its header's.
  */
-#define NYR_LIBRARY_VERSION 10000
-#define NYR_LIBRARY_VERSION_TEXT "1.0.0"
+#define NYR_LIBRARY_VERSION 20000
+#define NYR_LIBRARY_VERSION_TEXT "2.0.0"
 
 /* The version of the archive that was linked.  Stack 256. */
 uint32_t nyr_library_version(void);
@@ -74,7 +74,11 @@ enum {
     /* Cutting. */
     NYR_CANNOT_CUT = 50,       /* message not 1 to 65,560 bytes, piece not 1 to 65,503, or ID or counter out of range */
     NYR_NO_PIECE = 51,         /* the message has no piece of that number */
-    NYR_DATAGRAM_ROOM = 52     /* output shorter than the datagram */
+    NYR_DATAGRAM_ROOM = 52,    /* output shorter than the datagram */
+    /* Requests. */
+    NYR_LIST_FULL = 60,        /* 64 requests are pending */
+    NYR_NOT_AWAITED = 61,      /* a request's ID, and no request with that ID, number and sender is pending */
+    NYR_NO_REQUEST = 62        /* the ID is not that of an operation whose requests we send */
 };
 
 /* Limits and sizes. */
@@ -88,7 +92,8 @@ enum {
     NYR_LARGEST_DATAGRAM = 65507,
     NYR_LARGEST_MESSAGE = 65560, /* that is cut */
     NYR_REPLY_BYTES = 24,        /* one reply */
-    NYR_REPLIES_BYTES = 48       /* the most that one message is owed */
+    NYR_REPLIES_BYTES = 48,      /* the most that one message is owed */
+    NYR_MOST_PENDING = 64        /* requests that await their responses */
 };
 
 /* ---- Joining: a channel for each sender ID (platform times 256 plus channel: 0 to 4,095), each with its own room. */
@@ -199,7 +204,8 @@ uint32_t nyr_write(uint8_t own, uint8_t domain, uint32_t id, uint32_t sequence, 
 /* ---- Type tables. */
 
 typedef struct {
-    uint64_t words[8];         /* each section's first byte in the table, and its count, as below */
+    uint64_t words[1032];      /* each section's first byte in the table, and its count, as below; from word 8 on the
+                                * index of operations, a word for each, which is the library's own */
 } nyr_sections;
 
 /* Which word of a table's sections is which. */
@@ -218,18 +224,27 @@ typedef struct {
     uint64_t found;            /* 1 if the table has it, else 0 */
     uint64_t kind;             /* its kind, else 0 */
     uint64_t carries;          /* its type's number, or NYR_NO_PAYLOAD, else 0 */
+    uint64_t responds;         /* its response's type's number, or NYR_NO_PAYLOAD, as for events and versioned data,
+                                * which have no response, else 0 */
 } nyr_operation;
 
-/* An operation's kind, and the type of one without a payload. */
-enum { NYR_EVENT = 0, NYR_VERSIONED_DATA = 1, NYR_NO_PAYLOAD = 0xFFFF };
+/* An operation's kind, and the type of what has no payload. */
+enum {
+    NYR_EVENT = 0,
+    NYR_VERSIONED_DATA = 1,
+    NYR_REQUEST_SENT = 2,      /* we send its requests, and await their responses */
+    NYR_REQUEST_SERVED = 3,    /* we hear its requests, and answer them */
+    NYR_NO_PAYLOAD = 0xFFFF
+};
 
 /*
  * Checks a table.  30 to 33.
- * Leaves where its sections lie. The calls that end in _in take these and spare the check: for a table that it accepted
- * they answer as their namesakes do. For others they are as safe; they give 30 where the sections do not lie in the
- * table, and 32 for an entry that they meet and that breaks a rule.
- * Stack 4096; time: each type's members or values, and the operations; where an enum's values do not rise, the square of
- * the values.
+ * Leaves where its sections lie in words 0 to 7, and its index from word 8 on, a word for each operation; the words
+ * behind these stay. The calls that take sections spare the check: for a table that it accepted those that end in _in
+ * answer as their namesakes do. For other tables, sections and indexes they are as safe; they give 30 where the
+ * sections do not lie in the table, and those of payloads 32 for an entry that they meet and that breaks a rule.
+ * Stack 4096; time: each type's members or values, and the operations; where an enum's values do not rise, the square
+ * of the values.
  */
 uint32_t nyr_check_table(const uint8_t *table, size_t table_length, nyr_sections *sections);
 
@@ -265,20 +280,22 @@ uint32_t nyr_pack(const uint8_t *table, size_t table_length, uint16_t type_numbe
 uint32_t nyr_pack_in(const uint8_t *table, size_t table_length, const nyr_sections *sections, uint16_t type_number,
                      const uint64_t *words, size_t words_length, uint8_t *output, size_t output_length, size_t *given);
 
-/* ---- Platforms: which of the 256 are UP, and what they are owed. */
+/* ---- Platforms: which of the 256 are UP, what they are owed, and which requests they have not answered yet. */
 
 typedef struct {
     uint64_t up[4];            /* platform k is bit k % 64 of up[k / 64] */
     uint64_t next;             /* the next own sequence number, whose low 32 bits count */
+    uint64_t pending[128];     /* the requests that await their responses, in 64 places: place k's number times 2^32
+                                * plus its ID is pending[k], its target pending[64 + k]; free where the number is 0 */
 } nyr_platform;                /* any values are a state */
 
 typedef struct {
     uint64_t kind;             /* what the message was, as below */
     uint64_t value;            /* as below, else 0 */
     uint64_t sender;           /* the sending platform, to whom the replies go */
-    uint64_t sequence;         /* the message's sequence number: who answers a pull repeats it */
+    uint64_t sequence;         /* the message's sequence number: who answers a pull or a request repeats it */
     uint64_t number;           /* the number of the operation's entry, else 0 */
-    uint64_t payload_start;    /* where an operation's payload starts in the message, else 0 */
+    uint64_t payload_start;    /* where an operation's or a response's payload starts in the message, else 0 */
     uint64_t payload_length;   /* and its length, else 0 */
     uint64_t replies;          /* the bytes of replies written */
 } nyr_heard;
@@ -287,24 +304,34 @@ typedef struct {
 enum {
     NYR_HEARD_STATUS = 1,      /* value: 0 DOWN, 1 UP; answered where its sender was DOWN and is UP.
                                 * Of a sender above 255 no state is kept: nothing is noted or owed */
-    NYR_HEARD_REQUEST = 2,     /* answered with our status */
-    NYR_HEARD_UNKNOWN = 3,     /* value: an ID that the sender does not know; nothing is owed */
+    NYR_HEARD_REQUEST = 2,     /* of our status: answered with it */
+    NYR_HEARD_UNKNOWN = 3,     /* value: an ID that the sender does not know; nothing is owed. A request of ours stays
+                                * pending: its number is the message's sequence number */
     NYR_HEARD_PULL_ALL = 4,    /* all versioned data is asked for: the caller sends it */
     NYR_HEARD_PULL_ONE = 5,    /* value: the ID that is asked for; number is given, and the caller sends it */
     NYR_HEARD_PULL_NONE = 6,   /* value: an ID that is no versioned data here; answered */
-    NYR_HEARD_OPERATION = 7,   /* value: the ID; number and payload are given */
-    NYR_HEARD_NOT_IN_TABLE = 8 /* value: the ID; answered */
+    NYR_HEARD_OPERATION = 7,   /* value: the ID; number and payload are given. Where it is a request that we serve, the
+                                * caller answers with nyr_write: domain 1, the same ID, the same sequence number */
+    NYR_HEARD_NOT_IN_TABLE = 8, /* value: the ID; answered */
+    NYR_HEARD_RESPONSE = 9     /* value: the ID; number and payload are given; nothing is owed. Its request, under the
+                                * same sequence number, was pending, and is no longer */
 };
 
-/* A fresh state: this platform UP, all others DOWN, the next own sequence number 0. It answers 0.  Stack 256. */
+/*
+ * A fresh state: this platform UP, all others DOWN, the next own sequence number 0, no request pending. It answers 0.
+ * Stack 256.
+ */
 uint32_t nyr_start(uint8_t own, nyr_platform *platform);
 
 /*
  * Reads a message, notes in platform the state that it tells, and writes the replies that its sender is owed at the
- * start of output, one behind another, each of NYR_REPLY_BYTES.
- *   30 to 33 for the table; then 1 to 9 for the message; then 10 where the replies do not fit.
- * Stack 4096; time: the logarithm of the operations, or where all data is pulled their number; and, but for _in, the
- * table's check.
+ * start of output, one behind another, each of NYR_REPLY_BYTES. In domain 1 a message with the ID of an operation whose
+ * requests we send is the response, where a request is pending under its sequence number, with that ID and with its
+ * sender for a target; then both words of the request's place are 0 again. Nothing else changes what is pending.
+ *   30 to 33 for the table; then 1 to 9 for the message; then 61 for an ID whose requests we send, and no response (as
+ *   the same response once more); then 10 where the replies do not fit.
+ * Stack 16384, nyr_receive_in 4096; time: the logarithm of the operations, or where all data is pulled their number;
+ * and, but for _in, the table's check.
  */
 uint32_t nyr_receive(uint8_t own, nyr_platform *platform, const uint8_t *table, size_t table_length,
                      const uint8_t *message, size_t message_length, uint8_t *output, size_t output_length,
@@ -319,6 +346,44 @@ uint32_t nyr_is_up(uint8_t own, const nyr_platform *platform, uint32_t number);
 
 /* How many of the 256 are UP, this one counted.  Stack 256. */
 uint32_t nyr_how_many_up(uint8_t own, const nyr_platform *platform);
+
+/* ---- Requests: of operations that are NYR_REQUEST_SENT in our table. Up to 64 are pending at a time, each under a
+ * number of its own; where a state that no call has left has one number in two places, the first is meant. */
+
+typedef struct {
+    uint64_t written;          /* the bytes of the request */
+    uint64_t sequence;         /* its sequence number */
+} nyr_sent;
+
+typedef struct {
+    uint64_t found;            /* 1 if the number is pending, else 0 */
+    uint64_t id;               /* its operation's ID, else 0 */
+    uint64_t target;           /* the platform that was asked, else 0 */
+} nyr_awaited;
+
+/*
+ * Writes a request to platform `target` at the start of output, and enters it among those that are pending. Its number
+ * is the first from the next own one on that is neither 0 nor pending; the next own number is then the one behind it
+ * (0xFFFFFFFF is followed by 0). The payload is not held to its type; the target may be any number of 32 bits, UP or
+ * DOWN.
+ *   30 where the sections do not lie in the table; then 62, also for an ID that the table has not; then 60; then 5;
+ *   then 10.
+ * Writes in platform no words but next and the two of the first place that is free.
+ * Stack 1024; time: the payload's length, the logarithm of the operations, and how many of the next own numbers are
+ * pending.
+ */
+uint32_t nyr_send(uint8_t own, nyr_platform *platform, const uint8_t *table, size_t table_length,
+                  const nyr_sections *sections, uint32_t id, uint32_t target, const uint8_t *payload,
+                  size_t payload_length, uint8_t *output, size_t output_length, nyr_sent *sent);
+
+/*
+ * Gives a request up, as one whose response is lost: `cancelled` is 1 where the number was pending, and both words of
+ * its place are 0 again; else 0, and platform stays. It answers 0.  Stack 256.
+ */
+uint32_t nyr_cancel(nyr_platform *platform, uint32_t sequence, size_t *cancelled);
+
+/* Looks up what is pending under a number. It answers 0.  Stack 256. */
+uint32_t nyr_pending(const nyr_platform *platform, uint32_t sequence, nyr_awaited *awaited);
 
 #ifdef __cplusplus
 }

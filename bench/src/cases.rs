@@ -4,14 +4,19 @@
 //! so neither is inlined, and nothing of a call is worked out before it.
 
 mod joining;
+mod lookups;
 mod messages;
 mod payloads;
+mod requests;
 
 use crate::measure::Case;
-use crate::tables::{self, message};
+use crate::tables::{self, id_of, message, Random, SENT};
+use bench::plain::types;
 use joining::{cutting, joining};
-use messages::{reading, receiving};
-use payloads::{checking, packing, unpacking};
+use lookups::{checking, finding};
+use messages::{reading, receiving, receiving_any};
+use payloads::{packing, unpacking};
+use requests::{responding, sending};
 
 /// A case by name, made when it is measured.
 pub struct Named {
@@ -48,7 +53,7 @@ pub fn all() -> Vec<Named> {
         Box::new(|| reading(&message(0, 2, 1, 7, &[0, 0, 0, 1]))),
     );
     let few = tables::record_of_all;
-    let many = || tables::large_table(64, 1_000);
+    let many = || tables::large_table(64, &tables::operations(1_000));
     add(
         "platform call, status with no change",
         Box::new(move || receiving(&few(), &message(0, 2, 1, 7, &[0; 4]))),
@@ -65,6 +70,30 @@ pub fn all() -> Vec<Named> {
         "platform call, operation, last of 1,000",
         Box::new(move || receiving(&many(), &operation(999))),
     );
+    add(
+        "platform call, operation, last of 1,000, both widths",
+        Box::new(|| receiving(&both(), &operation(999))),
+    );
+    add(
+        "platform call, operation, one of 1,000 at random, both widths",
+        Box::new(|| receiving_any(&both(), heard_at_random())),
+    );
+    let last = || vec![id_of(999)];
+    for (beside, plain) in [
+        ("", types::find as lookups::Find),
+        (", beside a plain scan", types::scan),
+    ] {
+        add(
+            &format!("find an operation, last of 1,000{beside}"),
+            Box::new(move || finding(&both(), last(), plain)),
+        );
+        add(
+            &format!("find an operation, one of 1,000 at random{beside}"),
+            Box::new(move || finding(&both(), at_random().map(id_of).collect(), plain)),
+        );
+    }
+    add("send a request, 63 pending", Box::new(|| sending(&both())));
+    add("a response, 63 pending", Box::new(|| responding(&both())));
     for (name, value) in values() {
         add(
             &format!("unpack {name}"),
@@ -74,11 +103,15 @@ pub fn all() -> Vec<Named> {
     }
     add(
         "check a table of 64 types, 64 operations",
-        Box::new(|| checking(tables::large_table(64, 64))),
+        Box::new(|| checking(tables::large_table(64, &tables::operations(64)))),
     );
     add(
         "check a table of 256 types, 1,024 operations",
-        Box::new(|| checking(tables::large_table(256, 1_024))),
+        Box::new(|| checking(tables::large_table(256, &tables::operations(1_024)))),
+    );
+    add(
+        "check a table of 256 types, 1,024 operations of both widths, with its index",
+        Box::new(|| checking(tables::large_table(256, &tables::operations_of_both(1_024)))),
     );
     cases
 }
@@ -133,14 +166,34 @@ fn behind(first: &[u64], rest: Vec<u64>) -> Vec<u64> {
 }
 
 fn operation(entry: u32) -> Vec<u8> {
-    message(
-        1,
-        2,
-        tables::operations(entry + 1)[entry as usize].0,
-        7,
-        &[3; 32],
-    )
+    message(1, 2, id_of(entry), 7, &[3; 32])
 }
+
+fn both() -> Vec<u8> {
+    tables::large_table(64, &tables::operations_of_both(1_000))
+}
+
+/// The numbers of entries among 1,000, as often as a case repeats its inputs.
+fn at_random() -> impl Iterator<Item = u32> {
+    let mut random = Random(13);
+    (0..REPEATED).map(move |_| random.below(1_000) as u32)
+}
+
+/// Messages with such operations; not with those whose requests we send.
+fn heard_at_random() -> Vec<Vec<u8>> {
+    at_random()
+        .map(|entry| {
+            if entry % 4 == u32::from(SENT) {
+                entry + 1
+            } else {
+                entry
+            }
+        })
+        .map(operation)
+        .collect()
+}
+
+const REPEATED: usize = 1_024;
 
 fn digits(number: usize) -> String {
     if number < 1_000 {

@@ -1,14 +1,15 @@
 //! The two programs on the same inputs, most of them spoilt at random: every number, answer, state and buffer must be the same.
 //! So the plain program makes each check that the proved one makes.
 
-use crate::pair::{
-    our_heard, our_joiner, our_message, our_platform, our_sections, our_taken, plain_joiner,
-    plain_sections, OWN,
-};
-use crate::tables::{self, message, put_binding_header, Random};
+mod lookups;
+mod platforms;
+mod state;
+mod tables;
+
+use crate::pair::{our_joiner, our_message, our_taken, plain_joiner, OWN};
+use crate::tables::{id_of, message, put_binding_header, Random};
 use bench::plain::joiner::Joiner;
-use bench::plain::platform::Platform;
-use bench::plain::{binding, message as plain_message, payload, types};
+use bench::plain::{binding, message as plain_message};
 use nyrkovash as ours;
 
 /// So many inputs for each family of calls.
@@ -17,8 +18,9 @@ pub fn compare(count: usize, seed: u64) {
     joining(count, random);
     cutting(count, random);
     reading(count, random);
-    tables_and_payloads(count, random);
-    receiving(count, random);
+    tables::compare(count, random);
+    lookups::compare(count, random);
+    platforms::compare(count, random);
 }
 
 fn spoil(bytes: &mut Vec<u8>, random: &mut Random) {
@@ -135,13 +137,13 @@ fn any_message(random: &mut Random) -> Vec<u8> {
     let id = if random.below(2) == 0 {
         random.below(6) as u32
     } else {
-        0x100 + random.below(60) as u32
+        id_of(random.below(40) as u32) + random.below(4) as u32 / 3
     };
-    let field = [0, 1, 2, 0x103, u32::MAX][random.below(5)];
-    let payload = if domain == 0 && id == 2 {
-        Vec::new()
-    } else {
-        field.to_be_bytes().to_vec()
+    let field = [0, 1, 2, id_of(1), id_of(2), u32::MAX][random.below(6)];
+    let payload = match random.below(16) {
+        0 => random.bytes(3),
+        _ if domain == 0 && id == 2 => Vec::new(),
+        _ => field.to_be_bytes().to_vec(),
     };
     let mut bytes = message(
         domain,
@@ -165,129 +167,5 @@ fn reading(count: usize, random: &mut Random) {
             Ok(read) => assert_eq!((number, answer), (0, our_message(&read))),
             Err(refused) => assert_eq!(number, refused),
         }
-    }
-}
-
-fn tables_and_payloads(count: usize, random: &mut Random) {
-    let good = [
-        (tables::record_of_uint16(), 1, vec![500; 64]),
-        (tables::record_of_all(), 14, tables::words_of_all()),
-        (
-            tables::array_of_floats(),
-            1,
-            vec![4, 0, 1, 0x8000_0000, 0x7F7F_FFFF],
-        ),
-        (tables::large_table(16, 3), 3, vec![1, 1, 1, 1, 1]),
-        (tables::large_table(16, 3), 6, vec![0, 5, 0, 5]),
-    ];
-    for i in 0..count {
-        let (whole, number, right) = &good[i % good.len()];
-        let mut table = whole.clone();
-        if random.below(2) == 0 {
-            spoil(&mut table, random);
-        }
-        let mut given = ours::Sections::default();
-        let refused = ours::check_table(&table, &mut given);
-        match types::check(&table) {
-            Ok(sections) => assert_eq!((refused, given), (0, our_sections(&sections))),
-            Err(number) => assert_eq!(refused, number),
-        }
-        // By sections also a spoilt table is walked, and both refuse the same entries.
-        let sections = types::check(whole).unwrap();
-        let known = our_sections(&sections);
-        let mut input = right.clone();
-        match random.below(6) {
-            0 => input.truncate(random.below(input.len())),
-            1 => input.push(1),
-            2 | 3 => {
-                let at = random.below(input.len());
-                input[at] = random.next() >> random.below(64);
-            }
-            _ => {}
-        }
-        let mut bytes = vec![0; random.below(20) * random.below(30)];
-        let (mut plain_bytes, mut given) = (bytes.clone(), 0);
-        let refused = ours::pack_in(&table, &known, *number, &input, &mut bytes, &mut given);
-        match payload::pack_in(&table, &sections, *number, &input, &mut plain_bytes) {
-            Ok(gave) => assert_eq!((refused, given), (0, gave)),
-            Err(number) => assert_eq!(refused, number),
-        }
-        assert_eq!(bytes, plain_bytes);
-        let mut payload_bytes = vec![0; 600];
-        if let Ok(length) = payload::pack_in(whole, &sections, *number, right, &mut payload_bytes) {
-            payload_bytes.truncate(length);
-            if random.below(3) > 0 {
-                spoil(&mut payload_bytes, random);
-            }
-            let mut out = vec![0; random.below(80)];
-            let mut plain_out = out.clone();
-            let refused = ours::unpack_in(
-                &table,
-                &known,
-                *number,
-                &payload_bytes,
-                &mut out,
-                &mut given,
-            );
-            match payload::unpack_in(&table, &sections, *number, &payload_bytes, &mut plain_out) {
-                Ok(gave) => assert_eq!((refused, given), (0, gave)),
-                Err(number) => assert_eq!(refused, number),
-            }
-            assert_eq!(out, plain_out);
-        }
-    }
-}
-
-fn receiving(count: usize, random: &mut Random) {
-    let tables = [
-        tables::record_of_all(),
-        tables::table(&[[0, 8, 0, 0]], &[], &[], &[(0x103, 0, 0xFFFF)]),
-    ];
-    let mut state = ours::Platform::default();
-    assert_eq!(ours::start(OWN, &mut state), 0);
-    let mut platform = Platform::new(OWN);
-    for i in 0..count {
-        let table = &tables[i % 2];
-        let sections = types::check(table).unwrap();
-        let mut known = our_sections(&sections);
-        if random.below(32) == 0 {
-            known.words[random.below(8)] = random.below(1_000) as u64;
-        }
-        let bytes = any_message(random);
-        let mut out = vec![
-            0;
-            if random.below(4) == 0 {
-                random.below(50)
-            } else {
-                48
-            }
-        ];
-        let (mut plain_out, mut answer) = (out.clone(), ours::Heard::default());
-        let number = ours::receive_in(
-            OWN,
-            &mut state,
-            table,
-            &known,
-            &bytes,
-            &mut out,
-            &mut answer,
-        );
-        let heard = platform.receive_in(table, &plain_sections(&known), &bytes, &mut plain_out);
-        if known != our_sections(&sections) {
-            // On sections of no table an operation that is found is promised to bear the ID, and no more: what is owed
-            // may differ, and so whether it fits.
-            let refused = heard.err().unwrap_or(0);
-            let either = |number| number == 0 || number == 10;
-            assert!(number == refused || either(number) && either(refused));
-            platform.up = state.up;
-            platform.next = state.next as u32;
-            continue;
-        }
-        match heard {
-            Ok(heard) => assert_eq!((number, answer), (0, our_heard(&heard))),
-            Err(refused) => assert_eq!(number, refused),
-        }
-        assert_eq!(out, plain_out);
-        assert_eq!(state, our_platform(&platform));
     }
 }

@@ -2,8 +2,10 @@
 
 use bench::plain::joiner::{Channel, Joiner, Outcome, Place};
 use bench::plain::message::{Kind, Message};
+use bench::plain::operations::{Operation, Place as Indexed};
+use bench::plain::pending::{Pending, Request, Sent, PLACES};
 use bench::plain::platform::{Answer, Heard, Platform};
-use bench::plain::types::{Section, Sections};
+use bench::plain::types::{Bounds, Section, Sections};
 use nyrkovash as ours;
 
 pub const OWN: u8 = 1;
@@ -89,6 +91,7 @@ pub fn our_heard(answer: &Answer) -> ours::Heard {
         Heard::NotVersionedData(id) => (6, id, 0, 0, 0),
         Heard::Operation { id, entry, payload } => (7, id, entry, 20, payload.len()),
         Heard::NotInTable(id) => (8, id, 0, 0, 0),
+        Heard::Response { id, entry, payload } => (9, id, entry, 20, payload.len()),
     };
     ours::Heard {
         kind,
@@ -103,35 +106,105 @@ pub fn our_heard(answer: &Answer) -> ours::Heard {
 }
 
 pub fn our_platform(platform: &Platform) -> ours::Platform {
+    let mut pending = [0; 2 * PLACES];
+    for (k, request) in platform.pending.0.iter().enumerate() {
+        pending[k] = word(request.number, request.id);
+        pending[PLACES + k] = request.target;
+    }
     ours::Platform {
         up: platform.up,
         next: u64::from(platform.next),
+        pending,
     }
 }
 
+/// For a next number of 32 bits.
+pub fn plain_platform(platform: &ours::Platform) -> Platform {
+    let mut pending = Pending::default();
+    for (k, request) in pending.0.iter_mut().enumerate() {
+        let (number, id) = halves(platform.pending[k]);
+        let target = platform.pending[PLACES + k];
+        *request = Request { number, id, target };
+    }
+    Platform {
+        own: OWN,
+        up: platform.up,
+        next: platform.next as u32,
+        pending,
+    }
+}
+
+pub fn our_sent(sent: &Sent) -> ours::Sent {
+    ours::Sent {
+        written: sent.written as u64,
+        sequence: u64::from(sent.number),
+    }
+}
+
+pub fn our_awaited(request: Option<Request>) -> ours::Awaited {
+    request.map_or(ours::Awaited::default(), |request| ours::Awaited {
+        found: 1,
+        id: u64::from(request.id),
+        target: request.target,
+    })
+}
+
+pub fn our_operation(found: Option<Operation>) -> ours::Operation {
+    found.map_or(ours::Operation::default(), |operation| ours::Operation {
+        found: 1,
+        kind: u64::from(operation.kind),
+        carries: u64::from(operation.carries),
+        responds: u64::from(operation.responds),
+    })
+}
+
 pub fn our_sections(s: &Sections) -> ours::Sections {
+    let b = &s.bounds;
     let mut sections = ours::Sections::default();
+    let (bounds, index) = sections.words.split_at_mut(BOUNDS);
     for (two, section) in
-        sections
-            .words
+        bounds
             .chunks_exact_mut(2)
-            .zip([s.types, s.members, s.values, s.operations])
+            .zip([b.types, b.members, b.values, b.operations])
     {
         two[0] = section.at as u64;
         two[1] = section.count as u64;
+    }
+    for (one, place) in index.iter_mut().zip(&s.index) {
+        *one = word(place.id, place.at);
     }
     sections
 }
 
 pub fn plain_sections(sections: &ours::Sections) -> Sections {
+    let (bounds, index) = sections.words.split_at(BOUNDS);
     let one = |i: usize| Section {
-        at: sections.words[i] as usize,
-        count: sections.words[i + 1] as usize,
+        at: bounds[i] as usize,
+        count: bounds[i + 1] as usize,
     };
-    Sections {
-        types: one(0),
-        members: one(2),
-        values: one(4),
-        operations: one(6),
+    let mut plain = Sections {
+        bounds: Bounds {
+            types: one(0),
+            members: one(2),
+            values: one(4),
+            operations: one(6),
+        },
+        ..Sections::default()
+    };
+    for (place, one) in plain.index.iter_mut().zip(index) {
+        let (id, at) = halves(*one);
+        *place = Indexed { id, at };
     }
+    plain
+}
+
+/// How many words of the sections say where they lie; the index follows.
+pub const BOUNDS: usize = 8;
+
+pub fn word(upper: u32, lower: u32) -> u64 {
+    u64::from(upper) << 32 | u64::from(lower)
+}
+
+fn halves(word: u64) -> (u32, u32) {
+    ((word >> 32) as u32, word as u32)
 }

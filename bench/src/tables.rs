@@ -27,12 +27,15 @@ impl Random {
     }
 }
 
-/// A table of these types (kind, of, first, count), members, values and operations (ID, kind, type).
+/// An operation's ID, kind, type and, of a request, the type of its response.
+pub type Operation = (u32, u16, u16, u16);
+
+/// A table of these types (kind, of, first, count), members, values and operations.
 pub fn table(
     types: &[[u16; 4]],
     members: &[u16],
     values: &[u64],
-    operations: &[(u32, u16, u16)],
+    operations: &[Operation],
 ) -> Vec<u8> {
     let mut bytes = be(&[types.len() as u16]);
     types.iter().for_each(|entry| bytes.extend(be(entry)));
@@ -43,16 +46,43 @@ pub fn table(
         .iter()
         .for_each(|value| bytes.extend(value.to_be_bytes()));
     bytes.extend(be(&[operations.len() as u16]));
-    for (id, kind, of) in operations {
+    for (id, kind, of, response) in operations {
         bytes.extend(id.to_be_bytes());
         bytes.extend(be(&[*kind, *of]));
+        if is_request(*kind) {
+            bytes.extend(be(&[*response]));
+        }
     }
     bytes
 }
 
-pub fn operations(count: u32) -> Vec<(u32, u16, u16)> {
+/// Requests, those that we send and those that we serve, have entries of 10 bytes.
+pub const SENT: u16 = 2;
+
+fn is_request(kind: u16) -> bool {
+    kind == SENT || kind == 3
+}
+
+pub fn id_of(entry: u32) -> u32 {
+    0x100 + 3 * entry
+}
+
+/// Events and versioned data, by turns: entries of 8 bytes.
+pub fn operations(count: u32) -> Vec<Operation> {
     (0..count)
-        .map(|i| (0x100 + 3 * i, (i % 2) as u16, 0))
+        .map(|i| (id_of(i), (i % 2) as u16, 0, 0))
+        .collect()
+}
+
+/// The four kinds by turns: entries of both widths. The types of requests and responses are 0 or none.
+pub fn operations_of_both(count: u32) -> Vec<Operation> {
+    let none_or_0 = |none: bool| if none { 0xFFFF } else { 0 };
+    (0..count)
+        .map(|i| {
+            let kind = (i % 4) as u16;
+            let carries = none_or_0(is_request(kind) && i % 3 == 0);
+            (id_of(i), kind, carries, none_or_0(i % 5 == 0))
+        })
         .collect()
 }
 
@@ -119,7 +149,7 @@ pub fn array_of_records() -> Vec<u8> {
 }
 
 /// Every kind in turn: so many types, with four members or values for each record and enum.
-pub fn large_table(count: u16, operation_count: u32) -> Vec<u8> {
+pub fn large_table(count: u16, operations: &[Operation]) -> Vec<u8> {
     let (mut types, mut members, mut values) = (Vec::new(), Vec::new(), Vec::new());
     for i in 0..count {
         types.push(match i % 4 {
@@ -135,7 +165,7 @@ pub fn large_table(count: u16, operation_count: u32) -> Vec<u8> {
             _ => [0, i / 4 % 13, 0, 0],
         });
     }
-    table(&types, &members, &values, &operations(operation_count))
+    table(&types, &members, &values, operations)
 }
 
 /// The words of a value of `record_of_all`.

@@ -8,6 +8,7 @@ enum {
     MOST_ARGUMENTS = 6,
     MOST_BYTES = 70000, /* of an argument, and of an output */
     MOST_WORDS = 65536,
+    MOST_LIST = 128,    /* words of requests that are pending */
     RECORD = 11,        /* bytes: sender 2, seen 1, last counter 4, held 4 */
     SEEN_AT = 2,
     LAST_AT = 3,
@@ -33,10 +34,21 @@ Found next_call(const uint8_t *input, size_t filled, size_t at, Call *call);
 
 uint64_t number_at(const uint8_t *bytes, size_t width);
 
-/* A platform that the calls speak to; at first it is platform 0. */
-void start_platform(uint8_t own);
-
 /* The answer's part of a call's line, on standard output. */
 void answer(const Call *call);
+
+/* Its parts: a number, and bytes (`-` for none), each behind a space; whether a call refused, and then that it did; a name and the
+ * output's first bytes behind it, or that the call refused. */
+void put_number(uint64_t number);
+void put_bytes(const uint8_t *bytes, size_t length);
+int refused(uint32_t number);
+void put_output(uint32_t number, const char *name, size_t length);
+
+/* What the calls write to. */
+extern uint8_t output[MOST_BYTES];
+
+/* The platform that the calls speak to, at first platform 0; and the calls that do, by their codes: 7 to 10 and 20 to 23. */
+void start_platform(uint8_t number);
+void answer_platform(const Call *call);
 
 #endif

@@ -1,10 +1,11 @@
 /* The calls of a file: for each code its arguments, what an argument may be, and where the next call stands. */
 #include "answers.h"
 
-enum { HEAD = 4, LENGTH = 4, CODES = 16 };
+enum { HEAD = 4, LENGTH = 4, CODES = 24 };
 
-/* Numbers of 8, 16, 32 and 64 bits, an output's length in bytes and in words; bytes, words, and a joiner's records. */
-enum { NONE, N8, N16, N32, N64, ROOM, WORD_ROOM, BYTES, WORDS, RECORDS };
+/* Numbers of 8, 16, 32 and 64 bits, an output's length in bytes and in words; bytes, words, a joiner's records, and the words of
+ * requests that are pending. */
+enum { NONE, N8, N16, N32, N64, ROOM, WORD_ROOM, BYTES, WORDS, RECORDS, LIST };
 
 static const struct {
     uint64_t fewest, most, largest;
@@ -19,6 +20,7 @@ static const struct {
     {0, MOST_BYTES, UINT64_MAX},
     {0, 8 * MOST_WORDS, UINT64_MAX},
     {0, MOST_BYTES, UINT64_MAX},
+    {0, 8 * MOST_LIST, UINT64_MAX},
 };
 
 static const struct {
@@ -41,7 +43,17 @@ static const struct {
     {4, {BYTES, N16, BYTES, WORD_ROOM}},
     {4, {BYTES, N16, WORDS, ROOM}},
     {2, {BYTES, N32}},
+    [20] = {5, {BYTES, N32, N32, BYTES, ROOM}},
+    {1, {N32}},
+    {1, {N32}},
+    {3, {N8, N32, LIST}},
 };
+
+/* 16 to 19 are none. */
+static int is_code(unsigned code)
+{
+    return (1 <= code && code <= 15) || (20 <= code && code < CODES);
+}
 
 uint64_t number_at(const uint8_t *bytes, size_t width)
 {
@@ -61,7 +73,7 @@ static int takes(unsigned kind, const Argument *a)
 {
     if (is_number(kind))
         return a->number <= kinds[kind].largest;
-    if (kind == WORDS)
+    if (kind == WORDS || kind == LIST)
         return a->length % 8 == 0;
     if (kind != RECORDS)
         return 1;
@@ -80,7 +92,7 @@ Found next_call(const uint8_t *input, size_t filled, size_t at, Call *call)
         return UNFINISHED;
     call->code = (unsigned)number_at(input + at, 2);
     count = (unsigned)number_at(input + at + 2, 2);
-    if (call->code < 1 || call->code >= CODES || count != shapes[call->code].count)
+    if (!is_code(call->code) || count != shapes[call->code].count)
         return BAD;
     at += HEAD;
     for (unsigned k = 0; k < count; k++) {

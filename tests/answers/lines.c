@@ -5,24 +5,16 @@
 #include <stdio.h>
 #include <string.h>
 
-static uint8_t output[MOST_BYTES], rooms[MOST_BYTES];
+uint8_t output[MOST_BYTES];
+static uint8_t rooms[MOST_BYTES];
 static uint64_t words[MOST_WORDS];
-static uint8_t own;
-static nyr_platform platform;
 
-void start_platform(uint8_t number)
-{
-    own = number;
-    nyr_start(own, &platform);
-}
-
-static void put_number(uint64_t number)
+void put_number(uint64_t number)
 {
     printf(" %" PRIu64, number);
 }
 
-/* Behind a space; `-` for none. */
-static void put_bytes(const uint8_t *bytes, size_t length)
+void put_bytes(const uint8_t *bytes, size_t length)
 {
     static const char digits[] = "0123456789abcdef";
     putchar(' ');
@@ -34,16 +26,14 @@ static void put_bytes(const uint8_t *bytes, size_t length)
     }
 }
 
-/* Whether the call refused, and then that it did. */
-static int refused(uint32_t number)
+int refused(uint32_t number)
 {
     if (number != NYR_OK)
         printf("refused %" PRIu32, number);
     return number != NYR_OK;
 }
 
-/* A name and the output's first bytes behind it, or that the call refused. */
-static void put_output(uint32_t number, const char *name, size_t length)
+void put_output(uint32_t number, const char *name, size_t length)
 {
     if (refused(number))
         return;
@@ -117,6 +107,7 @@ static void find(const Argument *a)
     printf("entry");
     put_number(operation.kind);
     put_number(operation.carries);
+    put_number(operation.responds);
 }
 
 static void unpack(const Argument *a, int in)
@@ -148,32 +139,6 @@ static void pack(const Argument *a, int in)
     number = in ? nyr_pack_in(a[0].bytes, a[0].length, &sections, type, words, count, output, room, &given)
                 : nyr_pack(a[0].bytes, a[0].length, type, words, count, output, room, &given);
     put_output(number, "bytes", given);
-}
-
-static void start(const Argument *a)
-{
-    start_platform((uint8_t)a[0].number);
-    printf("platform");
-    put_number(own);
-}
-
-static void receive(const Argument *a)
-{
-    static const char *const names[] = {
-        "", "status", "request", "unknown", "pull all", "pull", "pull unknown", "operation", "operation unknown"};
-    nyr_heard heard;
-    if (refused(nyr_receive(own, &platform, a[0].bytes, a[0].length, a[1].bytes, a[1].length, output,
-                            (size_t)a[2].number, &heard)))
-        return;
-    printf("%s", names[heard.kind]);
-    if (heard.kind == NYR_HEARD_STATUS)
-        printf(heard.value ? " up" : " down");
-    else if (heard.kind != NYR_HEARD_REQUEST && heard.kind != NYR_HEARD_PULL_ALL)
-        put_number(heard.value);
-    printf(" from");
-    put_number(heard.sender);
-    printf(" owed");
-    put_bytes(output, (size_t)heard.replies);
 }
 
 /* A joiner of all the records, or where these are too many of the first: its count alone makes it none. */
@@ -242,14 +207,11 @@ void answer(const Call *call)
     case 4: check_table(a); break;
     case 5: unpack(a, 0); break;
     case 6: pack(a, 0); break;
-    case 7: start(a); break;
-    case 8: receive(a); break;
-    case 9: printf(nyr_is_up(own, &platform, (uint32_t)a[0].number) ? "up" : "down"); break;
-    case 10: printf("count %" PRIu32, nyr_how_many_up(own, &platform)); break;
     case 11: take(a); break;
     case 12: count_pieces(a); break;
     case 13: unpack(a, 1); break;
     case 14: pack(a, 1); break;
     case 15: find(a); break;
+    default: answer_platform(call); break;
     }
 }

@@ -39,7 +39,7 @@ function call(text, name, count, i, part, pair, line) {
 /^for .* use record/ { name = tolower(substr($2, 5)); places = 1; next }
 /^end record/ { if (inside) print "fields " name line; inside = places = 0 }
 inside { sub(/;$/, ""); type = $0; sub(/.* : /, "", type); line = line " " tolower($1) ":" plain(type) }
-places { sub(/;/, "", $7); print "at " name " " tolower($1) " " $3 " (" $7 "+1)/8" }
-/^for .*'Size use / { sub(/'Size/, "", $2); sub(/;/, "", $4); print "size " tolower(substr($2, 5)) " " $4 "/8" }
+places { gsub(/[;_]/, "", $7); print "at " name " " tolower($1) " " $3 " (" $7 "+1)/8" }
+/^for .*'Size use / { sub(/'Size/, "", $2); gsub(/[;_]/, "", $4); print "size " tolower(substr($2, 5)) " " $4 "/8" }
 /^function / { text = ""; calling = 1 }
 calling { text = text (text == "" ? "" : " ") $0; if (/;$/ && text ~ /External_Name/) { call(text); calling = 0 } }

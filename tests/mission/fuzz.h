@@ -33,7 +33,7 @@ void lent_start(void);
  * that may not be touched. */
 void *lend(int buffer, const void *bytes, size_t elements, size_t width);
 /* A struct or a number that the call answers with, of fields of that width: just its size is lent, filled with what no field can be.
- * Where the call answers 0 it must have written every field. */
+ * Where the call answers 0 it must have written every field that it may change. */
 void *lend_answer(int buffer, size_t size, size_t field);
 /* The call may have changed these elements, and no others, of a buffer. */
 void may_change(int buffer, size_t from, size_t to, size_t width);
@@ -47,22 +47,52 @@ void expect(int holds, const char *what);
 /* What was met, a bit each: numbers, outcomes of a take, kinds read, and what was heard. A run that misses one says nothing. */
 extern uint64_t calls, accepted, numbers_met, outcomes_met, kinds_met, heard_met;
 
-/* A table that keeps every rule, made at random, and the words of a value of one of its types. */
+/* A table that keeps every rule, made at random, and the words of a value of one of its types. Behind its index the words of its
+ * sections are any. */
+enum { MOST_OPERATIONS = 1024, LARGEST_TABLE = 22536 };
+
 typedef struct {
-    uint8_t bytes[20488];
+    uint8_t bytes[LARGEST_TABLE];
     size_t length, types;
     uint16_t kind[256], of[256], first[256], count[256];
     uint16_t members[1024];
     uint64_t values[1024];
     nyr_sections sections;
     size_t members_count, values_count, operations;
-    uint32_t ids[64];
+    uint32_t ids[MOST_OPERATIONS];
+    uint16_t kinds[MOST_OPERATIONS], carries[MOST_OPERATIONS], responds[MOST_OPERATIONS];
 } Table;
 
 void make_table(Table *table);
+/* Sections that are mostly the table's, and an ID that mostly is one of its operations', mostly of this kind where there is one. */
+nyr_sections make_sections(const Table *table);
+uint32_t make_id_of(const Table *table, unsigned kind);
 /* Whether these could be the sections of a table of so many bytes. */
 int lie_in(const nyr_sections *sections, size_t bytes);
 size_t make_words(const Table *table, size_t type, uint64_t *words, size_t room); /* 0 where they would not fit */
+
+/* Messages, and numbers in them. A message is mostly good, from mostly another platform. */
+enum { MOST_MESSAGE = 66000 };
+#define READING (N(1) | N(2) | N(3) | N(4) | N(5) | N(6) | N(7) | N(8) | N(9))
+
+extern uint8_t message[MOST_MESSAGE];
+uint64_t be(const uint8_t *bytes, int width);
+void put32(uint8_t *bytes, uint32_t number);
+uint32_t make_sender(uint8_t own, size_t others);
+size_t make_message(const Table *table, uint32_t sender);
+
+/* One platform and its table are kept from call to call, so that requests are answered and not only sent. */
+extern nyr_platform platform;
+extern Table platform_table;
+void renew_platform_table(void); /* sometimes another one */
+/* The place of the list that bears this number, NYR_MOST_PENDING for none; and a number that mostly is pending. */
+size_t place_of(const nyr_platform *state, uint32_t sequence);
+uint32_t make_sequence(const nyr_platform *state);
+/* The kept platform, or one with another list: full, nearly so, with a number twice, or with any words. */
+nyr_platform make_platform(void);
+nyr_platform cleared(nyr_platform state, size_t place);
+/* A message that mostly is the response to a request that is pending. */
+size_t make_response(const nyr_platform *state, const Table *table);
 
 /* One or more calls of each family, with their checks. */
 void fuzz_setup(void);
@@ -72,6 +102,9 @@ void fuzz_read(void);
 void fuzz_write(void);
 void fuzz_receive(void);
 void fuzz_states(void);
+void fuzz_send(void);
+void fuzz_cancel(void);
+void fuzz_pending(void);
 void fuzz_table(void);
 void fuzz_unpack(void);
 void fuzz_pack(void);

@@ -7,7 +7,7 @@ enum { MOST_IDS = 64, MOST_ROOMS = NYR_CHANNELS * NYR_LARGEST_ROOM };
 
 /* One joiner is kept from call to call, so that messages are joined and not only started. */
 static nyr_joiner joiner;
-static uint8_t rooms[MOST_ROOMS], datagram[70000], message[70000];
+static uint8_t rooms[MOST_ROOMS], datagram[70000], uncut[70000];
 static size_t rooms_length;
 
 static size_t make_room(void)
@@ -227,12 +227,12 @@ static void check_cut(const uint8_t *out, size_t written, size_t length, size_t 
     expect(written == NYR_DATAGRAM_HEADER + bytes, "a datagram of another length");
     expect(out[0] == (part << 4 | sender >> 8) && out[1] == (sender & 255), "the datagram's part and sender");
     expect(((size_t)out[2] << 8 | out[3]) == (first + piece) % 65536, "the datagram's counter");
-    expect(!differ(out + NYR_DATAGRAM_HEADER, message + piece * size, bytes), "the datagram's piece");
+    expect(!differ(out + NYR_DATAGRAM_HEADER, uncut + piece * size, bytes), "the datagram's piece");
 }
 
 void fuzz_cut(void)
 {
-    size_t length = near(1 + below(one_in(50) ? NYR_LARGEST_MESSAGE : 900)) % sizeof message;
+    size_t length = near(1 + below(one_in(50) ? NYR_LARGEST_MESSAGE : 900)) % sizeof uncut;
     size_t size = near(1 + below(one_in(8) ? NYR_LARGEST_PIECE : 400)), sender = near(below(4096)),
            first = near(below(65536));
     size_t count = size == 0 ? 1 : length / size + (length % size != 0);
@@ -244,9 +244,9 @@ void fuzz_cut(void)
     number = called(nyr_pieces(length, size, answer), N(50));
     expect(number == (can ? 0u : NYR_CANNOT_CUT), "pieces: another number");
     expect(number != 0 || *answer == count, "pieces: another count");
-    fill(message, length);
+    fill(uncut, length);
     calling("nyr_cut");
-    uint8_t *lent_message = lend(MESSAGE, message, length, 1), *out = lend(OUT, NULL, room, 1);
+    uint8_t *lent_message = lend(MESSAGE, uncut, length, 1), *out = lend(OUT, NULL, room, 1);
     answer = lend_answer(ANSWER, sizeof *answer, sizeof *answer);
     number = nyr_cut(lent_message, length, size, sender, first, piece, out, room, answer);
     may_change(OUT, 0, number == 0 ? *answer : 0, 1);

@@ -160,19 +160,20 @@ void may_change(int buffer, size_t from, size_t to, size_t width)
 
 void *lend_answer(int buffer, size_t size, size_t field)
 {
-    static uint8_t unwritten[2048];
+    static uint8_t unwritten[sizeof(nyr_sections)];
     void *at;
-    memset(unwritten, UNWRITTEN, sizeof unwritten);
+    expect(size <= sizeof unwritten, "the fuzz run lends a larger answer than it has");
+    memset(unwritten, UNWRITTEN, size);
     at = lend(buffer, unwritten, 1, size);
     may_change(buffer, 0, 1, size);
     lents[buffer].field = field;
     return at;
 }
 
-/* An answer's fields are all written. */
+/* An answer's fields that may change are all written. */
 static int all_written(const Lent *l)
 {
-    for (size_t at = 0; l->field > 0 && at < l->length; at += l->field) {
+    for (size_t at = l->from; l->field > 0 && at < l->to; at += l->field) {
         size_t i = 0;
         while (i < l->field && l->at[at + i] == UNWRITTEN)
             i++;

@@ -12,57 +12,70 @@ static Table table;
 static uint64_t words[MOST_WORDS], first_words[MOST_WORDS];
 static uint8_t payload[MOST_BYTES], first_bytes[MOST_BYTES];
 
-/* Sections that are mostly the table's. */
-static nyr_sections make_sections(void)
-{
-    nyr_sections made = table.sections;
-    if (one_in(16)) {
-        static const uint64_t edges[] = {257, 1025, 65536, UINT64_C(1) << 32};
-        size_t at = below(8);
-        made.words[at] = one_in(2) ? edges[below(4)] : one_in(2) ? below(21000) : narrow();
-    }
-    if (one_in(64))
-        fill(&made, sizeof made);
-    return made;
-}
-
+/* The sections lie one behind another, with a count between them, and are the whole table; the index is that of the operations, in
+ * entries of 10 bytes where the kind is 2 or 3. */
 static void check_sections(const nyr_sections *sections, size_t bytes)
 {
-    static const size_t widths[4] = {8, 2, 8, 8}, most[4] = {256, 1024, 1024, 1024};
+    static const size_t widths[3] = {8, 2, 8}, most[4] = {256, 1024, 1024, 1024};
     size_t at = 0;
     for (int s = 0; s < 4; s++) {
         expect(sections->words[2 * s] == at + 2 && sections->words[2 * s + 1] <= most[s], "a section in another place");
-        at += 2 + (size_t)sections->words[2 * s + 1] * widths[s];
+        at += 2 + (s < 3 ? (size_t)sections->words[2 * s + 1] * widths[s] : 0);
+    }
+    for (size_t i = 0; i < sections->words[NYR_OPERATIONS_COUNT]; i++) {
+        uint64_t kind = be(table.bytes + at + 4, 2);
+        expect(sections->words[8 + i] == (be(table.bytes + at, 4) << 32 | at), "another index");
+        at += kind == NYR_REQUEST_SENT || kind == NYR_REQUEST_SERVED ? 10 : 8;
     }
     expect(at == bytes, "sections that are not the whole table");
 }
 
+/* Whatever the index says, what is found is what the bytes say at one of its places, bears the ID, and lies in the table whole. */
+static int stands_there(const nyr_sections *sections, size_t bytes, uint32_t id, const nyr_operation *found)
+{
+    for (size_t i = 0; i < sections->words[NYR_OPERATIONS_COUNT]; i++) {
+        size_t at = (uint32_t)sections->words[8 + i];
+        const uint8_t *entry = table.bytes + at;
+        int wide = found->kind == NYR_REQUEST_SENT || found->kind == NYR_REQUEST_SERVED;
+        if (sections->words[8 + i] >> 32 == id && at + (wide ? 10 : 8) <= bytes && be(entry, 4) == id &&
+            be(entry + 4, 2) == found->kind && be(entry + 6, 2) == found->carries &&
+            found->responds == (wide ? be(entry + 8, 2) : NYR_NO_PAYLOAD))
+            return 1;
+    }
+    return 0;
+}
+
 static void find(size_t bytes, int good)
 {
-    nyr_sections sections = make_sections();
-    uint32_t id = table.operations > 0 && one_in(2) ? table.ids[below(table.operations)] : (uint32_t)below(100), number;
-    size_t there = 0;
+    nyr_sections sections = make_sections(&table);
+    uint32_t id = make_id_of(&table, (unsigned)below(4)), number;
+    size_t i = 0;
     calling("nyr_find");
     uint8_t *lent = lend(TABLE, table.bytes, bytes, 1);
     nyr_sections *lent_sections = lend(SECTIONS, &sections, 1, sizeof sections);
     nyr_operation *answer = lend_answer(ANSWER, sizeof *answer, sizeof answer->found);
     number = called(nyr_find(lent, bytes, lent_sections, id, answer), N(30));
     expect((number == NYR_TABLE_LENGTH) == !lie_in(&sections, bytes), "30 at the wrong place");
-    if (number == 0 && !answer->found)
-        expect(answer->kind == 0 && answer->carries == 0, "kind or type of nothing");
-    if (number != 0 || !good || differ(&sections, &table.sections, sizeof sections))
+    if (number != 0)
         return;
-    for (size_t i = 0; i < table.operations; i++)
-        there += table.ids[i] == id;
-    expect(answer->found == there, "not found, or found where it is not");
-    expect(!there || (answer->kind <= 1 && (answer->carries < table.types ||
-                                            (answer->carries == NYR_NO_PAYLOAD && answer->kind == NYR_EVENT))),
-           "its kind or type");
+    expect(answer->found <= 1, "found more than once");
+    if (answer->found)
+        expect(stands_there(&sections, bytes, id, answer), "found what does not stand there");
+    else
+        expect(answer->kind == 0 && answer->carries == 0 && answer->responds == 0, "kind or type of nothing");
+    if (!good || differ(&sections, &table.sections, sizeof sections))
+        return;
+    while (i < table.operations && table.ids[i] != id)
+        i++;
+    expect(answer->found == (i < table.operations), "not found, or found where it is not");
+    expect(!answer->found || (answer->kind == table.kinds[i] && answer->carries == table.carries[i] &&
+                              answer->responds == table.responds[i]),
+           "its kind or type, or its response's");
 }
 
 void fuzz_table(void)
 {
-    size_t bytes;
+    size_t bytes, written;
     uint32_t number;
     int good = !one_in(4);
     make_table(&table);
@@ -74,11 +87,14 @@ void fuzz_table(void)
     calling("nyr_check_table");
     uint8_t *lent = lend(TABLE, table.bytes, bytes, 1);
     nyr_sections *out = lend_answer(SECTIONS, sizeof *out, sizeof *out->words);
-    number = called(nyr_check_table(lent, bytes, out), CHECKING);
+    number = nyr_check_table(lent, bytes, out);
+    written = 8 + (number == 0 ? (size_t)out->words[NYR_OPERATIONS_COUNT] : 0);
+    may_change(SECTIONS, 0, written, sizeof *out->words);
+    called(number, CHECKING);
     expect(!good || number == 0, "a good table is refused");
     if (number == 0) {
         check_sections(out, bytes);
-        expect(!good || !differ(out, &table.sections, sizeof table.sections), "sections of another table");
+        expect(!good || !differ(out, &table.sections, written * sizeof *out->words), "sections of another table");
     }
     find(bytes, good);
 }
@@ -127,7 +143,7 @@ void fuzz_unpack(void)
         spoilt = 1;
         scramble(table.bytes, table.length);
     }
-    sections = make_sections();
+    sections = make_sections(&table);
     same = !spoilt && !differ(&sections, &table.sections, sizeof sections);
     for (int in = 0; in < 2; in++) {
         calling(in ? "nyr_unpack_in" : "nyr_unpack");
@@ -180,7 +196,7 @@ void fuzz_pack(void)
         spoilt = 1;
         scramble(table.bytes, table.length);
     }
-    sections = make_sections();
+    sections = make_sections(&table);
     same = !spoilt && !differ(&sections, &table.sections, sizeof sections);
     for (int in = 0; in < 2; in++) {
         calling(in ? "nyr_pack_in" : "nyr_pack");

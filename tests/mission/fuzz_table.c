@@ -7,6 +7,10 @@ static const uint8_t widths[13] = {1, 1, 1, 2, 4, 8, 1, 1, 2, 4, 8, 4, 8};
 
 enum { BASE, ENUM, RECORD, FIXED, ARRAY };
 
+/* Words of the sections before their index; the largest ID that an operation can have. */
+enum { FIRST_SECTIONS = 8 };
+#define LAST_ID UINT32_C(0xFFFFFFFE)
+
 /* A word of a base code. */
 static uint64_t make_word(unsigned code)
 {
@@ -84,15 +88,37 @@ static size_t make_type(Table *t, size_t i, const size_t *sizes)
     return size;
 }
 
+/* The operations, in entries of both widths, and their index; IDs rise up to the last that there is. */
+static void put_operations(Table *t)
+{
+    uint32_t id = 0;
+    size_t step = 4000000000 / (t->operations + 1);
+    fill(&t->sections, sizeof t->sections);
+    put(t, t->operations, 2);
+    for (size_t i = 0; i < t->operations; i++) {
+        int none = one_in(4), wide = one_in(2);
+        id = i + 1 == t->operations && one_in(16) ? LAST_ID : id + 1 + (uint32_t)below(one_in(2) ? 3 : step);
+        t->ids[i] = id;
+        t->kinds[i] = (uint16_t)(wide ? NYR_REQUEST_SENT + below(2) : none ? NYR_EVENT : below(2));
+        t->carries[i] = (uint16_t)(none ? NYR_NO_PAYLOAD : below(t->types));
+        t->responds[i] = (uint16_t)(!wide || one_in(4) ? NYR_NO_PAYLOAD : below(t->types));
+        t->sections.words[FIRST_SECTIONS + i] = (uint64_t)id << 32 | t->length;
+        put(t, id, 4);
+        put(t, t->kinds[i], 2);
+        put(t, t->carries[i], 2);
+        if (wide)
+            put(t, t->responds[i], 2);
+    }
+}
+
 void make_table(Table *t)
 {
-    size_t sizes[256];
-    uint32_t id = 0;
+    size_t sizes[256], counts[4], at = 2;
     t->members_count = t->values_count = t->length = 0;
     t->types = one_in(16) ? 256 : 1 + below(12);
     for (size_t i = 0; i < t->types; i++)
         sizes[i] = make_type(t, i, sizes);
-    t->operations = below(one_in(8) ? 64 : 6);
+    t->operations = one_in(64) ? MOST_OPERATIONS - below(3) : below(one_in(8) ? 64 : 6);
     put(t, t->types, 2);
     for (size_t i = 0; i < t->types; i++) {
         put(t, t->kind[i], 2);
@@ -106,22 +132,50 @@ void make_table(Table *t)
     put(t, t->values_count, 2);
     for (size_t i = 0; i < t->values_count; i++)
         put(t, t->values[i], 8);
-    put(t, t->operations, 2);
-    for (size_t i = 0; i < t->operations; i++) {
-        int none = one_in(4);
-        id += 1 + (uint32_t)below(one_in(2) ? 3 : 50000000);
-        t->ids[i] = id;
-        put(t, id, 4);
-        put(t, none ? 0 : below(2), 2);
-        put(t, none ? 0xFFFF : below(t->types), 2);
-    }
-    size_t at = 2;
-    size_t counts[4] = {t->types, t->members_count, t->values_count, t->operations};
+    put_operations(t);
+    counts[0] = t->types;
+    counts[1] = t->members_count;
+    counts[2] = t->values_count;
+    counts[3] = t->operations;
     for (int s = 0; s < 4; s++) {
         t->sections.words[2 * s] = at;
         t->sections.words[2 * s + 1] = counts[s];
         at += counts[s] * (s == 1 ? 2 : 8) + 2;
     }
+}
+
+nyr_sections make_sections(const Table *t)
+{
+    nyr_sections made = t->sections;
+    if (one_in(16)) {
+        static const uint64_t edges[] = {257, 1025, 65536, UINT64_C(1) << 32};
+        size_t at = below(8);
+        made.words[at] = one_in(2) ? edges[below(4)] : one_in(2) ? below(23000) : narrow();
+    }
+    /* An index that says another ID, another place, at the table's end or behind it, or any words. */
+    if (one_in(16) && t->operations > 0) {
+        uint64_t *word = &made.words[FIRST_SECTIONS + below(t->operations)], id = *word >> 32;
+        switch (below(4)) {
+        case 0: *word = (id + 1) << 32 | (uint32_t)*word; break;
+        case 1: *word = id << 32 | (uint32_t)narrow(); break;
+        case 2: *word = id << 32 | (uint32_t)(t->length - below(12)); break;
+        default: fill(&made.words[FIRST_SECTIONS], t->operations * sizeof *word); break;
+        }
+    }
+    if (one_in(64))
+        fill(&made, sizeof made);
+    return made;
+}
+
+uint32_t make_id_of(const Table *t, unsigned kind)
+{
+    size_t from = t->operations > 0 ? below(t->operations) : 0;
+    if (t->operations == 0 || one_in(8))
+        return (uint32_t)(one_in(2) ? below(100) : narrow());
+    for (size_t i = 0; i < t->operations && !one_in(16); i++)
+        if (t->kinds[(from + i) % t->operations] == kind)
+            return t->ids[(from + i) % t->operations];
+    return t->ids[from];
 }
 
 int lie_in(const nyr_sections *sections, size_t bytes)

@@ -1,6 +1,6 @@
 //! Messages read, and the platform call.
 
-use super::payloads::checked;
+use super::lookups::checked;
 use crate::measure::{opaque, Case};
 use crate::pair::{our_heard, our_message, our_platform, OWN};
 use bench::plain::message::{self, Message};
@@ -10,7 +10,7 @@ use nyrkovash as ours;
 use std::rc::Rc;
 
 type Read = for<'m> fn(u8, &'m [u8]) -> Result<Message<'m>, u32>;
-type Receive =
+pub type Receive =
     for<'m> fn(&mut Platform, &[u8], &Sections, &'m [u8], &mut [u8]) -> Result<Answer<'m>, u32>;
 
 pub fn reading(bytes: &[u8]) -> Case {
@@ -36,31 +36,41 @@ pub fn reading(bytes: &[u8]) -> Case {
 }
 
 pub fn receiving(table: &[u8], bytes: &[u8]) -> Case {
-    let (our_sections, sections) = checked(table);
+    let bytes: &'static [u8] = bytes.to_vec().leak();
+    receiving_each(table, 1, move || bytes)
+}
+
+/// These messages by turns.
+pub fn receiving_any(table: &[u8], messages: Vec<Vec<u8>>) -> Case {
+    let messages: &'static [Vec<u8>] = messages.leak();
+    let mut at = 0;
+    receiving_each(table, messages.len(), move || {
+        at = if at + 1 < messages.len() { at + 1 } else { 0 };
+        &messages[at]
+    })
+}
+
+fn receiving_each<Next>(table: &[u8], messages: usize, mut next: Next) -> Case
+where
+    Next: FnMut() -> &'static [u8] + Clone + 'static,
+{
+    let (known, sections) = checked(table);
     let (mut state, mut answer) = (ours::Platform::default(), ours::Heard::default());
     let (mut out, mut plain_out) = ([0; 48], [0; 48]);
     assert_eq!(ours::start(OWN, &mut state), 0);
     let mut platform = Platform::new(OWN);
-    assert_eq!(
-        ours::receive_in(
-            OWN,
-            &mut state,
-            table,
-            &our_sections,
-            bytes,
-            &mut out,
-            &mut answer
-        ),
-        0
-    );
-    let heard = platform
-        .receive_in(table, &sections, bytes, &mut plain_out)
-        .unwrap();
-    assert_eq!(answer, our_heard(&heard));
-    assert_eq!(out, plain_out);
-    assert_eq!(state, our_platform(&platform));
-    let (table, bytes) = (Rc::new(table.to_vec()), Rc::new(bytes.to_vec()));
-    let (plain_table, plain_bytes) = (Rc::clone(&table), Rc::clone(&bytes));
+    for _ in 0..messages {
+        let bytes = next();
+        let number = ours::receive_in(OWN, &mut state, table, &known, bytes, &mut out, &mut answer);
+        assert_eq!(number, 0);
+        let heard = platform.receive_in(table, &sections, bytes, &mut plain_out);
+        assert_eq!(answer, our_heard(&heard.unwrap()));
+        assert_eq!(out, plain_out);
+        assert_eq!(state, our_platform(&platform));
+    }
+    let mut plain_next = next.clone();
+    let table = Rc::new(table.to_vec());
+    let plain_table = Rc::clone(&table);
     Case {
         ours: Box::new(move |count| {
             for _ in 0..count {
@@ -69,8 +79,8 @@ pub fn receiving(table: &[u8], bytes: &[u8]) -> Case {
                         OWN,
                         &mut state,
                         &table,
-                        &our_sections,
-                        &bytes,
+                        &known,
+                        next(),
                         &mut out,
                         &mut answer
                     ),
@@ -85,7 +95,7 @@ pub fn receiving(table: &[u8], bytes: &[u8]) -> Case {
                     &mut platform,
                     &plain_table,
                     &sections,
-                    &plain_bytes,
+                    plain_next(),
                     &mut plain_out
                 )
                 .is_ok());

@@ -1,23 +1,14 @@
-//! Tables checked, payloads unpacked and packed.
+//! Payloads unpacked and packed.
 
+use super::lookups::checked;
 use crate::measure::{opaque, shared, Case};
-use crate::pair::our_sections;
 use bench::plain::payload;
-use bench::plain::types::{self, Sections};
+use bench::plain::types::Sections;
 use nyrkovash as ours;
 use std::rc::Rc;
 
 type Unpack = fn(&[u8], &Sections, u16, &[u8], &mut [u64]) -> Result<usize, u32>;
 type Pack = fn(&[u8], &Sections, u16, &[u64], &mut [u8]) -> Result<usize, u32>;
-type Check = fn(&[u8]) -> Result<Sections, u32>;
-
-pub fn checked(table: &[u8]) -> (ours::Sections, Sections) {
-    let mut given = ours::Sections::default();
-    assert_eq!(ours::check_table(table, &mut given), 0);
-    let sections = types::check(table).unwrap();
-    assert_eq!(given, our_sections(&sections));
-    (given, sections)
-}
 
 fn packed(table: &[u8], number: u16, words: &[u64]) -> (ours::Sections, Sections, Vec<u8>) {
     let (known, sections) = checked(table);
@@ -93,27 +84,6 @@ pub fn packing((table, number, words): (Vec<u8>, u16, Vec<u64>)) -> Case {
             let mut out = plain_out.borrow_mut();
             for _ in 0..count {
                 assert!(pack(&plain_table, &sections, number, &plain_words, &mut out).is_ok());
-            }
-        }),
-        bare: None,
-    }
-}
-
-pub fn checking(table: Vec<u8>) -> Case {
-    checked(&table);
-    let table = Rc::new(table);
-    let plain_table = Rc::clone(&table);
-    let mut sections = ours::Sections::default();
-    Case {
-        ours: Box::new(move |count| {
-            for _ in 0..count {
-                assert_eq!(ours::check_table(&table, &mut sections), 0);
-            }
-        }),
-        plain: Box::new(move |count| {
-            let check = opaque(types::check as Check);
-            for _ in 0..count {
-                assert!(check(&plain_table).is_ok());
             }
         }),
         bare: None,

@@ -9,6 +9,7 @@ pub const REQUEST: u32 = 2;
 pub const UNKNOWN: u32 = 3;
 pub const PULL: u32 = 4;
 pub const PLATFORM: u8 = 0;
+pub const OPERATION: u8 = 1;
 const MARK: u16 = 0xEC0A;
 const VERSION: u8 = 2;
 

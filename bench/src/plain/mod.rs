@@ -1,11 +1,13 @@
 //! The library's calls as plain Rust: typed state behind `&mut`, slices, `Result`, the standard library, no proofs. Every
-//! check that 01 asks for is made at each call, as the proved library makes it. A refusal is its number.
+//! check that 01 and 02's request 1 ask for is made at each call, as the proved library makes it. A refusal is its number.
 
 pub mod binding;
 pub mod joiner;
 pub mod message;
+pub mod operations;
 mod packing;
 pub mod payload;
+pub mod pending;
 pub mod platform;
 pub mod types;
 mod unpacking;

@@ -1,6 +1,8 @@
 //! Platform states and replies.
 
 use super::message::{self, Kind, ALL, PLATFORM, PULL, STATUS, UNKNOWN};
+use super::operations::{DATA, SENT};
+use super::pending::Pending;
 use super::types::{Sections, Table};
 
 #[derive(Clone, Debug, PartialEq, Eq)]
@@ -8,6 +10,7 @@ pub struct Platform {
     pub own: u8,
     pub up: [u64; 4],
     pub next: u32,
+    pub pending: Pending,
 }
 
 #[derive(Clone, Copy, Debug, PartialEq, Eq)]
@@ -26,6 +29,11 @@ pub enum Heard<'a> {
         payload: &'a [u8],
     },
     NotInTable(u32),
+    Response {
+        id: u32,
+        entry: usize,
+        payload: &'a [u8],
+    },
 }
 
 #[derive(Clone, Copy, Debug, PartialEq, Eq)]
@@ -47,6 +55,7 @@ impl Platform {
             own,
             up: [0; 4],
             next: 0,
+            pending: Pending::default(),
         };
         platform.up[usize::from(own / 64)] = 1 << (own % 64);
         platform
@@ -62,7 +71,8 @@ impl Platform {
         ones + u32::from(own == 0)
     }
 
-    /// One message: what it was; the state is noted, and the replies owed to its sender are written at the output's start.
+    /// One message: what it was; the state is noted, and the replies owed to its sender are written at the output's start. A
+    /// response's request is pending no more.
     #[inline(never)]
     pub fn receive_in<'m>(
         &mut self,
@@ -93,15 +103,24 @@ impl Platform {
             Kind::Status { up } => none(Heard::Status { up }),
             Kind::Request => one(Heard::Request, STATUS, 1),
             Kind::Unknown(id) => none(Heard::Unknown(id)),
-            Kind::Pull(ALL) if table.has_data() => none(Heard::PullOfAll),
-            Kind::Pull(id) => match table.find(id) {
-                Some(entry) if table.operation(entry).kind == 1 => {
+            Kind::Pull(ALL) if table.operations.has_data() => none(Heard::PullOfAll),
+            Kind::Pull(ALL) => one(Heard::NotVersionedData(ALL), UNKNOWN, ALL),
+            Kind::Pull(id) => match table.operations.find(id) {
+                Some((entry, operation)) if operation.kind == DATA => {
                     none(Heard::PullOfOne(id, entry))
                 }
                 _ => one(Heard::NotVersionedData(id), UNKNOWN, id),
             },
-            Kind::Operation(id) => match table.find(id) {
-                Some(entry) => none(Heard::Operation {
+            Kind::Operation(id) => match table.operations.find(id) {
+                Some((entry, operation)) if operation.kind == SENT => {
+                    self.pending.respond(got.sequence, id, got.sender)?;
+                    none(Heard::Response {
+                        id,
+                        entry,
+                        payload: got.payload,
+                    })
+                }
+                Some((entry, _)) => none(Heard::Operation {
                     id,
                     entry,
                     payload: got.payload,

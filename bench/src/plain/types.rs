@@ -1,6 +1,7 @@
 //! The type table: checked once, looked up ever after.
 
-use super::{be16, be32, be64};
+use super::operations::{self, Operation, Operations, Place};
+use super::{be16, be64};
 
 #[derive(Clone, Copy, Debug, Default, PartialEq, Eq)]
 pub struct Section {
@@ -8,13 +9,36 @@ pub struct Section {
     pub count: usize,
 }
 
-/// What a check hands back: where the sections lie.
+impl Section {
+    /// Where it ends, if each entry has so many bytes.
+    fn end(&self, width: usize) -> usize {
+        self.at + self.count * width
+    }
+}
+
+/// Where the sections lie.
 #[derive(Clone, Copy, Debug, Default, PartialEq, Eq)]
-pub struct Sections {
+pub struct Bounds {
     pub types: Section,
     pub members: Section,
     pub values: Section,
     pub operations: Section,
+}
+
+/// What a check leaves with its caller: where the sections lie, and the index of the operations, as many as there are.
+#[derive(Clone, Debug, PartialEq, Eq)]
+pub struct Sections {
+    pub bounds: Bounds,
+    pub index: [Place; operations::MOST],
+}
+
+impl Default for Sections {
+    fn default() -> Sections {
+        Sections {
+            bounds: Bounds::default(),
+            index: [Place::default(); operations::MOST],
+        }
+    }
 }
 
 /// A table's bytes, by section.
@@ -23,7 +47,7 @@ pub struct Table<'a> {
     types: &'a [u8],
     members: &'a [u8],
     values: &'a [u8],
-    operations: &'a [u8],
+    pub operations: Operations<'a>,
 }
 
 #[derive(Clone, Copy)]
@@ -32,13 +56,6 @@ pub struct Entry {
     pub of: u16,
     pub first: u16,
     pub count: u16,
-}
-
-#[derive(Clone, Copy, Debug, PartialEq, Eq)]
-pub struct Operation {
-    pub id: u32,
-    pub kind: u16,
-    pub of: u16,
 }
 
 pub const BASE: u16 = 0;
@@ -73,8 +90,13 @@ pub fn allowed(code: u16, word: u64) -> bool {
 }
 
 impl<'a> Table<'a> {
-    /// The table whose sections these are: 30 where they cannot be.
-    pub fn within(bytes: &'a [u8], s: &Sections) -> Result<Table<'a>, u32> {
+    /// The table whose sections these are: 30 where they cannot be. An operation has 8 bytes or more.
+    pub fn within(bytes: &'a [u8], s: &'a Sections) -> Result<Table<'a>, u32> {
+        let index = s.index.get(..s.bounds.operations.count).ok_or(30u32)?;
+        Table::of(bytes, &s.bounds, index).ok_or(30)
+    }
+
+    fn of(bytes: &'a [u8], bounds: &Bounds, index: &'a [Place]) -> Option<Table<'a>> {
         let part = |section: Section, width: usize, most: usize| {
             if section.count > most {
                 return None;
@@ -83,15 +105,17 @@ impl<'a> Table<'a> {
             let end = section.at.checked_add(section.count * width)?;
             bytes.get(section.at..end)
         };
-        let parts = || {
-            Some(Table {
-                types: part(s.types, 8, MOST_TYPES)?,
-                members: part(s.members, 2, MOST)?,
-                values: part(s.values, 8, MOST)?,
-                operations: part(s.operations, 8, MOST)?,
-            })
+        let table = Table {
+            types: part(bounds.types, 8, MOST_TYPES)?,
+            members: part(bounds.members, 2, MOST)?,
+            values: part(bounds.values, 8, MOST)?,
+            operations: Operations {
+                bytes,
+                section: bounds.operations,
+                index,
+            },
         };
-        parts().ok_or(30)
+        part(bounds.operations, 8, operations::MOST).map(|_| table)
     }
 
     pub fn types(&self) -> usize {
@@ -126,33 +150,6 @@ impl<'a> Table<'a> {
         self.values(e).any(|value| value == word)
     }
 
-    pub fn operation(&self, i: usize) -> Operation {
-        let o = &self.operations[8 * i..8 * i + 8];
-        Operation {
-            id: be32(o, 0),
-            kind: be16(o, 4),
-            of: be16(o, 6),
-        }
-    }
-
-    /// The entry that bears the ID. IDs rise, so it is found by halving.
-    pub fn find(&self, id: u32) -> Option<usize> {
-        let (mut low, mut high) = (0, self.operations.len() / 8);
-        while low < high {
-            let middle = (low + high) / 2;
-            match be32(self.operations, 8 * middle) {
-                here if here == id => return Some(middle),
-                here if here < id => low = middle + 1,
-                _ => high = middle,
-            }
-        }
-        None
-    }
-
-    pub fn has_data(&self) -> bool {
-        self.operations.chunks_exact(8).any(|o| be16(o, 4) == 1)
-    }
-
     /// The rules of an entry that need nothing but the entry.
     #[inline(always)]
     pub fn fields_ok(&self, i: usize, e: &Entry) -> bool {
@@ -181,17 +178,6 @@ impl<'a> Table<'a> {
                 .all(|member| usize::from(be16(member, 0)) < i),
             _ => true,
         }
-    }
-
-    fn operations_ok(&self) -> bool {
-        let mut last = None;
-        self.operations.chunks_exact(8).all(|o| {
-            let (id, kind, of) = (be32(o, 0), be16(o, 4), be16(o, 6));
-            let rises = last.map_or(true, |last| last < id);
-            last = Some(id);
-            let typed = usize::from(of) < self.types();
-            rises && id < u32::MAX && (kind <= 1 && typed || kind == 0 && of == 0xFFFF)
-        })
     }
 
     fn sizes_ok(&self) -> bool {
@@ -234,37 +220,60 @@ fn distinct(values: impl Iterator<Item = u64> + Clone) -> bool {
         })
 }
 
+/// Leaves the sections, with the index behind them, where nothing refuses the table.
 #[inline(never)]
-pub fn check(bytes: &[u8]) -> Result<Sections, u32> {
-    let mut at = 0;
-    let mut section = |width: usize, least: usize, most: usize| -> Result<Section, u32> {
-        let count = bytes.get(at..at + 2).ok_or(30u32)?;
-        let count = usize::from(be16(count, 0));
-        if !(least..=most).contains(&count) {
-            return Err(31);
-        }
-        let found = Section { at: at + 2, count };
-        at += 2 + count * width;
-        if at > bytes.len() {
-            return Err(30);
-        }
-        Ok(found)
-    };
-    let sections = Sections {
-        types: section(8, 1, MOST_TYPES)?,
-        members: section(2, 0, MOST)?,
-        values: section(8, 0, MOST)?,
-        operations: section(8, 0, MOST)?,
-    };
-    if at != bytes.len() {
-        return Err(30);
-    }
-    let table = Table::within(bytes, &sections)?;
-    if !(0..table.types()).all(|i| table.entry_ok(i)) || !table.operations_ok() {
+pub fn check(bytes: &[u8], sections: &mut Sections) -> Result<(), u32> {
+    let bounds = bounds(bytes)?;
+    let table = Table::of(bytes, &bounds, &[]).ok_or(30u32)?;
+    if !(0..table.types()).all(|i| table.entry_ok(i)) || !table.operations.are_good(table.types()) {
         return Err(32);
     }
     if !table.sizes_ok() {
         return Err(33);
     }
-    Ok(sections)
+    sections.bounds = bounds;
+    table.operations.lay_index(&mut sections.index);
+    Ok(())
+}
+
+/// The four sections, one behind another, and nothing behind them: 30 or 31, whichever is met first.
+fn bounds(bytes: &[u8]) -> Result<Bounds, u32> {
+    let section = |at: usize, width: usize, least: usize, most: usize| -> Result<Section, u32> {
+        let count = usize::from(be16(bytes.get(at..at + 2).ok_or(30u32)?, 0));
+        if !(least..=most).contains(&count) {
+            return Err(31);
+        }
+        let found = Section { at: at + 2, count };
+        if found.end(width) > bytes.len() {
+            return Err(30);
+        }
+        Ok(found)
+    };
+    let types = section(0, 8, 1, MOST_TYPES)?;
+    let members = section(types.end(8), 2, 0, MOST)?;
+    let values = section(members.end(2), 8, 0, MOST)?;
+    let operations = section(values.end(8), 8, 0, operations::MOST)?;
+    if !operations::end_with(&bytes[operations.at..], operations.count) {
+        return Err(30);
+    }
+    Ok(Bounds {
+        types,
+        members,
+        values,
+        operations,
+    })
+}
+
+/// Looks an operation up: 30.
+#[inline(never)]
+pub fn find(bytes: &[u8], sections: &Sections, id: u32) -> Result<Option<Operation>, u32> {
+    let found = Table::within(bytes, sections)?.operations.find(id);
+    Ok(found.map(|(_, operation)| operation))
+}
+
+/// The same, by a scan.
+#[inline(never)]
+pub fn scan(bytes: &[u8], sections: &Sections, id: u32) -> Result<Option<Operation>, u32> {
+    let found = Table::within(bytes, sections)?.operations.scan(id);
+    Ok(found.map(|(_, operation)| operation))
 }

@@ -1,6 +1,6 @@
 //! The calls as C has them. The functions at the crate's root are these over slices, and safe.
 
-use crate::{Heard, Joiner, Message, Operation, Platform, Sections, Taken};
+use crate::{Awaited, Heard, Joiner, Message, Operation, Platform, Sections, Sent, Taken};
 
 extern "C" {
     pub fn nyr_library_version() -> u32;
@@ -124,4 +124,20 @@ extern "C" {
     ) -> u32;
     pub fn nyr_is_up(own: u8, platform: *const Platform, number: u32) -> u32;
     pub fn nyr_how_many_up(own: u8, platform: *const Platform) -> u32;
+    pub fn nyr_send(
+        own: u8,
+        platform: *mut Platform,
+        table: *const u8,
+        table_length: usize,
+        sections: *const Sections,
+        id: u32,
+        target: u32,
+        payload: *const u8,
+        payload_length: usize,
+        output: *mut u8,
+        output_length: usize,
+        sent: *mut Sent,
+    ) -> u32;
+    pub fn nyr_cancel(platform: *mut Platform, sequence: u32, cancelled: *mut usize) -> u32;
+    pub fn nyr_pending(platform: *const Platform, sequence: u32, awaited: *mut Awaited) -> u32;
 }

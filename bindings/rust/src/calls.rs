@@ -209,7 +209,7 @@ pub fn start(own: u8, platform: &mut Platform) -> u32 {
     unsafe { c::nyr_start(own, platform) }
 }
 
-/// Reads a message, notes it, and writes the replies that are owed: 30 to 33, 1 to 10.
+/// Reads a message, notes it, and writes the replies that are owed, or delivers a response: 30 to 33, 1 to 9, 61, 10.
 #[inline]
 pub fn receive(
     own: u8,
@@ -234,7 +234,7 @@ pub fn receive(
     }
 }
 
-/// The same by the sections of a check: 30, 1 to 10.
+/// The same by the sections of a check: 30, 1 to 9, 61, 10.
 #[inline]
 pub fn receive_in(
     own: u8,

@@ -6,8 +6,10 @@
 pub mod c;
 mod calls;
 mod names;
+mod requests;
 mod structs;
 
 pub use calls::*;
 pub use names::*;
+pub use requests::*;
 pub use structs::*;

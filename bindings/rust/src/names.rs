@@ -1,7 +1,7 @@
 //! The names of `include/nyrkovash.h`, without their `NYR_`; what each means stands there.
 
-pub const LIBRARY_VERSION: u32 = 10_000;
-pub const LIBRARY_VERSION_TEXT: &str = "1.0.0";
+pub const LIBRARY_VERSION: u32 = 20_000;
+pub const LIBRARY_VERSION_TEXT: &str = "2.0.0";
 
 // The numbers that refuse.
 pub const OK: u32 = 0;
@@ -32,6 +32,9 @@ pub const OUTPUT_SHORT: u32 = 45;
 pub const CANNOT_CUT: u32 = 50;
 pub const NO_PIECE: u32 = 51;
 pub const DATAGRAM_ROOM: u32 = 52;
+pub const LIST_FULL: u32 = 60;
+pub const NOT_AWAITED: u32 = 61;
+pub const NO_REQUEST: u32 = 62;
 
 // Limits and sizes.
 pub const CHANNELS: usize = 32;
@@ -44,6 +47,7 @@ pub const LARGEST_DATAGRAM: usize = 65_507;
 pub const LARGEST_MESSAGE: usize = 65_560;
 pub const REPLY_BYTES: usize = 24;
 pub const REPLIES_BYTES: usize = 48;
+pub const MOST_PENDING: usize = 64;
 
 // `Taken::outcome`.
 pub const REPEATED: u64 = 1;
@@ -81,9 +85,11 @@ pub const VALUES_COUNT: usize = 5;
 pub const OPERATIONS_AT: usize = 6;
 pub const OPERATIONS_COUNT: usize = 7;
 
-// `Operation::kind`, and `Operation::carries` of one without a payload.
+// `Operation::kind`, and `Operation::carries` and `Operation::responds` of what has no payload.
 pub const EVENT: u64 = 0;
 pub const VERSIONED_DATA: u64 = 1;
+pub const REQUEST_SENT: u64 = 2;
+pub const REQUEST_SERVED: u64 = 3;
 pub const NO_PAYLOAD: u64 = 0xFFFF;
 
 // `Heard::kind`.
@@ -95,3 +101,4 @@ pub const HEARD_PULL_ONE: u64 = 5;
 pub const HEARD_PULL_NONE: u64 = 6;
 pub const HEARD_OPERATION: u64 = 7;
 pub const HEARD_NOT_IN_TABLE: u64 = 8;
+pub const HEARD_RESPONSE: u64 = 9;

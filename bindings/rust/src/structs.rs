@@ -42,9 +42,16 @@ pub struct Message {
 }
 
 #[repr(C)]
-#[derive(Clone, Copy, Debug, Default, PartialEq, Eq)]
+#[derive(Clone, Copy, Debug, PartialEq, Eq)]
 pub struct Sections {
-    pub words: [u64; 8],
+    pub words: [u64; 1032],
+}
+
+// Where an array is longer than those that have a default of their own.
+impl Default for Sections {
+    fn default() -> Self {
+        Sections { words: [0; 1032] }
+    }
 }
 
 #[repr(C)]
@@ -53,13 +60,25 @@ pub struct Operation {
     pub found: u64,
     pub kind: u64,
     pub carries: u64,
+    pub responds: u64,
 }
 
 #[repr(C)]
-#[derive(Clone, Copy, Debug, Default, PartialEq, Eq)]
+#[derive(Clone, Copy, Debug, PartialEq, Eq)]
 pub struct Platform {
     pub up: [u64; 4],
     pub next: u64,
+    pub pending: [u64; 128],
+}
+
+impl Default for Platform {
+    fn default() -> Self {
+        Platform {
+            up: [0; 4],
+            next: 0,
+            pending: [0; 128],
+        }
+    }
 }
 
 #[repr(C)]
@@ -75,12 +94,29 @@ pub struct Heard {
     pub replies: u64,
 }
 
+#[repr(C)]
+#[derive(Clone, Copy, Debug, Default, PartialEq, Eq)]
+pub struct Sent {
+    pub written: u64,
+    pub sequence: u64,
+}
+
+#[repr(C)]
+#[derive(Clone, Copy, Debug, Default, PartialEq, Eq)]
+pub struct Awaited {
+    pub found: u64,
+    pub id: u64,
+    pub target: u64,
+}
+
 // The sizes that C has.
 const _: () = assert!(size_of::<Channel>() == 16);
 const _: () = assert!(size_of::<Joiner>() == 520);
 const _: () = assert!(size_of::<Taken>() == 40);
 const _: () = assert!(size_of::<Message>() == 48);
-const _: () = assert!(size_of::<Sections>() == 64);
-const _: () = assert!(size_of::<Operation>() == 24);
-const _: () = assert!(size_of::<Platform>() == 40);
+const _: () = assert!(size_of::<Sections>() == 8256);
+const _: () = assert!(size_of::<Operation>() == 32);
+const _: () = assert!(size_of::<Platform>() == 1064);
 const _: () = assert!(size_of::<Heard>() == 64);
+const _: () = assert!(size_of::<Sent>() == 16);
+const _: () = assert!(size_of::<Awaited>() == 24);

@@ -116,6 +116,7 @@ fn checked_found() {
         (operation.found, operation.kind, operation.carries),
         (1, VERSIONED_DATA, 8)
     );
+    assert_eq!(operation.responds, NO_PAYLOAD);
     assert_eq!(find(TABLE, &known, 0x20, &mut operation), OK);
     assert_eq!((operation.kind, operation.carries), (EVENT, NO_PAYLOAD));
     assert_eq!(

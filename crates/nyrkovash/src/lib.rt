@@ -1,6 +1,7 @@
 // The library as programs in C, C++, Ada and Rust link it (include/nyrkovash.h): a slice is a pointer and a length, and what has a
 // fixed size an array behind a reference. A call answers 0 or 01's number, but for the two that ask states and the one that asks
 // which library this is; where it is refused all that was lent is as it was.
+mod asking;
 mod joining;
 mod messages;
 mod payloads;
@@ -9,6 +10,9 @@ mod reading;
 mod tables;
 mod version;
 
+pub use asking::nyr_cancel;
+pub use asking::nyr_pending;
+pub use asking::nyr_send;
 pub use joining::nyr_setup;
 pub use joining::nyr_take;
 pub use messages::nyr_cut;

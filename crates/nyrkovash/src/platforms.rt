@@ -1,26 +1,25 @@
-// The platform calls (`platform_words`). A platform is five words, what was heard eight.
+// The platform calls (`platform_words`). A platform is 133 words, what was heard eight.
 ghost use mathlib.Core.Path.{_≡_};
 ghost use Rattle.states.specs.States.{howManyUp};
-ghost use Rattle.platform.specs.Receiving.{freshStanding};
-ghost use Rattle.platform_words.specs.Words.{statesIn, standingWords};
-ghost use Rattle.platform_words.specs.StateCalls.{upNumber};
+ghost use Rattle.platform_words.specs.Words.{statesIn};
+ghost use Rattle.platform_words.specs.StateCalls.{freshWords, upNumber};
 ghost use Rattle.platform_words.specs.TableCalls.{receiveNumber, receiveWords, receiveOutput, receiveHeard};
 ghost use Rattle.platform_words.specs.SectionCalls.{receiveInNumber, receiveInWords, receiveInOutput, receiveInHeard};
 use platform_words::HEARD_WORDS;
 use platform_words::PLATFORM_WORDS;
 use table::SECTIONS_WORDS;
 
-// A fresh platform.
+// A fresh platform: nothing is pending.
 #[no_mangle]
 pub extern "C" fn nyr_start(own: u8, platform: &mut [u64; PLATFORM_WORDS]) -> u32
     ensures { λ r. ⌜ r ≡ 0 ⌝ }
-    ensures { λ _. ⌜ now (platform .exit) ≡ standingWords (freshStanding own) ⌝ }
+    ensures { λ _. ⌜ now (platform .exit) ≡ freshWords own ⌝ }
 {
     platform_words::fresh(own, platform)
 }
 
-// Reads a message, notes the state that it tells, and writes the owed replies at the output's start: 30 to 33, 1 to 10, or 0 and
-// what was heard.
+// Reads a message, notes the state that it tells, and writes the owed replies at the output's start, or delivers the response to
+// a request that is pending: 30 to 33, 1 to 9, 61, 10, or 0 and what was heard.
 #[no_mangle]
 pub extern "C" fn nyr_receive(
     own: u8,

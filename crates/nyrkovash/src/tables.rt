@@ -1,28 +1,33 @@
 // A table checked and its operations looked up, with the sections and the answers in lent words: as the C interface has them.
 ghost use mathlib.Core.Path.{_≡_};
-ghost use Rattle.table.specs.Words.{sectionsIn, wordsOf};
-ghost use Rattle.nyrkovash.specs.TableCalls.{checkNumber, checkAnswer, findNumber, findAnswer};
+ghost use mathlib.Core.List.{_++_};
+ghost use Prim.Native.Nat.{_≤_};
+ghost use lib.ListN.{length};
+ghost use Rattle.table.specs.Words.{boundsWords, sectionsIn, indexIn, wordsOf};
+ghost use Rattle.nyrkovash.specs.TableCalls.{sectionsWords, checkNumber, checkAnswer, findNumber, findAnswer};
+use operations::Sought;
+use table::BOUNDS_WORDS;
 use table::Checked;
-use table::Found;
 use table::SECTIONS_WORDS;
 use table::Sections;
 
 // How many words an operation that was looked up is.
-pub const FOUND_WORDS: usize = 3;
+pub const FOUND_WORDS: usize = 4;
 
 // Where an operation was found.
 pub const FOUND: u64 = 1;
 
-// Checks a table: 30 to 33, or 0 and its sections.
+// Checks a table: 30 to 33, or 0, its sections and the index of its operations.
 #[no_mangle]
 pub extern "C" fn nyr_check_table(table: &[u8], sections: &mut [u64; SECTIONS_WORDS]) -> u32
     ensures { λ r. ⌜ r ≡ checkNumber (now (table .entry)) ⌝ }
     ensures { λ _. ⌜ now (sections .exit) ≡ checkAnswer (now (table .entry)) (now (sections .entry)) ⌝ }
 {
+    let words: &mut [u64] = sections;
     match types::check(table) {
         Checked::Refused(number) => number,
         Checked::Table(s) => {
-            put_sections(sections, s);
+            put_sections(table, words, s);
             0
         }
     }
@@ -37,17 +42,24 @@ pub extern "C" fn nyr_find(
     answer: &mut [u64; FOUND_WORDS],
 ) -> u32
     ensures { λ r. ⌜ r ≡ findNumber (now (table .entry)) (sectionsIn (now (sections .entry))) ⌝ }
-    ensures { λ _. ⌜ now (answer .exit) ≡ findAnswer (now (table .entry)) (sectionsIn (now (sections .entry))) id (now (answer .entry)) ⌝ }
+    ensures { λ _. ⌜ now (answer .exit)
+        ≡ findAnswer (now (table .entry)) (sectionsIn (now (sections .entry))) (indexIn (now (sections .entry))) id (now (answer .entry)) ⌝ }
 {
-    let s = table::sections_in(sections);
+    let words: &[u64] = sections;
+    let s = table::sections_in(words);
     if table::within(table, s) {
-        match table::find(table, s, id) {
-            Found::At(i) => {
-                let operation = table::entries::operation_at(table, s, i);
-                *answer = [FOUND, operation.kind as u64, operation.carries as u64];
+        match operations::find(table, &words[BOUNDS_WORDS..], s.operations.count, id) {
+            Sought::At(_, place) => {
+                let operation = operations::operation_at(table, place);
+                *answer = [
+                    FOUND,
+                    operation.kind as u64,
+                    operation.carries as u64,
+                    operation.responds as u64,
+                ];
             }
-            Found::Nothing => {
-                *answer = [0, 0, 0];
+            Sought::Nowhere => {
+                *answer = [0, 0, 0, 0];
             }
         }
         0
@@ -56,17 +68,29 @@ pub extern "C" fn nyr_find(
     }
 }
 
-fn put_sections(words: &mut [u64; SECTIONS_WORDS], s: Sections)
-    ensures { λ _. ⌜ now (words .exit) ≡ wordsOf s ⌝ }
+fn put_sections(table: &[u8], words: &mut [u64], s: Sections)
+    requires { ⌜ boundsWords ≤ length (now words) ⌝ }
+    ensures { λ _. ⌜ now (words .exit) ≡ sectionsWords (now (table .entry)) (now (words .entry)) s ⌝ }
 {
-    *words = [
-        s.types.at as u64,
-        s.types.count as u64,
-        s.members.at as u64,
-        s.members.count as u64,
-        s.values.at as u64,
-        s.values.count as u64,
-        s.operations.at as u64,
-        s.operations.count as u64,
-    ];
+    put_bounds(words, s);
+    operations::lay_index(
+        table,
+        s.operations.at,
+        s.operations.count,
+        &mut words[BOUNDS_WORDS..],
+    );
+}
+
+fn put_bounds(words: &mut [u64], s: Sections)
+    requires { ⌜ boundsWords ≤ length (now words) ⌝ }
+    ensures { λ _. ⌜ now (words .exit) ≡ wordsOf s ++ indexIn (now (words .entry)) ⌝ }
+{
+    words[0] = s.types.at as u64;
+    words[1] = s.types.count as u64;
+    words[2] = s.members.at as u64;
+    words[3] = s.members.count as u64;
+    words[4] = s.values.at as u64;
+    words[5] = s.values.count as u64;
+    words[6] = s.operations.at as u64;
+    words[7] = s.operations.count as u64;
 }

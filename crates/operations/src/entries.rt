@@ -43,7 +43,7 @@ pub fn operation_at(table: &[u8], place: usize) -> Operation
     }
 }
 
-pub(crate) fn kind_at(table: &[u8], place: usize) -> u16
+pub fn kind_at(table: &[u8], place: usize) -> u16
     ensures { λ r. ⌜ r ≡ kindAt (now (table .entry)) place ⌝ }
 {
     if place < table.len() {

@@ -1,13 +1,13 @@
 // Section four of a type table (01, "The type table"; 02, 1): operations, whose entries have 8 bytes or 10. Where they stand and
 // what they say (`entries`), their rules (`rules`), and an operation looked up by its ID, over an index in words that the caller
 // lends (`index`, `lookup`). Every call answers for any bytes, any place and any count: a byte or a word past the end reads as 0.
-// No exported call uses it yet; `table` is to lie above it and give up its own operations.
 mod entries;
 mod index;
 mod lookup;
 mod rules;
 
 pub use entries::end;
+pub use entries::kind_at;
 pub use entries::operation_at;
 pub use entries::width_at;
 pub use index::lay_index;
@@ -15,8 +15,8 @@ pub use lookup::find;
 pub use rules::are_good;
 pub use rules::has_data;
 
-// An operation's entry; `carries` is its type and `responds` the type of its response, or 0xFFFF for none. It takes the place of
-// `table`'s.
+// An operation's entry; `carries` is its type and `responds` the type of its response, or 0xFFFF for
+// none.
 pub struct Operation {
     pub id: u32,
     pub kind: u16,

@@ -5,4 +5,5 @@ pub mod Unchanged
 pub mod Unique
 pub mod Receipts
 pub mod ReactionLaws
+mod ResponseLaws
 pub mod ReplyBytes

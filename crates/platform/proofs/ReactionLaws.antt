@@ -1,18 +1,16 @@
 -- What the functions of `reacting` come to at their returns.
 -- Assumes nothing.
-use Prim.Native.Nat.{ℕ, _+_, _≤_, _<_}
+use Prim.Native.Nat.{ℕ, _≤_, _<_}
 use mathlib.Core.Path.{_≡_, refl, sym, ap, ap₂, _∙_}
-use mathlib.Core.Bool.{Bool, true, false, not}
+use mathlib.Core.Bool.{Bool, true, false}
 use mathlib.Core.List.{List}
 use lib.Dec.{eqb}
 use Rattle.table.specs.declared.Sections.{Sections}
-use Rattle.table.specs.declared.Operation.{Operation}
-use Rattle.table.specs.declared.Found.{Found}
-use Rattle.table.specs.declared.Found.the-variants as found
-use Rattle.wire.specs.All.{allBelow}
-use Rattle.table.specs.Entries.{operationAt}
-use Rattle.table.specs.Search.{lookedUp}
-use Rattle.wire.proofs.AllBelow.{none-below, next-below, stop-below, done-below}
+use Rattle.operations.specs.declared.Sought.{Sought}
+use Rattle.operations.specs.declared.Sought.the-variants as sought
+use Rattle.operations.specs.Entries.{kindAt}
+use Rattle.operations.specs.Search.{soughtIn}
+use Rattle.pending.specs.Free.{drawn}
 use Rattle.message.specs.declared.Header.{Header}
 use Rattle.message.specs.declared.Status.{Status}
 use Rattle.message.specs.declared.Status.the-variants.{Down, Up}
@@ -32,62 +30,48 @@ use Rattle.platform.specs.declared.reactions.Owed.{Owed}
 use Rattle.platform.specs.declared.reactions.Owed.the-variants as owed
 use Rattle.platform.specs.declared.reactions.Reaction.{Reaction}
 use Rattle.states.specs.States.{isUp, turned}
-use Rattle.platform.specs.Replies.{allData, drawn}
-use Rattle.platform.specs.Reaction.{operationFor, operationIn, isData, notData, noData, silent, replied, noted, cameUp}
+use Rattle.platform.specs.Replies.{allData}
+use Rattle.platform.specs.Reaction.{operationFor, operationIn, isData, someData, silent, replied, noted, cameUp}
 use Rattle.platform.specs.Reaction.{onState, onStatus, notVersioned, onPullAll, onPullOne, onPull, onOperation, reactionTo}
 
 -- what is looked up
-module _ (t : List ℕ) (s : Sections) (h : Header) (m : Message) where
-  pub none-for-status : (x : Status) → m ≡ message.PlatformStatus x → found.Nothing ≡ operationFor t s h m
+module _ (t : List ℕ) (s : Sections) (index : List ℕ) (h : Header) (m : Message) where
+  pub none-for-status : (x : Status) → m ≡ message.PlatformStatus x → sought.Nowhere ≡ operationFor t s index h m
   unfolding operationFor
   none-for-status x e = rw e refl
 
-  pub none-for-request : m ≡ message.PlatformStatusRequest → found.Nothing ≡ operationFor t s h m
+  pub none-for-request : m ≡ message.PlatformStatusRequest → sought.Nowhere ≡ operationFor t s index h m
   unfolding operationFor
   none-for-request e = rw e refl
 
-  pub none-for-unknown : (id : ℕ) → m ≡ message.UnknownOperation id → found.Nothing ≡ operationFor t s h m
+  pub none-for-unknown : (id : ℕ) → m ≡ message.UnknownOperation id → sought.Nowhere ≡ operationFor t s index h m
   unfolding operationFor
   none-for-unknown id e = rw e refl
 
-  pub for-pull : (id : ℕ) (f : Found) → m ≡ message.VersionedDataPull id → f ≡ lookedUp t s id → f ≡ operationFor t s h m
+  pub for-pull : (id : ℕ) (f : Sought) → m ≡ message.VersionedDataPull id → f ≡ soughtIn t index (s .operations .count) id
+      → f ≡ operationFor t s index h m
   unfolding operationFor
   for-pull id f e a = rw e a
 
-  pub for-operation : (f : Found) → m ≡ message.Operation → f ≡ lookedUp t s (h .id) → f ≡ operationFor t s h m
+  pub for-operation : (f : Sought) → m ≡ message.Operation → f ≡ soughtIn t index (s .operations .count) (h .id)
+      → f ≡ operationFor t s index h m
   unfolding operationFor
   for-operation f e a = rw e a
 
-module _ (t : List ℕ) (s : Sections) (x : Reading) where
-  pub none-looked : (n : ℕ) → x ≡ reading.Refused n → found.Nothing ≡ operationIn t s x
+module _ (t : List ℕ) (s : Sections) (index : List ℕ) (x : Reading) where
+  pub none-looked : (n : ℕ) → x ≡ reading.Refused n → sought.Nowhere ≡ operationIn t s index x
   unfolding operationIn
   none-looked n e = rw e refl
 
-  pub is-looked : (h : Header) (m : Message) (start len : ℕ) (f : Found) → x ≡ reading.Read h m start len → f ≡ operationFor t s h m → f ≡ operationIn t s x
+  pub is-looked : (h : Header) (m : Message) (start len : ℕ) (f : Sought) → x ≡ reading.Read h m start len → f ≡ operationFor t s index h m
+      → f ≡ operationIn t s index x
   unfolding operationIn
   is-looked h m start len f e a = rw e a
 
 -- versioned data
-pub is-data : (t : List ℕ) (s : Sections) (i : ℕ) (o : Operation) → o ≡ operationAt t s i → eqb (o .kind) 1 ≡ isData t s i
+pub is-data : (t : List ℕ) (p k : ℕ) → k ≡ kindAt t p → eqb k 1 ≡ isData t p
 unfolding isData
-is-data t s i o e = rw e
-
-module _ (t : List ℕ) (s : Sections) where
-  pub nothing-yet : allBelow (notData t s) 0 ≡ true
-  nothing-yet = none-below (notData t s)
-
-  module _ (i : ℕ) (r : Bool) (e : r ≡ isData t s i) where
-    pub not-yet : allBelow (notData t s) i ≡ true → r ≡ false → allBelow (notData t s) (i + 1) ≡ true
-    unfolding notData
-    not-yet a f = next-below (notData t s) i (not r) a (ap not e) (ap not f)
-
-    pub some-data : r ≡ true → i < s .operations .count → false ≡ noData t s
-    unfolding noData notData
-    some-data f h = stop-below (notData t s) (s .operations .count) i (not r) (ap not e) (ap not f) h
-
-  pub never-data : (i : ℕ) → allBelow (notData t s) i ≡ true → i ≤ s .operations .count → s .operations .count ≤ i → true ≡ noData t s
-  unfolding noData
-  never-data i a h l = done-below (notData t s) (s .operations .count) i a h l
+is-data t p k e = ap (λ (n : ℕ). eqb n 1) e
 
 -- a status
 pub noted-is : (p : Standing) (sender n : ℕ) (a : States) → a ≡ turned (p .states) sender
@@ -129,49 +113,49 @@ module _ (own : ℕ) (p : Standing) (sender : ℕ) (x : Status) (r : Reaction) w
 
 -- a pull
 module _ (t : List ℕ) (s : Sections) (p : Standing) (n : ℕ) (r : Reaction) where
-  module _ (b : Bool) (e : b ≡ noData t s) where
-    pub all-of-none : b ≡ true → r ≡ notVersioned p n allData → r ≡ onPullAll t s p n
+  module _ (b : Bool) (e : b ≡ someData t s) where
+    pub all-of-none : b ≡ false → r ≡ notVersioned p n allData → r ≡ onPullAll t s p n
     unfolding onPullAll
     all-of-none f d = rw (← e, f) d
 
-    pub all-of-some : b ≡ false → r ≡ silent p heard.PullOfAll → r ≡ onPullAll t s p n
+    pub all-of-some : b ≡ true → r ≡ silent p heard.PullOfAll → r ≡ onPullAll t s p n
     unfolding onPullAll
     all-of-some f d = rw (← e, f) d
 
-  module _ (f : Found) (id : ℕ) where
-    module _ (i : ℕ) (k : f ≡ found.At i) (b : Bool) (e : b ≡ isData t s i) where
-      pub one-data : b ≡ true → r ≡ silent p (heard.PullOfOne id i) → r ≡ onPullOne t s f p n id
+  module _ (f : Sought) (id : ℕ) where
+    module _ (i q : ℕ) (k : f ≡ sought.At i q) (b : Bool) (e : b ≡ isData t q) where
+      pub one-data : b ≡ true → r ≡ silent p (heard.PullOfOne id i) → r ≡ onPullOne t f p n id
       unfolding onPullOne
       one-data z d = rw (k, ← e, z) d
 
-      pub one-event : b ≡ false → r ≡ notVersioned p n id → r ≡ onPullOne t s f p n id
+      pub one-event : b ≡ false → r ≡ notVersioned p n id → r ≡ onPullOne t f p n id
       unfolding onPullOne
       one-event z d = rw (k, ← e, z) d
 
-    pub one-missing : f ≡ found.Nothing → r ≡ notVersioned p n id → r ≡ onPullOne t s f p n id
+    pub one-missing : f ≡ sought.Nowhere → r ≡ notVersioned p n id → r ≡ onPullOne t f p n id
     unfolding onPullOne
     one-missing k d = rw k d
 
     pub pulls-all : id ≡ allData → r ≡ onPullAll t s p n → r ≡ onPull t s f p n id
     unfolding onPull
-    pulls-all h d = d ∙ sym (yes-eq {A = Reaction} (onPullAll t s p n) (onPullOne t s f p n id) id allData h)
+    pulls-all h d = d ∙ sym (yes-eq {A = Reaction} (onPullAll t s p n) (onPullOne t f p n id) id allData h)
 
-    pub pulls-one : (id ≡ allData → ⊥) → r ≡ onPullOne t s f p n id → r ≡ onPull t s f p n id
+    pub pulls-one : (id ≡ allData → ⊥) → r ≡ onPullOne t f p n id → r ≡ onPull t s f p n id
     unfolding onPull
-    pulls-one h d = d ∙ sym (no-eq {A = Reaction} (onPullAll t s p n) (onPullOne t s f p n id) id allData h)
+    pulls-one h d = d ∙ sym (no-eq {A = Reaction} (onPullAll t s p n) (onPullOne t f p n id) id allData h)
 
 -- an operation
-module _ (f : Found) (p : Standing) (h : Header) (start len : ℕ) (r : Reaction) where
-  pub operation-in : (i : ℕ) → f ≡ found.At i → r ≡ silent p (heard.Operation i start len) → r ≡ onOperation f p h start len
+module _ (f : Sought) (p : Standing) (h : Header) (start len : ℕ) (r : Reaction) where
+  pub operation-in : (i q : ℕ) → f ≡ sought.At i q → r ≡ silent p (heard.Operation i start len) → r ≡ onOperation f p h start len
   unfolding onOperation
-  operation-in i k d = rw k d
+  operation-in i q k d = rw k d
 
-  pub operation-not-in : f ≡ found.Nothing → r ≡ replied p (heard.NotInTable (h .id)) (Unknown (h .sequence) (h .id)) → r ≡ onOperation f p h start len
+  pub operation-not-in : f ≡ sought.Nowhere → r ≡ replied p (heard.NotInTable (h .id)) (Unknown (h .sequence) (h .id)) → r ≡ onOperation f p h start len
   unfolding onOperation
   operation-not-in k d = rw k d
 
 -- each message
-module _ (own : ℕ) (t : List ℕ) (s : Sections) (f : Found) (p : Standing) (h : Header) (m : Message) (start len : ℕ) (r : Reaction) where
+module _ (own : ℕ) (t : List ℕ) (s : Sections) (f : Sought) (p : Standing) (h : Header) (m : Message) (start len : ℕ) (r : Reaction) where
   pub to-status : (x : Status) → m ≡ message.PlatformStatus x → r ≡ onStatus own p (h .platform) x → r ≡ reactionTo own t s f p h m start len
   unfolding reactionTo
   to-status x k d = rw k d

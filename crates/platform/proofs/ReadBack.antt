@@ -17,8 +17,9 @@ use Rattle.wire.proofs.Numbers.{number-bytes}
 use Rattle.wire.proofs.Runs.{part-over}
 use Rattle.wire.proofs.Cond.{no-lt}
 use Rattle.table.specs.declared.Sections.{Sections}
-use Rattle.table.specs.declared.Found.{Found}
-use Rattle.table.specs.declared.Found.the-variants as found
+use Rattle.operations.specs.declared.Sought.{Sought}
+use Rattle.operations.specs.declared.Sought.the-variants as sought
+use Rattle.pending.specs.Free.{drawn}
 use Rattle.message.specs.declared.Header.{Header}
 use Rattle.message.specs.declared.Status.{Status}
 use Rattle.message.specs.declared.Status.the-variants.{Down, Up}
@@ -40,9 +41,9 @@ use Rattle.platform.specs.declared.reactions.Owed.{Owed}
 use Rattle.platform.specs.declared.reactions.Owed.the-variants as owed
 use Rattle.platform.specs.declared.reactions.Reaction.{Reaction}
 use Rattle.states.specs.States.{isUp}
-use Rattle.platform.specs.Replies.{allData, drawn, replyID, replyNumber, replyField, replyBytes, replyHeader, meant, Wide}
+use Rattle.platform.specs.Replies.{allData, replyID, replyNumber, replyField, replyBytes, replyHeader, meant, Wide}
 use Rattle.platform.specs.Replies.{replyLength, replies, Each, owedBytes, owedLength}
-use Rattle.platform.specs.Reaction.{noData, isData, silent, replied, noted, cameUp, onState, onStatus, notVersioned, onPullAll, onPullOne}
+use Rattle.platform.specs.Reaction.{someData, isData, silent, replied, noted, cameUp, onState, onStatus, notVersioned, onPullAll, onPullOne}
 use Rattle.platform.specs.Reaction.{onPull, onOperation, reactionTo}
 use Rattle.platform.specs.Receiving.{laidOut}
 use Rattle.platform.proofs.ReactionLaws.{without-state}
@@ -90,38 +91,38 @@ Repeats n o = Each (λ (r : Reply). replyNumber r ≡ n) (replies o)
 module _ (t : List ℕ) (s : Sections) (p : Standing) (n : ℕ) where
   pull-all-repeats : Repeats n (onPullAll t s p n .owed)
   unfolding onPullAll
-  pull-all-repeats = go (noData t s)
+  pull-all-repeats = go (someData t s)
     where
-      go : (b : Bool) → Repeats n (cond b (notVersioned p n allData) (silent p heard.PullOfAll) .owed)
-      go true = (refl, tt)
-      go false = tt
+      go : (b : Bool) → Repeats n (cond b (silent p heard.PullOfAll) (notVersioned p n allData) .owed)
+      go true = tt
+      go false = (refl, tt)
 
-  pull-one-repeats : (f : Found) (id : ℕ) → Repeats n (onPullOne t s f p n id .owed)
+  pull-one-repeats : (f : Sought) (id : ℕ) → Repeats n (onPullOne t f p n id .owed)
   unfolding onPullOne
-  pull-one-repeats (found.At i) id = go (isData t s i)
+  pull-one-repeats (sought.At i q) id = go (isData t q)
     where
       go : (b : Bool) → Repeats n (cond b (silent p (heard.PullOfOne id i)) (notVersioned p n id) .owed)
       go true = tt
       go false = (refl, tt)
-  pull-one-repeats found.Nothing id = (refl, tt)
+  pull-one-repeats sought.Nowhere id = (refl, tt)
 
-  pull-repeats : (f : Found) (id : ℕ) → Repeats n (onPull t s f p n id .owed)
+  pull-repeats : (f : Sought) (id : ℕ) → Repeats n (onPull t s f p n id .owed)
   unfolding onPull
   pull-repeats f id = go (eqb id allData)
     where
-      go : (b : Bool) → Repeats n (cond b (onPullAll t s p n) (onPullOne t s f p n id) .owed)
+      go : (b : Bool) → Repeats n (cond b (onPullAll t s p n) (onPullOne t f p n id) .owed)
       go true = pull-all-repeats
       go false = pull-one-repeats f id
 
-pub repeats-its-number : (own : ℕ) (t : List ℕ) (s : Sections) (f : Found) (p : Standing) (h : Header) (m : Message) (start len : ℕ)
+pub repeats-its-number : (own : ℕ) (t : List ℕ) (s : Sections) (f : Sought) (p : Standing) (h : Header) (m : Message) (start len : ℕ)
     → (IsStatus m → ⊥) → Each (λ (r : Reply). replyNumber r ≡ h .sequence) (replies (reactionTo own t s f p h m start len .owed))
 unfolding reactionTo onOperation
 repeats-its-number own t s f p h (message.PlatformStatus x) start len k = absurd (k tt)
 repeats-its-number own t s f p h message.PlatformStatusRequest start len k = (refl, tt)
 repeats-its-number own t s f p h (message.UnknownOperation id) start len k = tt
 repeats-its-number own t s f p h (message.VersionedDataPull id) start len k = pull-repeats t s p (h .sequence) f id
-repeats-its-number own t s (found.At i) p h message.Operation start len k = tt
-repeats-its-number own t s found.Nothing p h message.Operation start len k = (refl, tt)
+repeats-its-number own t s (sought.At i q) p h message.Operation start len k = tt
+repeats-its-number own t s sought.Nowhere p h message.Operation start len k = (refl, tt)
 
 -- a status: DOWN to UP is answered with the next two own numbers, and nothing else is; nothing above 255
 module _ (own : ℕ) (p : Standing) (sender : ℕ) where

@@ -14,7 +14,8 @@ use borrow.Author.Tests.{lt-ltb}
 use lib.Dec.{ltb}
 use lib.Pow.{pow-pos}
 use Rattle.table.specs.declared.Sections.{Sections}
-use Rattle.table.specs.declared.Found.{Found}
+use Rattle.operations.specs.declared.Sought.{Sought}
+use Rattle.pending.specs.Free.{drawn}
 use Rattle.message.specs.declared.Status.the-variants.{Up}
 use Rattle.message.specs.declared.Reading.{Reading}
 use Rattle.message.specs.declared.Reading.the-variants.{Read}
@@ -28,9 +29,9 @@ use Rattle.platform.specs.declared.reactions.Reply.{Reply}
 use Rattle.platform.specs.declared.reactions.Reply.the-variants.{StatusUp, PullAll, Unknown}
 use Rattle.platform.specs.declared.reactions.Reaction.{Reaction}
 use Rattle.states.specs.States.{isUp}
-use Rattle.platform.specs.Replies.{allData, drawn, replyBytes, replyHeader, meant, Wide, replies, Each, owedLength}
-use Rattle.platform.specs.Reaction.{noData, silent, cameUp, onState, onStatus, notVersioned, onPullAll, onPull, reactionTo}
-use Rattle.platform.specs.Receiving.{refused, taken, answered, outcomeOf}
+use Rattle.platform.specs.Replies.{allData, replyBytes, replyHeader, meant, Wide, replies, Each, owedLength}
+use Rattle.platform.specs.Reaction.{someData, silent, cameUp, onState, onStatus, notVersioned, onPullAll, onPull, reactionTo}
+use Rattle.platform.specs.Receiving.{refused, taken, isAnswer, responseTo, answered, outcomeOf}
 use Rattle.platform.specs.Exchange.{written, sentOf, Setting, keeps, sends, Pair, Step, Exchange, started, longestExchange}
 use Rattle.platform.specs.Exchange.Step.{arrives-at-a, arrives-at-b, lost-to-a, lost-to-b}
 use Rattle.platform.specs.Exchange.Exchange.{none, more}
@@ -61,7 +62,7 @@ record Lighter (own other : ℕ) (p : Standing) (r : Reply) (q : Standing) (sent
   wide : Each (λ (x : Reply). Wide x) sent
   next : q .next < 2 ^ 32
 
-module _ (own other : ℕ) (t : List ℕ) (s : Sections) (f : Found) (p : Standing) (hp : other < 256) (d : other ≡ own → ⊥) (hn : p .next < 2 ^ 32) where
+module _ (own other : ℕ) (t : List ℕ) (s : Sections) (f : Sought) (p : Standing) (hp : other < 256) (d : other ≡ own → ⊥) (hn : p .next < 2 ^ 32) where
   abbrev X : Reply → Reaction
   X r = reactionTo own t s f p (replyHeader other r) (meant r) headerLength 4
 
@@ -79,11 +80,11 @@ module _ (own other : ℕ) (t : List ℕ) (s : Sections) (f : Found) (p : Standi
 
   pull-lighter : (n : ℕ) → n < 2 ^ 32 → Lighter own other p (PullAll n) (X (PullAll n) .standing) (replies (X (PullAll n) .owed))
   unfolding reactionTo onPull onPullAll
-  pull-lighter n h = go (noData t s) refl
+  pull-lighter n h = go (someData t s) refl
     where
-      go : (b : Bool) → noData t s ≡ b → Lighter own other p (PullAll n) (X (PullAll n) .standing) (replies (X (PullAll n) .owed))
-      go true e = rw e (record { sum = omega arith; wide = (record { number = h; field = omega arith }, tt); next = hn })
-      go false e = rw e (record { sum = omega arith; wide = tt; next = hn })
+      go : (b : Bool) → someData t s ≡ b → Lighter own other p (PullAll n) (X (PullAll n) .standing) (replies (X (PullAll n) .owed))
+      go true e = rw e (record { sum = omega arith; wide = tt; next = hn })
+      go false e = rw e (record { sum = omega arith; wide = (record { number = h; field = omega arith }, tt); next = hn })
 
   reaction-lighter : (r : Reply) → Wide r → Lighter own other p r (X r .standing) (replies (X r .owed))
   unfolding reactionTo
@@ -101,15 +102,30 @@ module _ (own other : ℕ) (t : List ℕ) (s : Sections) (f : Found) (p : Standi
       go true = record { sum = omega (arith, weight-pos r); wide = tt; next = hn }
       go false = reaction-lighter r w
 
+-- no reply is a message of domain 1
+no-answer : (t : List ℕ) (f : Sought) (r : Reply) → isAnswer t f (meant r) ≡ false
+unfolding isAnswer
+no-answer t f (StatusUp n) = refl
+no-answer t f (PullAll n) = refl
+no-answer t f (Unknown n id) = refl
+
 arrival-lighter : (own other : ℕ) (c : Setting) (p : Standing) (r : Reply) → other < 256 → (other ≡ own → ⊥) → p .next < 2 ^ 32 → Wide r
     → Lighter own other p r (keeps own other c p r) (sends own other c p r)
 unfolding keeps sends outcomeOf sentOf
 arrival-lighter own other c p r h d n w =
+    let t : List ℕ = c .table in
+    let s : Sections = c .sections in
+    let f : Sought = c .looked in
     subst
-    (λ (x : Reading). Lighter own other p r (outcomeOf own (c .table) (c .sections) (c .looked) p x (c .room) .standing)
-    (sentOf own (c .table) (c .sections) (c .looked) p x (c .room)))
+    (λ (x : Reading). Lighter own other p r (outcomeOf own t s f p (c .list) x (c .room) .standing) (sentOf own t s f p x (c .room)))
     (sym (reply-reads-back other own r h d w))
-    (call-lighter own other (c .table) (c .sections) (c .looked) p h d n r (c .room) w)
+    (subst
+    (λ (b : Bool). Lighter own other p r
+    (cond b (responseTo (c .list) f p (replyHeader other r) headerLength 4)
+    (answered p (replyHeader other r) (reactionTo own t s f p (replyHeader other r) (meant r) headerLength 4) (c .room)) .standing)
+    (cond b [] (written (reactionTo own t s f p (replyHeader other r) (meant r) headerLength 4) (c .room))))
+    (sym (no-answer t f r))
+    (call-lighter own other t s f p h d n r (c .room) w))
 
 -- lists of messages
 weights-append : (xs ys : List Reply) → weights (xs ++ ys) ≡ weights xs + weights ys

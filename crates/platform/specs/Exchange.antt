@@ -5,7 +5,7 @@ use mathlib.Core.Bool.{cond}
 use mathlib.Core.List.{List, [], _∷_, _++_}
 use lib.Dec.{ltb}
 use Rattle.table.specs.declared.Sections.{Sections}
-use Rattle.table.specs.declared.Found.{Found}
+use Rattle.operations.specs.declared.Sought.{Sought}
 use Rattle.message.specs.declared.Reading.{Reading}
 use Rattle.message.specs.declared.Reading.the-variants as reading
 use Rattle.message.specs.Reading.{readOf}
@@ -16,26 +16,27 @@ use Rattle.platform.specs.declared.reactions.Reply.the-variants.{StatusU
 use Rattle.platform.specs.declared.reactions.Reaction.{Reaction}
 use Rattle.platform.specs.Replies.{replies, replyBytes, owedLength}
 use Rattle.platform.specs.Reaction.{reactionTo}
-use Rattle.platform.specs.Receiving.{outcomeOf}
+use Rattle.platform.specs.Receiving.{isAnswer, outcomeOf}
 
 -- the replies that a call writes: all that are owed, or none where they don't fit
 abbrev pub written : Reaction → ℕ → List Reply
 written x room = cond (ltb room (owedLength (x .owed))) [] (replies (x .owed))
 
-unfoldable pub sentOf : ℕ → List ℕ → Sections → Found → Standing → Reading → ℕ → List Reply
+unfoldable pub sentOf : ℕ → List ℕ → Sections → Sought → Standing → Reading → ℕ → List Reply
 sentOf own t s f p (reading.Refused n) room = []
-sentOf own t s f p (reading.Read h m start len) room = written (reactionTo own t s f p h m start len) room
+sentOf own t s f p (reading.Read h m start len) room = cond (isAnswer t f m) [] (written (reactionTo own t s f p h m start len) room)
 
--- a platform with its table, what was looked up in it, and the output that is lent
+-- a platform with its table, what was looked up in it, its list of pending requests, and the output that is lent
 pub record Setting : Type 0 where
   pub table : List ℕ
   pub sections : Sections
-  pub looked : Found
+  pub looked : Sought
+  pub list : List ℕ
   pub room : ℕ
 
 -- platform `own` receives the reply r of the platform `other`: what it keeps, and what it sends back
 unfoldable pub keeps : ℕ → ℕ → Setting → Standing → Reply → Standing
-keeps own other c p r = outcomeOf own (c .table) (c .sections) (c .looked) p (readOf own (replyBytes other r)) (c .room) .standing
+keeps own other c p r = outcomeOf own (c .table) (c .sections) (c .looked) p (c .list) (readOf own (replyBytes other r)) (c .room) .standing
 
 unfoldable pub sends : ℕ → ℕ → Setting → Standing → Reply → List Reply
 sends own other c p r = sentOf own (c .table) (c .sections) (c .looked) p (readOf own (replyBytes other r)) (c .room)

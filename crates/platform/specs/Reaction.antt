@@ -1,15 +1,16 @@
 -- 01, "Platform states and replies": what a message that was read is here, the states and the own number after it, and the
 -- replies that are owed to its sender.
 use Prim.Native.Nat.{ℕ}
-use mathlib.Core.Bool.{Bool, true, false, cond, not}
+use mathlib.Core.Bool.{Bool, false, cond}
 use mathlib.Core.List.{List}
 use lib.Dec.{eqb, ltb}
 use Rattle.table.specs.declared.Sections.{Sections}
-use Rattle.table.specs.declared.Found.{Found}
-use Rattle.table.specs.declared.Found.the-variants as found
-use Rattle.wire.specs.All.{allBelow}
-use Rattle.table.specs.Entries.{dataKind, operationAt}
-use Rattle.table.specs.Search.{lookedUp}
+use Rattle.operations.specs.declared.Sought.{Sought}
+use Rattle.operations.specs.declared.Sought.the-variants as sought
+use Rattle.operations.specs.Entries.{dataKind, kindAt}
+use Rattle.operations.specs.Rules.{hasData}
+use Rattle.operations.specs.Search.{soughtIn}
+use Rattle.pending.specs.Free.{drawn}
 use Rattle.message.specs.declared.Header.{Header}
 use Rattle.message.specs.declared.Status.{Status}
 use Rattle.message.specs.declared.Status.the-variants.{Down, Up}
@@ -27,35 +28,32 @@ use Rattle.platform.specs.declared.reactions.Owed.{Owed}
 use Rattle.platform.specs.declared.reactions.Owed.the-variants as owed
 use Rattle.platform.specs.declared.reactions.Reaction.{Reaction}
 use Rattle.states.specs.States.{isUp, turned}
-use Rattle.platform.specs.Replies.{allData, drawn}
+use Rattle.platform.specs.Replies.{allData}
 
--- the operation that a message asks for, looked up: a pull's ID, or the ID of a message of domain 1. No other message, and none that
--- was refused, has anything looked up
-unfoldable pub operationFor : List ℕ → Sections → Header → Message → Found
-operationFor t s h (message.PlatformStatus x) = found.Nothing
-operationFor t s h message.PlatformStatusRequest = found.Nothing
-operationFor t s h (message.UnknownOperation id) = found.Nothing
-operationFor t s h (message.VersionedDataPull id) = lookedUp t s id
-operationFor t s h message.Operation = lookedUp t s (h .id)
+-- the operation that a message asks for, looked up by the table's index: a pull's ID, or the ID of a message of domain 1. No other
+-- message, and none that was refused, has anything looked up
+unfoldable pub operationFor : List ℕ → Sections → List ℕ → Header → Message → Sought
+operationFor t s index h (message.PlatformStatus x) = sought.Nowhere
+operationFor t s index h message.PlatformStatusRequest = sought.Nowhere
+operationFor t s index h (message.UnknownOperation id) = sought.Nowhere
+operationFor t s index h (message.VersionedDataPull id) = soughtIn t index (s .operations .count) id
+operationFor t s index h message.Operation = soughtIn t index (s .operations .count) (h .id)
 
-unfoldable pub operationIn : List ℕ → Sections → Reading → Found
-operationIn t s (reading.Refused n) = found.Nothing
-operationIn t s (reading.Read h m start len) = operationFor t s h m
+unfoldable pub operationIn : List ℕ → Sections → List ℕ → Reading → Sought
+operationIn t s index (reading.Refused n) = sought.Nowhere
+operationIn t s index (reading.Read h m start len) = operationFor t s index h m
 
--- versioned data: an operation of kind 1
-unfoldable pub isData : List ℕ → Sections → ℕ → Bool
-isData t s i = eqb (operationAt t s i .kind) dataKind
+-- versioned data: an operation of kind 1, which stands at p
+unfoldable pub isData : List ℕ → ℕ → Bool
+isData t p = eqb (kindAt t p) dataKind
 
-unfoldable pub notData : List ℕ → Sections → ℕ → Bool
-notData t s i = not (isData t s i)
+unfoldable pub foundData : List ℕ → Sought → Bool
+foundData t (sought.At i p) = isData t p
+foundData t sought.Nowhere = false
 
-unfoldable pub foundData : List ℕ → Sections → Found → Bool
-foundData t s (found.At i) = isData t s i
-foundData t s found.Nothing = false
-
--- 000, 6.1.2.1: the platform provides no versioned data
-unfoldable pub noData : List ℕ → Sections → Bool
-noData t s = allBelow (notData t s) (s .operations .count)
+-- 000, 6.1.2.1: the platform provides versioned data
+abbrev pub someData : List ℕ → Sections → Bool
+someData t s = hasData t (s .operations .at) (s .operations .count)
 
 -- nothing owed, or one reply; the states and the own number stay
 abbrev pub silent : Standing → Heard → Reaction
@@ -91,22 +89,22 @@ abbrev pub notVersioned : Standing → ℕ → ℕ → Reaction
 notVersioned p n id = replied p (heard.NotVersionedData id) (Unknown n id)
 
 unfoldable pub onPullAll : List ℕ → Sections → Standing → ℕ → Reaction
-onPullAll t s p n = cond (noData t s) (notVersioned p n allData) (silent p heard.PullOfAll)
+onPullAll t s p n = cond (someData t s) (silent p heard.PullOfAll) (notVersioned p n allData)
 
-unfoldable pub onPullOne : List ℕ → Sections → Found → Standing → ℕ → ℕ → Reaction
-onPullOne t s (found.At i) p n id = cond (isData t s i) (silent p (heard.PullOfOne id i)) (notVersioned p n id)
-onPullOne t s found.Nothing p n id = notVersioned p n id
+unfoldable pub onPullOne : List ℕ → Sought → Standing → ℕ → ℕ → Reaction
+onPullOne t (sought.At i q) p n id = cond (isData t q) (silent p (heard.PullOfOne id i)) (notVersioned p n id)
+onPullOne t sought.Nowhere p n id = notVersioned p n id
 
-unfoldable pub onPull : List ℕ → Sections → Found → Standing → ℕ → ℕ → Reaction
-onPull t s f p n id = cond (eqb id allData) (onPullAll t s p n) (onPullOne t s f p n id)
+unfoldable pub onPull : List ℕ → Sections → Sought → Standing → ℕ → ℕ → Reaction
+onPull t s f p n id = cond (eqb id allData) (onPullAll t s p n) (onPullOne t f p n id)
 
--- domain 1: the operation and its payload's place; if the ID isn't in the table, UNKNOWN_OPERATION
-unfoldable pub onOperation : Found → Standing → Header → ℕ → ℕ → Reaction
-onOperation (found.At i) p h start len = silent p (heard.Operation i start len)
-onOperation found.Nothing p h start len = replied p (heard.NotInTable (h .id)) (Unknown (h .sequence) (h .id))
+-- domain 1, but for what answers a request of ours (Receiving): the operation and its payload's place; if the ID isn't in the table, UNKNOWN_OPERATION
+unfoldable pub onOperation : Sought → Standing → Header → ℕ → ℕ → Reaction
+onOperation (sought.At i q) p h start len = silent p (heard.Operation i start len)
+onOperation sought.Nowhere p h start len = replied p (heard.NotInTable (h .id)) (Unknown (h .sequence) (h .id))
 
 -- the reaction to each message
-unfoldable pub reactionTo : ℕ → List ℕ → Sections → Found → Standing → Header → Message → ℕ → ℕ → Reaction
+unfoldable pub reactionTo : ℕ → List ℕ → Sections → Sought → Standing → Header → Message → ℕ → ℕ → Reaction
 reactionTo own t s f p h (message.PlatformStatus x) start len = onStatus own p (h .platform) x
 reactionTo own t s f p h message.PlatformStatusRequest start len = replied p heard.Request (StatusUp (h .sequence))
 reactionTo own t s f p h (message.UnknownOperation id) start len = silent p (heard.UnknownOperation id)

@@ -1,6 +1,6 @@
 -- 01, "Platform states and replies": the replies that a platform can owe, and their bytes one behind another.
 use Prim.{Unit}
-use Prim.Native.Nat.{ℕ, _+_, _%_, _^_, _<_}
+use Prim.Native.Nat.{ℕ, _+_, _^_, _<_}
 use mathlib.Core.List.{List, [], _∷_, _++_}
 use Rattle.wire.specs.Bytes.{bytes}
 use Rattle.message.specs.Header.{platformDomain}
@@ -22,12 +22,9 @@ stateUp = 1
 abbrev pub allData : ℕ
 allData = 0xFFFFFFFF
 
--- the next own number: after 0xFFFFFFFF comes 0 (docs/DECISIONS.md, 25)
+-- own numbers start at 0 (docs/DECISIONS.md, 25); the next one is `drawn` of pending/specs/Free
 abbrev pub firstNumber : ℕ
 firstNumber = 0
-
-abbrev pub drawn : ℕ → ℕ
-drawn n = (n + 1) % 2 ^ 32
 
 -- 000, Tables 3 and 4: message ID, sequence number and the payload's one 32-bit field of each reply
 abbrev pub replyID : Reply → ℕ

@@ -10,10 +10,10 @@ use message::Message;
 use message::Own;
 use message::Reading;
 use message::Status;
-use table::Found;
+use operations::Sought;
 use table::Sections;
 ghost use mathlib.Core.Path.{_≡_};
-ghost use Rattle.platform.specs.Reaction.{operationFor, operationIn, isData, notData, noData, silent, replied, noted};
+ghost use Rattle.platform.specs.Reaction.{operationFor, operationIn, isData, silent, replied, noted};
 ghost use Rattle.platform.specs.Reaction.{cameUp, onState, onStatus, notVersioned, onPullAll, onPullOne, onPull, onOperation};
 ghost use Rattle.platform.specs.Reaction.{reactionTo};
 
@@ -21,17 +21,17 @@ ghost use Rattle.platform.specs.Reaction.{reactionTo};
 const DATA_KIND: u16 = 1;
 
 // The operation that the message asks for, if it asks for one.
-pub(crate) fn look_up(table: &[u8], s: Sections, reading: Reading) -> Found
-    ensures { λ r. ⌜ r ≡ operationIn (now (table .entry)) s reading ⌝ }
+pub(crate) fn look_up(table: &[u8], s: Sections, index: &[u64], reading: Reading) -> Sought
+    ensures { λ r. ⌜ r ≡ operationIn (now (table .entry)) s (now (index .entry)) reading ⌝ }
 {
     match reading {
-        Reading::Refused(_) => Found::Nothing,
+        Reading::Refused(_) => Sought::Nowhere,
         Reading::Read {
             header,
             message,
             start: _,
             length: _,
-        } => looked_for(table, s, header, message),
+        } => looked_for(table, s, index, header, message),
     }
 }
 
@@ -39,7 +39,7 @@ pub(crate) fn reaction_to(
     own: Own,
     table: &[u8],
     s: Sections,
-    found: Found,
+    found: Sought,
     standing: Standing,
     header: Header,
     message: Message,
@@ -63,15 +63,15 @@ pub(crate) fn reaction_to(
     }
 }
 
-fn looked_for(table: &[u8], s: Sections, header: Header, message: Message) -> Found
-    ensures { λ r. ⌜ r ≡ operationFor (now (table .entry)) s header message ⌝ }
+fn looked_for(table: &[u8], s: Sections, index: &[u64], header: Header, message: Message) -> Sought
+    ensures { λ r. ⌜ r ≡ operationFor (now (table .entry)) s (now (index .entry)) header message ⌝ }
 {
     match message {
-        Message::PlatformStatus(_) => Found::Nothing,
-        Message::PlatformStatusRequest => Found::Nothing,
-        Message::UnknownOperation(_) => Found::Nothing,
-        Message::VersionedDataPull(id) => table::find(table, s, id),
-        Message::Operation => table::find(table, s, header.id),
+        Message::PlatformStatus(_) => Sought::Nowhere,
+        Message::PlatformStatusRequest => Sought::Nowhere,
+        Message::UnknownOperation(_) => Sought::Nowhere,
+        Message::VersionedDataPull(id) => operations::find(table, index, s.operations.count, id),
+        Message::Operation => operations::find(table, index, s.operations.count, header.id),
     }
 }
 
@@ -117,9 +117,9 @@ fn came_up(standing: Standing, sender: u32) -> Reaction
     ensures { λ r. ⌜ r ≡ cameUp standing sender ⌝ }
 {
     let first = standing.next;
-    let second = replies::drawn(first);
+    let second = pending::drawn(first);
     Reaction {
-        standing: noted(standing, sender, replies::drawn(second)),
+        standing: noted(standing, sender, pending::drawn(second)),
         heard: Heard::Status(Status::Up),
         owed: Owed::Two(Reply::StatusUp(first), Reply::PullAll(second)),
     }
@@ -138,7 +138,7 @@ fn noted(standing: Standing, sender: u32, next: u32) -> Standing
 fn on_pull(
     table: &[u8],
     s: Sections,
-    found: Found,
+    found: Sought,
     standing: Standing,
     number: u32,
     id: u32,
@@ -148,44 +148,38 @@ fn on_pull(
     if id == replies::ALL_DATA {
         on_pull_all(table, s, standing, number)
     } else {
-        on_pull_one(table, s, found, standing, number, id)
+        on_pull_one(table, found, standing, number, id)
     }
 }
 
 fn on_pull_all(table: &[u8], s: Sections, standing: Standing, number: u32) -> Reaction
     ensures { λ r. ⌜ r ≡ onPullAll (now (table .entry)) s standing number ⌝ }
 {
-    if no_data(table, s) {
-        not_versioned(standing, number, replies::ALL_DATA)
-    } else {
+    let operations = s.operations;
+    if operations::has_data(table, operations.at, operations.count) {
         silent(standing, Heard::PullOfAll)
+    } else {
+        not_versioned(standing, number, replies::ALL_DATA)
     }
 }
 
-fn on_pull_one(
-    table: &[u8],
-    s: Sections,
-    found: Found,
-    standing: Standing,
-    number: u32,
-    id: u32,
-) -> Reaction
-    ensures { λ r. ⌜ r ≡ onPullOne (now (table .entry)) s found standing number id ⌝ }
+fn on_pull_one(table: &[u8], found: Sought, standing: Standing, number: u32, id: u32) -> Reaction
+    ensures { λ r. ⌜ r ≡ onPullOne (now (table .entry)) found standing number id ⌝ }
 {
     match found {
-        Found::At(i) => {
-            if is_data(table, s, i) {
-                silent(standing, Heard::PullOfOne(id, i))
+        Sought::At(entry, place) => {
+            if is_data(table, place) {
+                silent(standing, Heard::PullOfOne(id, entry))
             } else {
                 not_versioned(standing, number, id)
             }
         }
-        Found::Nothing => not_versioned(standing, number, id),
+        Sought::Nowhere => not_versioned(standing, number, id),
     }
 }
 
 fn on_operation(
-    found: Found,
+    found: Sought,
     standing: Standing,
     header: Header,
     start: usize,
@@ -194,7 +188,7 @@ fn on_operation(
     ensures { λ r. ⌜ r ≡ onOperation found standing header start length ⌝ }
 {
     match found {
-        Found::At(entry) => silent(
+        Sought::At(entry, _) => silent(
             standing,
             Heard::Operation {
                 entry,
@@ -202,7 +196,7 @@ fn on_operation(
                 length,
             },
         ),
-        Found::Nothing => replied(
+        Sought::Nowhere => replied(
             standing,
             Heard::NotInTable(header.id),
             Reply::Unknown(header.sequence, header.id),
@@ -220,25 +214,10 @@ fn not_versioned(standing: Standing, number: u32, id: u32) -> Reaction
     )
 }
 
-// The table provides no versioned data.
-fn no_data(table: &[u8], s: Sections) -> bool
-    ensures { λ r. ⌜ r ≡ noData (now (table .entry)) s ⌝ }
+fn is_data(table: &[u8], place: usize) -> bool
+    ensures { λ r. ⌜ r ≡ isData (now (table .entry)) place ⌝ }
 {
-    let count = s.operations.count;
-    let mut i: u16 = 0;
-    while i < count {
-        if is_data(table, s, i) {
-            return false;
-        }
-        i += 1;
-    }
-    true
-}
-
-fn is_data(table: &[u8], s: Sections, i: u16) -> bool
-    ensures { λ r. ⌜ r ≡ isData (now (table .entry)) s i ⌝ }
-{
-    table::entries::operation_at(table, s, i).kind == DATA_KIND
+    operations::kind_at(table, place) == DATA_KIND
 }
 
 fn silent(standing: Standing, heard: Heard) -> Reaction

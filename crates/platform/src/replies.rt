@@ -9,7 +9,7 @@ ghost use mathlib.Core.Path.{_≡_};
 ghost use Prim.Native.Nat.{_+_, _≤_};
 ghost use lib.ListN.{length};
 ghost use Rattle.wire.specs.Bytes.{over, written};
-ghost use Rattle.platform.specs.Replies.{replyID, replyNumber, replyField, replyBytes, replyLength, owedBytes, owedLength, drawn};
+ghost use Rattle.platform.specs.Replies.{replyID, replyNumber, replyField, replyBytes, replyLength, owedBytes, owedLength};
 
 const FIELD_LENGTH: u32 = 4;
 
@@ -17,13 +17,6 @@ const STATE_UP: u32 = 1;
 
 // The ID that stands for all versioned data.
 pub(crate) const ALL_DATA: u32 = 0xFFFF_FFFF;
-
-// The own number after this one: after 0xFFFFFFFF comes 0.
-pub(crate) fn drawn(number: u32) -> u32
-    ensures { λ r. ⌜ r ≡ drawn number ⌝ }
-{
-    std::num::wrapping_add_u32(number, 1)
-}
 
 pub(crate) fn length_of(owed: Owed) -> usize
     ensures { λ r. ⌜ r ≡ owedLength owed ⌝ }

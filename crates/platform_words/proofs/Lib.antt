@@ -1,5 +1,9 @@
 pub mod Storing
+pub mod Behind
 mod Telling
 mod Calling
 mod OnSections
 mod Straight
+mod Asking
+mod Freeing
+pub mod Kept

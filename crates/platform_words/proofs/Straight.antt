@@ -1,21 +1,22 @@
 -- An operation told straight from its bytes is told as the general way tells it.
 -- Assumes nothing.
-use Prim.Native.Nat.{ℕ}
-use mathlib.Core.Path.{_≡_, refl, sym, ap, _∙_}
+use Prim.Native.Nat.{ℕ, _-_, _≤_}
+use mathlib.Core.Path.{_≡_, refl, sym, ap, ap₂, _∙_}
 use mathlib.Core.Bool.{Bool, true, false, cond}
-use mathlib.Core.List.{List, [], _∷_}
+use mathlib.Core.List.{List, [], _∷_, _++_}
 use native.Mathlib.Omega.{arith}
-use borrow.Author.Tests.{eqb-true}
+use borrow.Author.Tests.{eqb-true, eq-eqb, ne-eqb}
+use borrow.Rule.Slice.PartMut.{putMid}
 use lib.Dec.{eqb}
-use lib.ListN.{length}
+use lib.ListN.{length, take, drop}
 use Rattle.wire.specs.Bytes.{number, over}
-use Rattle.wire.proofs.Cond.{no-if, yes-eq, no-eq, no-lt}
+use Rattle.wire.proofs.Cond.{yes-if, no-if, yes-eq, no-eq, no-lt}
 use Rattle.wire.proofs.Runs.{over-none}
 use Rattle.table.specs.declared.Sections.{Sections}
-use Rattle.table.specs.declared.Found.{Found}
-use Rattle.table.specs.declared.Found.the-variants as found
-use Rattle.table.specs.Search.{lookedUp}
-use Rattle.message.specs.declared.Header.{Header}
+use Rattle.operations.specs.declared.Sought.{Sought}
+use Rattle.operations.specs.declared.Sought.the-variants as sought
+use Rattle.operations.specs.Entries.{sentKind, kindAt}
+use Rattle.operations.specs.Search.{soughtIn}
 use Rattle.message.specs.declared.Message.{Message}
 use Rattle.message.specs.declared.Message.the-variants as message
 use Rattle.message.specs.declared.Reading.{Reading}
@@ -31,32 +32,58 @@ use Rattle.platform.specs.declared.reactions.Reaction.{Reaction}
 use Rattle.platform.specs.Replies.{owedBytes}
 use Rattle.platform.specs.Reaction.{operationFor, operationIn, silent, onOperation, reactionTo}
 use Rattle.platform.specs.declared.Received.{Received}
-use Rattle.platform.specs.Receiving.{refused, taken, answered, laidOut, outcomeOf, outputOf, outcomeIn, outputIn}
+use Rattle.platform.specs.Receiving.{refused, taken, answered, laidOut, isSent, isAnswer, responseTo, listAnswered}
+use Rattle.platform.specs.Receiving.{outcomeOf, outputOf, listOf, outcomeIn, outputIn, listIn}
 use Rattle.platform.specs.Noting.{numberGiven}
-use Rattle.platform_words.specs.Words.{standingIn, standingWords}
+use Rattle.platform_words.specs.Words.{standingLength, standingIn, pendingIn, standingWords}
 use Rattle.platform_words.specs.HeardWords.{heardAfter, platformAfter}
-use Rattle.platform_words.specs.Within.{outcomeWithin, numberWithin, wordsWithin, outputWithin, heardWithin, operationHeard, operationWords}
+use Rattle.platform_words.specs.Within.{outcomeWithin, numberWithin, wordsWithin, outputWithin, heardWithin}
+use Rattle.platform_words.specs.Within.{unlessSent, operationHeard, operationWords}
+use Rattle.platform_words.proofs.Behind.{lent-behind, back-by}
+use Rattle.platform_words.proofs.Telling.{told-behind}
+
+-- `unless_sent`
+module _ {f : Sought} (t : List ℕ) where
+  module _ {k : ℕ} (i p : ℕ) (ef : f ≡ sought.At i p) (ek : k ≡ kindAt t p) where
+    pub is-sent : k ≡ sentKind → sought.Nowhere ≡ unlessSent t f
+    unfolding isSent
+    is-sent z = sym (ap (unlessSent t) ef ∙ yes-if {A = Sought} sought.Nowhere (sought.At i p) (eq-eqb (kindAt t p) sentKind (sym ek ∙ z)))
+
+    pub not-sent : (k ≡ sentKind → ⊥) → sought.At i p ≡ unlessSent t f
+    unfolding isSent
+    not-sent z =
+        let d : kindAt t p ≡ sentKind → ⊥ = λ y. z (ek ∙ y) in
+        sym (ap (unlessSent t) ef ∙ no-if {A = Sought} sought.Nowhere (sought.At i p) (ne-eqb (kindAt t p) sentKind d))
+
+  pub none-there : f ≡ sought.Nowhere → sought.Nowhere ≡ unlessSent t f
+  unfolding isSent
+  none-there ef = sym (ap (unlessSent t) ef)
 
 -- `operation_heard`
-module _ (own : ℕ) (t : List ℕ) (s : Sections) (m : List ℕ) (d : ℕ) (ed : d ≡ domainIn m) where
-  abbrev ifRead : Found
-  ifRead = cond (eqb (readRefusal own m) 0) (lookedUp t s (idIn m)) found.Nothing
+module _ (own : ℕ) (t : List ℕ) (s : Sections) (index m : List ℕ) (d : ℕ) (ed : d ≡ domainIn m) where
+  abbrev lookedUp : Sought
+  lookedUp = unlessSent t (soughtIn t index (s .operations .count) (idIn m))
 
-  pub of-platform : d ≡ platformDomain → found.Nothing ≡ operationHeard own t s m
+  abbrev ifRead : Sought
+  ifRead = cond (eqb (readRefusal own m) 0) lookedUp sought.Nowhere
+
+  pub of-platform : d ≡ platformDomain → sought.Nowhere ≡ operationHeard own t s index m
   unfolding operationHeard
-  of-platform z = sym (yes-eq {A = Found} found.Nothing ifRead (domainIn m) platformDomain (sym ed ∙ z))
+  of-platform z = sym (yes-eq {A = Sought} sought.Nowhere ifRead (domainIn m) platformDomain (sym ed ∙ z))
 
   module _ (zd : d ≡ platformDomain → ⊥) (n : ℕ) (en : n ≡ readRefusal own m) where
-    other : operationHeard own t s m ≡ ifRead
+    other : operationHeard own t s index m ≡ ifRead
     unfolding operationHeard
-    other = no-eq {A = Found} found.Nothing ifRead (domainIn m) platformDomain (λ (z : domainIn m ≡ platformDomain). zd (ed ∙ z))
+    other = no-eq {A = Sought} sought.Nowhere ifRead (domainIn m) platformDomain (λ (z : domainIn m ≡ platformDomain). zd (ed ∙ z))
 
-    pub unread : (n ≡ 0 → ⊥) → found.Nothing ≡ operationHeard own t s m
-    unread z = sym (other ∙ no-eq {A = Found} (lookedUp t s (idIn m)) found.Nothing (readRefusal own m) 0 (λ (k : readRefusal own m ≡ 0). z (en ∙ k)))
+    pub unread : (n ≡ 0 → ⊥) → sought.Nowhere ≡ operationHeard own t s index m
+    unread z = sym (other ∙ no-eq {A = Sought} lookedUp sought.Nowhere (readRefusal own m) 0 (λ (k : readRefusal own m ≡ 0). z (en ∙ k)))
 
-    pub was-read : {x : Found} {id : ℕ} → n ≡ 0 → id ≡ idIn m → x ≡ lookedUp t s id → x ≡ operationHeard own t s m
-    was-read z ei ex =
-        ex ∙ ap (lookedUp t s) ei ∙ sym (other ∙ yes-eq {A = Found} (lookedUp t s (idIn m)) found.Nothing (readRefusal own m) 0 (sym en ∙ z))
+    pub was-read : {x f : Sought} {id : ℕ} → n ≡ 0 → id ≡ idIn m → f ≡ soughtIn t index (s .operations .count) id → x ≡ unlessSent t f
+        → x ≡ operationHeard own t s index m
+    was-read z ei ef ex =
+        ex ∙ ap (unlessSent t) (ef ∙ ap (soughtIn t index (s .operations .count)) ei)
+        ∙ sym (other ∙ yes-eq {A = Sought} lookedUp sought.Nowhere (readRefusal own m) 0 (sym en ∙ z))
 
 -- `put_operation`
 pub operation-words : {a b c d : ℕ} (m : List ℕ) (i : ℕ) → a ≡ number 2 m 8 → b ≡ number 2 m 4 → c ≡ number 2 m 16 → d ≡ number 2 m 12 → 7
@@ -64,20 +91,24 @@ pub operation-words : {a b c d : ℕ} (m : List ℕ) (i : ℕ) → a ≡ number 
 operation-words m i ea eb ec ed = rw (ea, eb, ec, ed)
 
 -- what the general way comes to where there is such an operation
-never : {i : ℕ} → _≡_ {A = Found} found.Nothing (found.At i) → ⊥
+never : {i q : ℕ} → _≡_ {A = Sought} sought.Nowhere (sought.At i q) → ⊥
 never e = let z : _≡_ {A = ℕ} 0 1 = cc in omega arith
 
-module _ (own : ℕ) (t : List ℕ) (s : Sections) (p : Standing) (m : List ℕ) (i : ℕ) where
+module _ (own : ℕ) (t : List ℕ) (s : Sections) (index : List ℕ) (p : Standing) (l m : List ℕ) (i q : ℕ) where
   abbrev told : Reaction
   told = silent p (heard.Operation i headerLength (payloadSizeIn m))
 
+  abbrev sought-is : Sought
+  sought-is = soughtIn t index (s .operations .count) (idIn m)
+
   pub record Straight : Type 0 where
     pub read-is : readOf own m ≡ reading.Read (headerIn m) message.Operation headerLength (payloadSizeIn m)
-    pub looked-is : lookedUp t s (idIn m) ≡ found.At i
+    pub looked-is : soughtIn t index (s .operations .count) (idIn m) ≡ sought.At i q
+    pub ours : isSent t (soughtIn t index (s .operations .count) (idIn m)) ≡ false
 
-  pub straight : operationHeard own t s m ≡ found.At i → Straight
+  pub straight : operationHeard own t s index m ≡ sought.At i q → Straight
   unfolding operationHeard
-  straight e = go (eqb (domainIn m) platformDomain) refl (eqb (readRefusal own m) 0) refl e
+  straight e = go (eqb (domainIn m) platformDomain) refl (eqb (readRefusal own m) 0) refl (isSent t sought-is) refl e
     where
       as-read : readRefusal own m ≡ 0 → eqb (domainIn m) platformDomain ≡ false → readOf own m
           ≡ reading.Read (headerIn m) message.Operation headerLength (payloadSizeIn m)
@@ -86,61 +117,82 @@ module _ (own : ℕ) (t : List ℕ) (s : Sections) (p : Standing) (m : List ℕ)
           ∙ ap (λ (y : Message). reading.Read (headerIn m) y headerLength (payloadSizeIn m))
           (no-if {A = Message} (platformMessage (idIn m) (number 2 (payloadIn m) 0)) message.Operation ed)
 
-      go : (a : Bool) → eqb (domainIn m) platformDomain ≡ a → (b : Bool) → eqb (readRefusal own m) 0 ≡ b
-          → cond a found.Nothing (cond b (lookedUp t s (idIn m)) found.Nothing) ≡ found.At i → Straight
-      go true ea b eb h = absurd (never h)
-      go false ea false eb h = absurd (never h)
-      go false ea true eb h = record { read-is = as-read (eqb-true (readRefusal own m) 0 eb) ea; looked-is = h }
+      go : (a : Bool) → eqb (domainIn m) platformDomain ≡ a → (b : Bool) → eqb (readRefusal own m) 0 ≡ b → (c : Bool) → isSent t sought-is ≡ c
+          → cond a sought.Nowhere (cond b (cond c sought.Nowhere sought-is) sought.Nowhere) ≡ sought.At i q → Straight
+      go true ea b eb c ec h = absurd (never h)
+      go false ea false eb c ec h = absurd (never h)
+      go false ea true eb true ec h = absurd (never h)
+      go false ea true eb false ec h = record { read-is = as-read (eqb-true (readRefusal own m) 0 eb) ea; looked-is = h; ours = ec }
 
   module _ (k : Straight) where
-    pub its-outcome : (room : ℕ) → outcomeIn own t s p m room ≡ taken (headerIn m) told 0
-    unfolding outcomeOf operationIn operationFor reactionTo onOperation answered
+    pub its-outcome : (room : ℕ) → outcomeIn own t s index p l m room ≡ taken (headerIn m) told 0
+    unfolding outcomeOf operationIn operationFor isAnswer reactionTo onOperation answered
     its-outcome room =
-        ap (λ (x : Reading). outcomeOf own t s (operationIn t s x) p x room) (k .read-is)
-        ∙ ap (λ (f : Found). answered p (headerIn m) (onOperation f p (headerIn m) headerLength (payloadSizeIn m)) room) (k .looked-is)
+        ap (λ (x : Reading). outcomeOf own t s (operationIn t s index x) p l x room) (k .read-is)
+        ∙ no-if {A = Received} (responseTo l sought-is p (headerIn m) headerLength (payloadSizeIn m))
+        (answered p (headerIn m) (onOperation sought-is p (headerIn m) headerLength (payloadSizeIn m)) room) (k .ours)
+        ∙ ap (λ (f : Sought). answered p (headerIn m) (onOperation f p (headerIn m) headerLength (payloadSizeIn m)) room) (k .looked-is)
         ∙ no-lt {A = Received} (refused p noRoom) (taken (headerIn m) told 0) room 0 (omega arith)
 
-    pub its-output : (out : List ℕ) → outputIn own t s p m out ≡ out
-    unfolding outputOf operationIn operationFor reactionTo onOperation laidOut owedBytes
+    pub its-output : (out : List ℕ) → outputIn own t s index p m out ≡ out
+    unfolding outputOf operationIn operationFor isAnswer reactionTo onOperation laidOut owedBytes
     its-output out =
-        ap (λ (x : Reading). outputOf own t s (operationIn t s x) p x out) (k .read-is)
-        ∙ ap (λ (f : Found). laidOut own (onOperation f p (headerIn m) headerLength (payloadSizeIn m)) out) (k .looked-is)
+        ap (λ (x : Reading). outputOf own t s (operationIn t s index x) p x out) (k .read-is)
+        ∙ no-if out (laidOut own (onOperation sought-is p (headerIn m) headerLength (payloadSizeIn m)) out) (k .ours)
+        ∙ ap (λ (f : Sought). laidOut own (onOperation f p (headerIn m) headerLength (payloadSizeIn m)) out) (k .looked-is)
         ∙ no-lt out (over out 0 []) (length out) 0 (omega arith) ∙ sym (over-none out 0 [])
 
+    pub its-list : listIn own t s index l m ≡ l
+    unfolding listOf operationIn operationFor isAnswer
+    its-list = ap (λ (x : Reading). listOf t (operationIn t s index x) l x) (k .read-is) ∙ no-if (listAnswered l (headerIn m)) l (k .ours)
+
 -- `received`: an operation straight from its bytes
-module _ {f : Found} (own : ℕ) (ws t : List ℕ) (s : Sections) (m out : List ℕ) (i : ℕ) (ef : f ≡ operationHeard own t s m) (at : f ≡ found.At i) where
-  its : Straight own t s (standingIn ws) m i
-  its = straight own t s (standingIn ws) m i (sym ef ∙ at)
+module _ {f : Sought} (own : ℕ) (ws t : List ℕ) (s : Sections) (index m out : List ℕ) (i q : ℕ) (ef : f ≡ operationHeard own t s index m)
+    (at : f ≡ sought.At i q) where
+  its : Straight own t s index (standingIn ws) (pendingIn ws) m i q
+  its = straight own t s index (standingIn ws) (pendingIn ws) m i q (sym ef ∙ at)
 
-  meant : taken (headerIn m) (told own t s (standingIn ws) m i) 0 ≡ outcomeWithin own ws t s m out
-  meant = sym (its-outcome own t s (standingIn ws) m i its (length out))
+  meant : taken (headerIn m) (told own t s index (standingIn ws) (pendingIn ws) m i q) 0 ≡ outcomeWithin own ws t s index m out
+  meant = sym (its-outcome own t s index (standingIn ws) (pendingIn ws) m i q its (length out))
 
-  pub straight-number : 0 ≡ numberWithin own ws t s m out
+  pub straight-number : 0 ≡ numberWithin own ws t s index m out
   straight-number = ap (λ (o : Received). numberGiven (o .answer)) meant
 
-  pub straight-words : {x : List ℕ} {p : Standing} → p ≡ standingIn ws → x ≡ standingWords p → x ≡ wordsWithin own ws t s m out
-  straight-words ep ex = ex ∙ ap standingWords ep ∙ ap (λ (o : Received). platformAfter o ws) meant
+  pub straight-words : {x : List ℕ} {p : Standing} → p ≡ standingIn ws → x ≡ standingWords p ++ pendingIn ws → x ≡ wordsWithin own ws t s index m out
+  straight-words ep ex =
+      ex ∙ ap (λ (y : Standing). standingWords y ++ pendingIn ws) ep
+      ∙ ap₂ (λ (o : Received) (l : List ℕ). platformAfter o ws l) meant (sym (its-list own t s index (standingIn ws) (pendingIn ws) m i q its))
 
-  pub straight-output : out ≡ outputWithin own ws t s m out
-  straight-output = sym (its-output own t s (standingIn ws) m i its out)
+  pub straight-output : out ≡ outputWithin own ws t s index m out
+  straight-output = sym (its-output own t s index (standingIn ws) (pendingIn ws) m i q its out)
 
-  pub straight-heard : {x : List ℕ} (heard : List ℕ) → x ≡ operationWords m i → x ≡ heardWithin own ws t s m out heard
+  pub straight-heard : {x : List ℕ} (heard : List ℕ) → x ≡ operationWords m i → x ≡ heardWithin own ws t s index m out heard
   straight-heard heard ex = ex ∙ ap (λ (o : Received). heardAfter o heard) meant
 
 -- or what is answered
-module _ {p : Standing} (own : ℕ) (ws t : List ℕ) (s : Sections) (m out : List ℕ) (ep : p ≡ standingIn ws) where
-  module _ {o : Received} (eo : o ≡ outcomeIn own t s p m (length out)) where
-    answer-is : o ≡ outcomeWithin own ws t s m out
-    answer-is = eo ∙ ap (λ (y : Standing). outcomeIn own t s y m (length out)) ep
+module _ {o : Received} (own : ℕ) (ws t : List ℕ) (s : Sections) (index m out : List ℕ) (eo : o ≡ outcomeWithin own ws t s index m out) where
+  pub answered-number : {n : ℕ} → n ≡ numberGiven (o .answer) → n ≡ numberWithin own ws t s index m out
+  answered-number e = e ∙ ap (λ (x : Received). numberGiven (x .answer)) eo
 
-    pub answered-number : {n : ℕ} → n ≡ numberGiven (o .answer) → n ≡ numberWithin own ws t s m out
-    answered-number e = e ∙ ap (λ (x : Received). numberGiven (x .answer)) answer-is
+  pub answered-words : {x was : List ℕ} → standingLength ≤ length ws → was ≡ take standingLength ws ++ listIn own t s index (pendingIn ws) m
+      → x ≡ platformAfter o was (pendingIn was) → x ≡ wordsWithin own ws t s index m out
+  answered-words h ew e =
+      let l : List ℕ = listIn own t s index (pendingIn ws) m in
+      told-behind o ws l h ew e ∙ ap (λ (y : Received). platformAfter y ws l) eo
 
-    pub answered-words : {x : List ℕ} → x ≡ platformAfter o ws → x ≡ wordsWithin own ws t s m out
-    answered-words e = e ∙ ap (λ (y : Received). platformAfter y ws) answer-is
+  pub answered-heard : {x : List ℕ} (heard : List ℕ) → x ≡ heardAfter o heard → x ≡ heardWithin own ws t s index m out heard
+  answered-heard heard e = e ∙ ap (λ (y : Received). heardAfter y heard) eo
 
-    pub answered-heard : {x : List ℕ} (heard : List ℕ) → x ≡ heardAfter o heard → x ≡ heardWithin own ws t s m out heard
-    answered-heard heard e = e ∙ ap (λ (y : Received). heardAfter y heard) answer-is
+-- `taken`: the list is lent by itself
+module _ (own : ℕ) (ws t : List ℕ) (s : Sections) (index m : List ℕ) where
+  pub taken-list : {last : List ℕ} → last ≡ listIn own t s index (take (length ws - 5) (drop 5 ws)) m
+      → putMid 5 (length ws - 5) ws last ≡ take standingLength ws ++ listIn own t s index (pendingIn ws) m
+  taken-list e = back-by standingLength ws (λ (l : List ℕ). listIn own t s index l m) e
 
-  pub answered-output : {x : List ℕ} → x ≡ outputIn own t s p m out → x ≡ outputWithin own ws t s m out
-  answered-output e = e ∙ ap (λ (y : Standing). outputIn own t s y m out) ep
+  module _ {p : Standing} (out : List ℕ) (ep : p ≡ standingIn ws) where
+    pub taken-outcome : {o : Received} → o ≡ outcomeIn own t s index p (take (length ws - 5) (drop 5 ws)) m (length out)
+        → o ≡ outcomeWithin own ws t s index m out
+    taken-outcome e = e ∙ ap₂ (λ (y : Standing) (l : List ℕ). outcomeIn own t s index y l m (length out)) ep (lent-behind standingLength ws)
+
+    pub taken-output : {x : List ℕ} → x ≡ outputIn own t s index p m out → x ≡ outputWithin own ws t s index m out
+    taken-output e = e ∙ ap (λ (y : Standing). outputIn own t s index y m out) ep

@@ -4,3 +4,5 @@ pub mod HeardWords
 pub mod TableCalls
 pub mod Within
 pub mod SectionCalls
+pub mod SendCalls
+pub mod PendingCalls

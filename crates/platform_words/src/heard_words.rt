@@ -1,5 +1,5 @@
 // What was heard, in lent words.
-use crate::standing_words::PLATFORM_WORDS;
+use crate::standing_words;
 use message::Header;
 use message::Status;
 use platform::Heard;
@@ -7,10 +7,12 @@ use platform::Noting;
 use platform::Received;
 ghost use mathlib.Core.Path.{_≡_};
 ghost use mathlib.Core.List.{[], _∷_};
+ghost use Prim.Native.Nat.{_≤_};
+ghost use lib.ListN.{length};
 ghost use Rattle.message.specs.Platform.{statusValue};
 ghost use Rattle.platform.specs.Noting.{numberGiven};
-ghost use Rattle.platform_words.specs.HeardWords.{heardWords, heardAfter, platformAfter};
-use crate::standing_words;
+ghost use Rattle.platform_words.specs.Words.{standingLength, pendingIn};
+ghost use Rattle.platform_words.specs.HeardWords.{heardWords, responseWords, heardAfter, platformAfter};
 
 // How many words an answer is.
 pub const HEARD_WORDS: usize = 8;
@@ -32,14 +34,13 @@ pub const OPERATION: u64 = 7;
 
 pub const NOT_IN_TABLE: u64 = 8;
 
-// The platform's words and the answer are written only where nothing was refused.
-pub(crate) fn tell(
-    outcome: Received,
-    platform: &mut [u64; PLATFORM_WORDS],
-    heard: &mut [u64; HEARD_WORDS],
-) -> u32
+pub const RESPONSE: u64 = 9;
+
+// The platform's first words and the answer are written only where nothing was refused; its list is as it should be.
+pub(crate) fn tell(outcome: Received, platform: &mut [u64], heard: &mut [u64; HEARD_WORDS]) -> u32
+    requires { ⌜ standingLength ≤ length (now platform) ⌝ }
     ensures { λ r. ⌜ r ≡ numberGiven (outcome .answer) ⌝ }
-    ensures { λ _. ⌜ now (platform .exit) ≡ platformAfter outcome (now (platform .entry)) ⌝ }
+    ensures { λ _. ⌜ now (platform .exit) ≡ platformAfter outcome (now (platform .entry)) (pendingIn (now (platform .entry))) ⌝ }
     ensures { λ _. ⌜ now (heard .exit) ≡ heardAfter outcome (now (heard .entry)) ⌝ }
 {
     let given = outcome.answer;
@@ -53,6 +54,16 @@ pub(crate) fn tell(
         } => {
             standing_words::put_standing(platform, standing);
             put_heard(heard, header, what, written);
+            0
+        }
+        Noting::Response {
+            header,
+            entry,
+            start,
+            length,
+        } => {
+            standing_words::put_standing(platform, standing);
+            put_response(heard, header, entry, start, length);
             0
         }
     }
@@ -86,6 +97,19 @@ fn put_heard(words: &mut [u64; HEARD_WORDS], header: Header, heard: Heard, repli
         ),
         Heard::NotInTable(id) => put_value(words, header, NOT_IN_TABLE, id, replies),
     }
+}
+
+// Nothing is owed for a response.
+fn put_response(
+    words: &mut [u64; HEARD_WORDS],
+    header: Header,
+    entry: u16,
+    start: usize,
+    length: usize,
+)
+    ensures { λ _. ⌜ now (words .exit) ≡ responseWords header entry start length ⌝ }
+{
+    put_entry(words, header, RESPONSE, header.id, entry, start, length, 0);
 }
 
 fn put_value(words: &mut [u64; HEARD_WORDS], header: Header, kind: u64, value: u32, replies: usize)

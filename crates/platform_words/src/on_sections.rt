@@ -1,15 +1,24 @@
 // The call for one message by the sections that a check gave, with the platform and the answer in lent words: as the C interface
 // has it.
 ghost use mathlib.Core.Path.{_≡_};
+ghost use mathlib.Core.List.{_++_};
+ghost use Prim.Native.Nat.{_≤_};
+ghost use lib.ListN.{length, take};
+ghost use Rattle.platform.specs.Receiving.{listIn};
 ghost use Rattle.platform_words.specs.SectionCalls.{receiveInNumber, receiveInWords, receiveInOutput, receiveInHeard};
-ghost use Rattle.platform_words.specs.Within.{numberWithin, wordsWithin, outputWithin, heardWithin, operationHeard, operationWords};
+ghost use Rattle.platform_words.specs.Words.{standingLength, pendingIn};
+ghost use Rattle.platform_words.specs.Within.{outcomeWithin, numberWithin, wordsWithin, outputWithin, heardWithin};
+ghost use Rattle.platform_words.specs.Within.{unlessSent, operationHeard, operationWords};
 use crate::heard_words;
 use crate::heard_words::HEARD_WORDS;
 use crate::standing_words;
+use crate::standing_words::PENDING_AT;
 use crate::standing_words::PLATFORM_WORDS;
 use message::Header;
 use message::Own;
-use table::Found;
+use operations::Sought;
+use platform::Received;
+use table::BOUNDS_WORDS;
 use table::SECTIONS_WORDS;
 use table::Sections;
 
@@ -32,13 +41,16 @@ pub fn receive_in(
         ≡ receiveInHeard own (now (platform .entry)) (now (table .entry)) (now (sections .entry)) (now (message .entry)) (now (out .entry))
         (now (heard .entry)) ⌝ }
 {
-    let s = table::sections_in(sections);
+    let bounds: &[u64] = sections;
+    let words: &mut [u64] = platform;
+    let s = table::sections_in(bounds);
     if table::within(table, s) {
         received(
             Own { platform: own },
-            platform,
+            words,
             table,
             s,
+            &bounds[BOUNDS_WORDS..],
             message,
             out,
             heard,
@@ -51,46 +63,101 @@ pub fn receive_in(
 // An operation of the table, which comes most often, is told straight from its bytes; all else as `platform` answers it.
 fn received(
     own: Own,
-    platform: &mut [u64; PLATFORM_WORDS],
+    words: &mut [u64],
     table: &[u8],
     s: Sections,
+    index: &[u64],
     message: &[u8],
     out: &mut [u8],
     heard: &mut [u64; HEARD_WORDS],
 ) -> u32
-    ensures { λ r. ⌜ r ≡ numberWithin (own .platform) (now (platform .entry)) (now (table .entry)) s (now (message .entry)) (now (out .entry)) ⌝ }
-    ensures { λ _. ⌜ now (platform .exit)
-        ≡ wordsWithin (own .platform) (now (platform .entry)) (now (table .entry)) s (now (message .entry)) (now (out .entry)) ⌝ }
-    ensures { λ _. ⌜ now (out .exit) ≡ outputWithin (own .platform) (now (platform .entry)) (now (table .entry)) s (now (message .entry)) (now (out .entry)) ⌝ }
+    requires { ⌜ standingLength ≤ length (now words) ⌝ }
+    ensures { λ r. ⌜ r
+        ≡ numberWithin (own .platform) (now (words .entry)) (now (table .entry)) s (now (index .entry)) (now (message .entry)) (now (out .entry)) ⌝ }
+    ensures { λ _. ⌜ now (words .exit)
+        ≡ wordsWithin (own .platform) (now (words .entry)) (now (table .entry)) s (now (index .entry)) (now (message .entry)) (now (out .entry)) ⌝ }
+    ensures { λ _. ⌜ now (out .exit)
+        ≡ outputWithin (own .platform) (now (words .entry)) (now (table .entry)) s (now (index .entry)) (now (message .entry)) (now (out .entry)) ⌝ }
     ensures { λ _. ⌜ now (heard .exit)
-        ≡ heardWithin (own .platform) (now (platform .entry)) (now (table .entry)) s (now (message .entry)) (now (out .entry)) (now (heard .entry)) ⌝ }
+        ≡ heardWithin (own .platform) (now (words .entry)) (now (table .entry)) s (now (index .entry)) (now (message .entry)) (now (out .entry))
+        (now (heard .entry)) ⌝ }
 {
-    match operation_heard(own, table, s, message) {
-        Found::At(entry) => {
-            let standing = standing_words::standing_in(platform);
-            standing_words::put_standing(platform, standing);
+    match operation_heard(own, table, s, index, message) {
+        Sought::At(entry, _) => {
+            let standing = standing_words::standing_in(words);
+            standing_words::put_standing(words, standing);
             put_operation(heard, message, entry);
             0
         }
-        Found::Nothing => {
-            let standing = standing_words::standing_in(platform);
-            let outcome = platform::receive_within(own, table, s, standing, message, out);
-            heard_words::tell(outcome, platform, heard)
+        Sought::Nowhere => {
+            let outcome = taken(own, words, table, s, index, message, out);
+            heard_words::tell(outcome, words, heard)
         }
     }
 }
 
-// The operation of the table that the message is, where nothing refuses it.
-fn operation_heard(own: Own, table: &[u8], s: Sections, message: &[u8]) -> Found
-    ensures { λ r. ⌜ r ≡ operationHeard (own .platform) (now (table .entry)) s (now (message .entry)) ⌝ }
+// The platform's first words are still as they were.
+fn taken(
+    own: Own,
+    words: &mut [u64],
+    table: &[u8],
+    s: Sections,
+    index: &[u64],
+    message: &[u8],
+    out: &mut [u8],
+) -> Received
+    requires { ⌜ standingLength ≤ length (now words) ⌝ }
+    ensures { λ r. ⌜ r
+        ≡ outcomeWithin (own .platform) (now (words .entry)) (now (table .entry)) s (now (index .entry)) (now (message .entry)) (now (out .entry)) ⌝ }
+    ensures { λ _. ⌜ now (words .exit)
+        ≡ take standingLength (now (words .entry))
+        ++ listIn (own .platform) (now (table .entry)) s (now (index .entry)) (pendingIn (now (words .entry))) (now (message .entry)) ⌝ }
+    ensures { λ _. ⌜ now (out .exit)
+        ≡ outputWithin (own .platform) (now (words .entry)) (now (table .entry)) s (now (index .entry)) (now (message .entry)) (now (out .entry)) ⌝ }
+{
+    let standing = standing_words::standing_in(words);
+    platform::receive_within(
+        own,
+        table,
+        s,
+        index,
+        standing,
+        &mut words[PENDING_AT..],
+        message,
+        out,
+    )
+}
+
+// The operation of the table that the message is, where nothing refuses it; but none whose requests we send.
+fn operation_heard(own: Own, table: &[u8], s: Sections, index: &[u64], message: &[u8]) -> Sought
+    ensures { λ r. ⌜ r ≡ operationHeard (own .platform) (now (table .entry)) s (now (index .entry)) (now (message .entry)) ⌝ }
 {
     if wire::u8_at(message, Header::DOMAIN_AT) == Header::PLATFORM_DOMAIN {
-        return Found::Nothing;
+        return Sought::Nowhere;
     }
     if message::read_refusal(own, message) == 0 {
-        table::find(table, s, wire::u32_at(message, Header::ID_AT))
+        let id = wire::u32_at(message, Header::ID_AT);
+        unless_sent(
+            table,
+            operations::find(table, index, s.operations.count, id),
+        )
     } else {
-        Found::Nothing
+        Sought::Nowhere
+    }
+}
+
+fn unless_sent(table: &[u8], found: Sought) -> Sought
+    ensures { λ r. ⌜ r ≡ unlessSent (now (table .entry)) found ⌝ }
+{
+    match found {
+        Sought::At(entry, place) => {
+            if operations::kind_at(table, place) == requests::REQUEST_KIND {
+                Sought::Nowhere
+            } else {
+                Sought::At(entry, place)
+            }
+        }
+        Sought::Nowhere => Sought::Nowhere,
     }
 }
 

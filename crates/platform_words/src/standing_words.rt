@@ -1,26 +1,37 @@
-// A platform in lent words: read, written, made fresh, and asked who is UP.
+// A platform in lent words: read, written, made fresh, and asked who is UP. Its first five words are the states and the next own
+// number; behind these stands the list of the requests that are pending (`pending`).
 use message::Own;
 use platform::Standing;
 use states::States;
 ghost use mathlib.Core.Path.{_≡_};
+ghost use mathlib.Core.List.{_++_};
+ghost use Prim.Native.Nat.{_≤_};
+ghost use lib.ListN.{length};
 ghost use Rattle.states.specs.States.{howManyUp};
-ghost use Rattle.platform.specs.Receiving.{freshStanding};
-ghost use Rattle.platform_words.specs.Words.{statesIn, standingIn, standingWords};
-ghost use Rattle.platform_words.specs.StateCalls.{upNumber};
+ghost use Rattle.platform_words.specs.Words.{standingLength, statesIn, nextIn, standingIn, pendingIn, standingWords};
+ghost use Rattle.platform_words.specs.StateCalls.{freshWords, upNumber};
 
 // How many words a platform is.
-pub const PLATFORM_WORDS: usize = 5;
+pub const PLATFORM_WORDS: usize = 133;
+
+// Where the list of the pending requests starts.
+pub(crate) const PENDING_AT: usize = 5;
+
+// Where the next own number stands.
+pub(crate) const NEXT_AT: usize = 4;
 
 // One more than the largest own number.
 const NUMBERS: u64 = 4294967296;
 
-// A fresh platform.
+// A fresh platform: nothing is pending.
 pub fn fresh(own: u8, platform: &mut [u64; PLATFORM_WORDS]) -> u32
     ensures { λ r. ⌜ r ≡ 0 ⌝ }
-    ensures { λ _. ⌜ now (platform .exit) ≡ standingWords (freshStanding own) ⌝ }
+    ensures { λ _. ⌜ now (platform .exit) ≡ freshWords own ⌝ }
 {
+    *platform = [0u64; PLATFORM_WORDS];
     let standing = platform::fresh(Own { platform: own });
-    put_standing(platform, standing);
+    let words: &mut [u64] = platform;
+    put_standing(words, standing);
     0
 }
 
@@ -42,26 +53,33 @@ pub fn how_many_up(own: u8, platform: &[u64; PLATFORM_WORDS]) -> u32
     states::how_many_up(Own { platform: own }, states_in(platform))
 }
 
-pub(crate) fn standing_in(words: &[u64; PLATFORM_WORDS]) -> Standing
+pub(crate) fn standing_in(words: &[u64]) -> Standing
     ensures { λ r. ⌜ r ≡ standingIn (now (words .entry)) ⌝ }
 {
     let states = states_in(words);
     Standing {
         states,
-        next: (wire::word_at(words, 4) % NUMBERS) as u32,
+        next: next_in(words),
     }
 }
 
-pub(crate) fn put_standing(words: &mut [u64; PLATFORM_WORDS], standing: Standing)
-    ensures { λ _. ⌜ now (words .exit) ≡ standingWords standing ⌝ }
+pub(crate) fn next_in(words: &[u64]) -> u32
+    ensures { λ r. ⌜ r ≡ nextIn (now (words .entry)) ⌝ }
 {
-    *words = [
-        standing.states.w0,
-        standing.states.w1,
-        standing.states.w2,
-        standing.states.w3,
-        standing.next as u64,
-    ];
+    (wire::word_at(words, NEXT_AT) % NUMBERS) as u32
+}
+
+// The list stays where it is.
+pub(crate) fn put_standing(words: &mut [u64], standing: Standing)
+    requires { ⌜ standingLength ≤ length (now words) ⌝ }
+    ensures { λ _. ⌜ now (words .exit) ≡ standingWords standing ++ pendingIn (now (words .entry)) ⌝ }
+{
+    let states = standing.states;
+    words[0] = states.w0;
+    words[1] = states.w1;
+    words[2] = states.w2;
+    words[3] = states.w3;
+    words[NEXT_AT] = standing.next as u64;
 }
 
 fn states_in(words: &[u64]) -> States

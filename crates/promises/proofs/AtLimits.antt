@@ -16,9 +16,9 @@ at-limits = record {
     next-of-other = omega arith;
     number-fits = omega arith;
   };
-  receives = λ t s p m h kind start len n b c r. record
-      { platform = omega arith; next = omega arith; bytes = b; table = c; start = start; len = len; read = r };
-  receive-in-order = λ r t p m room n b. r 255 t p m room (omega arith) (omega arith) b;
+  receives = λ t s p m h kind start len n b c r k. record
+      { platform = omega arith; next = omega arith; bytes = b; table = c; start = start; len = len; read = r; no-response = k };
+  receive-in-order = λ r t p l m room n b. r 255 t p l m room (omega arith) (omega arith) b;
   another-is-down = λ r. r .others-start-down 254 255 (omega arith) (omega arith) (λ e. omega (arith, e));
   above-is-down = λ r s. r .none-above-255 255 s 256 (omega arith) (omega arith);
   counted = λ r s w. r .counted 255 s (omega arith) w;

@@ -4,6 +4,7 @@ use Prim.Native.Nat.{ℕ}
 use mathlib.Core.Path.{_≡_, refl, _∙_}
 use mathlib.Core.Bool.{Bool, true, false, cond}
 use mathlib.Core.List.{List}
+use native.Mathlib.Omega.{arith}
 use lib.ListN.{length}
 use denote.Ref.{now}
 use Rattle.binding.specs.Cutting.{countedOf, madeOf}
@@ -32,22 +33,23 @@ use Rattle.message.specs.declared.Writing.{Writing}
 use Rattle.message.specs.declared.Writing.the-variants as writing
 use Rattle.table.specs.Layout.{cutShort, within}
 use Rattle.table.specs.Checked.{numberGiven as checkNumber}
-use Rattle.table.specs.Search.{lookedUp}
 use Rattle.table.specs.declared.Checked.{Checked}
 use Rattle.table.specs.declared.Checked.the-variants as check
 use Rattle.types.specs.Table.{checked}
-use Rattle.table.specs.Words.{sectionsIn}
+use Rattle.table.specs.Words.{sectionsIn, indexIn}
 use Rattle.payload.specs.declared.Answer.{Answer}
 use Rattle.payload.specs.declared.Answer.the-variants as answer
 use Rattle.payload.specs.Calls.{unpacked, unpackedIn, packed, packedIn}
 use Rattle.payload.specs.Calls as payload
 use Rattle.platform.specs.declared.Noting.{Noting}
 use Rattle.platform.specs.declared.Noting.the-variants as noting
-use Rattle.platform.specs.declared.reactions.Standing.{Standing}
 use Rattle.platform.specs.Receiving.{receivedOf, sectionsOutcome}
 use Rattle.platform.specs.Noting.{numberGiven}
-use Rattle.platform_words.specs.Words.{standingIn}
-use Rattle.platform_words.specs.HeardWords.{answerWords, notedWords}
+use Rattle.operations.specs.Search.{soughtIn}
+use Rattle.pending.specs.Free.{isPending}
+use Rattle.platform_words.specs.Words.{standingIn, pendingIn}
+use Rattle.platform_words.specs.HeardWords.{answerWords}
+use Rattle.platform_words.proofs.Kept.{receive-keeps, receive-in-keeps, send-keeps-words, send-keeps-output, send-keeps-sent, cancel-keeps}
 use Rattle.nyrkovash.specs.PieceCalls.{countLeft, madeLeft}
 use Rattle.nyrkovash.specs.MessageCalls.{readLeft, writeLeft}
 use Rattle.nyrkovash.specs.TableCalls.{sectionsLeft, foundWords}
@@ -74,9 +76,9 @@ write-keeps : (was : ℕ) (x : Writing) → Keeps (writeNumber x) was (writeLeft
 write-keeps was (writing.Refused n) k = refl
 write-keeps was (writing.Written n) k = absurd (k refl)
 
-check-keeps : (was : List ℕ) (x : Checked) → Keeps (checkNumber x) was (sectionsLeft was x)
-check-keeps was (check.Refused n) k = refl
-check-keeps was (check.Table s) k = absurd (k refl)
+check-keeps : (t was : List ℕ) (x : Checked) → Keeps (checkNumber x) was (sectionsLeft t was x)
+check-keeps t was (check.Refused n) k = refl
+check-keeps t was (check.Table s) k = absurd (k refl)
 
 given-keeps : (was : ℕ) (x : Answer) → Keeps (payload.numberGiven x) was (givenLeft was x)
 unfolding payload.leftBy
@@ -132,10 +134,12 @@ module _ (ws rooms d : List ℕ) where
 heard-keeps : (was : List ℕ) (x : Noting) → Keeps (numberGiven x) was (answerWords x was)
 heard-keeps was (noting.Refused n) k = refl
 heard-keeps was (noting.Noted h x n) k = absurd (k refl)
+heard-keeps was (noting.Response h i start len) k = absurd (k refl)
 
-noted-keeps : (was : List ℕ) (p : Standing) (x : Noting) → Keeps (numberGiven x) was (notedWords x p was)
-noted-keeps was p (noting.Refused n) k = refl
-noted-keeps was p (noting.Noted h x n) k = absurd (k refl)
+-- a request given up
+none-given-up : (b : Bool) (n : ℕ) → n ≡ cond b 1 0 → n ≡ 0 → b ≡ false
+none-given-up true n e z = absurd (omega (arith, e, z))
+none-given-up false n e z = refl
 
 -- what a contract says of the number and of what was lent
 by : {B : Type 0} {n m : ℕ} {was left z : B} → n ≡ m → left ≡ z → Keeps m was z → Keeps n was left
@@ -161,11 +165,11 @@ exports-keep =
           (kept .write-output (a .0) (a .1 .0) (a .1 .1 .0) (a .1 .1 .1 .0) (now (a .1 .1 .1 .1 .0)) (now (a .1 .1 .1 .1 .1 .0)));
       write-written = λ k a n e p. by (p .0) (p .1 .1)
           (write-keeps _ (writeOf (a .1 .0) (a .1 .1 .0) (now (a .1 .1 .1 .1 .0)) (length (now (a .1 .1 .1 .1 .1 .0)))));
-      check-table = λ k a n e p. by (p .0) (p .1) (check-keeps _ (checked (now (a .0))));
+      check-table = λ k a n e p. by (p .0) (p .1) (check-keeps (now (a .0)) _ (checked (now (a .0))));
       find = λ k a n e p.
           let t = now (a .0) in
           let s = sectionsIn (now (a .1 .0)) in
-          by (p .0) (p .1) (found-keeps (within t s) _ (foundWords t s (lookedUp t s (a .1 .1 .0))));
+          by (p .0) (p .1) (found-keeps (within t s) _ (foundWords t (soughtIn t (indexIn (now (a .1 .0))) (s .operations .count) (a .1 .1 .0))));
       unpack-words = λ k a n e p. by (p .0) (p .1 .0) (kept .unpack-words (now (a .0)) (a .1 .0) (now (a .1 .1 .0)) (now (a .1 .1 .1 .0)));
       unpack-given = λ k a n e p. by (p .0) (p .1 .1) (given-keeps _ (unpacked (now (a .0)) (a .1 .0) (now (a .1 .1 .0)) (length (now (a .1 .1 .1 .0)))));
       unpack-in-words = λ k a n e p. by (p .0) (p .1 .0)
@@ -178,24 +182,41 @@ exports-keep =
           (kept .pack-in-output (now (a .0)) (sectionsIn (now (a .1 .0))) (a .1 .1 .0) (now (a .1 .1 .1 .0)) (now (a .1 .1 .1 .1 .0)));
       pack-in-given = λ k a n e p. by (p .0) (p .1 .1)
           (given-keeps _ (packedIn (now (a .0)) (sectionsIn (now (a .1 .0))) (a .1 .1 .0) (now (a .1 .1 .1 .0)) (length (now (a .1 .1 .1 .1 .0)))));
-      receive-platform = λ k a n e p.
-          let t = receivedOf (a .0) (now (a .1 .1 .0)) (standingIn (now (a .1 .0))) (now (a .1 .1 .1 .0)) (length (now (a .1 .1 .1 .1 .0))) in
-          by (p .0) (p .1 .0) (noted-keeps _ (t .standing) (t .answer));
-      receive-out = λ k a n e p. by (p .0) (p .1 .1 .0)
-          (kept .receive (a .0) (now (a .1 .1 .0)) (standingIn (now (a .1 .0))) (now (a .1 .1 .1 .0)) (now (a .1 .1 .1 .1 .0)) .output);
-      receive-heard = λ k a n e p. by (p .0) (p .1 .1 .1)
-          (heard-keeps _
-          (receivedOf (a .0) (now (a .1 .1 .0)) (standingIn (now (a .1 .0))) (now (a .1 .1 .1 .0)) (length (now (a .1 .1 .1 .1 .0))) .answer));
-      receive-in-platform = λ k a n e p.
-          let s = sectionsIn (now (a .1 .1 .1 .0)) in
-          let t = sectionsOutcome (a .0) (now (a .1 .1 .0)) s (standingIn (now (a .1 .0))) (now (a .1 .1 .1 .1 .0)) (length (now (a .1 .1 .1 .1 .1 .0))) in
-          by (p .0) (p .1 .0) (noted-keeps _ (t .standing) (t .answer));
-      receive-in-out = λ k a n e p.
-          let s = sectionsIn (now (a .1 .1 .1 .0)) in
+      receive-platform = λ k a n e p. by (p .0) (p .1 .0)
+          (receive-keeps (a .0) (now (a .1 .0)) (now (a .1 .1 .0)) (now (a .1 .1 .1 .0)) (now (a .1 .1 .1 .1 .0)));
+      receive-out = λ k a n e p.
+          let ws = now (a .1 .0) in
           by (p .0) (p .1 .1 .0)
-          (kept .receive-checked (a .0) (now (a .1 .1 .0)) s (standingIn (now (a .1 .0))) (now (a .1 .1 .1 .1 .0)) (now (a .1 .1 .1 .1 .1 .0)) .output);
+          (kept .receive (a .0) (now (a .1 .1 .0)) (standingIn ws) (pendingIn ws) (now (a .1 .1 .1 .0)) (now (a .1 .1 .1 .1 .0)) .output);
+      receive-heard = λ k a n e p.
+          let ws = now (a .1 .0) in
+          by (p .0) (p .1 .1 .1)
+          (heard-keeps _
+          (receivedOf (a .0) (now (a .1 .1 .0)) (standingIn ws) (pendingIn ws) (now (a .1 .1 .1 .0)) (length (now (a .1 .1 .1 .1 .0))) .answer));
+      receive-in-platform = λ k a n e p. by (p .0) (p .1 .0)
+          (receive-in-keeps (a .0) (now (a .1 .0)) (now (a .1 .1 .0)) (now (a .1 .1 .1 .0)) (now (a .1 .1 .1 .1 .0)) (now (a .1 .1 .1 .1 .1 .0)));
+      receive-in-out = λ k a n e p.
+          let ws = now (a .1 .0) in
+          let ss = now (a .1 .1 .1 .0) in
+          by (p .0) (p .1 .1 .0)
+          (kept .receive-checked (a .0) (now (a .1 .1 .0)) (sectionsIn ss) (indexIn ss) (standingIn ws) (pendingIn ws)
+          (now (a .1 .1 .1 .1 .0)) (now (a .1 .1 .1 .1 .1 .0)) .output);
       receive-in-heard = λ k a n e p.
-          let s = sectionsIn (now (a .1 .1 .1 .0)) in
-          let t = sectionsOutcome (a .0) (now (a .1 .1 .0)) s (standingIn (now (a .1 .0))) (now (a .1 .1 .1 .1 .0)) (length (now (a .1 .1 .1 .1 .1 .0))) in
+          let ws = now (a .1 .0) in
+          let ss = now (a .1 .1 .1 .0) in
+          let t = sectionsOutcome (a .0) (now (a .1 .1 .0)) (sectionsIn ss) (indexIn ss) (standingIn ws) (pendingIn ws) (now (a .1 .1 .1 .1 .0))
+          (length (now (a .1 .1 .1 .1 .1 .0))) in
           by (p .0) (p .1 .1 .1) (heard-keeps _ (t .answer));
+      send-platform = λ k a n e p. by (p .0) (p .1 .0)
+          (λ d. send-keeps-words (now (a .1 .0)) (now (a .1 .1 .0)) (now (a .1 .1 .1 .0)) (a .1 .1 .1 .1 .0) (now (a .1 .1 .1 .1 .1 .1 .0))
+          (now (a .1 .1 .1 .1 .1 .1 .1 .0)) d (a .1 .1 .1 .1 .1 .0));
+      send-out = λ k a n e p. by (p .0) (p .1 .1 .0)
+          (λ d. send-keeps-output (now (a .1 .0)) (now (a .1 .1 .0)) (now (a .1 .1 .1 .0)) (a .1 .1 .1 .1 .0) (now (a .1 .1 .1 .1 .1 .1 .0))
+          (now (a .1 .1 .1 .1 .1 .1 .1 .0)) d (a .0));
+      send-sent = λ k a n e p. by (p .0) (p .1 .1 .1)
+          (λ d. send-keeps-sent (now (a .1 .0)) (now (a .1 .1 .0)) (now (a .1 .1 .1 .0)) (a .1 .1 .1 .1 .0) (now (a .1 .1 .1 .1 .1 .1 .0))
+          (now (a .1 .1 .1 .1 .1 .1 .1 .0)) d _);
+      cancel-none = λ k a n e p z.
+          let ws = now (a .0) in
+          p .1 .0 ∙ cancel-keeps ws (a .1 .0) (none-given-up (isPending (pendingIn ws) (a .1 .0)) _ (p .1 .1) z);
     }

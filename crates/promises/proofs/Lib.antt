@@ -4,12 +4,15 @@ mod TakeOrder
 pub mod TableOrder
 mod NumbersInOrder
 pub mod PayloadOrder
+mod ReceiveOrder
 pub mod Demand1
 pub mod Headers
 pub mod CutAndJoined
 pub mod Payloads
 pub mod OneCodec
-mod Lookups
+pub mod Lookups
+mod ByID
+mod Kind2
 mod Reacting
 mod Replying
 pub mod Platforms
@@ -33,7 +36,16 @@ pub mod AtLimits
 pub mod Unique
 pub mod UniqueCalls
 pub mod UniqueRequests
+pub mod UniquePlatforms
 pub mod Requests
+mod RequestTables
+mod RequestReceipts
+mod NewRequest
+pub mod AskedAndAnswered
+mod RequestsAlong
+mod OneRequestRun
+pub mod RequestRuns
+pub mod WrongListings
 pub mod UniqueOperations
 pub mod ExportsKeep
 mod LinkedRuns
@@ -45,10 +57,14 @@ pub mod LinkedPayloads
 pub mod LinkedPieces
 pub mod LinkedMessages
 pub mod LinkedReplies
+pub mod LinkedResponses
 pub mod Numbers
 mod Reporting
 pub mod WrongReports
+pub mod Responses
+pub mod WrongResponses
 mod EnumWords
+mod OperationRules
 pub mod Rules32
 pub mod WrongChecks
 pub mod Sizes33

@@ -3,7 +3,7 @@
 use Prim.Native.Nat.{ℕ, zero, suc, _≤_, _<_}
 use mathlib.Core.Path.{_≡_, refl, sym, ap, ap₂, subst, _∙_}
 use mathlib.Core.Bool.{Bool, true, false, cond}
-use mathlib.Core.List.{List, []}
+use mathlib.Core.List.{List, [], _++_}
 use native.Mathlib.Omega.{arith}
 use borrow.Author.Tests.{ltb-true}
 use lib.ListN.{length, take}
@@ -130,10 +130,10 @@ narrow t s c = (
   },
 )
 
-pub sections-back : (t : List ℕ) (s : Sections) (ss : List ℕ) → checked t ≡ check.Table s → ss ≡ wordsOf s → sectionsIn ss ≡ s
-sections-back t s ss e f =
+pub sections-back : (t : List ℕ) (s : Sections) (ss index : List ℕ) → checked t ≡ check.Table s → ss ≡ wordsOf s ++ index → sectionsIn ss ≡ s
+sections-back t s ss index e f =
     let n = narrow t s (accepted t s e .lie) in
-    ap sectionsIn f ∙ read-back s [] (n .0) (n .1) (n .2) (n .3)
+    ap sectionsIn f ∙ read-back s index (n .0) (n .1) (n .2) (n .3)
 
 -- what a contract says of number and count, told
 module _ {n given : ℕ} {b : Answer} (a : Answer) (was : ℕ) (same : b ≡ a) (sound : Numbered a) (e : n ≡ numberGiven b) (f : given ≡ givenLeft was b) where
@@ -144,20 +144,20 @@ check-zero : (was : List ℕ) (x : Checked) → TableNumbered x → checkNumber 
 check-zero was (check.Refused n) h e = absurd (omega arith)
 check-zero was (check.Table s) h e = (s, refl)
 
-module _ (t : List ℕ) (s : Sections) (ss : List ℕ) (i : ℕ) (e : checked t ≡ check.Table s) (f : ss ≡ wordsOf s) where
+module _ (t : List ℕ) (s : Sections) (ss index : List ℕ) (i : ℕ) (e : checked t ≡ check.Table s) (f : ss ≡ wordsOf s ++ index) where
   pack-same : (ws out : List ℕ) → packedIn t (sectionsIn ss) i ws (length out) ≡ packed t i ws (length out)
   pack-same ws out =
-      ap (λ (x : Sections). packedIn t x i ws (length out)) (sections-back t s ss e f) ∙ sym (same-answer t s e (writer ws) (length ws) i (length out))
+      ap (λ (x : Sections). packedIn t x i ws (length out)) (sections-back t s ss index e f) ∙ sym (same-answer t s e (writer ws) (length ws) i (length out))
 
   bytes-same : (ws out : List ℕ) → bytesIn t (sectionsIn ss) i ws out ≡ bytesAfter t i ws out
-  bytes-same ws out = ap (λ (x : Sections). bytesIn t x i ws out) (sections-back t s ss e f) ∙ sym (same-left t s e (writer ws) (length ws) i out)
+  bytes-same ws out = ap (λ (x : Sections). bytesIn t x i ws out) (sections-back t s ss index e f) ∙ sym (same-left t s e (writer ws) (length ws) i out)
 
   unpack-same : (b words : List ℕ) → unpackedIn t (sectionsIn ss) i b (length words) ≡ unpacked t i b (length words)
   unpack-same b words =
-      ap (λ (x : Sections). unpackedIn t x i b (length words)) (sections-back t s ss e f) ∙ sym (same-answer t s e (reader b) (length b) i (length words))
+      ap (λ (x : Sections). unpackedIn t x i b (length words)) (sections-back t s ss index e f) ∙ sym (same-answer t s e (reader b) (length b) i (length words))
 
   words-same : (b words : List ℕ) → wordsIn t (sectionsIn ss) i b words ≡ wordsAfter t i b words
-  words-same b words = ap (λ (x : Sections). wordsIn t x i b words) (sections-back t s ss e f) ∙ sym (same-left t s e (reader b) (length b) i words)
+  words-same b words = ap (λ (x : Sections). wordsIn t x i b words) (sections-back t s ss index e f) ∙ sym (same-left t s e (reader b) (length b) i words)
 
 zero-is-given : (n given k : ℕ) → givenBack n given ≡ Gave k → (n ≡ 0) × (given ≡ k)
 zero-is-given zero given k e = (refl, cc)
@@ -253,24 +253,25 @@ linked-payloads =
           let b = now (a .1 .1 .0) in
           let room = length (now (a .1 .1 .1 .0)) in
           (as-told (unpacked t (a .1 .0) b room) (now (a .1 .1 .1 .1 .0)) refl (unpack-numbered t (a .1 .0) b room) (p .0) (p .1 .1), p .1 .0);
-      check = λ s k a n e p h. (p .0 ∙ ap checkNumber h, p .1 ∙ ap (sectionsLeft (now (a .1 .0))) h);
+      check = λ s k a n e p h. (p .0 ∙ ap checkNumber h, p .1 ∙ ap (sectionsLeft (now (a .0)) (now (a .1 .0))) h);
       checks-only = λ k a n e p z. check-zero [] (checked (now (a .0))) (table-numbered (now (a .0))) (sym (p .0) ∙ z);
-      pack-in = λ s k a n e p h f.
+      pack-in = λ s index k a n e p h f.
           let t = now (a .0) in
           let i = a .1 .1 .0 in
           let ws = now (a .1 .1 .1 .0) in
           let out = now (a .1 .1 .1 .1 .0) in
           let was = now (a .1 .1 .1 .1 .1 .0) in (
-            as-told (packed t i ws (length out)) was (pack-same t s (now (a .1 .0)) i h f ws out) (pack-numbered t i ws (length out)) (p .0) (p .1 .1),
-            p .1 .0 ∙ bytes-same t s (now (a .1 .0)) i h f ws out,
+            as-told (packed t i ws (length out)) was (pack-same t s (now (a .1 .0)) index i h f ws out) (pack-numbered t i ws (length out)) (p .0) (p .1 .1),
+            p .1 .0 ∙ bytes-same t s (now (a .1 .0)) index i h f ws out,
           );
-      unpack-in = λ s k a n e p h f.
+      unpack-in = λ s index k a n e p h f.
           let t = now (a .0) in
           let i = a .1 .1 .0 in
           let b = now (a .1 .1 .1 .0) in
           let words = now (a .1 .1 .1 .1 .0) in
           let was = now (a .1 .1 .1 .1 .1 .0) in (
-            as-told (unpacked t i b (length words)) was (unpack-same t s (now (a .1 .0)) i h f b words) (unpack-numbered t i b (length words)) (p .0) (p .1 .1),
-            p .1 .0 ∙ words-same t s (now (a .1 .0)) i h f b words,
+            as-told (unpacked t i b (length words)) was (unpack-same t s (now (a .1 .0)) index i h f b words) (unpack-numbered t i b (length words))
+                (p .0) (p .1 .1),
+            p .1 .0 ∙ words-same t s (now (a .1 .0)) index i h f b words,
           );
     }

@@ -3,12 +3,13 @@
 use mathlib.Core.Path.{refl}
 use mathlib.Core.List.{[]}
 use Rattle.table.specs.declared.Section.{Section}
-use Rattle.table.specs.declared.Found.the-variants as found
+use Rattle.operations.specs.declared.Sought.the-variants as sought
+use Rattle.operations.specs.Rules.{hasData}
 use Rattle.wire.specs.All.{allBelow}
 use Rattle.states.specs.States.{wordOf, withWord, bitOf, isUp, turned, withOwn}
 use Rattle.platform.specs.Replies.{replyBytes}
-use Rattle.platform.specs.Reaction.{noData, cameUp, onState, onStatus, onPullAll, onPull, reactionTo}
-use Rattle.platform.specs.Receiving.{freshStanding, answered, outcomeOf}
+use Rattle.platform.specs.Reaction.{cameUp, onState, onStatus, onPullAll, onPull, reactionTo}
+use Rattle.platform.specs.Receiving.{freshStanding, answered, isAnswer, outcomeOf}
 use Rattle.platform.specs.Exchange.{sentOf, Setting, keeps, sends, Pair, Exchange, started, longestExchange}
 use Rattle.platform.specs.Exchange.Step.{arrives-at-a, arrives-at-b}
 use Rattle.platform.specs.Exchange.Exchange.{none, more}
@@ -36,13 +37,14 @@ bare =
     record {
       table = [];
       sections = record { types = empty; members = empty; values = empty; operations = empty };
-      looked = found.Nothing;
+      looked = sought.Nowhere;
+      list = [];
       room = 48;
     }
 
 reached : (z : Pair) × Exchange 1 2 longestExchange (started (freshStanding 1) (freshStanding 2) 0) z
-unfolding allBelow wordOf withWord bitOf isUp turned withOwn replyBytes noData cameUp onState onStatus onPullAll onPull reactionTo
-    answered outcomeOf sentOf keeps sends
+unfolding allBelow wordOf withWord bitOf isUp turned withOwn hasData replyBytes cameUp onState onStatus onPullAll onPull reactionTo
+    answered isAnswer outcomeOf sentOf keeps sends
 reached = (
   _,
   more 6 _ _ _ (arrives-at-b bare _ _ [] [] [] _)

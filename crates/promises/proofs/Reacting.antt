@@ -12,10 +12,9 @@ use lib.Pow.{pow-pos}
 use lib.ListN.{length}
 use Rattle.wire.specs.Bytes.{number}
 use Rattle.table.specs.declared.Sections.{Sections}
-use Rattle.table.specs.declared.Found.{Found}
-use Rattle.table.specs.declared.Found.the-variants as found
-use Rattle.table.specs.Operations.{operationOf}
-use Rattle.table.specs.Search.{lookedUp}
+use Rattle.operations.specs.declared.Sought.{Sought}
+use Rattle.operations.specs.declared.Sought.the-variants as sought
+use Rattle.operations.specs.Search.{soughtIn}
 use Rattle.message.specs.declared.Header.{Header}
 use Rattle.message.specs.declared.Status.{Status}
 use Rattle.message.specs.declared.Status.the-variants.{Down, Up}
@@ -27,13 +26,13 @@ use Rattle.states.specs.declared.States.{States}
 use Rattle.platform.specs.declared.reactions.Standing.{Standing}
 use Rattle.states.specs.States.{isUp, turned}
 use Rattle.platform.specs.Replies.{allData, replyNumber, meant, Wide, replies, Each, owedLength}
-use Rattle.platform.specs.Reaction.{operationFor, isData, foundData, noData, silent, noted, cameUp, onState, onStatus}
+use Rattle.platform.specs.Reaction.{operationFor, isData, foundData, someData, silent, noted, cameUp, onState, onStatus}
 use Rattle.platform.specs.Reaction.{onPullAll, onPullOne, onPull, onOperation, reactionTo}
 use Rattle.platform.specs.declared.reactions.Heard.the-variants as heard
 use Rattle.platform.specs.declared.reactions.Reply.{Reply}
 use Rattle.platform.specs.declared.reactions.Reaction.{Reaction}
 use Rattle.states.proofs.Ups.{noted-there, noted-elsewhere}
-use Rattle.promises.specs.Platforms.{OwedReply, noNews, owedFor, stateAfter, nextAfter, replyLength}
+use Rattle.promises.specs.Platforms.{OwedReply, operationWith, noNews, owedFor, stateAfter, nextAfter, replyLength}
 
 abbrev pub said : Reply → OwedReply
 said r = record { number = replyNumber r; means = meant r }
@@ -42,23 +41,26 @@ either-way : {a : Bool} (b : Bool) → a ≡ true → (b || a) ≡ true
 either-way true e = refl
 either-way false e = e
 
+-- the index finds the operation of this ID
+abbrev pub Finds : List ℕ → Sections → List ℕ → ℕ → Type 0
+Finds t s index id = soughtIn t index (s .operations .count) id ≡ operationWith t s id
+
 -- what a pull can ask for, where the look-up finds the operation of each ID: all versioned data, of which there is none or some; an
 -- entry, which is versioned data or not; an ID that no entry bears
-pub data Pull (t : List ℕ) (s : Sections) (id : ℕ) : Type 0 where
-  all-of-none : eqb id allData ≡ true → noData t s ≡ true → Pull t s id
-  all-of-some : eqb id allData ≡ true → noData t s ≡ false → Pull t s id
-  one-entry : (i : ℕ) → eqb id allData ≡ false → operationOf t s id ≡ found.At i → lookedUp t s id ≡ operationOf t s id →
-      (b : Bool) → isData t s i ≡ b → Pull t s id
-  no-entry : eqb id allData ≡ false → operationOf t s id ≡ found.Nothing → lookedUp t s id ≡ operationOf t s id → Pull t s id
+pub data Pull (t : List ℕ) (s : Sections) (index : List ℕ) (id : ℕ) : Type 0 where
+  all-of-none : eqb id allData ≡ true → someData t s ≡ false → Pull t s index id
+  all-of-some : eqb id allData ≡ true → someData t s ≡ true → Pull t s index id
+  one-entry : (i q : ℕ) → eqb id allData ≡ false → operationWith t s id ≡ sought.At i q → Finds t s index id → (b : Bool) → isData t q ≡ b → Pull t s index id
+  no-entry : eqb id allData ≡ false → operationWith t s id ≡ sought.Nowhere → Finds t s index id → Pull t s index id
 
-pub pulled : (t : List ℕ) (s : Sections) (id : ℕ) → lookedUp t s id ≡ operationOf t s id → Pull t s id
-pulled t s id g = go (eqb id allData) refl (noData t s) refl (operationOf t s id) refl
+pub pulled : (t : List ℕ) (s : Sections) (index : List ℕ) (id : ℕ) → Finds t s index id → Pull t s index id
+pulled t s index id g = go (eqb id allData) refl (someData t s) refl (operationWith t s id) refl
   where
-    go : (a : Bool) → eqb id allData ≡ a → (b : Bool) → noData t s ≡ b → (x : Found) → operationOf t s id ≡ x → Pull t s id
-    go true e true d x f = all-of-none e d
-    go true e false d x f = all-of-some e d
-    go false e b d (found.At i) f = one-entry i e f g (isData t s i) refl
-    go false e b d found.Nothing f = no-entry e f g
+    go : (a : Bool) → eqb id allData ≡ a → (b : Bool) → someData t s ≡ b → (x : Sought) → operationWith t s id ≡ x → Pull t s index id
+    go true e true d x f = all-of-some e d
+    go true e false d x f = all-of-none e d
+    go false e b d (sought.At i q) f = one-entry i q e f g (isData t q) refl
+    go false e b d sought.Nowhere f = no-entry e f g
 
 -- a state that is as it was said already, and one that is turned
 module _ (own : ℕ) (s : States) (k who : ℕ) where
@@ -89,9 +91,9 @@ fieldOf (message.VersionedDataPull id) = id
 fieldOf message.Operation = 0
 
 -- what is known of the message, and what is wanted of the reaction to it
-module _ (own : ℕ) (t : List ℕ) (s : Sections) (p : Standing) (h : Header) (start len : ℕ) where
+module _ (own : ℕ) (t : List ℕ) (s : Sections) (index : List ℕ) (p : Standing) (h : Header) (start len : ℕ) where
   abbrev pub X : Message → Reaction
-  X kind = reactionTo own t s (operationFor t s h kind) p h kind start len
+  X kind = reactionTo own t s (operationFor t s index h kind) p h kind start len
 
   -- a status is heard as what it says, whoever sends it
   pub status-heard : (x : Status) → X (message.PlatformStatus x) .heard ≡ heard.Status x
@@ -182,7 +184,7 @@ module _ (own : ℕ) (t : List ℕ) (s : Sections) (p : Standing) (h : Header) (
               states = λ k l. rw c (none-there own (p .states) k (h .platform) false l hs);
             }
 
-    module _ (hq : h .sequence < 2 ^ 32) (hi : h .id < 2 ^ 32) (scan : (id : ℕ) → lookedUp t s id ≡ operationOf t s id) where
+    module _ (hq : h .sequence < 2 ^ 32) (hi : h .id < 2 ^ 32) (scan : (id : ℕ) → Finds t s index id) where
       on-request : Reacts message.PlatformStatusRequest
       unfolding reactionTo
       on-request = record { owed-is = refl; long = refl; wide = (record { number = hq; field = omega arith }, tt); next = refl; states = λ k l. refl }
@@ -193,9 +195,9 @@ module _ (own : ℕ) (t : List ℕ) (s : Sections) (p : Standing) (h : Header) (
 
       on-pull : (id : ℕ) → id < 2 ^ 32 → Reacts (message.VersionedDataPull id)
       unfolding reactionTo operationFor onPull onPullAll onPullOne foundData
-      on-pull id l = go (pulled t s id (scan id))
+      on-pull id l = go (pulled t s index id (scan id))
         where
-          go : Pull t s id → Reacts (message.VersionedDataPull id)
+          go : Pull t s index id → Reacts (message.VersionedDataPull id)
           go (all-of-none e d) =
               let q : id ≡ allData = eqb-true id allData e in
               record {
@@ -206,9 +208,9 @@ module _ (own : ℕ) (t : List ℕ) (s : Sections) (p : Standing) (h : Header) (
                 states = λ k l. rw (e, d) refl;
               }
           go (all-of-some e d) = record { owed-is = rw (e, d); long = rw (e, d); wide = rw (e, d) tt; next = rw (e, d); states = λ k l. rw (e, d) refl }
-          go (one-entry i e f g true d) = record
+          go (one-entry i q e f g true d) = record
               { owed-is = rw (e, g, f, d); long = rw (e, g, f, d); wide = rw (e, g, f, d) tt; next = rw (e, g, f, d); states = λ k l. rw (e, g, f, d) refl }
-          go (one-entry i e f g false d) = record {
+          go (one-entry i q e f g false d) = record {
             owed-is = rw (e, g, f, d);
             long = rw (e, g, f, d);
             wide = rw (e, g, f, d) (record { number = hq; field = l }, tt);
@@ -225,11 +227,11 @@ module _ (own : ℕ) (t : List ℕ) (s : Sections) (p : Standing) (h : Header) (
 
       on-operation : Reacts message.Operation
       unfolding reactionTo operationFor onOperation
-      on-operation = go (operationOf t s (h .id)) refl (scan (h .id))
+      on-operation = go (operationWith t s (h .id)) refl (scan (h .id))
         where
-          go : (x : Found) → operationOf t s (h .id) ≡ x → lookedUp t s (h .id) ≡ operationOf t s (h .id) → Reacts message.Operation
-          go (found.At i) f g = record { owed-is = rw (g, f); long = rw (g, f); wide = rw (g, f) tt; next = rw (g, f); states = λ k l. rw (g, f) refl }
-          go found.Nothing f g = record {
+          go : (x : Sought) → operationWith t s (h .id) ≡ x → Finds t s index (h .id) → Reacts message.Operation
+          go (sought.At i q) f g = record { owed-is = rw (g, f); long = rw (g, f); wide = rw (g, f) tt; next = rw (g, f); states = λ k l. rw (g, f) refl }
+          go sought.Nowhere f g = record {
             owed-is = rw (g, f);
             long = rw (g, f);
             wide = rw (g, f) (record { number = hq; field = hi }, tt);

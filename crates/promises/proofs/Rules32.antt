@@ -1,29 +1,29 @@
 -- What a check tests of an entry is 01's rule for it.
 -- Assumes nothing.
 use Prim.{Unit}
-use Prim.Native.Nat.{ℕ, zero, suc, _+_, _-_, _≤_, _<_}
+use Prim.Native.Nat.{ℕ, zero, suc, _+_, _≤_, _<_}
 use mathlib.Core.Path.{_≡_, refl, subst}
-use mathlib.Core.Bool.{Bool, true, false, _&&_, _||_}
-use mathlib.Core.Logic.{_⊎_, _↔_, inl, inr, ⊎-elim}
+use mathlib.Core.Bool.{Bool, true, false, _&&_}
+use mathlib.Core.Logic.{_↔_}
 use mathlib.Core.List.{List}
 use native.Mathlib.Omega.{arith}
 use borrow.Author.Tests.{ne-eqb, leb-true, leb-false}
 use lib.Dec.{eqb, leb, ltb}
 use Rattle.table.specs.declared.Sections.{Sections}
 use Rattle.table.specs.declared.Entry.{Entry}
-use Rattle.wire.specs.All.{allBelow, above}
-use Rattle.table.specs.Entries.{typeAt, memberAt, valueAt, idAt, operationAt}
+use Rattle.wire.specs.All.{allBelow}
+use Rattle.table.specs.Entries.{typeAt, memberAt, valueAt}
 use Rattle.table.specs.Leaf.{isEnumBase, base, allowed}
 use Rattle.table.specs.Fields.{fieldsOk}
 use Rattle.wire.proofs.AllBelow.{at-below}
 use Rattle.wire.proofs.Cond.{clash}
 use Rattle.types.specs.Values.{valueOk, unlike, unlikeBefore, distinct, valuesOk}
 use Rattle.types.specs.Rules.{memberOk, membersOk, pointedOk, typeOk}
-use Rattle.types.specs.Operations as ops
-use Rattle.promises.specs.Rules32.{kindOf, ofOf, firstOf, countOf, memberIn, valueIn, idOf, operationKind, operationType}
-use Rattle.promises.specs.Rules32.{BaseRule, AllowedIn, EnumRule, RecordRule, ArrayRule, TypeRule, TypeKeeps}
-use Rattle.promises.specs.Rules32.{Carries, its-type, none, OperationKeeps, Rules32}
-use Rattle.promises.proofs.Checks.{Decides, lt-decides, le-decides, eq-decides, not-decides, or-decides, and-decides, decides-same}
+use Rattle.operations.specs.Rules.{operationOk}
+use Rattle.promises.specs.Rules32.{kindOf, ofOf, firstOf, countOf, memberIn, valueIn}
+use Rattle.promises.specs.Rules32.{BaseRule, AllowedIn, EnumRule, RecordRule, ArrayRule, TypeRule, TypeKeeps, Rules32}
+use Rattle.promises.proofs.Checks.{Decides, lt-decides, le-decides, eq-decides, not-decides, and-decides, decides-same}
+use Rattle.promises.proofs.OperationRules.{operation-decides}
 use Rattle.promises.proofs.EnumWords.{EnumBase, base-decides, word-decides}
 
 -- some entry fails where not all pass
@@ -182,65 +182,6 @@ module _ (t : List ℕ) (s : Sections) (i : ℕ) where
         no-is = fails (ofOf t s i) (firstOf t s i) (countOf t s i) (kindOf t s i);
       }
 
-  -- an operation
-  rises-decides : Decides (above (idAt t s) i) (1 ≤ i → idOf t s (i - 1) < idOf t s i)
-  unfolding above idAt
-  rises-decides = decides-same (or-decides (eqb i 0) (ltb before this) (eq-decides i 0) (lt-decides before this)) there back
-    where
-      before : ℕ
-      before = idOf t s (i - 1)
-
-      this : ℕ
-      this = idOf t s i
-
-      there : (i ≡ 0) ⊎ (before < this) → 1 ≤ i → before < this
-      there (inl e) l = absurd (omega arith)
-      there (inr r) l = r
-
-      back : (1 ≤ i → before < this) → (i ≡ 0) ⊎ (before < this)
-      back f = go (eqb i 0) refl
-        where
-          go : (b : Bool) → eqb i 0 ≡ b → (i ≡ 0) ⊎ (before < this)
-          go true e = inl (eq-decides i 0 .yes-is e)
-          go false e = inr (f (some i (eq-decides i 0 .no-is e)))
-            where
-              some : (n : ℕ) → ¬ (n ≡ 0) → 1 ≤ n
-              some zero z = absurd (z refl)
-              some (suc n) z = omega arith
-
-  carries-decides : (kind type : ℕ) → Decides ((leb kind 1 && ltb type (s .types .count)) || (eqb kind 0 && eqb type 0xFFFF)) (Carries s kind type)
-  carries-decides kind type =
-      decides-same
-      (or-decides (leb kind 1 && ltb type (s .types .count)) (eqb kind 0 && eqb type 0xFFFF)
-      (and-decides (leb kind 1) (ltb type (s .types .count)) (le-decides kind 1) (lt-decides type (s .types .count)))
-      (and-decides (eqb kind 0) (eqb type 0xFFFF) (eq-decides kind 0) (eq-decides type 0xFFFF)))
-      there back
-    where
-      event-or-data : (k : ℕ) → k ≤ 1 → (k ≡ 0) ⊎ (k ≡ 1)
-      event-or-data zero l = inl refl
-      event-or-data (suc zero) l = inr refl
-      event-or-data (suc (suc k)) l = absurd (omega arith)
-
-      there : ((kind ≤ 1) × (type < s .types .count)) ⊎ ((kind ≡ 0) × (type ≡ 0xFFFF)) → Carries s kind type
-      there (inl p) = its-type (event-or-data kind (p .0)) (p .1)
-      there (inr p) = none (p .0) (p .1)
-
-      back : Carries s kind type → ((kind ≤ 1) × (type < s .types .count)) ⊎ ((kind ≡ 0) × (type ≡ 0xFFFF))
-      back (its-type k l) = inl (⊎-elim (λ (e : kind ≡ 0). omega arith) (λ (e : kind ≡ 1). omega arith) k, l)
-      back (none k e) = inr (k, e)
-
-  pub operation-decides : Decides (ops.operationOk t s i) (OperationKeeps t s i)
-  unfolding ops.operationOk ops.fieldsOk operationAt idAt
-  operation-decides =
-      let kind : ℕ = operationKind t s i in
-      let type : ℕ = operationType t s i in
-      let c : Bool = (leb kind 1 && ltb type (s .types .count)) || (eqb kind 0 && eqb type 0xFFFF) in
-      decides-same
-      (and-decides (above (idAt t s) i) (ltb (idOf t s i) 0xFFFFFFFF && c) rises-decides
-      (and-decides (ltb (idOf t s i) 0xFFFFFFFF) c (lt-decides (idOf t s i) 0xFFFFFFFF) (carries-decides kind type)))
-      (λ p. record { rises = p .0; below = p .1 .0; carries = p .1 .1 })
-      (λ r. (r .rises, (r .below, r .carries)))
-
 -- a decided test, both ways
 pub both-ways : {A : Type 0} (b : Bool) → Decides b A → (b ≡ true) ↔ A
 both-ways true d = (d .yes-is, λ a. refl)
@@ -250,5 +191,5 @@ pub rules-32 : Rules32
 rules-32 =
     record {
       types = λ t s i. both-ways (typeOk t s i) (type-decides t s i);
-      operations = λ t s i. both-ways (ops.operationOk t s i) (operation-decides t s i);
+      operations = λ t s i. both-ways (operationOk t (s .operations .at) (s .types .count) i) (operation-decides t s i);
     }

@@ -16,11 +16,12 @@ use Rattle.joiner.specs.Setup.{goodSizes, good, freshOf, setupOf}
 use Rattle.joiner.specs.Take.{sentTo, headingBy, judgedOf, takenBy, takenOf, putBy, roomsBy, roomsAfter, messageOf}
 use Rattle.wire.specs.All.{allBelow, above}
 use Rattle.table.specs.Layout.{sectionAt, after, ended, afterValues, afterMembers, afterTypes, sectionsOf, liesIn, within}
-use Rattle.table.specs.Entries.{typeAt, memberAt, valueAt, idAt, operationAt}
+use Rattle.table.specs.Entries.{typeAt, memberAt, valueAt}
 use Rattle.table.specs.Leaf.{base, bytesOf, inSigned, finite, isValue, width, allowed}
 use Rattle.table.specs.Fields.{fieldsOk}
 use Rattle.types.specs.Rules.{memberOk, membersOk, pointedOk, typeOk}
-use Rattle.types.specs.Operations.{operationOk}
+use Rattle.operations.specs.Entries.{opPlace}
+use Rattle.operations.specs.Rules.{operationsOk}
 use Rattle.types.specs.Sizes.{sizeOf, sizes, largest, sizeFits}
 use Rattle.types.specs.Table.{entriesOk, sizesOk, judged, judging, checked}
 use Rattle.leaf.specs.Forms.{truth, extended, wordOf, form, wordAt, formOf}
@@ -58,7 +59,8 @@ module _ (msg : List ℕ) (m s sender first i n : ℕ) (e : length msg ≡ m) (w
       let front : take (4 + n) (cutInto msg s sender first i out) ≡ datagramOf msg s sender first i = made-front msg s sender first i out q in
       record {
         made = q;
-        header = ap headingIn front ∙ datagram-heading msg s sender first i cuttable-is hs there-is ∙ ap (λ (k : ℕ). Piece (headerOfPiece k s sender first i)) e;
+        header =
+            ap headingIn front ∙ datagram-heading msg s sender first i cuttable-is hs there-is ∙ ap (λ (k : ℕ). Piece (headerOfPiece k s sender first i)) e;
         piece = ap pieceIn front ∙ datagram-piece msg s sender first i;
       }
 
@@ -87,8 +89,8 @@ _and_ a b = (a, b)
 pub starred : Starred
 unfolding missedOf keeping notedOf begunOf followedOf placedOf steppedOf goodSizes good freshOf setupOf sentTo headingBy judgedOf
     takenBy takenOf putBy roomsBy roomsAfter messageOf allBelow above sectionAt after ended afterValues afterMembers afterTypes
-    sectionsOf liesIn within typeAt memberAt valueAt idAt operationAt base bytesOf inSigned finite isValue width allowed fieldsOk
-    memberOk membersOk pointedOk typeOk operationOk sizeOf sizes largest sizeFits entriesOk sizesOk judged judging checked truth
+    sectionsOf liesIn within typeAt memberAt valueAt opPlace base bytesOf inSigned finite isValue width allowed fieldsOk
+    memberOk membersOk pointedOk typeOk operationsOk sizeOf sizes largest sizeFits entriesOk sizesOk judged judging checked truth
     extended wordOf form wordAt formOf choice byKind look elementsOf treeOf trees tree answer left next through item counted walk
     typeWalk reader writer answered answeredType answeredIn leftBy leftIn answeredIf leftIf
 starred =

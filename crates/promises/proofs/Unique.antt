@@ -1,11 +1,13 @@
 -- Two outcomes that one promise allows are equal: each contract is an equation with a definition.
 -- Assumes nothing.
 use mathlib.Core.Path.{_≡_, sym, _∙_}
-use Rattle.platform.proofs.Unique.{same-outcome, same-output}
-use Rattle.promises.proofs.Lookups.{accepted-find}
+use mathlib.Core.List.{[]}
+use Rattle.platform.specs.Receiving.{freshStanding}
+use Rattle.platform.proofs.Unique.{same-outcome, same-output, same-list}
+use Rattle.promises.proofs.Lookups.{lookups}
 use Rattle.promises.specs.Unique.{WireUnique, MessageUnique, BindingUnique, ChannelUnique, JoinerUnique, TableUnique}
 use Rattle.promises.specs.Unique.{LeafUnique, TypesUnique, WalkUnique, UnpackUnique, PackUnique, PayloadUnique}
-use Rattle.promises.specs.Unique.{StatesUnique, PlatformUnique, PlatformWordsUnique, RecordingUnique, OnAccepted, Unique}
+use Rattle.promises.specs.Unique.{StatesUnique, RecordingUnique, OnAccepted, Unique}
 
 wire : WireUnique
 wire =
@@ -83,10 +85,8 @@ table =
       is-type = λ k a z z′ e e′ p q. p ∙ sym q;
       member-at = λ k a z z′ e e′ p q. p ∙ sym q;
       value-at = λ k a z z′ e e′ p q. p ∙ sym q;
-      operation-at = λ k a z z′ e e′ p q. p ∙ sym q;
       within = λ k a z z′ e e′ p q. p ∙ sym q;
       fields-ok = λ k a z z′ e e′ p q. p ∙ sym q;
-      find = λ k a z z′ e e′ p q. p ∙ sym q;
       read = λ k a z z′ e e′ p q. p ∙ sym q;
       type-place = λ k a z z′ e e′ p q. p ∙ sym q;
       member-place = λ k a z z′ e e′ p q. p ∙ sym q;
@@ -162,36 +162,6 @@ states =
       turned = λ k a z z′ e e′ p q. p ∙ sym q;
     }
 
-platform : PlatformUnique
-platform =
-    record {
-      fresh = λ k a z z′ e e′ p q. p ∙ sym q;
-      receive = λ k a z z′ e e′ p q. p .0 ∙ sym (q .0);
-      receive-out = λ k a z z′ e e′ p q. p .1 ∙ sym (q .1);
-      receive-checked = λ k a z z′ e e′ p q. p .0 ∙ sym (q .0);
-      receive-checked-out = λ k a z z′ e e′ p q. p .1 ∙ sym (q .1);
-      receive-within = λ k a z z′ e e′ p q. p .0 ∙ sym (q .0);
-      receive-within-out = λ k a z z′ e e′ p q. p .1 ∙ sym (q .1);
-      payload = λ k a z z′ e e′ p q. p ∙ sym q;
-    }
-
-platform-words : PlatformWordsUnique
-platform-words =
-    record {
-      fresh = λ k a z z′ e e′ p q. p .0 ∙ sym (q .0);
-      fresh-platform = λ k a z z′ e e′ p q. p .1 ∙ sym (q .1);
-      is-up = λ k a z z′ e e′ p q. p ∙ sym q;
-      how-many-up = λ k a z z′ e e′ p q. p ∙ sym q;
-      receive = λ k a z z′ e e′ p q. p .0 ∙ sym (q .0);
-      receive-platform = λ k a z z′ e e′ p q. p .1 .0 ∙ sym (q .1 .0);
-      receive-out = λ k a z z′ e e′ p q. p .1 .1 .0 ∙ sym (q .1 .1 .0);
-      receive-heard = λ k a z z′ e e′ p q. p .1 .1 .1 ∙ sym (q .1 .1 .1);
-      receive-in = λ k a z z′ e e′ p q. p .0 ∙ sym (q .0);
-      receive-in-platform = λ k a z z′ e e′ p q. p .1 .0 ∙ sym (q .1 .0);
-      receive-in-out = λ k a z z′ e e′ p q. p .1 .1 .0 ∙ sym (q .1 .1 .0);
-      receive-in-heard = λ k a z z′ e e′ p q. p .1 .1 .1 ∙ sym (q .1 .1 .1);
-    }
-
 recording : RecordingUnique
 recording =
     record {
@@ -207,9 +177,10 @@ recording =
 on-accepted : OnAccepted
 on-accepted =
     record {
-      find = accepted-find;
-      receive-checked = λ own t s p m room e. same-outcome own t s p m e room;
-      receive-checked-out = λ own t s p m out e. same-output own t s p m e out;
+      find = lookups;
+      receive-checked = λ own t s words p l m room e h. same-outcome t s e words h own p l m room;
+      receive-checked-out = λ own t s words p m out e h. same-output t s e words h own p [] m out;
+      receive-checked-list = λ own t s words l m e h. same-list t s e words h own (freshStanding own) l m;
     }
 
 pub unique : Unique
@@ -228,8 +199,6 @@ unique =
       pack = pack;
       payload = payload;
       states = states;
-      platform = platform;
-      platform-words = platform-words;
       recording = recording;
       on-accepted = on-accepted;
     }

@@ -8,6 +8,7 @@ unique-operations =
     record {
       width-at = λ k a z z′ e e′ p q. p ∙ sym q;
       end = λ k a z z′ e e′ p q. p ∙ sym q;
+      kind-at = λ k a z z′ e e′ p q. p ∙ sym q;
       operation-at = λ k a z z′ e e′ p q. p ∙ sym q;
       are-good = λ k a z z′ e e′ p q. p ∙ sym q;
       has-data = λ k a z z′ e e′ p q. p ∙ sym q;

@@ -1,20 +1,23 @@
 -- Wrong checks: each differs from ours on a small table, computed.
 -- Assumes nothing.
-use Prim.Native.Nat.{ℕ}
-use mathlib.Core.Path.{_≡_, refl, ap}
+use Prim.Native.Nat.{ℕ, _≤_}
+use mathlib.Core.Path.{_≡_, refl, sym, ap, _∙_}
+use mathlib.Core.Bool.{Bool, false, cond}
 use mathlib.Core.List.{List, [], _∷_}
 use native.Mathlib.Omega.{arith}
+use Rattle.table.specs.declared.Sections.{Sections}
 use Rattle.table.specs.declared.Checked.{Checked}
 use Rattle.table.specs.declared.Checked.the-variants.{Refused, Table}
 use Rattle.wire.specs.All.{allBelow}
 use Rattle.table.specs.Layout.{sectionAt, after, ended, afterValues, afterMembers, afterTypes, sectionsOf}
 use Rattle.table.specs.Entries.{typeAt}
 use Rattle.table.specs.Fields.{fieldsOk}
+use Rattle.operations.specs.Entries.{opPlace}
 use Rattle.types.specs.Rules.{pointedOk, typeOk}
 use Rattle.types.specs.Table.{entriesOk, judged, judging, checked}
-use Rattle.promises.specs.Numbers.{wholeTable}
+use Rattle.promises.specs.Numbers.{wholeTable, fourKinds}
 use Rattle.promises.specs.TableOrder.{sectionsIn, tableChecks, TableInOrderBy}
-use Rattle.promises.specs.WrongChecks.{unlessThere, recordsRefused, nothingJudged, allRefused, NoWrongCheck}
+use Rattle.promises.specs.WrongChecks.{onlyWhere, stricter, noRecord, eightEach, noRequest, requestsTyped, nothingJudged, allRefused, NoWrongCheck}
 use Rattle.promises.proofs.Numbers.{numbers}
 use Rattle.promises.proofs.TableOrder.{table-in-order}
 use Rattle.promises.proofs.Demand1.{demand-1}
@@ -26,18 +29,33 @@ abbrev refusal : Checked → ℕ
 refusal (Refused n) = n
 refusal (Table s) = 0
 
--- 01's table has a record, and is accepted
+-- 01's table, and the one with operations of four kinds, are accepted
 accepted : refusal (checked wholeTable) ≡ 0
 accepted = ap refusal (numbers .0 .accepted)
 
-refused-here : refusal (recordsRefused wholeTable) ≡ 32
-unfolding allBelow
-refused-here = ap (λ (x : Checked). refusal (unlessThere 2 wholeTable x)) (numbers .0 .accepted)
+-- a table that is accepted, and does not pass the further test
+stricter-differs : (n : ℕ) (ok : List ℕ → Sections → Bool) (t : List ℕ) (s : Sections) → checked t ≡ Table s → ok t s ≡ false → 1 ≤ n
+    → TableInOrderBy (stricter n ok) → ⊥
+stricter-differs n ok t s a e l f =
+    let here : stricter n ok t ≡ Refused n = ap (onlyWhere n ok t) a ∙ ap (λ (b : Bool). cond b (Table s) (Refused n)) e in
+    let both : n ≡ 0 = ap refusal (sym here ∙ only-ours (stricter n ok) f t ∙ a) in
+    omega arith
 
-records-refused : TableInOrderBy recordsRefused → ⊥
-records-refused f =
-    let e : refusal (recordsRefused wholeTable) ≡ refusal (checked wholeTable) = ap refusal (only-ours recordsRefused f wholeTable) in
-    omega (arith, e, accepted, refused-here)
+records-refused : TableInOrderBy (stricter 32 noRecord) → ⊥
+unfolding allBelow
+records-refused = stricter-differs 32 noRecord wholeTable _ (numbers .0 .accepted) refl (omega arith)
+
+-- their second operation has 10 bytes, and no response type
+eight-bytes-each : TableInOrderBy (stricter 30 eightEach) → ⊥
+eight-bytes-each = stricter-differs 30 eightEach fourKinds _ (numbers .2 .accepted) refl (omega arith)
+
+requests-refused : TableInOrderBy (stricter 32 noRequest) → ⊥
+unfolding allBelow
+requests-refused = stricter-differs 32 noRequest fourKinds _ (numbers .2 .accepted) refl (omega arith)
+
+requests-typed : TableInOrderBy (stricter 32 requestsTyped) → ⊥
+unfolding allBelow
+requests-typed = stricter-differs 32 requestsTyped fourKinds _ (numbers .2 .accepted) refl (omega arith)
 
 all-refused : TableInOrderBy allRefused → ⊥
 all-refused f =
@@ -49,12 +67,12 @@ abbrev kindFive : List ℕ
 kindFive = 0 ∷ 1 ∷ 0 ∷ 5 ∷ 0 ∷ 0 ∷ 0 ∷ 0 ∷ 0 ∷ 0 ∷ 0 ∷ 0 ∷ 0 ∷ 0 ∷ 0 ∷ 0 ∷ []
 
 breaks : refusal (checked kindFive) ≡ 32
-unfolding allBelow sectionAt after ended afterValues afterMembers afterTypes sectionsOf typeAt fieldsOk pointedOk typeOk entriesOk judged
+unfolding allBelow sectionAt after ended afterValues afterMembers afterTypes sectionsOf opPlace typeAt fieldsOk pointedOk typeOk entriesOk judged
     judging checked
 breaks = refl
 
 passes : refusal (nothingJudged kindFive) ≡ 0
-unfolding sectionAt after ended afterValues afterMembers afterTypes sectionsOf
+unfolding sectionAt after ended afterValues afterMembers afterTypes sectionsOf opPlace
 passes = refl
 
 nothing-judged : TableInOrderBy nothingJudged → ⊥
@@ -68,6 +86,9 @@ no-wrong-check =
       ours = table-in-order;
       only-ours = only-ours;
       records-refused = records-refused;
+      eight-bytes-each = eight-bytes-each;
+      requests-refused = requests-refused;
+      requests-typed = requests-typed;
       nothing-judged = nothing-judged;
       all-refused = all-refused;
     }

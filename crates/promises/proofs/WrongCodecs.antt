@@ -12,11 +12,12 @@ use Rattle.table.specs.declared.Sections.{Sections}
 use Rattle.table.specs.declared.Checked.the-variants.{Table}
 use Rattle.wire.specs.All.{allBelow, above}
 use Rattle.table.specs.Layout.{sectionAt, after, ended, afterValues, afterMembers, afterTypes, sectionsOf, liesIn, within}
-use Rattle.table.specs.Entries.{typeAt, memberAt, valueAt, idAt, operationAt}
+use Rattle.table.specs.Entries.{typeAt, memberAt, valueAt}
 use Rattle.table.specs.Leaf.{base, bytesOf, inSigned, finite, isValue, width, allowed}
 use Rattle.table.specs.Fields.{fieldsOk}
 use Rattle.types.specs.Rules.{memberOk, membersOk, pointedOk, typeOk}
-use Rattle.types.specs.Operations.{operationOk}
+use Rattle.operations.specs.Entries.{opPlace}
+use Rattle.operations.specs.Rules.{operationsOk}
 use Rattle.types.specs.Sizes.{sizeOf, sizes, largest, sizeFits}
 use Rattle.types.specs.Table.{entriesOk, sizesOk, judged, judging, checked}
 use Rattle.leaf.specs.Forms.{truth, extended, wordOf, form, wordAt, formOf, Says}
@@ -47,8 +48,8 @@ sections =
 
 accepted : checked table ≡ Table sections
 unfolding allBelow above sectionAt after ended afterValues afterMembers afterTypes sectionsOf liesIn within typeAt memberAt
-    valueAt idAt operationAt base bytesOf inSigned finite isValue width allowed fieldsOk memberOk membersOk pointedOk typeOk
-    operationOk sizeOf sizes largest sizeFits entriesOk sizesOk judged judging checked
+    valueAt opPlace base bytesOf inSigned finite isValue width allowed fieldsOk memberOk membersOk pointedOk typeOk
+    operationsOk sizeOf sizes largest sizeFits entriesOk sizesOk judged judging checked
 accepted = refl
 
 -- 258 is a value of uint16
@@ -162,16 +163,16 @@ late = 0x7F ∷ 0x7F ∷ 0xFF ∷ 0xFF ∷ 0x7F ∷ 0x80 ∷ 0x00 ∷ 0x00 ∷ [
 
 refused-42 : numberGiven (unpacked pair 1 late 2) ≡ 42
 unfolding allBelow above sectionAt after ended afterValues afterMembers afterTypes sectionsOf liesIn within typeAt memberAt
-    valueAt idAt operationAt base bytesOf inSigned finite isValue width allowed fieldsOk memberOk membersOk pointedOk typeOk
-    operationOk sizeOf sizes largest sizeFits entriesOk sizesOk judged judging checked truth extended wordOf form wordAt formOf
+    valueAt opPlace base bytesOf inSigned finite isValue width allowed fieldsOk memberOk membersOk pointedOk typeOk
+    operationsOk sizeOf sizes largest sizeFits entriesOk sizesOk judged judging checked truth extended wordOf form wordAt formOf
     choice byKind look elementsOf treeOf trees tree answer left next through item counted walk typeWalk reader writer answered
     answeredType answeredIn leftBy leftIn answeredIf leftIf
 refused-42 = refl
 
 pub stores-at-once : KeepsBy storesAtOnce → ⊥
 unfolding allBelow above sectionAt after ended afterValues afterMembers afterTypes sectionsOf liesIn within typeAt memberAt
-    valueAt idAt operationAt base bytesOf inSigned finite isValue width allowed fieldsOk memberOk membersOk pointedOk typeOk
-    operationOk sizeOf sizes largest sizeFits entriesOk sizesOk judged judging checked truth extended wordOf form wordAt formOf
+    valueAt opPlace base bytesOf inSigned finite isValue width allowed fieldsOk memberOk membersOk pointedOk typeOk
+    operationsOk sizeOf sizes largest sizeFits entriesOk sizesOk judged judging checked truth extended wordOf form wordAt formOf
     choice byKind look elementsOf treeOf trees tree answer left next through item counted walk typeWalk reader writer answered
     answeredType answeredIn leftBy leftIn answeredIf leftIf
 stores-at-once k =

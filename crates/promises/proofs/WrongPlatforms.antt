@@ -5,11 +5,12 @@ use mathlib.Core.Path.{_≡_, refl}
 use mathlib.Core.List.{[]}
 use native.Mathlib.Omega.{arith}
 use Rattle.table.specs.declared.Section.{Section}
-use Rattle.table.specs.declared.Found.the-variants as found
+use Rattle.operations.specs.declared.Sought.the-variants as sought
+use Rattle.operations.specs.Rules.{hasData}
 use Rattle.wire.specs.All.{allBelow}
 use Rattle.states.specs.States.{wordOf, withWord, bitOf, isUp, turned, withOwn}
 use Rattle.platform.specs.Replies.{replyBytes}
-use Rattle.platform.specs.Reaction.{noData, cameUp, onState, onStatus, onPullAll, onPull, reactionTo}
+use Rattle.platform.specs.Reaction.{cameUp, onState, onStatus, onPullAll, onPull, reactionTo}
 use Rattle.platform.specs.Receiving.{freshStanding, answered}
 use Rattle.platform.specs.Exchange.{Setting, Pair, Step, Exchange, started}
 use Rattle.platform.specs.Exchange.Step.{arrives-at-a, arrives-at-b, lost-to-a, lost-to-b}
@@ -39,12 +40,13 @@ bare =
     record {
       table = [];
       sections = record { types = empty; members = empty; values = empty; operations = empty };
-      looked = found.Nothing;
+      looked = sought.Nowhere;
+      list = [];
       room = 48;
     }
 
 eight : (z : Pair) × ExchangeBy (reacting upAnsweredAgain) 1 2 8 (started (freshStanding 1) (freshStanding 2) 0) z
-unfolding allBelow wordOf withWord bitOf isUp turned withOwn replyBytes noData cameUp onState onStatus onPullAll onPull reactionTo answered
+unfolding allBelow wordOf withWord bitOf isUp turned withOwn hasData replyBytes cameUp onState onStatus onPullAll onPull reactionTo answered
 eight = (
   _,
   goes-on 7 _ _ _ (at-b bare _ _ [] [] [] _)

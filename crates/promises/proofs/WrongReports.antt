@@ -1,6 +1,6 @@
 -- Platforms that report something else: one operation of a small table, computed.
 -- Assumes nothing.
-use Prim.Native.Nat.{ℕ, _*_, _≤_}
+use Prim.Native.Nat.{ℕ, zero, suc, _*_, _≤_}
 use mathlib.Core.Path.{_≡_, refl, sym, ap, subst, _∙_}
 use mathlib.Core.List.{List, [], _∷_}
 use native.Mathlib.Omega.{arith}
@@ -9,12 +9,13 @@ use Rattle.table.specs.declared.Sections.{Sections}
 use Rattle.table.specs.declared.Checked.the-variants.{Table}
 use Rattle.wire.specs.All.{allBelow, above}
 use Rattle.table.specs.Layout.{sectionAt, after, ended, afterValues, afterMembers, afterTypes, sectionsOf}
-use Rattle.table.specs.Entries.{typeAt, memberAt, valueAt, idAt, operationAt}
+use Rattle.table.specs.Entries.{typeAt, memberAt, valueAt}
 use Rattle.table.specs.Leaf.{base, bytesOf, width}
 use Rattle.table.specs.Fields.{fieldsOk}
-use Rattle.table.specs.Operations.{firstBelow, operationOf}
+use Rattle.operations.specs.Entries.{widthOf, kindAt, opWidth, opPlace, responseAt, operationAt, idAt}
+use Rattle.operations.specs.Rules as rules
+use Rattle.operations.specs.Search.{firstBelow, operationOf}
 use Rattle.types.specs.Rules.{memberOk, membersOk, pointedOk, typeOk}
-use Rattle.types.specs.Operations as ops
 use Rattle.types.specs.Sizes.{sumOf, sizeOf, sizes, largest, sizeFits}
 use Rattle.types.specs.Table.{entriesOk, sizesOk, judged, judging, checked}
 use Rattle.message.specs.declared.Header.{Header}
@@ -24,11 +25,11 @@ use Rattle.platform.specs.declared.reactions.Heard.{Heard}
 use Rattle.platform.specs.declared.reactions.Heard.the-variants as heard
 use Rattle.platform.specs.Heard.{kindIn, entryIn, startIn}
 use Rattle.platform.specs.declared.Noting.{Noting}
-use Rattle.platform.specs.declared.Noting.the-variants.{Refused, Noted}
+use Rattle.platform.specs.declared.Noting.the-variants.{Refused, Noted, Response}
 use Rattle.platform.specs.Receiving.{freshStanding, receivedOf}
 use Rattle.promises.specs.Numbers.{operation}
 use Rattle.promises.specs.Platforms.{owedFor, replyLength, Receives, Receiving, NotesBy, RepliesBy}
-use Rattle.promises.specs.Reports.{HasID, Operated, in-table, not-in-table}
+use Rattle.promises.specs.Reports.{HasID, IsKind2, Operated, in-table, not-in-table}
 use Rattle.promises.specs.WrongReports.{answering, reported, alwaysRequest, payloadFromStart, alwaysFirst, NoWrongReport}
 use Rattle.promises.proofs.Numbers.{numbers}
 use Rattle.promises.proofs.Platforms.{replies}
@@ -60,9 +61,16 @@ p = freshStanding 1
 
 is-table : checked t ≡ Table s
 unfolding allBelow above sectionAt after ended afterValues afterMembers afterTypes sectionsOf typeAt memberAt valueAt idAt operationAt
-    base bytesOf width fieldsOk memberOk membersOk pointedOk typeOk ops.fieldsOk ops.operationOk sumOf sizeOf sizes largest sizeFits
+    widthOf kindAt opWidth opPlace responseAt base bytesOf width fieldsOk memberOk membersOk pointedOk typeOk rules.fieldsOk rules.operationOk
+    rules.operationsOk sumOf sizeOf sizes largest sizeFits
     entriesOk sizesOk judged judging checked
 is-table = refl
+
+-- no ID of the table is of kind 2
+no-request : ¬ (IsKind2 t s id)
+no-request (zero, has, sent) = let e : _≡_ {A = ℕ} 0 2 = sent in omega arith
+no-request (suc zero, has, sent) = let e : _≡_ {A = ℕ} 1 2 = sent in omega arith
+no-request (suc (suc i), (l, _), sent) = omega arith
 
 receives : Receives 1 t s p operation h message.Operation
 receives =
@@ -74,24 +82,23 @@ receives =
       start = 20;
       len = 2;
       read = numbers .1 .operation-read 1 (λ (e : _≡_ {A = ℕ} 1 3). omega (arith, e));
+      no-response = λ k. no-request;
     }
 
 nothing-owed : owedFor 1 t s p h message.Operation ≡ []
-unfolding operationOf firstBelow idAt
+unfolding operationOf firstBelow idAt opPlace opWidth widthOf kindAt
 nothing-owed = refl
 
 has : HasID t s id 1
-unfolding operationAt idAt
 has = (omega arith, refl)
 
 has-not : ¬ (HasID t s id 0)
-unfolding operationAt idAt
 has-not q = let e : 7 ≡ id = q .1 in omega arith
 
 -- what such a platform must report
 module _ (X : Receiving) (r : RepliesBy X) where
-  notes : NotesBy X 1 t s p operation [] h message.Operation (replyLength * length (owedFor 1 t s p h message.Operation))
-  notes = r .fit 1 t s p operation [] h message.Operation receives (subst (λ o. replyLength * length o ≤ 0) (sym nothing-owed) (omega arith))
+  notes : NotesBy X 1 t s p [] operation [] h message.Operation (replyLength * length (owedFor 1 t s p h message.Operation))
+  notes = r .fit 1 t s p [] operation [] h message.Operation receives (subst (λ o. replyLength * length o ≤ 0) (sym nothing-owed) (omega arith))
 
   which : (i : ℕ) × HasID t s id i × (notes .heard ≡ heard.Operation i 20 2)
   which = go (notes .reports)
@@ -104,10 +111,12 @@ module _ (X : Receiving) (r : RepliesBy X) where
 abbrev heardIn : Noting → Heard
 heardIn (Refused n) = heard.Request
 heardIn (Noted h x n) = x
+heardIn (Response h i start len) = heard.Request
 
 requests : (a : Noting) → kindIn (heardIn (reported alwaysRequest a)) ≡ 2
 requests (Refused n) = refl
 requests (Noted h x n) = refl
+requests (Response h i start len) = refl
 
 from-start : (x : Heard) → startIn (payloadFromStart x) ≡ 0
 from-start (heard.Status x) = refl
@@ -132,13 +141,15 @@ first (heard.NotInTable id) k = refl
 starts : (a : Noting) → startIn (heardIn (reported payloadFromStart a)) ≡ 0
 starts (Refused n) = refl
 starts (Noted h x n) = from-start x
+starts (Response h i start len) = refl
 
 entries : (a : Noting) → kindIn (heardIn (reported alwaysFirst a)) ≡ 7 → entryIn (heardIn (reported alwaysFirst a)) ≡ 0
 entries (Refused n) k = refl
 entries (Noted h x n) k = first x k
+entries (Response h i start len) k = refl
 
 abbrev given : Noting
-given = receivedOf 1 t p operation 0 .answer
+given = receivedOf 1 t p [] operation 0 .answer
 
 always-request : RepliesBy (answering (reported alwaysRequest)) → ⊥
 always-request r =
@@ -169,6 +180,7 @@ always-first r =
 noted : Noting → ℕ
 noted (Refused n) = 0
 noted (Noted h x n) = 1
+noted (Response h i start len) = 0
 
 all-refused : RepliesBy (answering (λ a. Refused 10)) → ⊥
 unfolding noted

@@ -6,6 +6,7 @@ use Rattle.promises.proofs.WrongCalls.{no-wrong-call}
 use Rattle.promises.proofs.WrongCodecs.{no-wrong-codec}
 use Rattle.promises.proofs.WrongPlatforms.{no-wrong-platform}
 use Rattle.promises.proofs.WrongReports.{no-wrong-report}
+use Rattle.promises.proofs.WrongResponses.{no-wrong-response}
 use Rattle.promises.proofs.WrongChecks.{no-wrong-check}
 use Rattle.promises.proofs.NotRuledOut.{not-ruled-out}
 
@@ -17,6 +18,7 @@ wrong-turns =
       codecs = no-wrong-codec;
       platforms = no-wrong-platform;
       reports = no-wrong-report;
+      responses = no-wrong-response;
       checks = no-wrong-check;
       left-to-others = not-ruled-out;
     }

@@ -12,6 +12,7 @@ use Rattle.table.specs.declared.Checked.the-variants.{Table}
 use Rattle.types.specs.Table.{checked}
 use Rattle.message.specs.declared.Header.{Header}
 use Rattle.message.specs.declared.Message.{Message}
+use Rattle.message.specs.declared.Message.the-variants as message
 use Rattle.message.specs.declared.Reading.the-variants.{Read}
 use Rattle.message.specs.Reading.{readOf}
 use Rattle.binding.specs.declared.MessagePart.{MessagePart}
@@ -29,6 +30,7 @@ use Rattle.promises.specs.Demand1.{receiveChecks, ReceiveInOrder}
 use Rattle.promises.specs.Headers.{FromAnother, HeaderThenRead}
 use Rattle.promises.specs.CutAndJoined.{Cut}
 use Rattle.promises.specs.Payloads.{Known}
+use Rattle.promises.specs.Reports.{IsKind2}
 use Rattle.promises.specs.Platforms.{StatesAre, Receives, Starts}
 
 pub record AtLimits : Type 1 where
@@ -36,9 +38,10 @@ pub record AtLimits : Type 1 where
   pub addressed : FromAnother 255 0 0xFFFFFFFF 0xFFFFFFFF
   pub starts : (p q : Standing) → p .next ≡ 0xFFFFFFFF → q .next ≡ 0xFFFFFFFF → Starts 255 254 p q 0xFFFFFFFF
   pub receives : (t : List ℕ) (s : Sections) (p : Standing) (m : List ℕ) (h : Header) (kind : Message) (start len : ℕ) →
-      p .next ≡ 0xFFFFFFFF → Octets m → checked t ≡ Table s → readOf 255 m ≡ Read h kind start len → Receives 255 t s p m h kind
-  pub receive-in-order : ReceiveInOrder → (t : List ℕ) (p : Standing) (m : List ℕ) (room : ℕ) → p .next ≡ 0xFFFFFFFF → Octets m →
-      Gives (receiveChecks 255 t p m room) (numberGiven (receivedOf 255 t p m room .answer))
+      p .next ≡ 0xFFFFFFFF → Octets m → checked t ≡ Table s → readOf 255 m ≡ Read h kind start len →
+      (kind ≡ message.Operation → ¬ (IsKind2 t s (h .id))) → Receives 255 t s p m h kind
+  pub receive-in-order : ReceiveInOrder → (t : List ℕ) (p : Standing) (l m : List ℕ) (room : ℕ) → p .next ≡ 0xFFFFFFFF → Octets m →
+      Gives (receiveChecks 255 t p l m room) (numberGiven (receivedOf 255 t p l m room .answer))
   -- its state and the others', those above 255 too
   pub another-is-down : StatesAre → isUp 254 (freshStanding 254 .states) 255 ≡ false
   pub above-is-down : StatesAre → (s : States) → isUp 255 s 256 ≡ false

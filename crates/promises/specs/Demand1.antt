@@ -1,12 +1,15 @@
 -- Demand 1: "Every datagram, message, type table and word list gets an answer. Bad ones get a numbered refusal under a fixed order of
 -- checks, and a refusal changes no channel, room, platform state, sequence number or output byte." That every call answers is the
--- language's: each function is total. The theorem is in proofs/Demand1.antt.
+-- language's: each function is total. With 02, 1 it changes no list of pending requests either. The theorem is in proofs/Demand1.antt.
 use Prim.Native.Nat.{ℕ, _*_, _^_, _<_}
 use mathlib.Core.Path.{_≡_}
 use mathlib.Core.List.{List, [], _∷_, _++_}
 use lib.ListN.{length}
 use Rattle.wire.specs.Bytes.{Octets, number}
 use Rattle.table.specs.declared.Sections.{Sections}
+use Rattle.operations.specs.declared.Sought.the-variants as sought
+use Rattle.operations.specs.Entries.{kindAt}
+use Rattle.operations.specs.Search.{soughtIn}
 use Rattle.message.specs.declared.Message.{Message}
 use Rattle.message.specs.Header.{domainIn, idIn, payloadSizeIn, payloadIn, headerIn}
 use Rattle.message.specs.Platform.{messageOf}
@@ -21,19 +24,22 @@ use Rattle.platform.specs.declared.reactions.Standing.{Standing}
 use Rattle.platform.specs.declared.Received.{Received}
 use Rattle.platform.specs.Replies.{owedLength}
 use Rattle.platform.specs.Reaction.{operationFor, reactionTo}
-use Rattle.platform.specs.Receiving.{receivedOf, leftOf, sectionsOutcome, sectionsOutput}
+use Rattle.platform.specs.Receiving.{receivedOf, leftOf, listAfter, sectionsOutcome, sectionsOutput, sectionsList}
 use Rattle.platform.specs.Noting.{numberGiven as receiveNumber}
 use Rattle.promises.specs.Checks.{Check, _when_, Answers, Gives, Keeps}
 use Rattle.promises.specs.Order.{readChecks, InOrder, NumbersInOrder}
 use Rattle.promises.specs.TableOrder.{sectionsIn, tableChecks, TableInOrder, TableNumberInOrder}
 use Rattle.promises.specs.PayloadOrder.{LieIn, PayloadInOrder}
+use Rattle.promises.specs.Reports.{IsKind2}
 use Rattle.promises.specs.Platforms.{owedFor, replyLength}
+use Rattle.promises.specs.Responses.{IsAwaited}
 
 -- "changes no channel, room, platform state, sequence number or output byte", call by call: first what a call for one message keeps
-pub record Kept (p : Standing) (out : List ℕ) (r : Received) (left : List ℕ) : Type 0 where
+pub record Kept (p : Standing) (out l : List ℕ) (r : Received) (left after : List ℕ) : Type 0 where
   pub states : Keeps (receiveNumber (r .answer)) (p .states) (r .standing .states)
   pub next : Keeps (receiveNumber (r .answer)) (p .next) (r .standing .next)
   pub output : Keeps (receiveNumber (r .answer)) out left
+  pub list : Keeps (receiveNumber (r .answer)) l after
 
 pub record ChangesNothing : Type 0 where
   pub write-output : (own domain id seq : ℕ) (payload out : List ℕ) →
@@ -49,35 +55,54 @@ pub record ChangesNothing : Type 0 where
   pub pack-output : (t : List ℕ) (i : ℕ) (ws out : List ℕ) → Keeps (numberGiven (packed t i ws (length out))) out (bytesAfter t i ws out)
   pub pack-in-output : (t : List ℕ) (s : Sections) (i : ℕ) (ws out : List ℕ) →
       Keeps (numberGiven (packedIn t s i ws (length out))) out (bytesIn t s i ws out)
-  pub receive : (own : ℕ) (t : List ℕ) (p : Standing) (m out : List ℕ) →
-      Kept p out (receivedOf own t p m (length out)) (leftOf own t p m out)
-  pub receive-checked : (own : ℕ) (t : List ℕ) (s : Sections) (p : Standing) (m out : List ℕ) →
-      Kept p out (sectionsOutcome own t s p m (length out)) (sectionsOutput own t s p m out)
+  pub receive : (own : ℕ) (t : List ℕ) (p : Standing) (l m out : List ℕ) →
+      Kept p out l (receivedOf own t p l m (length out)) (leftOf own t p m out) (listAfter own t l m)
+  pub receive-checked : (own : ℕ) (t : List ℕ) (s : Sections) (index : List ℕ) (p : Standing) (l m out : List ℕ) →
+      Kept p out l (sectionsOutcome own t s index p l m (length out)) (sectionsOutput own t s index p m out) (sectionsList own t s index l m)
 
--- one call for one message: 30 to 33 for the table, 1 to 9 for the message, and "where they don't all fit it is 10"
+-- one call for one message: 30 to 33 for the table, 1 to 9 for the message; 02, 1: "any other message with a kind 2 ID is refused with
+-- 61, after 01's checks 1 to 9"; and "where they don't all fit it is 10"
 abbrev pub itsMessage : List ℕ → Message
 itsMessage m = messageOf (domainIn m) (idIn m) (number 2 (payloadIn m) 0)
 
-abbrev pub receiveChecks : ℕ → List ℕ → Standing → List ℕ → ℕ → List Check
-receiveChecks own t p m room =
-    tableChecks t ++ (readChecks own m ++ (10 when (room < replyLength * length (owedFor own t (sectionsIn t) p (headerIn m) (itsMessage m))) ∷ []))
+-- a domain 1 message of the kind K, and what is pending under its number is not its ID, asked of its sender
+abbrev pub NotAwaited : Type 0 → List ℕ → List ℕ → Type 0
+NotAwaited K l m = (domainIn m ≡ 1) × (K × ¬ (IsAwaited l (headerIn m)))
+
+abbrev pub receiveChecks : ℕ → List ℕ → Standing → List ℕ → List ℕ → ℕ → List Check
+receiveChecks own t p l m room =
+    tableChecks t
+    ++ (readChecks own m
+    ++ (61 when NotAwaited (IsKind2 t (sectionsIn t) (idIn m)) l m
+    ∷ 10 when (room < replyLength * length (owedFor own t (sectionsIn t) p (headerIn m) (itsMessage m)))
+    ∷ []))
 
 abbrev pub ReceiveInOrder : Type 1
 ReceiveInOrder =
-    (own : ℕ) (t : List ℕ) (p : Standing) (m : List ℕ) (room : ℕ) → own < 256 → p .next < 2 ^ 32 → Octets m
-    → Gives (receiveChecks own t p m room) (receiveNumber (receivedOf own t p m room .answer))
+    (own : ℕ) (t : List ℕ) (p : Standing) (l m : List ℕ) (room : ℕ) → own < 256 → p .next < 2 ^ 32 → Octets m
+    → Gives (receiveChecks own t p l m room) (receiveNumber (receivedOf own t p l m room .answer))
 
--- how many bytes of replies are owed, with the operation that is found for the message
-abbrev pub owedIn : ℕ → List ℕ → Sections → Standing → List ℕ → ℕ
-owedIn own t s p m =
-    owedLength (reactionTo own t s (operationFor t s (headerIn m) (itsMessage m)) p (headerIn m) (itsMessage m) 20 (payloadSizeIn m) .owed)
+-- what the index finds for an ID is of kind 2; and how many bytes of replies are owed, with the operation that is found for the message
+abbrev pub FindsKind2 : List ℕ → Sections → List ℕ → ℕ → Type 0
+FindsKind2 t s index id = (i : ℕ) × (q : ℕ) × (soughtIn t index (s .operations .count) id ≡ sought.At i q) × (kindAt t q ≡ 2)
 
--- the same on any sections: 30 where these do not lie in the bytes
+abbrev pub owedIn : ℕ → List ℕ → Sections → List ℕ → Standing → List ℕ → ℕ
+owedIn own t s index p m =
+    owedLength (reactionTo own t s (operationFor t s index (headerIn m) (itsMessage m)) p (headerIn m) (itsMessage m) 20 (payloadSizeIn m) .owed)
+
+-- the same on any sections and any index: 30 where the sections do not lie in the bytes
+abbrev pub checkedChecks : ℕ → List ℕ → Sections → List ℕ → Standing → List ℕ → List ℕ → ℕ → List Check
+checkedChecks own t s index p l m room =
+    30 when (¬ (LieIn t s))
+    ∷ (readChecks own m
+    ++ (61 when NotAwaited (FindsKind2 t s index (idIn m)) l m
+    ∷ 10 when (room < owedIn own t s index p m)
+    ∷ []))
+
 abbrev pub ReceiveCheckedInOrder : Type 1
 ReceiveCheckedInOrder =
-    (own : ℕ) (t : List ℕ) (s : Sections) (p : Standing) (m : List ℕ) (room : ℕ)
-    → Gives (30 when (¬ (LieIn t s)) ∷ (readChecks own m ++ (10 when (room < owedIn own t s p m) ∷ [])))
-    (receiveNumber (sectionsOutcome own t s p m room .answer))
+    (own : ℕ) (t : List ℕ) (s : Sections) (index : List ℕ) (p : Standing) (l m : List ℕ) (room : ℕ)
+    → Gives (checkedChecks own t s index p l m room) (receiveNumber (sectionsOutcome own t s index p l m room .answer))
 
 pub record Demand1 : Type 1 where
   -- "a fixed order of checks": what each call answers is the first of its checks that applies

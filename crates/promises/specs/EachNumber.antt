@@ -2,7 +2,7 @@
 -- every input, so that without a line it says something else of the inputs for which that line is the first that applies; here is one
 -- for each, which breaks that rule alone, and the number that it gets. The theorem is in proofs/EachNumber.antt.
 use Prim.{Unit}
-use Prim.Native.Nat.{ℕ, _+_, _^_}
+use Prim.Native.Nat.{ℕ, _+_, _*_, _^_}
 use mathlib.Core.Path.{_≡_}
 use mathlib.Core.Bool.{true}
 use mathlib.Core.List.{List, [], _∷_, _++_}
@@ -27,6 +27,7 @@ use Rattle.table.specs.declared.Checked.the-variants as check
 use Rattle.types.specs.Table.{checked}
 use Rattle.platform.specs.Receiving.{freshStanding, receivedOf, sectionsOutcome}
 use Rattle.platform.specs.Noting.{numberGiven}
+use Rattle.requests.specs.Sending.{sentOf, numberGiven as sendNumber}
 use Rattle.payload.specs.Calls.{numberGiven as payloadNumber, unpackedIn, packedIn, unpacked, packed}
 use Rattle.promises.specs.TableOrder.{sectionsIn}
 use Rattle.promises.specs.Numbers.{wholeTable, status}
@@ -57,6 +58,16 @@ types = 0 ∷ 1 ∷ 0 ∷ 0 ∷ 0 ∷ 8 ∷ 0 ∷ 0 ∷ 0 ∷ 0 ∷ []
 abbrev pub noEntry : List ℕ
 noEntry = 0 ∷ 0 ∷ []
 
+-- and with this section of operations: an entry with an ID, a kind and a type, and one with a response type behind them
+abbrev pub operationsOf : List ℕ → List ℕ
+operationsOf section = types ++ (noEntry ++ (noEntry ++ section))
+
+abbrev pub narrow : ℕ → ℕ → ℕ → List ℕ
+narrow id kind type = bytes 2 id ++ (bytes 1 kind ++ bytes 1 type)
+
+abbrev pub wide : ℕ → ℕ → ℕ → ℕ → List ℕ
+wide id kind type response = narrow id kind type ++ bytes 1 response
+
 -- a joiner of one channel, with its record; and a whole message on channel 5
 abbrev pub joinerOf : ℕ → ℕ → ℕ → ℕ → Joiner
 joinerOf R sender last held = changed (freshOf (5 ∷ []) R) 0 (record { sender = sender; seen = true; last = last; held = held })
@@ -73,6 +84,13 @@ tooMany =
 -- base code 13
 abbrev pub brokenTable : List ℕ
 brokenTable = 0 ∷ 1 ∷ 0 ∷ 0 ∷ 0 ∷ 13 ∷ 0 ∷ 0 ∷ 0 ∷ 0 ∷ 0 ∷ 0 ∷ 0 ∷ 0 ∷ 0 ∷ 0 ∷ []
+
+-- a table whose one operation is a request that we send, of ID 9; and a message with that ID from platform 3
+abbrev pub asking : List ℕ
+asking = operationsOf (bytes 1 1 ++ wide 9 2 0xFFFF 0xFFFF)
+
+abbrev pub anAnswer : List ℕ
+anAnswer = message 0xEC0A 2 1 3 9 0 []
 
 pub record EachNumber : Type 0 where
   -- 1 to 9, read at platform 1
@@ -139,13 +157,27 @@ pub record EachNumber : Type 0 where
       ∷ 30 for (types ++ (noEntry ++ (0 ∷ [])))
       ∷ 31 for (types ++ (noEntry ++ (4 ∷ 1 ∷ [])))
       ∷ 30 for (types ++ (noEntry ++ (0 ∷ 1 ∷ 0 ∷ [])))
-      ∷ 30 for (types ++ (noEntry ++ (noEntry ++ (0 ∷ []))))
-      ∷ 31 for (types ++ (noEntry ++ (noEntry ++ (4 ∷ 1 ∷ []))))
-      ∷ 30 for (types ++ (noEntry ++ (noEntry ++ (0 ∷ 1 ∷ 0 ∷ []))))
-      ∷ 30 for (types ++ (noEntry ++ (noEntry ++ (noEntry ++ (0 ∷ [])))))
-      -- a type; an operation of kind 2; 65,535 double64
+      ∷ 30 for operationsOf (0 ∷ [])
+      ∷ 31 for operationsOf (4 ∷ 1 ∷ [])
+      -- a versioned data that lacks a byte of its 8; a request that has 8, and lacks one of its 10
+      ∷ 30 for operationsOf (0 ∷ 1 ∷ (bytes 2 1 ++ (bytes 1 1 ++ (0 ∷ []))))
+      ∷ 30 for operationsOf (0 ∷ 1 ∷ (bytes 2 1 ++ (bytes 1 2 ++ (bytes 1 0 ++ (0 ∷ [])))))
+      ∷ 30 for operationsOf (0 ∷ 1 ∷ (bytes 2 1 ++ (bytes 1 3 ++ (bytes 1 0 ++ (0 ∷ [])))))
+      -- bytes after no operation; and after one whose kind has no response type
+      ∷ 30 for operationsOf (0 ∷ 0 ∷ 0 ∷ [])
+      ∷ 30 for operationsOf (0 ∷ 1 ∷ (narrow 1 1 0 ++ bytes 1 0))
+      ∷ 30 for operationsOf (0 ∷ 1 ∷ (narrow 1 4 0 ++ bytes 1 0))
+      -- a type; an operation's kind, its type, its response type, and its ID; 65,535 double64
       ∷ 32 for brokenTable
-      ∷ 32 for (types ++ (noEntry ++ (noEntry ++ (0 ∷ 1 ∷ 0 ∷ 0 ∷ 0 ∷ 1 ∷ 0 ∷ 2 ∷ 0 ∷ 0 ∷ []))))
+      ∷ 32 for operationsOf (0 ∷ 1 ∷ narrow 1 4 0)
+      ∷ 32 for operationsOf (0 ∷ 1 ∷ narrow 1 0 1)
+      ∷ 32 for operationsOf (0 ∷ 1 ∷ narrow 1 1 0xFFFF)
+      ∷ 32 for operationsOf (0 ∷ 1 ∷ wide 1 2 1 0)
+      ∷ 32 for operationsOf (0 ∷ 1 ∷ wide 1 2 0 1)
+      ∷ 32 for operationsOf (0 ∷ 1 ∷ wide 1 3 1 0)
+      ∷ 32 for operationsOf (0 ∷ 1 ∷ wide 1 3 0 1)
+      ∷ 32 for operationsOf (0 ∷ 1 ∷ narrow 0xFFFFFFFF 0 0)
+      ∷ 32 for operationsOf (0 ∷ 2 ∷ (wide 7 2 0 0 ++ narrow 7 0 0))
       ∷ 33 for
       (0 ∷ 2 ∷ 0 ∷ 0 ∷ 0 ∷ 12 ∷ 0 ∷ 0 ∷ 0 ∷ 0 ∷ 0 ∷ 3 ∷ 0 ∷ 0 ∷ 0 ∷ 0 ∷ 0xFF ∷ 0xFF ∷ noEntry ++ (noEntry ++ noEntry))
       ∷ [])
@@ -171,8 +203,19 @@ pub record EachNumber : Type 0 where
       (30 for ([], sectionsIn types) ∷ 32 for (brokenTable, sectionsIn brokenTable) ∷ [])
   pub packing-on-sections : Each (λ n. n) (λ (x : List ℕ × Sections). payloadNumber (packedIn (x .0) (x .1) 0 (258 ∷ []) 9))
       (30 for ([], sectionsIn types) ∷ 32 for (brokenTable, sectionsIn brokenTable) ∷ [])
-  -- one call for one message: two replies of 24 bytes are owed to an UP
-  pub receive-10 : numberGiven (receivedOf 1 wholeTable (freshStanding 1) status 47 .answer) ≡ 10
+  -- one call for one message: two replies of 24 bytes are owed to an UP; and no request is pending
+  pub receive-10 : numberGiven (receivedOf 1 wholeTable (freshStanding 1) [] status 47 .answer) ≡ 10
+  pub receive-61 : numberGiven (receivedOf 1 asking (freshStanding 1) [] anAnswer 0 .answer) ≡ 61
   pub receive-on-sections : Each (λ n. n) (λ (x : List ℕ × ℕ).
-      numberGiven (sectionsOutcome 1 (x .0) (sectionsIn wholeTable) (freshStanding 1) status (x .1) .answer))
+      numberGiven (sectionsOutcome 1 (x .0) (sectionsIn wholeTable) [] (freshStanding 1) [] status (x .1) .answer))
       (30 for ([], 48) ∷ 10 for (wholeTable, 47) ∷ [])
+  -- the index says where the only operation stands
+  pub receive-on-sections-61 : numberGiven
+      (sectionsOutcome 1 asking (sectionsIn asking) ((9 * 2 ^ 32 + 16) ∷ []) (freshStanding 1) [] anAnswer 0 .answer) ≡ 61
+  -- a request sent: the list, the operation's kind, the payload and the room
+  pub send : Each (λ n. n) (λ (x : List ℕ × ℕ × List ℕ × ℕ). sendNumber (sentOf 0 (x .0) (x .1) 9 (x .2) (x .3) .answer))
+      (62 for (replicate 128 0, 3, [], 20)
+      ∷ 60 for (replicate 128 (2 ^ 32), 2, [], 20)
+      ∷ 10 for (replicate 128 0, 2, [], 19)
+      ∷ [])
+  pub send-5 : (payload : List ℕ) → length payload ≡ 2 ^ 32 → sendNumber (sentOf 0 (replicate 128 0) 2 9 payload (20 + 2 ^ 32) .answer) ≡ 5

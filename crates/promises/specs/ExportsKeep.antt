@@ -1,7 +1,8 @@
 -- Demand 1, "a refusal changes no channel, room, platform state, sequence number or output byte", of the calls as programs in C
--- have them: where the number is not 0, what was lent is at the end as it was at the start. The theorem is in
--- proofs/ExportsKeep.antt.
+-- have them: where the number is not 0, what was lent is at the end as it was at the start. And 02, 1: a cancel of "a number not
+-- pending changes nothing". The theorem is in proofs/ExportsKeep.antt.
 use Prim.Native.Nat.{ℕ}
+use mathlib.Core.Path.{_≡_}
 use denote.Ref.{now}
 use Rattle.promises.specs.Checks.{Keeps}
 use Rattle.nyrkovash.proofs.nyr_setup.Reads.{Post as nyr-setup}
@@ -18,6 +19,8 @@ use Rattle.nyrkovash.proofs.nyr_pack.Reads.{Post as nyr-pack}
 use Rattle.nyrkovash.proofs.nyr_pack_in.Reads.{Post as nyr-pack-in}
 use Rattle.nyrkovash.proofs.nyr_receive.Reads.{Post as nyr-receive}
 use Rattle.nyrkovash.proofs.nyr_receive_in.Reads.{Post as nyr-receive-in}
+use Rattle.nyrkovash.proofs.nyr_send.Reads.{Post as nyr-send}
+use Rattle.nyrkovash.proofs.nyr_cancel.Reads.{Post as nyr-cancel}
 
 -- whatever a call's promise allows: the number, and a lent buffer at entry and at exit
 abbrev pub Untouched : {K : Type 0} {A E : K → Type 0} {B : Type 0} → ((k : K) → A k → ℕ → E k → Type 0) → ((k : K) → A k → B) → ((k : K) → E k → B) → Type 0
@@ -50,3 +53,8 @@ pub record ExportsKeep : Type 0 where
   pub receive-in-platform : Untouched nyr-receive-in (λ k a. now (a .1 .0)) (λ k e. now (e .1 .0))
   pub receive-in-out : Untouched nyr-receive-in (λ k a. now (a .1 .1 .1 .1 .1 .0)) (λ k e. now (e .1 .1 .1 .1 .1 .0))
   pub receive-in-heard : Untouched nyr-receive-in (λ k a. now (a .1 .1 .1 .1 .1 .1 .0)) (λ k e. now (e .1 .1 .1 .1 .1 .1 .0))
+  pub send-platform : Untouched nyr-send (λ k a. now (a .1 .0)) (λ k e. now (e .1 .0))
+  pub send-out : Untouched nyr-send (λ k a. now (a .1 .1 .1 .1 .1 .1 .1 .0)) (λ k e. now (e .1 .1 .1 .1 .1 .1 .1 .0))
+  pub send-sent : Untouched nyr-send (λ k a. now (a .1 .1 .1 .1 .1 .1 .1 .1 .0)) (λ k e. now (e .1 .1 .1 .1 .1 .1 .1 .1 .0))
+  -- the count of requests that were given up
+  pub cancel-none : (k : _) (a : _) (n : ℕ) (e : _) → nyr-cancel k a n e → now (e .1 .1 .0) ≡ 0 → now (e .0) ≡ now (a .0)

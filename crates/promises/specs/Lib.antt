@@ -24,8 +24,14 @@ pub mod AtLimits
 pub mod Unique
 pub mod UniqueCalls
 pub mod UniqueRequests
+pub mod UniquePlatforms
 pub mod Requests
+pub mod RequestCalls
+pub mod RequestRuns
+pub mod AskedAndAnswered
+pub mod WrongListings
 pub mod UniqueOperations
+pub mod Lookups
 pub mod ExportsKeep
 pub mod InNumbers
 pub mod Linked
@@ -33,9 +39,12 @@ pub mod WrongCalls
 pub mod LinkedPayloads
 pub mod LinkedMessages
 pub mod LinkedReplies
+pub mod LinkedResponses
 pub mod Numbers
 pub mod Reports
+pub mod Responses
 pub mod WrongReports
+pub mod WrongResponses
 pub mod Rules32
 pub mod WrongChecks
 pub mod Sizes33

@@ -3,13 +3,13 @@
 -- proofs/LinkedPayloads.antt.
 use Prim.Native.Nat.{ℕ, zero, suc, _≤_}
 use mathlib.Core.Path.{_≡_}
-use mathlib.Core.List.{List}
+use mathlib.Core.List.{List, _++_}
 use lib.ListN.{length, take}
 use denote.Ref.{now}
 use Rattle.wire.specs.Bytes.{Octets, over}
 use Rattle.table.specs.declared.Sections.{Sections}
 use Rattle.table.specs.declared.Checked.the-variants.{Table}
-use Rattle.table.specs.Words.{wordsOf}
+use Rattle.table.specs.Words.{indexIn, wordsOf}
 use Rattle.types.specs.Table.{checked}
 use Rattle.payload.specs.declared.Answer.{Answer}
 use Rattle.payload.specs.declared.Answer.the-variants.{Refused, Gave}
@@ -21,6 +21,7 @@ use Rattle.nyrkovash.proofs.nyr_unpack_in.Reads.{Post as nyr-unpack-in}
 use Rattle.nyrkovash.proofs.nyr_pack.Reads.{Post as nyr-pack}
 use Rattle.nyrkovash.proofs.nyr_pack_in.Reads.{Post as nyr-pack-in}
 use Rattle.promises.specs.Payloads.{Known, Coding, PayloadsBy}
+use Rattle.promises.specs.Lookups.{laid}
 use Rattle.promises.specs.WrongCodecs.{KeepsBy}
 
 -- number and count that a call gives back, as one answer: 0 and how many words or bytes were given, or a refusal
@@ -95,13 +96,15 @@ pub record LinkedPayloads : Type 0 where
       PacksAs (now (a .0)) (a .1 .0) (now (a .1 .1 .0)) (now (a .1 .1 .1 .0)) n (now (e .1 .1 .1 .1 .0)) (now (e .1 .1 .1 .0)))
   pub unpack : Whenever nyr-unpack (λ k a n e.
       UnpacksAs (now (a .0)) (a .1 .0) (now (a .1 .1 .0)) (now (a .1 .1 .1 .0)) n (now (e .1 .1 .1 .1 .0)) (now (e .1 .1 .1 .0)))
-  -- a table that may be used is one for which the check answers 0, and no other; the sections are left in their words
-  pub check : (s : Sections) → Whenever nyr-check-table (λ k a n e. checked (now (a .0)) ≡ Table s → (n ≡ 0) × (now (e .1 .0) ≡ wordsOf s))
+  -- a table that may be used is one for which the check answers 0, and no other; the sections are left in their words, and behind them
+  -- the index of the operations
+  pub check : (s : Sections) → Whenever nyr-check-table (λ k a n e.
+      checked (now (a .0)) ≡ Table s → (n ≡ 0) × (now (e .1 .0) ≡ wordsOf s ++ laid (now (a .0)) s (indexIn (now (a .1 .0)))))
   pub checks-only : Whenever nyr-check-table (λ k a n e. n ≡ 0 → (s : Sections) × (checked (now (a .0)) ≡ Table s))
-  -- with those words the calls on sections are the same codec
-  pub pack-in : (s : Sections) → Whenever nyr-pack-in (λ k a n e.
-      checked (now (a .0)) ≡ Table s → now (a .1 .0) ≡ wordsOf s →
+  -- with those words, and whatever stands behind them, the calls on sections are the same codec
+  pub pack-in : (s : Sections) (index : List ℕ) → Whenever nyr-pack-in (λ k a n e.
+      checked (now (a .0)) ≡ Table s → now (a .1 .0) ≡ wordsOf s ++ index →
       PacksAs (now (a .0)) (a .1 .1 .0) (now (a .1 .1 .1 .0)) (now (a .1 .1 .1 .1 .0)) n (now (e .1 .1 .1 .1 .1 .0)) (now (e .1 .1 .1 .1 .0)))
-  pub unpack-in : (s : Sections) → Whenever nyr-unpack-in (λ k a n e.
-      checked (now (a .0)) ≡ Table s → now (a .1 .0) ≡ wordsOf s →
+  pub unpack-in : (s : Sections) (index : List ℕ) → Whenever nyr-unpack-in (λ k a n e.
+      checked (now (a .0)) ≡ Table s → now (a .1 .0) ≡ wordsOf s ++ index →
       UnpacksAs (now (a .0)) (a .1 .1 .0) (now (a .1 .1 .1 .0)) (now (a .1 .1 .1 .1 .0)) n (now (e .1 .1 .1 .1 .1 .0)) (now (e .1 .1 .1 .1 .0)))

@@ -3,16 +3,16 @@
 -- fall silent. The theorems are in proofs/Platforms.antt.
 use Prim.Native.Nat.{ℕ, _+_, _*_, _%_, _^_, _≤_, _<_}
 use mathlib.Core.Path.{_≡_}
-use mathlib.Core.Bool.{Bool, true, false, not, cond, _||_}
+use mathlib.Core.Bool.{Bool, true, false, cond, _||_}
 use mathlib.Core.List.{List, [], _∷_}
 use lib.Dec.{eqb, leb}
 use lib.ListN.{length, take, drop}
 use Rattle.wire.specs.Bytes.{Octets}
 use Rattle.table.specs.declared.Sections.{Sections}
-use Rattle.table.specs.declared.Found.{Found}
-use Rattle.table.specs.declared.Found.the-variants as found
 use Rattle.table.specs.declared.Checked.the-variants.{Table}
-use Rattle.table.specs.Operations.{operationOf}
+use Rattle.operations.specs.declared.Sought.{Sought}
+use Rattle.operations.specs.declared.Sought.the-variants as sought
+use Rattle.operations.specs.Search.{operationOf}
 use Rattle.types.specs.Table.{checked}
 use Rattle.message.specs.declared.Header.{Header}
 use Rattle.message.specs.declared.Status.the-variants.{Down, Up}
@@ -26,10 +26,10 @@ use Rattle.platform.specs.declared.reactions.Heard.{Heard}
 use Rattle.platform.specs.declared.Noting.the-variants.{Refused, Noted}
 use Rattle.platform.specs.declared.Received.{Received}
 use Rattle.states.specs.States.{isUp, howManyUp, countBelow, Words}
-use Rattle.platform.specs.Reaction.{noData, foundData}
-use Rattle.platform.specs.Receiving.{freshStanding, receivedOf, leftOf}
+use Rattle.platform.specs.Reaction.{someData, foundData}
+use Rattle.platform.specs.Receiving.{freshStanding, receivedOf, leftOf, listAfter}
 use Rattle.platform.specs.Exchange.{Pair, Exchange, started}
-use Rattle.promises.specs.Reports.{Reports}
+use Rattle.promises.specs.Reports.{Reports, IsKind2}
 
 -- "the states can be asked for one by one, or as how many of the 256 are UP, this one counted"
 pub record StatesAre : Type 0 where
@@ -44,13 +44,17 @@ pub record OwedReply : Type 0 where
   pub number : ℕ
   pub means : Message
 
+-- the operation of an ID: the first that a plain scan of the table meets
+abbrev pub operationWith : List ℕ → Sections → ℕ → Sought
+operationWith t s id = operationOf t (s .operations .at) (s .operations .count) id
+
 -- the ID is versioned data here; 0xFFFFFFFF is all of it, where there is any (000, Table 4)
 abbrev pub versionedHere : List ℕ → Sections → ℕ → Bool
-versionedHere t s id = cond (eqb id 0xFFFFFFFF) (not (noData t s)) (foundData t s (operationOf t s id))
+versionedHere t s id = cond (eqb id 0xFFFFFFFF) (someData t s) (foundData t (operationWith t s id))
 
-abbrev pub isThere : Found → Bool
-isThere (found.At i) = true
-isThere found.Nothing = false
+abbrev pub isThere : Sought → Bool
+isThere (sought.At i p) = true
+isThere sought.Nowhere = false
 
 -- "after 0xFFFFFFFF comes 0"
 abbrev pub numberAfter : ℕ → ℕ
@@ -73,7 +77,7 @@ owedFor own t s p h (message.UnknownOperation id) = []
 owedFor own t s p h (message.VersionedDataPull id) =
     cond (versionedHere t s id) [] (record { number = h .sequence; means = message.UnknownOperation id } ∷ [])
 owedFor own t s p h message.Operation =
-    cond (isThere (operationOf t s (h .id))) [] (record { number = h .sequence; means = message.UnknownOperation (h .id) } ∷ [])
+    cond (isThere (operationWith t s (h .id))) [] (record { number = h .sequence; means = message.UnknownOperation (h .id) } ∷ [])
 
 -- the state of platform k, and the next own number, after it
 abbrev pub stateAfter : ℕ → Standing → Header → Message → ℕ → Bool
@@ -107,7 +111,8 @@ abbrev pub AreReplies : ℕ → ℕ → List ℕ → List OwedReply → Type 0
 AreReplies reader own b [] = b ≡ []
 AreReplies reader own b (o ∷ os) = HeardAs reader own (take replyLength b) o × AreReplies reader own (drop replyLength b) os
 
--- a call that reads a message with this header and of this kind
+-- a call that reads a message with this header and of this kind. A domain 1 message with a kind 2 ID is a response, or is refused with
+-- 61 (specs/Responses)
 pub record Receives (own : ℕ) (t : List ℕ) (s : Sections) (p : Standing) (m : List ℕ) (h : Header) (kind : Message) : Type 0 where
   pub platform : own < 256
   pub next : p .next < 2 ^ 32
@@ -116,38 +121,42 @@ pub record Receives (own : ℕ) (t : List ℕ) (s : Sections) (p : Standing) (m 
   pub start : ℕ
   pub len : ℕ
   pub read : readOf own m ≡ Read h kind start len
+  pub no-response : kind ≡ message.Operation → ¬ (IsKind2 t s (h .id))
 
--- a platform, ours or any other: what its call answers and keeps, and what it leaves in the output
+-- a platform, ours or any other, with its states and its list of pending requests: what its call answers and keeps, and what it leaves
+-- in the output and in the list
 pub record Receiving : Type 0 where
-  pub outcome : ℕ → List ℕ → Standing → List ℕ → ℕ → Received
-  pub left : ℕ → List ℕ → Standing → List ℕ → List ℕ → List ℕ
+  pub outcome : ℕ → List ℕ → Standing → List ℕ → List ℕ → ℕ → Received
+  pub left : ℕ → List ℕ → Standing → List ℕ → List ℕ → List ℕ → List ℕ
+  pub list : ℕ → List ℕ → Standing → List ℕ → List ℕ → ℕ → List ℕ
 
 abbrev pub ourReceiving : Receiving
-ourReceiving = record { outcome = receivedOf; left = leftOf }
+ourReceiving = record { outcome = receivedOf; left = λ own t p l m out. leftOf own t p m out; list = λ own t p l m room. listAfter own t l m }
 
 -- what it comes to where the n bytes of replies fit: "One call reads a message, notes the state and writes the owed replies". What was
--- heard is what 01 says for a message of this kind (specs/Reports)
-pub record NotesBy (X : Receiving) (own : ℕ) (t : List ℕ) (s : Sections) (p : Standing) (m out : List ℕ) (h : Header) (kind : Message)
+-- heard is what 01 says for a message of this kind (specs/Reports); and no request was answered
+pub record NotesBy (X : Receiving) (own : ℕ) (t : List ℕ) (s : Sections) (p : Standing) (l m out : List ℕ) (h : Header) (kind : Message)
     (n : ℕ) : Type 0 where
   pub heard : Heard
-  pub answer : X .outcome own t p m (length out) .answer ≡ Noted h heard n
+  pub answer : X .outcome own t p l m (length out) .answer ≡ Noted h heard n
   pub reports : Reports t s h m kind heard
-  pub written : AreReplies (h .platform) own (take n (X .left own t p m out)) (owedFor own t s p h kind)
-  pub rest : drop n (X .left own t p m out) ≡ drop n out
-  pub next : X .outcome own t p m (length out) .standing .next ≡ nextAfter own p h kind
-  pub states : (k : ℕ) → k < 256 → isUp own (X .outcome own t p m (length out) .standing .states) k ≡ stateAfter own p h kind k
+  pub written : AreReplies (h .platform) own (take n (X .left own t p l m out)) (owedFor own t s p h kind)
+  pub rest : drop n (X .left own t p l m out) ≡ drop n out
+  pub next : X .outcome own t p l m (length out) .standing .next ≡ nextAfter own p h kind
+  pub states : (k : ℕ) → k < 256 → isUp own (X .outcome own t p l m (length out) .standing .states) k ≡ stateAfter own p h kind k
+  pub list : X .list own t p l m (length out) ≡ l
 
-abbrev pub Notes : ℕ → List ℕ → Sections → Standing → List ℕ → List ℕ → Header → Message → ℕ → Type 0
-Notes own t s p m out h kind n = NotesBy ourReceiving own t s p m out h kind n
+abbrev pub Notes : ℕ → List ℕ → Sections → Standing → List ℕ → List ℕ → List ℕ → Header → Message → ℕ → Type 0
+Notes own t s p l m out h kind n = NotesBy ourReceiving own t s p l m out h kind n
 
 -- and where they don't, "it is 10"
 pub record RepliesBy (X : Receiving) : Type 0 where
-  pub fit : (own : ℕ) (t : List ℕ) (s : Sections) (p : Standing) (m out : List ℕ) (h : Header) (kind : Message) →
+  pub fit : (own : ℕ) (t : List ℕ) (s : Sections) (p : Standing) (l m out : List ℕ) (h : Header) (kind : Message) →
       Receives own t s p m h kind → replyLength * length (owedFor own t s p h kind) ≤ length out →
-      NotesBy X own t s p m out h kind (replyLength * length (owedFor own t s p h kind))
-  pub do-not-fit : (own : ℕ) (t : List ℕ) (s : Sections) (p : Standing) (m out : List ℕ) (h : Header) (kind : Message) →
+      NotesBy X own t s p l m out h kind (replyLength * length (owedFor own t s p h kind))
+  pub do-not-fit : (own : ℕ) (t : List ℕ) (s : Sections) (p : Standing) (l m out : List ℕ) (h : Header) (kind : Message) →
       Receives own t s p m h kind → length out < replyLength * length (owedFor own t s p h kind) →
-      X .outcome own t p m (length out) .answer ≡ Refused 10
+      X .outcome own t p l m (length out) .answer ≡ Refused 10
 
 abbrev pub Replies : Type 0
 Replies = RepliesBy ourReceiving

@@ -1,24 +1,36 @@
 -- 01, "Platform states and replies": what is reported of a message of each kind, in 01's words. `Replies` (specs/Platforms) asks
--- it of every message that is read; platforms that report something else are in specs/WrongReports.
+-- it of every message that is read, but for those with a kind 2 ID (specs/Responses); platforms that report something else are in
+-- specs/WrongReports.
 use Prim.Native.Nat.{ℕ, _-_, _<_}
 use mathlib.Core.Path.{_≡_}
 use mathlib.Core.List.{List}
 use lib.ListN.{length, drop}
 use Rattle.table.specs.declared.Sections.{Sections}
-use Rattle.table.specs.Entries.{operationAt}
 use Rattle.message.specs.declared.Header.{Header}
 use Rattle.message.specs.declared.Message.{Message}
 use Rattle.message.specs.declared.Message.the-variants as message
 use Rattle.platform.specs.declared.reactions.Heard.{Heard}
 use Rattle.platform.specs.declared.reactions.Heard.the-variants as heard
 use Rattle.platform.specs.Heard.{payloadHeard}
+use Rattle.promises.specs.Rules32.{idOf, operationKind}
 
 -- entry i of the table's operations has this ID; entry i is versioned data, kind 1
 abbrev pub HasID : List ℕ → Sections → ℕ → ℕ → Type 0
-HasID t s id i = (i < s .operations .count) × (operationAt t s i .id ≡ id)
+HasID t s id i = (i < s .operations .count) × (idOf t s i ≡ id)
 
 abbrev pub IsVersioned : List ℕ → Sections → ℕ → Type 0
-IsVersioned t s i = operationAt t s i .kind ≡ 1
+IsVersioned t s i = operationKind t s i ≡ 1
+
+-- 02, 1: "kinds 2 (we send the request) and 3 (we serve it)"
+abbrev pub IsSent : List ℕ → Sections → ℕ → Type 0
+IsSent t s i = operationKind t s i ≡ 2
+
+abbrev pub IsServed : List ℕ → Sections → ℕ → Type 0
+IsServed t s i = operationKind t s i ≡ 3
+
+-- "a kind 2 ID"
+abbrev pub IsKind2 : List ℕ → Sections → ℕ → Type 0
+IsKind2 t s id = (i : ℕ) × HasID t s id i × IsSent t s i
 
 -- VERSIONED_DATA_PULL: "an answer naming all, or the one operation; if the ID isn't versioned data here", that. All is 0xFFFFFFFF,
 -- and is not versioned data where there is none

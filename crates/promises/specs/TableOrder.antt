@@ -2,6 +2,7 @@
 -- entry, then 33 (docs/DECISIONS.md, 21). The theorem is in proofs/TableOrder.antt.
 use Prim.Native.Nat.{ℕ, _+_, _<_}
 use mathlib.Core.Path.{_≡_}
+use mathlib.Core.Logic.{_⊎_}
 use mathlib.Core.List.{List, [], _∷_, _++_}
 use lib.ListN.{length}
 use Rattle.table.specs.declared.Section.{Section}
@@ -13,9 +14,9 @@ use Rattle.table.specs.Checked.{numberGiven}
 use Rattle.types.specs.Sizes.{largest}
 use Rattle.types.specs.Table.{checked}
 use Rattle.promises.specs.Checks.{Check, _when_, Answers, Gives, Outside}
-use Rattle.promises.specs.Rules32.{TypeKeeps, OperationKeeps}
+use Rattle.promises.specs.Rules32.{operationPlace, operationKind, TypeKeeps, OperationKeeps}
 
--- the four sections, each behind the one before it: 8 bytes a type, 2 a member, 8 a value, 8 an operation
+-- the four sections, each behind the one before it: 8 bytes a type, 2 a member, 8 a value; the operations are the last
 abbrev pub sectionsIn : List ℕ → Sections
 sectionsIn t =
     let types : Section = counted t 0 in
@@ -32,6 +33,15 @@ sectionChecks width least most t p =
     ∷ 30 when (length t < sectionEnd width (counted t p))
     ∷ []
 
+-- an operation is cut short: it has 10 bytes where its kind is 2 or 3, and 8 otherwise. Where its kind is cut off, so are its 8 bytes
+pub data IsCutShort (t : List ℕ) (s : Sections) : Type 0 where
+  an-operation : (i : ℕ) → i < s .operations .count → length t < operationPlace t s i + 8 → IsCutShort t s
+  a-request : (i : ℕ) → i < s .operations .count → (operationKind t s i ≡ 2) ⊎ (operationKind t s i ≡ 3) → length t < operationPlace t s i + 10 → IsCutShort t s
+
+-- where the operations end
+abbrev pub tableEnd : List ℕ → Sections → ℕ
+tableEnd t s = operationPlace t s (s .operations .count)
+
 -- an entry breaks a rule (specs/Rules32); a type can exceed 65,536 bytes (specs/Sizes33)
 pub data BreaksARule (t : List ℕ) (s : Sections) : Type 0 where
   a-type : (i : ℕ) → i < s .types .count → ¬ (TypeKeeps t s i) → BreaksARule t s
@@ -46,11 +56,13 @@ tableChecks t =
     sectionChecks 8 1 256 t 0
     ++ (sectionChecks 2 0 1024 t (sectionEnd 8 (sectionsIn t .types))
     ++ (sectionChecks 8 0 1024 t (sectionEnd 2 (sectionsIn t .members))
-    ++ (sectionChecks 8 0 1024 t (sectionEnd 8 (sectionsIn t .values))
-    ++ (30 when (¬ (sectionEnd 8 (sectionsIn t .operations) ≡ length t))
+    ++ (30 when (length t < sectionEnd 8 (sectionsIn t .values) + 2)
+    ∷ 31 when (1024 < sectionsIn t .operations .count)
+    ∷ 30 when IsCutShort t (sectionsIn t)
+    ∷ 30 when (tableEnd t (sectionsIn t) < length t)
     ∷ 32 when BreaksARule t (sectionsIn t)
     ∷ 33 when IsTooLarge t (sectionsIn t)
-    ∷ []))))
+    ∷ [])))
 
 -- a check, ours or any other
 abbrev pub TableInOrderBy : (List ℕ → Checked) → Type 1

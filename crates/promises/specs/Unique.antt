@@ -3,18 +3,18 @@
 -- the same arguments, the answers are the same, and so is what each lent slice holds. A contract that allows a choice has no
 -- proof here. Beside them stands what the look-up and the call on sections come to on a table that `check` accepts. The theorem is
 -- in proofs/Unique.antt.
-use Prim.Native.Nat.{ℕ}
+use Prim.Native.Nat.{ℕ, _≤_}
 use mathlib.Core.Path.{_≡_}
 use mathlib.Core.List.{List}
+use lib.ListN.{length}
 use denote.Ref.{now}
 use Rattle.table.specs.declared.Sections.{Sections}
 use Rattle.table.specs.declared.Checked.the-variants.{Table}
-use Rattle.table.specs.Operations.{operationOf}
 use Rattle.types.specs.Table.{checked}
 use Rattle.platform.specs.declared.reactions.Standing.{Standing}
-use Rattle.table.specs.Search.{lookedUp}
-use Rattle.platform.specs.Receiving.{receivedOf, leftOf, sectionsOutcome, sectionsOutput}
+use Rattle.platform.specs.Receiving.{receivedOf, leftOf, listAfter, sectionsOutcome, sectionsOutput, sectionsList}
 use Rattle.recording.specs.Play.{stateOf}
+use Rattle.promises.specs.Lookups.{Lookups, laid}
 use Rattle.wire.proofs.u8_at.Reads.{Post as wire-u8-at}
 use Rattle.wire.proofs.u16_at.Reads.{Post as wire-u16-at}
 use Rattle.wire.proofs.u32_at.Reads.{Post as wire-u32-at}
@@ -56,10 +56,8 @@ use Rattle.table.proofs.entries.type_at.Reads.{Post as table-entries-type-at}
 use Rattle.table.proofs.entries.is_type.Reads.{Post as table-entries-is-type}
 use Rattle.table.proofs.entries.member_at.Reads.{Post as table-entries-member-at}
 use Rattle.table.proofs.entries.value_at.Reads.{Post as table-entries-value-at}
-use Rattle.table.proofs.entries.operation_at.Reads.{Post as table-entries-operation-at}
 use Rattle.table.proofs.within.Reads.{Post as table-within}
 use Rattle.table.proofs.fields_ok.Reads.{Post as table-fields-ok}
-use Rattle.table.proofs.find.Reads.{Post as table-find}
 use Rattle.table.proofs.read.Reads.{Post as table-read}
 use Rattle.table.proofs.layout.type_place.Reads.{Post as table-layout-type-place}
 use Rattle.table.proofs.layout.member_place.Reads.{Post as table-layout-member-place}
@@ -91,16 +89,6 @@ use Rattle.states.proofs.fresh.Reads.{Post as states-fresh}
 use Rattle.states.proofs.is_up.Reads.{Post as states-is-up}
 use Rattle.states.proofs.how_many_up.Reads.{Post as states-how-many-up}
 use Rattle.states.proofs.turned.Reads.{Post as states-turned}
-use Rattle.platform.proofs.fresh.Reads.{Post as platform-fresh}
-use Rattle.platform.proofs.receive.Reads.{Post as platform-receive}
-use Rattle.platform.proofs.receive_checked.Reads.{Post as platform-receive-checked}
-use Rattle.platform.proofs.receive_within.Reads.{Post as platform-receive-within}
-use Rattle.platform.proofs.payload.Reads.{Post as platform-payload}
-use Rattle.platform_words.proofs.fresh.Reads.{Post as platform-words-fresh}
-use Rattle.platform_words.proofs.is_up.Reads.{Post as platform-words-is-up}
-use Rattle.platform_words.proofs.how_many_up.Reads.{Post as platform-words-how-many-up}
-use Rattle.platform_words.proofs.receive.Reads.{Post as platform-words-receive}
-use Rattle.platform_words.proofs.receive_in.Reads.{Post as platform-words-receive-in}
 use Rattle.recording.proofs.open.Reads.{Post as recording-open}
 use Rattle.recording.proofs.next.Reads.{Post as recording-next}
 use Rattle.recording.proofs.play.Reads.{Post as recording-play}
@@ -178,10 +166,8 @@ pub record TableUnique : Type 0 where
   pub is-type : Answer table-entries-is-type
   pub member-at : Answer table-entries-member-at
   pub value-at : Answer table-entries-value-at
-  pub operation-at : Answer table-entries-operation-at
   pub within : Answer table-within
   pub fields-ok : Answer table-fields-ok
-  pub find : Answer table-find
   pub read : Answer table-read
   pub type-place : Answer table-layout-type-place
   pub member-place : Answer table-layout-member-place
@@ -235,30 +221,6 @@ pub record StatesUnique : Type 0 where
   pub how-many-up : Answer states-how-many-up
   pub turned : Answer states-turned
 
-pub record PlatformUnique : Type 0 where
-  pub fresh : Answer platform-fresh
-  pub receive : Answer platform-receive
-  pub receive-out : Lent platform-receive (λ k e. now (e .1 .1 .1 .1 .0))
-  pub receive-checked : Answer platform-receive-checked
-  pub receive-checked-out : Lent platform-receive-checked (λ k e. now (e .1 .1 .1 .1 .1 .0))
-  pub receive-within : Answer platform-receive-within
-  pub receive-within-out : Lent platform-receive-within (λ k e. now (e .1 .1 .1 .1 .1 .0))
-  pub payload : Same platform-payload (λ k z e. now z)
-
-pub record PlatformWordsUnique : Type 0 where
-  pub fresh : Answer platform-words-fresh
-  pub fresh-platform : Lent platform-words-fresh (λ k e. now (e .1 .0))
-  pub is-up : Answer platform-words-is-up
-  pub how-many-up : Answer platform-words-how-many-up
-  pub receive : Answer platform-words-receive
-  pub receive-platform : Lent platform-words-receive (λ k e. now (e .1 .0))
-  pub receive-out : Lent platform-words-receive (λ k e. now (e .1 .1 .1 .1 .0))
-  pub receive-heard : Lent platform-words-receive (λ k e. now (e .1 .1 .1 .1 .1 .0))
-  pub receive-in : Answer platform-words-receive-in
-  pub receive-in-platform : Lent platform-words-receive-in (λ k e. now (e .1 .0))
-  pub receive-in-out : Lent platform-words-receive-in (λ k e. now (e .1 .1 .1 .1 .1 .0))
-  pub receive-in-heard : Lent platform-words-receive-in (λ k e. now (e .1 .1 .1 .1 .1 .1 .0))
-
 pub record RecordingUnique : Type 0 where
   pub opened : Answer recording-open
   pub next : Answer recording-next
@@ -271,11 +233,14 @@ pub record RecordingUnique : Type 0 where
 -- docs/DECISIONS.md, 20: on a table that `check` accepts, what is found is the operation of that ID, the first that a plain scan
 -- meets, or none where there is none; and the call on sections answers and leaves what the call on the bytes does
 pub record OnAccepted : Type 0 where
-  pub find : (t : List ℕ) (s : Sections) (id : ℕ) → checked t ≡ Table s → lookedUp t s id ≡ operationOf t s id
-  pub receive-checked : (own : ℕ) (t : List ℕ) (s : Sections) (p : Standing) (m : List ℕ) (room : ℕ) →
-      checked t ≡ Table s → sectionsOutcome own t s p m room ≡ receivedOf own t p m room
-  pub receive-checked-out : (own : ℕ) (t : List ℕ) (s : Sections) (p : Standing) (m out : List ℕ) →
-      checked t ≡ Table s → sectionsOutput own t s p m out ≡ leftOf own t p m out
+  pub find : Lookups
+  -- with the index as it is laid in any words that have room for it
+  pub receive-checked : (own : ℕ) (t : List ℕ) (s : Sections) (words : List ℕ) (p : Standing) (l m : List ℕ) (room : ℕ) → checked t ≡ Table s
+      → s .operations .count ≤ length words → sectionsOutcome own t s (laid t s words) p l m room ≡ receivedOf own t p l m room
+  pub receive-checked-out : (own : ℕ) (t : List ℕ) (s : Sections) (words : List ℕ) (p : Standing) (m out : List ℕ) → checked t ≡ Table s
+      → s .operations .count ≤ length words → sectionsOutput own t s (laid t s words) p m out ≡ leftOf own t p m out
+  pub receive-checked-list : (own : ℕ) (t : List ℕ) (s : Sections) (words l m : List ℕ) → checked t ≡ Table s
+      → s .operations .count ≤ length words → sectionsList own t s (laid t s words) l m ≡ listAfter own t l m
 
 pub record Unique : Type 0 where
   pub wire : WireUnique
@@ -291,7 +256,5 @@ pub record Unique : Type 0 where
   pub pack : PackUnique
   pub payload : PayloadUnique
   pub states : StatesUnique
-  pub platform : PlatformUnique
-  pub platform-words : PlatformWordsUnique
   pub recording : RecordingUnique
   pub on-accepted : OnAccepted

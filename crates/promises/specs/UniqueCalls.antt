@@ -17,6 +17,9 @@ use Rattle.nyrkovash.proofs.nyr_take.Reads.{Post as nyrkovash-nyr-take}
 use Rattle.nyrkovash.proofs.nyr_start.Reads.{Post as nyrkovash-nyr-start}
 use Rattle.nyrkovash.proofs.nyr_receive.Reads.{Post as nyrkovash-nyr-receive}
 use Rattle.nyrkovash.proofs.nyr_receive_in.Reads.{Post as nyrkovash-nyr-receive-in}
+use Rattle.nyrkovash.proofs.nyr_send.Reads.{Post as nyrkovash-nyr-send}
+use Rattle.nyrkovash.proofs.nyr_cancel.Reads.{Post as nyrkovash-nyr-cancel}
+use Rattle.nyrkovash.proofs.nyr_pending.Reads.{Post as nyrkovash-nyr-pending}
 use Rattle.nyrkovash.proofs.nyr_is_up.Reads.{Post as nyrkovash-nyr-is-up}
 use Rattle.nyrkovash.proofs.nyr_how_many_up.Reads.{Post as nyrkovash-nyr-how-many-up}
 use Rattle.nyrkovash.proofs.nyr_library_version.Reads.{Post as nyrkovash-nyr-library-version}
@@ -64,6 +67,15 @@ pub record UniqueCalls : Type 0 where
   pub nyr-receive-in-platform : Lent nyrkovash-nyr-receive-in (λ k e. now (e .1 .0))
   pub nyr-receive-in-out : Lent nyrkovash-nyr-receive-in (λ k e. now (e .1 .1 .1 .1 .1 .0))
   pub nyr-receive-in-heard : Lent nyrkovash-nyr-receive-in (λ k e. now (e .1 .1 .1 .1 .1 .1 .0))
+  pub nyr-send : Answer nyrkovash-nyr-send
+  pub nyr-send-platform : Lent nyrkovash-nyr-send (λ k e. now (e .1 .0))
+  pub nyr-send-out : Lent nyrkovash-nyr-send (λ k e. now (e .1 .1 .1 .1 .1 .1 .1 .0))
+  pub nyr-send-sent : Lent nyrkovash-nyr-send (λ k e. now (e .1 .1 .1 .1 .1 .1 .1 .1 .0))
+  pub nyr-cancel : Answer nyrkovash-nyr-cancel
+  pub nyr-cancel-platform : Lent nyrkovash-nyr-cancel (λ k e. now (e .0))
+  pub nyr-cancel-cancelled : Lent nyrkovash-nyr-cancel (λ k e. now (e .1 .1 .0))
+  pub nyr-pending : Answer nyrkovash-nyr-pending
+  pub nyr-pending-awaited : Lent nyrkovash-nyr-pending (λ k e. now (e .1 .1 .0))
   pub nyr-is-up : Answer nyrkovash-nyr-is-up
   pub nyr-how-many-up : Answer nyrkovash-nyr-how-many-up
   pub nyr-library-version : Answer nyrkovash-nyr-library-version

@@ -4,7 +4,7 @@ use Prim.Native.Nat.{ℕ, zero, suc, _≤_}
 use mathlib.Core.Bool.{cond}
 use mathlib.Core.List.{List, [], _∷_, _++_}
 use Rattle.table.specs.declared.Sections.{Sections}
-use Rattle.table.specs.declared.Found.{Found}
+use Rattle.operations.specs.declared.Sought.{Sought}
 use Rattle.message.specs.declared.Header.{Header}
 use Rattle.message.specs.declared.Status.the-variants.{Down, Up}
 use Rattle.message.specs.declared.Message.{Message}
@@ -19,7 +19,8 @@ use Rattle.platform.specs.declared.reactions.Reply.{Reply}
 use Rattle.platform.specs.declared.reactions.Reply.the-variants.{StatusUp, PullAll}
 use Rattle.platform.specs.declared.reactions.Owed.the-variants as owed
 use Rattle.platform.specs.declared.reactions.Reaction.{Reaction}
-use Rattle.platform.specs.Replies.{drawn, replyBytes}
+use Rattle.pending.specs.Free.{drawn}
+use Rattle.platform.specs.Replies.{replyBytes}
 use Rattle.platform.specs.Reaction.{reactionTo}
 use Rattle.platform.specs.Receiving.{answered}
 use Rattle.platform.specs.Exchange.{written, Setting, keeps, sends, Pair, started}
@@ -56,7 +57,7 @@ FallSilentBy X =
 
 -- ourAnswering with another reaction to a message
 abbrev pub Reacting : Type 0
-Reacting = ℕ → List ℕ → Sections → Found → Standing → Header → Message → ℕ → ℕ → Reaction
+Reacting = ℕ → List ℕ → Sections → Sought → Standing → Header → Message → ℕ → ℕ → Reaction
 
 abbrev pub keptBy : Reacting → ℕ → Setting → Standing → Reading → Standing
 keptBy react own c p (reading.Refused n) = p

@@ -4,21 +4,23 @@ use Prim.Native.Nat.{ℕ}
 use Rattle.platform.specs.declared.reactions.Heard.{Heard}
 use Rattle.platform.specs.declared.reactions.Heard.the-variants as heard
 use Rattle.platform.specs.declared.Noting.{Noting}
-use Rattle.platform.specs.declared.Noting.the-variants.{Refused, Noted}
-use Rattle.platform.specs.Receiving.{receivedOf, leftOf}
-use Rattle.promises.specs.Platforms.{Receiving, Replies, RepliesBy}
+use Rattle.platform.specs.declared.Noting.the-variants.{Refused, Noted, Response}
+use Rattle.platform.specs.Receiving.{receivedOf}
+use Rattle.promises.specs.Platforms.{Receiving, ourReceiving, Replies, RepliesBy}
 
 -- ours with another answer, and with another report in it
 abbrev pub answering : (Noting → Noting) → Receiving
 answering f =
     record {
-      outcome = λ own t p m room. record { standing = receivedOf own t p m room .standing; answer = f (receivedOf own t p m room .answer) };
-      left = leftOf;
+      outcome = λ own t p l m room. record { standing = receivedOf own t p l m room .standing; answer = f (receivedOf own t p l m room .answer) };
+      left = ourReceiving .left;
+      list = ourReceiving .list;
     }
 
 abbrev pub reported : (Heard → Heard) → Noting → Noting
 reported g (Refused n) = Refused n
 reported g (Noted h x n) = Noted h (g x) n
+reported g (Response h i start len) = Response h i start len
 
 -- every message is a request
 abbrev pub alwaysRequest : Heard → Heard

@@ -5,6 +5,7 @@ use Rattle.promises.specs.WrongCalls.{NoWrongCall}
 use Rattle.promises.specs.WrongCodecs.{NoWrongCodec}
 use Rattle.promises.specs.WrongPlatforms.{NoWrongPlatform}
 use Rattle.promises.specs.WrongReports.{NoWrongReport}
+use Rattle.promises.specs.WrongResponses.{NoWrongResponse}
 use Rattle.promises.specs.WrongChecks.{NoWrongCheck}
 use Rattle.promises.specs.NotRuledOut.{NotRuledOut}
 
@@ -18,6 +19,8 @@ pub record WrongTurns : Type 1 where
   pub platforms : NoWrongPlatform
   -- what was heard of a message
   pub reports : NoWrongReport
+  -- which message is the response to a request
+  pub responses : NoWrongResponse
   -- 30 to 33, with 01's rules for the entries of a type table
   pub checks : NoWrongCheck
   -- met by demand 3, and ruled out by the steps' own equations (`missedOf`, `steppedOf`) and the order of refusals

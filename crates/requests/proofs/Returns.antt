@@ -96,7 +96,8 @@ module _ (next kind id : ℕ) (l payload : List ℕ) (s : Slot) (p : s ≡ freeP
     tried-list room target r f =
         f
         ∙ sym (ap₂
-        (λ (n : ℕ) (x : Slot). leftBy (answeredBy n next (nextFree l next) (headerLength + length payload) .answer) l (enteredAt l x (nextFree l next) id target))
+        (λ (n : ℕ) (x : Slot).
+        leftBy (answeredBy n next (nextFree l next) (headerLength + length payload) .answer) l (enteredAt l x (nextFree l next) id target))
         (as-written room) (sym p ∙ e))
 
     pub tried-output : (own : ℕ) (out r : List ℕ) → r ≡ outputWritten own next l id payload out → r ≡ outputSent own next l kind id payload out

@@ -60,7 +60,8 @@ module _ (l : List ℕ) (kind id : ℕ) (payload : List ℕ) (room : ℕ) where
     pub entered-so : (target : ℕ) → sendRefusal l kind id payload room ≡ 0
         → listSent next l kind id target payload room ≡ enteredAt l (freePlace l) (nextFree l next) id target
     entered-so target e =
-        ap (λ (r : ℕ). leftBy (answeredBy r next (nextFree l next) (headerLength + length payload) .answer) l (enteredAt l (freePlace l) (nextFree l next) id target)) e
+        ap (λ (r : ℕ).
+        leftBy (answeredBy r next (nextFree l next) (headerLength + length payload) .answer) l (enteredAt l (freePlace l) (nextFree l next) id target)) e
 
     -- a refusal leaves all as it was
     pub next-kept : (numberGiven (sentOf next l kind id payload room .answer) ≡ 0 → ⊥) → sentOf next l kind id payload room .next ≡ next

@@ -16,16 +16,17 @@ use Rattle.table.specs.declared.Part.the-variants.{Missing, Found}
 use Rattle.table.specs.declared.Checked.{Checked}
 use Rattle.table.specs.declared.Checked.the-variants.{Refused, Table}
 use Rattle.table.specs.Layout.{cutShort, typeWidth, memberWidth, valueWidth, operationWidth, mostTypes, mostMembers, mostValues, mostOperations}
-use Rattle.table.specs.Layout.{entryPlace, sectionEnd, sectionAt, after, ended, afterTypes, afterMembers, afterValues, sectionsOf, liesIn, within}
+use Rattle.table.specs.Layout.{entryPlace, sectionEnd, operationsEnd, sectionAt, after, ended, afterTypes, afterMembers, afterValues, sectionsOf}
+use Rattle.table.specs.Layout.{liesIn, within}
 use Rattle.table.proofs.Places.{Holds, holds}
 
--- the sections that were found: each lies behind the one before it, and the last ends where the bytes end
+-- the sections that were found: each lies behind the one before it, and the last operation ends where the bytes end
 pub record Chain (t : List ℕ) (s : Sections) : Type 0 where
   pub types : Holds typeWidth mostTypes t 0 (s .types)
   pub members : Holds memberWidth mostMembers t (sectionEnd typeWidth (s .types)) (s .members)
   pub values : Holds valueWidth mostValues t (sectionEnd memberWidth (s .members)) (s .values)
   pub operations : Holds operationWidth mostOperations t (sectionEnd valueWidth (s .values)) (s .operations)
-  pub end : sectionEnd operationWidth (s .operations) ≡ length t
+  pub end : operationsEnd t s ≡ length t
 
 -- a chain that ends in a table has each of its links
 linked : (x : Part) (next : Section → Checked) (s : Sections) → after x next ≡ Table s → (u : Section) × ((x ≡ Found u) × (next u ≡ Table s))
@@ -46,14 +47,14 @@ chain t s e =
     let d = linked (sectionAt operationWidth 0 mostOperations t (sectionEnd valueWidth (c .0)))
     (λ (u : Section). ended t (record { types = a .0; members = b .0; values = c .0; operations = u })) s (c .1 .1) in
     let x : Sections = record { types = a .0; members = b .0; values = c .0; operations = d .0 } in
-    let f = finished (eqb (sectionEnd operationWidth (d .0)) (length t)) cutShort x s (d .1 .1) in
+    let f = finished (eqb (operationsEnd t x) (length t)) cutShort x s (d .1 .1) in
     let y : Chain t x =
     record {
       types = holds typeWidth 1 mostTypes t 0 (a .0) (a .1 .0);
       members = holds memberWidth 0 mostMembers t (sectionEnd typeWidth (a .0)) (b .0) (b .1 .0);
       values = holds valueWidth 0 mostValues t (sectionEnd memberWidth (b .0)) (c .0) (c .1 .0);
       operations = holds operationWidth 0 mostOperations t (sectionEnd valueWidth (c .0)) (d .0) (d .1 .0);
-      end = eqb-true (sectionEnd operationWidth (d .0)) (length t) (f .0);
+      end = eqb-true (operationsEnd t x) (length t) (f .0);
     } in
     subst (Chain t) {x = x} (f .1) y
 

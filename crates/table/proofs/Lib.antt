@@ -3,6 +3,4 @@ pub mod Places
 pub mod Lookups
 pub mod Chain
 pub mod Storing
-pub mod Halving
-pub mod WhereIDsRise
 pub mod Fields

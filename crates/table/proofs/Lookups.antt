@@ -15,9 +15,8 @@ use Rattle.wire.proofs.Numbers.{number-lt, whole-in}
 use Rattle.wire.proofs.Runs.{held}
 use Rattle.table.specs.declared.Sections.{Sections}
 use Rattle.table.specs.declared.Entry.{Entry}
-use Rattle.table.specs.declared.Operation.{Operation}
-use Rattle.table.specs.Layout.{typePlace, memberPlace, valuePlace, operationPlace}
-use Rattle.table.specs.Entries.{typeAt, memberAt, valueAt, idAt, operationAt}
+use Rattle.table.specs.Layout.{typePlace, memberPlace, valuePlace}
+use Rattle.table.specs.Entries.{typeAt, memberAt, valueAt}
 
 pub type-read : (t : List ℕ) (s : Sections) (i p k o f n : ℕ) → p ≡ typePlace s i → k ≡ number 1 t p → o ≡ number 1 t (p + 2) → f
     ≡ number 1 t (p + 4) → n ≡ number 1 t (p + 6) → _≡_ {A = Entry} (record { kind = k; of = o; first = f; count = n }) (typeAt t s i)
@@ -39,11 +38,6 @@ type-word t s i p w known a b =
     (below (p + 4)) (below (p + 6)) e in
     type-read t s i p (w / 281474976710656) (w / 4294967296 % 65536) (w / 65536 % 65536) (w % 65536) a (q .0) (q .1 .0) (q .1 .1 .0) (q .1 .1 .1)
 
-pub operation-read : (t : List ℕ) (s : Sections) (i p d k o : ℕ) → p ≡ operationPlace s i → d ≡ number 2 t p → k ≡ number 1 t (p + 4) → o
-    ≡ number 1 t (p + 6) → _≡_ {A = Operation} (record { id = d; kind = k; carries = o }) (operationAt t s i)
-unfolding operationAt idAt
-operation-read t s i p d k o a b e f = rw (b, e, f, a) refl
-
 -- one number, at a place that was computed
 module _ (t : List ℕ) (s : Sections) (i p r : ℕ) where
   pub member-read : p ≡ memberPlace s i → r ≡ number 1 t p → r ≡ memberAt t s i
@@ -53,10 +47,6 @@ module _ (t : List ℕ) (s : Sections) (i p r : ℕ) where
   pub value-read : p ≡ valuePlace s i → r ≡ number 3 t p → r ≡ valueAt t s i
   unfolding valueAt
   value-read a b = b ∙ ap (number 3 t) a
-
-  pub id-read : p ≡ operationPlace s i → r ≡ number 2 t p → r ≡ idAt t s i
-  unfolding idAt
-  id-read a b = b ∙ ap (number 2 t) a
 
 -- a number that there is room for is whole
 pub word-whole : (t : List ℕ) (p r : ℕ) (b : Bool) → b ≡ leb (p + 8) (length t) → b ≡ true → r ≡ whole 3 t p → r ≡ number 3 t p

@@ -21,7 +21,7 @@ use Rattle.table.specs.declared.Part.{Part}
 use Rattle.table.specs.declared.Part.the-variants.{Missing, Found}
 use Rattle.table.specs.Layout.{cutShort, countOutside, typeWidth, memberWidth, valueWidth, operationWidth, mostTypes}
 use Rattle.table.specs.Layout.{mostMembers, mostValues, mostOperations}
-use Rattle.table.specs.Layout.{sectionAt, sectionEnd, after, ended, liesIn, within}
+use Rattle.table.specs.Layout.{sectionAt, sectionEnd, operationsEnd, after, ended, liesIn, within}
 
 -- a 16-bit width times a 32-bit index
 product : (w i : ℕ) → Fits w16 w → Fits w32 i → w * i ≤ 65535 * 4294967295
@@ -66,11 +66,11 @@ module _ (w least most : ℕ) (t : List ℕ) (q : ℕ) (next : Section → Check
   unfolding after
   link s o f h = rw (← e, ← is, f) h
 
-pub at-end : (t : List ℕ) (s : Sections) (e : ℕ) → e ≡ sectionEnd operationWidth (s .operations) → e ≡ length t → Table s ≡ ended t s
+pub at-end : (t : List ℕ) (s : Sections) (e : ℕ) → e ≡ operationsEnd t s → e ≡ length t → Table s ≡ ended t s
 unfolding ended
 at-end t s e is h = rw (← is, eq-eqb e (length t) h) refl
 
-pub not-at-end : (t : List ℕ) (s : Sections) (e : ℕ) → e ≡ sectionEnd operationWidth (s .operations) → (e ≡ length t → ⊥) → Refused cutShort ≡ ended t s
+pub not-at-end : (t : List ℕ) (s : Sections) (e : ℕ) → e ≡ operationsEnd t s → (e ≡ length t → ⊥) → Refused cutShort ≡ ended t s
 unfolding ended
 not-at-end t s e is h = rw (← is, ne-eqb e (length t) h) refl
 

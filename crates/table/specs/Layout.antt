@@ -6,6 +6,7 @@ use mathlib.Core.List.{List}
 use lib.Dec.{ltb, leb, eqb}
 use lib.ListN.{length}
 use Rattle.wire.specs.Bytes.{number}
+use Rattle.operations.specs.Entries.{opPlace}
 use Rattle.table.specs.declared.Section.{Section}
 use Rattle.table.specs.declared.Sections.{Sections}
 use Rattle.table.specs.declared.Part.{Part}
@@ -20,7 +21,7 @@ cutShort = 30
 abbrev pub countOutside : ℕ
 countOutside = 31
 
--- the bytes of one entry of each section
+-- the bytes of one entry of each section; of an operation the fewest
 abbrev pub typeWidth : ℕ
 typeWidth = 8
 
@@ -62,9 +63,6 @@ memberPlace s i = entryPlace memberWidth (s .members) i
 abbrev pub valuePlace : Sections → ℕ → ℕ
 valuePlace s i = entryPlace valueWidth (s .values) i
 
-abbrev pub operationPlace : Sections → ℕ → ℕ
-operationPlace s i = entryPlace operationWidth (s .operations) i
-
 -- the section whose 16-bit count stands at p
 abbrev pub counted : List ℕ → ℕ → Section
 counted t p = record { at = p + 2; count = number 1 t p }
@@ -81,9 +79,13 @@ unfoldable pub after : Part → (Section → Checked) → Checked
 after (Missing n) next = Refused n
 after (Found s) next = next s
 
--- the four sections in reading order, and nothing after their end
+-- the four sections in reading order, and nothing after their end. Operations have entries of two widths: 30 where the last one ends
+-- past the bytes, or before their end
+abbrev pub operationsEnd : List ℕ → Sections → ℕ
+operationsEnd t s = opPlace t (s .operations .at) (s .operations .count)
+
 unfoldable pub ended : List ℕ → Sections → Checked
-ended t s = cond (eqb (sectionEnd operationWidth (s .operations)) (length t)) (Table s) (Refused cutShort)
+ended t s = cond (eqb (operationsEnd t s) (length t)) (Table s) (Refused cutShort)
 
 unfoldable pub afterValues : List ℕ → Section → Section → Section → Checked
 afterValues t types members values =

@@ -1,14 +1,18 @@
--- The sections of a table in lent words: the first byte and the count of types, members, values and operations.
+-- The sections of a table in lent words: the first byte and the count of types, members, values and operations; behind these the
+-- index of the operations, a word for each (operations/specs/Search).
 use Prim.Native.Nat.{ℕ, _+_}
 use mathlib.Core.Bool.{Bool, _&&_, cond}
 use mathlib.Core.List.{List, [], _∷_}
 use lib.Dec.{ltb}
-use lib.ListN.{getD}
+use lib.ListN.{getD, drop}
 use Rattle.table.specs.declared.Section.{Section}
 use Rattle.table.specs.declared.Sections.{Sections}
 
-abbrev pub sectionsWords : ℕ
-sectionsWords = 8
+abbrev pub boundsWords : ℕ
+boundsWords = 8
+
+abbrev pub indexIn : List ℕ → List ℕ
+indexIn ws = drop boundsWords ws
 
 abbrev pub wordLimit : ℕ
 wordLimit = 65536

@@ -90,12 +90,13 @@ fn after_values(table: &[u8], types: Section, members: Section, values: Section)
     }
 }
 
-// No byte stands after the last section.
+// The operations, whose entries have two widths, end where the bytes do.
 fn ended(table: &[u8], s: Sections) -> Checked
     ensures { λ r. ⌜ r ≡ ended (now (table .entry)) s ⌝ }
 {
-    let operations = s.operations;
-    if layout::end(operations, OPERATION_WIDTH) == table.len() {
+    let at = s.operations.at;
+    let count = s.operations.count;
+    if operations::end(table, at, count) == table.len() {
         Checked::Table(s)
     } else {
         Checked::Refused(CUT_SHORT)

@@ -1,12 +1,11 @@
-// What stands in the i-th entry of each section. The look-ups answer for any bytes, sections and number: a byte past the
+// What stands in the i-th entry of each section but the last (`operations`). The look-ups answer for any bytes, sections and number: a byte past the
 // end reads as 0.
 use crate::Entry;
-use crate::Operation;
 use crate::Sections;
 use crate::layout;
 ghost use mathlib.Core.Path.{_≡_};
 ghost use Rattle.wire.specs.Bytes.{number};
-ghost use Rattle.table.specs.Entries.{typeAt, memberAt, valueAt, idAt, operationAt, isType};
+ghost use Rattle.table.specs.Entries.{typeAt, memberAt, valueAt, isType};
 
 // Four 16-bit numbers that are read as one: one test of the bytes in place of four.
 pub fn type_at(table: &[u8], s: Sections, i: u16) -> Entry
@@ -38,24 +37,6 @@ pub fn value_at(table: &[u8], s: Sections, i: u32) -> u64
     ensures { λ r. ⌜ r ≡ valueAt (now (table .entry)) s i ⌝ }
 {
     word_at(table, layout::value_place(s, i))
-}
-
-pub fn operation_at(table: &[u8], s: Sections, i: u16) -> Operation
-    ensures { λ r. ⌜ r ≡ operationAt (now (table .entry)) s i ⌝ }
-{
-    let at = layout::operation_place(s, i as u32);
-    Operation {
-        id: wire::u32_at(table, at),
-        kind: wire::u16_at(table, at + 4),
-        carries: wire::u16_at(table, at + 6),
-    }
-}
-
-// The ID of an operation alone.
-pub(crate) fn id_at(table: &[u8], s: Sections, i: u16) -> u32
-    ensures { λ r. ⌜ r ≡ idAt (now (table .entry)) s i ⌝ }
-{
-    wire::u32_at(table, layout::operation_place(s, i as u32))
 }
 
 // As `wire::u64_at`, which is too long for the compiler to put where it is called: here only what is past the end is a call.

@@ -2,9 +2,9 @@
 use crate::Section;
 use crate::Sections;
 ghost use mathlib.Core.Path.{_≡_};
-ghost use Rattle.table.specs.Layout.{entryPlace, sectionEnd, typePlace, memberPlace, valuePlace, operationPlace};
+ghost use Rattle.table.specs.Layout.{entryPlace, sectionEnd, typePlace, memberPlace, valuePlace};
 
-// The bytes of one entry of each section.
+// The bytes of one entry of each section; of an operation the fewest (`operations`).
 pub const TYPE_WIDTH: u16 = 8;
 
 pub const MEMBER_WIDTH: u16 = 2;
@@ -40,13 +40,6 @@ pub(crate) fn value_place(s: Sections, i: u32) -> usize
 {
     let values = s.values;
     place(values, VALUE_WIDTH, i)
-}
-
-pub(crate) fn operation_place(s: Sections, i: u32) -> usize
-    ensures { λ r. ⌜ r ≡ operationPlace s i ⌝ }
-{
-    let operations = s.operations;
-    place(operations, OPERATION_WIDTH, i)
 }
 
 fn place(s: Section, width: u16, i: u32) -> usize

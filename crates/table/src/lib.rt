@@ -1,18 +1,17 @@
 // The bytes of a type table (01, "The type table"): where its four sections lie (`bounds`, and in words `stored`), where
-// their entries stand and what they say (`layout`, `entries`), the rule of one entry by itself (`rules`), and an operation looked
-// up by its ID (`lookup`). A table is judged as a whole by `types`.
+// their entries stand and what they say (`layout`, `entries`), and the rule of one entry by itself (`rules`). What stands in the
+// last section is told by `operations`, and a table is judged as a whole by `types`.
 mod bounds;
 pub mod entries;
 pub mod layout;
-mod lookup;
 mod rules;
 mod stored;
 
 pub use bounds::MOST_VALUES;
 pub use bounds::read;
 pub use bounds::within;
-pub use lookup::find;
 pub use rules::fields_ok;
+pub use stored::BOUNDS_WORDS;
 pub use stored::SECTIONS_WORDS;
 pub use stored::sections_in;
 
@@ -56,19 +55,6 @@ pub struct Entry {
     pub of: u16,
     pub first: u16,
     pub count: u16,
-}
-
-// An operation's entry; `carries` is its type, or 0xFFFF for none.
-pub struct Operation {
-    pub id: u32,
-    pub kind: u16,
-    pub carries: u16,
-}
-
-// What looking up an operation finds: the number of its entry.
-pub enum Found {
-    At(u16),
-    Nothing,
 }
 
 // What reading a section finds.

@@ -1,13 +1,17 @@
-// The sections of a table in the words that a caller keeps: the first byte and the count of each.
+// The sections of a table in the words that a caller keeps: the first byte and the count of each, and behind them the index of its
+// operations (`operations::lay_index`).
 ghost use mathlib.Core.Path.{_≡_};
 ghost use mathlib.Core.Bool.{true};
 ghost use Prim.Native.Nat.{_<_};
-ghost use Rattle.table.specs.Words.{sectionsWords, isSection, sectionIn, areSections, sectionsIn};
+ghost use Rattle.table.specs.Words.{boundsWords, isSection, sectionIn, areSections, sectionsIn};
 use crate::Section;
 use crate::Sections;
 
-// How many words the sections of a table are.
-pub const SECTIONS_WORDS: usize = 8;
+// How many words say where the sections lie.
+pub const BOUNDS_WORDS: usize = 8;
+
+// And with the index of as many operations as a table can have.
+pub const SECTIONS_WORDS: usize = 1032;
 
 // One more than the largest number of a section.
 const WORD_LIMIT: u64 = 65536;
@@ -60,14 +64,14 @@ fn are_sections(words: &[u64]) -> bool
 }
 
 fn is_section(words: &[u64], at: usize) -> bool
-    requires { ⌜ at < sectionsWords ⌝ }
+    requires { ⌜ at < boundsWords ⌝ }
     ensures { λ r. ⌜ r ≡ isSection (now (words .entry)) at ⌝ }
 {
     (wire::word_at(words, at) < WORD_LIMIT) & (wire::word_at(words, at + 1) < WORD_LIMIT)
 }
 
 fn section_in(words: &[u64], at: usize) -> Section
-    requires { ⌜ at < sectionsWords ⌝ }
+    requires { ⌜ at < boundsWords ⌝ }
     requires { ⌜ isSection (now words) at ≡ true ⌝ }
     ensures { λ r. ⌜ r ≡ sectionIn (now (words .entry)) at ⌝ }
 {

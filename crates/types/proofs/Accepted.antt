@@ -10,21 +10,20 @@ use borrow.Author.Tests.{eqb-true, eqb-false, leb-true, leb-false, ltb-true, lt-
 use lib.Dec.{ltb, leb, eqb}
 use Rattle.table.specs.declared.Sections.{Sections}
 use Rattle.table.specs.declared.Entry.{Entry}
-use Rattle.table.specs.declared.Operation.{Operation}
 use Rattle.table.specs.declared.Checked.{Checked}
 use Rattle.table.specs.declared.Checked.the-variants.{Refused, Table}
 use Rattle.types.specs.declared.Largest.the-variants.{Bytes}
 use Rattle.wire.specs.All.{allBelow, above}
 use Rattle.table.specs.Leaf.{isBase, isEnumBase, allowed}
 use Rattle.table.specs.Layout.{mostTypes, sectionsOf, within}
-use Rattle.table.specs.Entries.{noId, noType, typeAt, memberAt, valueAt, idAt, operationAt}
+use Rattle.table.specs.Entries.{typeAt, memberAt, valueAt}
 use Rattle.table.specs.Fields.{baseFields, enumFields, recordFields, elementFields, fieldsOk}
 use Rattle.types.specs.Rules.{memberOk, membersOk, pointedOk, typeOk}
 use Rattle.types.specs.Values.{valueOf, valueOk, unlike, unlikeBefore, distinct, valuesOk}
-use Rattle.table.specs.Operations.{idsRise}
-use Rattle.types.specs.Operations.{fieldsOk as operationFields, operationOk}
+use Rattle.operations.specs.Rules.{idsRise}
+use Rattle.operations.proofs.Passing.{good-rise}
 use Rattle.types.specs.Sizes.{mostBytes, largest, sizeFits, bytesUpTo, largestBelow, largestOf}
-use Rattle.types.specs.Table.{ruleBroken, tooLarge, entriesOk, sizesOk, judged, judging, checked}
+use Rattle.types.specs.Table.{ruleBroken, tooLarge, operationsKeep, entriesOk, sizesOk, judged, judging, checked}
 use Rattle.wire.proofs.Cond.{and-left, and-right, either}
 use Rattle.wire.proofs.AllBelow.{at-below, all-below}
 use Rattle.table.proofs.Fields.{three, base-entry, enum-entry, record-entry, fixed-entry, array-entry, no-entry}
@@ -71,21 +70,17 @@ pub record IsArray (i : ℕ) (e : Entry) : Type 0 where
   pub smaller : e .of < i
   pub some : 1 ≤ e .count
 
-pub record IsOperation (s : Sections) (o : Operation) : Type 0 where
-  pub id-below : o .id < noId
-  pub carried : ((o .kind ≤ 1) × (o .carries < s .types .count)) ⊎ ((o .kind ≡ 0) × (o .carries ≡ noType))
-
 module _ (t : List ℕ) (s : Sections) (a : Accepted t s) where
   pub is-within : within t s ≡ true
   is-within = chain-within t s (a .lie)
 
   types-keep : allBelow (typeOk t s) (s .types .count) ≡ true
   unfolding entriesOk
-  types-keep = and-left (allBelow (typeOk t s) (s .types .count)) (allBelow (operationOk t s) (s .operations .count)) (a .keep)
+  types-keep = and-left (allBelow (typeOk t s) (s .types .count)) (operationsKeep t s) (a .keep)
 
-  operations-keep : allBelow (operationOk t s) (s .operations .count) ≡ true
+  pub operations-keep : operationsKeep t s ≡ true
   unfolding entriesOk
-  operations-keep = and-right (allBelow (typeOk t s) (s .types .count)) (allBelow (operationOk t s) (s .operations .count)) (a .keep)
+  operations-keep = and-right (allBelow (typeOk t s) (s .types .count)) (operationsKeep t s) (a .keep)
 
   module _ (i : ℕ) (h : i < s .types .count) where
     pub fields-keep : fieldsOk s i (typeAt t s i) ≡ true
@@ -170,31 +165,5 @@ module _ (t : List ℕ) (s : Sections) (a : Accepted t s) where
         let b : allBelow (sizeFits t s) i ≡ true = all-below (sizeFits t s) i (λ j l. at-below (sizeFits t s) (s .types .count) j (a .fit) (omega arith)) in
         rw (lt-ltb i (s .types .count) h, lt-ltb i mostTypes (omega arith), b, le-leb (largest t s i) mostBytes size-fits) refl
 
-  -- every operation's rule
-  module _ (i : ℕ) (h : i < s .operations .count) where
-    id-keeps : above (idAt t s) i ≡ true
-    unfolding operationOk
-    id-keeps = and-left (above (idAt t s) i) (operationFields s (operationAt t s i)) (at-below (operationOk t s) (s .operations .count) i operations-keep h)
-
-    pub operation-is : IsOperation s (operationAt t s i)
-    unfolding operationOk operationFields
-    operation-is =
-        let o : Operation = operationAt t s i in
-        let b : Bool = leb (o .kind) 1 in
-        let c : Bool = ltb (o .carries) (s .types .count) in
-        let d : Bool = eqb (o .kind) 0 in
-        let f : Bool = eqb (o .carries) noType in
-        let g : operationFields s o
-        ≡ true = and-right (above (idAt t s) i) (operationFields s o) (at-below (operationOk t s) (s .operations .count) i operations-keep h) in
-        record {
-          id-below = ltb-true (o .id) noId (and-left (ltb (o .id) noId) ((b && c) || (d && f)) g);
-          carried =
-              ⊎-elim
-              (λ (p : (b && c) ≡ true). inl (leb-true (o .kind) 1 (and-left b c p), ltb-true (o .carries) (s .types .count) (and-right b c p)))
-              (λ (p : (d && f) ≡ true). inr (eqb-true (o .kind) 0 (and-left d f p), eqb-true (o .carries) noType (and-right d f p)))
-              (either (b && c) (d && f) (and-right (ltb (o .id) noId) ((b && c) || (d && f)) g));
-        }
-
-  pub ids-rise : idsRise t s ≡ true
-  unfolding idsRise
-  ids-rise = all-below (above (idAt t s)) (s .operations .count) (λ i h. id-keeps i h)
+  pub ids-rise : idsRise t (s .operations .at) (s .operations .count) ≡ true
+  ids-rise = good-rise t (s .operations .at) (s .types .count) (s .operations .count) operations-keep

@@ -9,26 +9,18 @@ use Rattle.wire.specs.Bytes.{number, whole}
 use Rattle.wire.proofs.Numbers.{read-in}
 use Rattle.table.specs.declared.Sections.{Sections}
 use Rattle.table.specs.declared.Entry.{Entry}
-use Rattle.table.specs.declared.Operation.{Operation}
 use Rattle.table.specs.declared.Checked.{Checked}
 use Rattle.table.specs.declared.Checked.the-variants.{Table}
-use Rattle.table.specs.Layout.{typePlace, operationPlace, memberPlace, valuePlace, sectionsOf}
-use Rattle.table.specs.Entries.{typeAt, memberAt, valueAt, operationAt}
+use Rattle.table.specs.Layout.{typePlace, memberPlace, valuePlace, sectionsOf}
+use Rattle.table.specs.Entries.{typeAt, memberAt, valueAt}
 use Rattle.types.specs.Inside.{Lying}
 use Rattle.table.proofs.Chain.{Chain, chain}
-use Rattle.table.proofs.Lookups.{type-read, operation-read, member-read}
+use Rattle.table.proofs.Lookups.{type-read, member-read}
 
 module _ (t : List ℕ) (s : Sections) (i : ℕ) where
   pub type-inside : {k o f n : ℕ} → k ≡ number 1 t (typePlace s i) → o ≡ number 1 t (typePlace s i + 2) → f ≡ number 1 t (typePlace s i + 4)
       → n ≡ number 1 t (typePlace s i + 6) → _≡_ {A = Entry} (record { kind = k; of = o; first = f; count = n }) (typeAt t s i)
   type-inside {k} {o} {f} {n} a b c d = type-read t s i (typePlace s i) k o f n refl a b c d
-
-  pub operation-inside : {d k o : ℕ} → Lying t s → i < s .operations .count → d
-      ≡ whole 2 (take (operationPlace s i + 4 - operationPlace s i) (drop (operationPlace s i) t)) 0 → k ≡ number 1 t (operationPlace s i + 4) → o
-      ≡ number 1 t (operationPlace s i + 6) → _≡_ {A = Operation} (record { id = d; kind = k; carries = o }) (operationAt t s i)
-  operation-inside {d} {k} {o} lie l a b c =
-      let h : operationPlace s i + 4 ≤ length t = omega (arith, lie .operations) in
-      operation-read t s i (operationPlace s i) d k o refl (read-in 2 t (operationPlace s i) d h a) b c
 
   pub member-inside : {r : ℕ} → r ≡ number 1 t (memberPlace s i) → r ≡ memberAt t s i
   member-inside {r} a = member-read t s i (memberPlace s i) r refl a
@@ -46,7 +38,6 @@ found-lie t s r p h =
       types = c .types .ends;
       members = c .members .ends;
       values = c .values .ends;
-      operations = c .operations .ends;
       few-types = c .types .few;
       few-values = c .values .few;
     }

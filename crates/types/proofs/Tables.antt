@@ -10,12 +10,11 @@ use Rattle.table.specs.declared.Checked.the-variants.{Refused, Table}
 use Rattle.wire.specs.All.{allBelow}
 use Rattle.table.specs.Layout.{sectionsOf}
 use Rattle.types.specs.Rules.{typeOk}
-use Rattle.types.specs.Operations.{operationOk}
-use Rattle.types.specs.Table.{ruleBroken, tooLarge, entriesOk, sizesOk, judged, judging, checked}
+use Rattle.types.specs.Table.{ruleBroken, tooLarge, operationsKeep, entriesOk, sizesOk, judged, judging, checked}
 
 module _ (t : List ℕ) (s : Sections) where
   module _ (a : Bool) (p : a ≡ allBelow (typeOk t s) (s .types .count)) where
-    pub types-then : (r : Bool) → a ≡ true → r ≡ allBelow (operationOk t s) (s .operations .count) → r ≡ entriesOk t s
+    pub types-then : (r : Bool) → a ≡ true → r ≡ operationsKeep t s → r ≡ entriesOk t s
     unfolding entriesOk
     types-then r h q = rw (← p, h) q
 

@@ -23,8 +23,7 @@ use Rattle.types.specs.Rules.{memberOk, membersOk, pointedOk, typeOk}
 use Rattle.table.specs.Fields.{fieldsOk}
 use Rattle.types.specs.Inside.{Lying}
 use Rattle.types.specs.Lawful.{Lawful, Smaller}
-use Rattle.types.specs.Operations.{operationOk}
-use Rattle.types.specs.Table.{entriesOk}
+use Rattle.types.specs.Table.{operationsKeep, entriesOk}
 use Rattle.types.specs.Passes.{inOrder, quickOk, enumOk, looseOk, enumDistinct}
 use Rattle.wire.proofs.Cond.{and-left, and-right}
 use Rattle.wire.proofs.AllBelow.{at-below, next-below, stop-below, done-below}
@@ -170,7 +169,7 @@ entries-kept t s a l p h =
     record {
       lie = l;
       few = omega arith;
-      keep = and-left (allBelow (typeOk t s) (s .types .count)) (allBelow (operationOk t s) (s .operations .count)) (sym p ∙ h);
+      keep = and-left (allBelow (typeOk t s) (s .types .count)) (operationsKeep t s) (sym p ∙ h);
     }
 
 -- both passes together

@@ -2,7 +2,6 @@ pub mod Inside
 pub mod Rules
 pub mod Passes
 pub mod Lawful
-pub mod Operations
 pub mod Sizes
 pub mod Table
 pub mod Values

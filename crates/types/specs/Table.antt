@@ -8,7 +8,7 @@ use Rattle.table.specs.declared.Checked.the-variants.{Refused, Table}
 use Rattle.wire.specs.All.{allBelow}
 use Rattle.table.specs.Layout.{sectionsOf}
 use Rattle.types.specs.Rules.{typeOk}
-use Rattle.types.specs.Operations.{operationOk}
+use Rattle.operations.specs.Rules.{operationsOk}
 use Rattle.types.specs.Sizes.{sizeFits}
 
 -- the numbers of 01 for an entry and for a size
@@ -19,8 +19,11 @@ abbrev pub tooLarge : ℕ
 tooLarge = 33
 
 -- every entry keeps its rule
+abbrev pub operationsKeep : List ℕ → Sections → Bool
+operationsKeep t s = operationsOk t (s .operations .at) (s .operations .count) (s .types .count)
+
 unfoldable pub entriesOk : List ℕ → Sections → Bool
-entriesOk t s = allBelow (typeOk t s) (s .types .count) && allBelow (operationOk t s) (s .operations .count)
+entriesOk t s = allBelow (typeOk t s) (s .types .count) && operationsKeep t s
 
 -- no type can be too large
 unfoldable pub sizesOk : List ℕ → Sections → Bool

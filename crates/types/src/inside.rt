@@ -1,14 +1,13 @@
 // What stands in the entries of sections that lie within the bytes: in a part of just a number's length the compiler sees that its
 // bytes are there, and makes one load of each. `table::entries` answers for any sections.
 use table::Entry;
-use table::Operation;
 use table::Sections;
 use table::layout;
 ghost use mathlib.Core.Path.{_≡_};
 ghost use Prim.Native.Nat.{_+_, _≤_, _<_};
 ghost use lib.ListN.{length};
 ghost use Rattle.wire.specs.Bytes.{number};
-ghost use Rattle.table.specs.Entries.{typeAt, memberAt, valueAt, operationAt};
+ghost use Rattle.table.specs.Entries.{typeAt, memberAt, valueAt};
 ghost use Rattle.types.specs.Inside.{Lying};
 
 pub(crate) fn type_in(table: &[u8], s: Sections, i: u16) -> Entry
@@ -38,18 +37,6 @@ pub(crate) fn value_in(table: &[u8], s: Sections, i: u32) -> u64
 {
     let at = s.values.at as usize + (layout::VALUE_WIDTH as usize) * (i as usize);
     wire::whole_u64(&table[at..at + 8], 0)
-}
-
-pub(crate) fn operation_in(table: &[u8], s: Sections, i: u16) -> Operation
-    requires { ⌜ Lying (now table) s × (i < s .operations .count) ⌝ }
-    ensures { λ r. ⌜ r ≡ operationAt (now (table .entry)) s i ⌝ }
-{
-    let at = s.operations.at as usize + (layout::OPERATION_WIDTH as usize) * (i as usize);
-    Operation {
-        id: wire::whole_u32(&table[at..at + 4], 0),
-        kind: u16_in(table, at + 4),
-        carries: u16_in(table, at + 6),
-    }
 }
 
 fn u16_in(table: &[u8], at: usize) -> u16

@@ -4,7 +4,6 @@
 mod alike;
 mod enums;
 mod inside;
-mod operations;
 mod rules;
 pub mod sizes;
 mod values;
@@ -56,7 +55,8 @@ fn entries_ok(table: &[u8], s: Sections) -> bool
     ensures { λ r. ⌜ r ≡ entriesOk (now (table .entry)) s ⌝ }
 {
     if rules::types_ok(table, s) {
-        operations::operations_ok(table, s)
+        let operations = s.operations;
+        operations::are_good(table, operations.at, operations.count, s.types.count)
     } else {
         false
     }

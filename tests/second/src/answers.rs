@@ -4,10 +4,13 @@ use crate::call::{next, Argument, Next};
 use crate::cutting::{piece, pieces};
 use crate::message::{self, Content};
 use crate::payload::{pack, pack_checked, unpack, unpack_checked};
-use crate::platform::{Platform, What};
+use crate::pending::Pending;
+use crate::platform::{Answer, Platform, What};
 use crate::take::{Joiner, Record};
 use crate::types::check;
 use Argument::{Bytes, Number, Records, Words};
+
+const NOT_PENDING: &str = "not pending";
 
 /// What a file of calls gives.
 pub struct Told {
@@ -107,8 +110,7 @@ fn answer(platform: &mut Platform, code: u64, arguments: &[Argument]) -> Result<
         }
         (8, [Bytes(table), Bytes(message), Number(room)]) => {
             let got = platform.call(table, message, *room as usize)?;
-            let (from, owed) = (got.from, hex(&got.owed));
-            Ok(format!("{} from {from} owed {owed}", what(&got.what)))
+            Ok(heard(&got))
         }
         (9, [Number(asked)]) => {
             let up = platform.is_up(*asked as u32);
@@ -126,8 +128,29 @@ fn answer(platform: &mut Platform, code: u64, arguments: &[Argument]) -> Result<
         (12, [Number(length), Number(size)]) => Ok(format!("pieces {}", pieces(*length, *size)?)),
         (15, [Bytes(table), Number(id)]) => Ok(match check(table)?.operation(*id as u32) {
             None => "none".to_string(),
-            Some(entry) => format!("entry {} {}", entry.kind, entry.of),
+            Some(entry) => format!("entry {} {} {}", entry.kind, entry.of, entry.response),
         }),
+        (20, [Bytes(table), Number(id), Number(target), Bytes(payload), Number(room)]) => {
+            let (id, target) = (*id as u32, *target as u32);
+            let (number, bytes) = platform.send(table, id, target, payload, *room as usize)?;
+            Ok(format!("sent {number} {}", hex(&bytes)))
+        }
+        (21, [Number(sequence)]) => Ok(match platform.cancel(*sequence as u32) {
+            true => "cancelled".to_string(),
+            false => NOT_PENDING.to_string(),
+        }),
+        (22, [Number(sequence)]) => Ok(match platform.list.asked(*sequence as u32) {
+            Some((id, target)) => format!("pending {id} {target}"),
+            None => NOT_PENDING.to_string(),
+        }),
+        (23, [Number(own), Number(next), Words(words)]) => {
+            *platform = Platform {
+                next: *next as u32,
+                list: Pending::of(words),
+                ..Platform::new(*own as u8)
+            };
+            Ok(format!("platform {own}"))
+        }
         _ => unreachable!("a call that was taken apart has its code's arguments"),
     }
 }
@@ -144,8 +167,9 @@ fn message_read(got: &message::Message) -> String {
 }
 
 /// What a platform made of a message; the operation's payload is not printed again.
-fn what(got: &What) -> String {
-    match got {
+fn heard(got: &Answer) -> String {
+    let from = got.from;
+    let what = match &got.what {
         What::Status { up } => format!("status {}", up_or_down(*up)),
         What::Request => "request".to_string(),
         What::Unknown(id) => format!("unknown {id}"),
@@ -154,7 +178,12 @@ fn what(got: &What) -> String {
         What::PullUnknown(id) => format!("pull unknown {id}"),
         What::Operation { id, .. } => format!("operation {id}"),
         What::OperationUnknown(id) => format!("operation unknown {id}"),
-    }
+        // Nothing is ever owed for it; which request it answers is told.
+        What::Response { id, sequence, .. } => {
+            return format!("response {id} from {from} seq {sequence}");
+        }
+    };
+    format!("{what} from {from} owed {}", hex(&got.owed))
 }
 
 fn taken(mut joiner: Joiner, datagram: &[u8]) -> Result<String, u8> {

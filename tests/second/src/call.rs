@@ -11,6 +11,9 @@ use crate::take::Record;
 const MOST_BYTES: u64 = 70_000;
 const MOST_WORDS: u64 = 65_536;
 
+/// The words of a list of requests.
+const LIST_WORDS: u64 = 128;
+
 /// sender 2, seen 1, last 4, held 4.
 const RECORD: usize = 11;
 
@@ -22,7 +25,8 @@ enum Parameter {
     /// A number that is an output's length, at most this.
     Output(u64),
     Bytes,
-    Words,
+    /// At most this many words.
+    Words(u64),
     Records,
 }
 
@@ -33,7 +37,7 @@ fn fits(parameter: Parameter, length: u64) -> bool {
     match parameter {
         Number(_) | Output(_) => (1..=8).contains(&length),
         Bytes | Records => length <= MOST_BYTES,
-        Words => length <= 8 * MOST_WORDS,
+        Words(most) => length <= 8 * most,
     }
 }
 
@@ -61,7 +65,7 @@ fn parameters(code: u64) -> Option<&'static [Parameter]> {
         ],
         4 => &[Bytes],
         5 | 13 => &[Bytes, Number(16), Bytes, WORDS_OUT],
-        6 | 14 => &[Bytes, Number(16), Words, BYTES_OUT],
+        6 | 14 => &[Bytes, Number(16), Words(MOST_WORDS), BYTES_OUT],
         7 => &[Number(8)],
         8 => &[Bytes, Bytes, BYTES_OUT],
         9 => &[Number(32)],
@@ -69,6 +73,9 @@ fn parameters(code: u64) -> Option<&'static [Parameter]> {
         11 => &[Number(32), Records, Bytes, Bytes],
         12 => &[Number(64), Number(64)],
         15 => &[Bytes, Number(32)],
+        20 => &[Bytes, Number(32), Number(32), Bytes, BYTES_OUT],
+        21 | 22 => &[Number(32)],
+        23 => &[Number(8), Number(32), Words(LIST_WORDS)],
         _ => return None,
     })
 }
@@ -147,7 +154,7 @@ fn argument(parameter: Parameter, bytes: &[u8]) -> Option<Argument<'_>> {
             (value <= most).then_some(Argument::Number(value))
         }
         Bytes => Some(Argument::Bytes(bytes)),
-        Words => {
+        Words(_) => {
             let words = bytes.chunks(8).map(number).collect();
             (bytes.len() % 8 == 0).then_some(Argument::Words(words))
         }

@@ -4,6 +4,7 @@
 use crate::calls_compose::Call;
 use crate::calls_payloads::SHORT;
 use crate::calls_platforms::{everybody, Talk};
+use crate::calls_requests::Asking;
 use crate::calls_tables::{at_the_limits, full, good, Plan, LARGEST};
 use crate::prng::Prng;
 use crate::{calls_bad, calls_cutting, calls_joiners, calls_messages, calls_payloads};
@@ -17,6 +18,10 @@ pub fn file(seed: u64) -> Vec<u8> {
     let mut some = Source::new(rng);
     let mut calls = Vec::new();
     match seed % 16 {
+        2 => {
+            let steps = some.asking.crowd(rng, CALLS);
+            calls.extend(steps.into_iter().map(|(call, _)| call));
+        }
         8 => calls = everybody(rng, &some.plan),
         9 => large(rng, &mut calls),
         15 => {
@@ -49,17 +54,20 @@ fn large(rng: &mut Prng, calls: &mut Vec<Call>) {
     }
 }
 
-/// Where calls come from: a table that lasts for some calls, and a conversation that goes on.
+/// Where calls come from: a table that lasts for some calls, and two conversations that go on. In
+/// one file both talk to the same platform, and the second does not know of the first.
 struct Source {
     plan: Plan,
     talk: Talk,
+    asking: Asking,
 }
 
 impl Source {
     fn new(rng: &mut Prng) -> Source {
         let plan = good(rng);
         let talk = Talk::new(rng, plan.clone());
-        Source { plan, talk }
+        let asking = Asking::new(rng);
+        Source { plan, talk, asking }
     }
 
     /// A call of the kind that a seed stands for.
@@ -68,13 +76,15 @@ impl Source {
             self.plan = good(rng);
         }
         let subject = match kind {
+            3 => rng.pick(&[9, 9, 9, 10]),
             4..=6 => rng.pick(&[0, 1]),
             7 => rng.pick(&[2, 3]),
             10 => rng.pick(&[4, 5]),
             11 => rng.pick(&[6, 7, 7]),
             12 => 8,
-            13 | 14 => 9,
-            _ => rng.below(10),
+            13 => 9,
+            14 => 10,
+            _ => rng.below(11),
         };
         match subject {
             0 => calls_payloads::unpack(rng, &self.plan, SHORT),
@@ -86,7 +96,8 @@ impl Source {
             6 => calls_cutting::pieces(rng),
             7 => calls_cutting::piece(rng),
             8 => calls_joiners::take(rng),
-            _ => self.talk.call(rng),
+            9 => self.talk.call(rng),
+            _ => self.asking.step(rng).0,
         }
     }
 }
@@ -94,7 +105,7 @@ impl Source {
 /// Most files do not end behind a call: a bad call, with calls behind it that must not be
 /// answered, or a call that is cut, or both, where the order decides which is said.
 fn ending(rng: &mut Prng, some: &mut Source, out: &mut Vec<u8>) {
-    let kind = rng.pick(&[0, 4, 10, 11, 12, 13]);
+    let kind = rng.pick(&[0, 4, 10, 11, 12, 13, 14, 14]);
     let last = some.call(rng, kind);
     match rng.below(8) {
         0 => {}
@@ -118,7 +129,7 @@ fn out_of_step(rng: &mut Prng, calls: &[Call]) -> Vec<u8> {
     calls.iter().for_each(|call| call.put(&mut out));
     if out.is_empty() || rng.chance(1, 4) {
         let length = rng.below(12);
-        return rng.bytes(length).iter().map(|byte| byte % 17).collect();
+        return rng.bytes(length).iter().map(|byte| byte % 25).collect();
     }
     for _ in 0..rng.from_to(1, 3) {
         let at = rng.below(out.len());
@@ -188,7 +199,7 @@ mod tests {
             ("8 request from", 80),
             ("8 unknown", 100),
             ("8 pull all from", 80),
-            ("8 pull", 80),
+            ("8 pull", 60),
             ("8 pull unknown", 100),
             ("8 operation", 100),
             ("8 operation unknown", 80),
@@ -205,15 +216,22 @@ mod tests {
             ("14 bytes", 400),
             ("15 entry", 400),
             ("15 none", 400),
+            ("8 response", 150),
+            ("20 sent", 800),
+            ("21 cancelled", 100),
+            ("21 not pending", 100),
+            ("22 pending", 100),
+            ("22 not pending", 100),
+            ("23 platform", 50),
         ];
         for (name, least) in least {
             let count = seen.get(name).copied().unwrap_or(0);
             assert!(count >= least, "{name}: {count}");
         }
-        // Every code but these three can be refused.
+        // Every code but these six can be refused.
         let refused = seen.keys().filter(|form| form.ends_with("refused"));
-        assert_eq!(refused.count(), 15 - [7, 9, 10].len());
-        assert_eq!(seen.len(), least.len() + 12, "{seen:?}");
+        assert_eq!(refused.count(), 19 - [7, 9, 10, 21, 22, 23].len());
+        assert_eq!(seen.len(), least.len() + 13, "{seen:?}");
     }
 
     #[test]

@@ -4,8 +4,9 @@ use crate::calls_compose::Call;
 use crate::prng::Prng;
 
 /// Each code's arguments: a digit pair is a number's bits, `o` and `v` are outputs' lengths in
-/// bytes and in words, `b` is bytes, `w` words, `r` records.
-pub const ARGUMENTS: [&str; 16] = [
+/// bytes and in words, `b` is bytes, `w` words, `l` a list's words, `r` records. 16 to 19 are no
+/// codes.
+pub const ARGUMENTS: [&str; 24] = [
     "",
     "08 b",
     "08 08 32 32 b o",
@@ -22,6 +23,14 @@ pub const ARGUMENTS: [&str; 16] = [
     "b 16 b v",
     "b 16 w o",
     "b 32",
+    "",
+    "",
+    "",
+    "",
+    "b 32 32 b o",
+    "32",
+    "32",
+    "08 32 l",
 ];
 
 /// A good call made bad; calls behind it must not be answered.
@@ -46,7 +55,7 @@ pub fn bad(rng: &mut Prng, good: &Call) -> Vec<u8> {
 /// A code or a number of arguments that does not exist.
 fn wrong_head(rng: &mut Prng, call: &mut Call) {
     match rng.below(4) {
-        0 => call.code = rng.pick(&[0, 16, 17, 255, 256, 257, 0x0F00, 0xFFFF]),
+        0 => call.code = rng.pick(&[0, 16, 17, 18, 19, 24, 255, 256, 0x1400, 0xFFFF]),
         1 => call.code |= 0x0100,
         2 if !call.arguments.is_empty() => {
             call.arguments.pop();
@@ -63,6 +72,7 @@ fn too_long(rng: &mut Prng, call: &Call, at: usize, kind: &str) -> Vec<u8> {
     let most: u32 = match kind {
         "b" | "r" => 70_000,
         "w" => 524_288,
+        "l" => 1024,
         _ => 8,
     };
     let length = match rng.below(3) {
@@ -92,7 +102,7 @@ fn wrong_argument(rng: &mut Prng, good: &[u8], kind: &str) -> Vec<u8> {
     let mut out = good.to_vec();
     match kind {
         "b" => out = vec![0; 70_001],
-        "w" => match rng.below(3) {
+        "w" | "l" => match rng.below(3) {
             0 => out.push(0),
             1 if !out.is_empty() => {
                 out.pop();

@@ -2,8 +2,8 @@
 
 use crate::compare::Case;
 use crate::program::By;
-use crate::{answers, calls_cases_bad, calls_cases_joining, calls_cases_payload};
-use crate::{calls_cases_platform, hex};
+use crate::{answers, calls_cases_bad, calls_cases_joining, calls_cases_lists, hex};
+use crate::{calls_cases_payload, calls_cases_platform, calls_cases_requests, calls_cases_wide};
 
 /// A file worked out by hand. In its lines, bytes between braces stand for their hex digits.
 pub struct Worked {
@@ -17,6 +17,9 @@ pub fn worked() -> impl Iterator<Item = &'static Worked> {
     joining
         .chain(calls_cases_payload::CASES)
         .chain(calls_cases_platform::CASES)
+        .chain(calls_cases_wide::CASES)
+        .chain(calls_cases_requests::CASES)
+        .chain(calls_cases_lists::CASES)
         .chain(calls_cases_bad::CASES)
 }
 
@@ -85,7 +88,7 @@ mod tests {
         let worked: BTreeSet<u64> = worked()
             .flat_map(|case| answered(&answers::tell(&hex::bytes(case.calls))))
             .collect();
-        assert_eq!(worked, (1..=15).collect());
+        assert_eq!(worked, (1..=15).chain(20..=23).collect());
     }
 
     #[test]

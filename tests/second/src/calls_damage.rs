@@ -1,16 +1,18 @@
 //! Tables that were good, spoilt so that each of 30 to 33 is met.
 
+use crate::calls_operations::{break_an_operation, misfit};
 use crate::calls_tables::{at_the_limits, ends, Plan, NO_TYPE};
 use crate::prng::Prng;
 
 /// A spoilt table's bytes. What it is refused with, if at all, the model says.
 pub fn damaged(rng: &mut Prng, good: &Plan) -> Vec<u8> {
-    match rng.below(20) {
+    match rng.below(22) {
         0..=2 => cut(rng, good.bytes()),
         3 => longer(rng, good.bytes()),
         4 | 5 => miscounted(rng, good),
         6 => any_byte(rng, good.bytes()),
         7 | 8 => too_large(rng),
+        20 | 21 => misfit(rng, good),
         9 => {
             // Two at once: which is given is a matter of order.
             let mut plan = good.clone();
@@ -121,7 +123,7 @@ fn too_large(rng: &mut Prng) -> Vec<u8> {
 
 /// One field changed so that a rule of number 32 is broken; now and then so that none is.
 fn break_a_rule(rng: &mut Prng, plan: &mut Plan) {
-    if !plan.operations.is_empty() && rng.chance(1, 4) {
+    if !plan.operations.is_empty() && rng.chance(1, 3) {
         return break_an_operation(rng, plan);
     }
     let at = rng.below(plan.types.len());
@@ -176,20 +178,5 @@ fn beyond(rng: &mut Prng, code: u16) -> u64 {
         1 => (least - 1) as u64,
         // An int8 of -1 written as 0xFF.
         _ => (greatest * 2 + 1) as u64,
-    }
-}
-
-fn break_an_operation(rng: &mut Prng, plan: &mut Plan) {
-    let known = plan.types.len() as u16;
-    let last = plan.operations.len() - 1;
-    let at = rng.below(last + 1);
-    match rng.below(6) {
-        0 => plan.operations[last].0 = 0xFFFF_FFFF,
-        1 => plan.operations[at].1 = rng.pick(&[2, 256, 0xFFFF]),
-        2 => plan.operations[at].2 = known,
-        3 => (plan.operations[at].1, plan.operations[at].2) = (1, NO_TYPE),
-        4 if last > 0 => plan.operations[last].0 = plan.operations[last - 1].0,
-        _ if last > 0 => plan.operations.swap(0, last),
-        _ => plan.operations[at].2 = 0xFFFE,
     }
 }

@@ -9,8 +9,11 @@ use crate::{answers, hex};
 
 const UINT8: &str = "0001 0000 0006 0000 0000 0000 0000 0000";
 
+/// The same with operation 7, whose requests we send; neither they nor their responses have a type.
+const ASKS: &str = "0001 0000 0006 0000 0000 0000 0000 0001 00000007 0002 FFFF FFFF";
+
 /// Each code's arguments, as short as the call can be answered with.
-const SHORTEST: [(u16, &[&str]); 15] = [
+const SHORTEST: [(u16, &[&str]); 19] = [
     (7, &["02"]),
     (1, &["02", "EC0A0200 00000001 00000002 00000000 00000007"]),
     (2, &["02", "00", "02", "07", "", "14"]),
@@ -36,6 +39,10 @@ const SHORTEST: [(u16, &[&str]); 15] = [
     (13, &[UINT8, "00", "AB", "01"]),
     (14, &[UINT8, "00", "00000000000000AB", "01"]),
     (15, &[UINT8, "09"]),
+    (20, &[ASKS, "07", "01", "", "14"]),
+    (22, &["02"]),
+    (21, &["02"]),
+    (23, &["02", "05", "0000000500000007"]),
 ];
 
 fn shortest() -> Vec<Call> {
@@ -96,6 +103,14 @@ fn bad_argument(call: &Call, at: usize, kind: &str) -> Vec<Vec<u8>> {
     match kind {
         "b" => vec![announced(70_001)],
         "w" => vec![announced(524_289), as_it_is(&odd), as_it_is(&good[1..])],
+        // A word too many, too: whole or not, its length is enough.
+        "l" => vec![
+            announced(1025),
+            announced(1032),
+            as_it_is(&[0; 1032]),
+            as_it_is(&odd),
+            as_it_is(&good[1..]),
+        ],
         "r" => {
             let neither = hex::bytes("0001 02 00000000 00000000");
             vec![announced(70_001), as_it_is(&odd), as_it_is(&neither)]
@@ -149,6 +164,7 @@ fn longest() -> Case {
                 "b" => 70_000,
                 "r" => 70_000 / 11 * 11,
                 "w" => 524_288,
+                "l" => 1024,
                 _ => 8,
             };
             let mut long = call.clone();
@@ -186,8 +202,18 @@ mod tests {
         let whole = answers::tell(&in_one_file(&shortest()));
         let answered = whole.calls.iter().filter(|call| call.1.is_none());
         let codes: BTreeSet<u64> = answered.map(|call| call.0).collect();
-        assert_eq!(codes, (1..=15).collect(), "{}", whole.lines);
-        assert_eq!(whole.calls.len(), 15);
+        assert_eq!(codes, (1..=15).chain(20..=23).collect(), "{}", whole.lines);
+        assert_eq!(whole.calls.len(), 19);
+        // The pair that 1 was owed took 0 and 1, so the request is number 2, and not 1.
+        let requests: Vec<&str> = whole.lines.lines().skip(15).collect();
+        assert!(
+            requests[0].starts_with("15 sent 2 ec0a0201"),
+            "{requests:?}"
+        );
+        assert_eq!(
+            requests[1..],
+            ["16 pending 7 1", "17 cancelled", "18 platform 2"]
+        );
     }
 
     /// A file cut behind a call has that many lines; cut anywhere else, one more.
@@ -201,7 +227,7 @@ mod tests {
             assert_eq!(lines.last() == Some(&"cut short"), !ends, "{}", case.name);
             behind += usize::from(ends);
         }
-        assert_eq!(behind, 16);
+        assert_eq!(behind, 20);
     }
 
     #[test]

@@ -35,9 +35,9 @@ pub fn look_up(rng: &mut Prng, plan: &Plan) -> Call {
     let id = match (rng.below(8), plan.operations.is_empty()) {
         (0, _) => rng.pick(&[0, 1, 0xFFFF_FFFE, 0xFFFF_FFFF]),
         (1, _) | (_, true) => rng.draw() as u32,
-        (2, _) => rng.pick(&plan.operations).0.wrapping_add(1),
-        (3, _) => rng.pick(&plan.operations).0.wrapping_sub(1),
-        _ => rng.pick(&plan.operations).0,
+        (2, _) => rng.pick(&plan.operations).id.wrapping_add(1),
+        (3, _) => rng.pick(&plan.operations).id.wrapping_sub(1),
+        _ => rng.pick(&plan.operations).id,
     };
     let bytes = table(rng, plan, 20);
     Call::new(15).bytes(&bytes).number(rng, u64::from(id))

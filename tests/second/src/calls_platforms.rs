@@ -22,9 +22,12 @@ impl Talk {
         }
         if rng.chance(1, 4) {
             // Nothing to pull: all of it is then unknown (R7).
-            plan.operations.retain(|(_, kind, _)| *kind == 0);
+            plan.operations.retain(|entry| entry.kind != 1);
+        } else if plan.operations.iter().all(|entry| entry.kind != 1) {
+            let first = &mut plan.operations[0];
+            (first.kind, first.of, first.response) = (1, 0, None);
         }
-        let mut ids: Vec<u32> = plan.operations.iter().map(|(id, _, _)| *id).collect();
+        let mut ids: Vec<u32> = plan.operations.iter().map(|entry| entry.id).collect();
         ids.truncate(6);
         ids.push(rng.below(40) as u32);
         let count = rng.pick(&[1, 2, 4, 10]);

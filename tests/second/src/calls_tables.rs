@@ -1,7 +1,7 @@
 //! Good type tables from a seed: every kind, nested and at the edges of every count and size.
 
+use crate::calls_operations::Entry;
 use crate::prng::Prng;
-use std::collections::BTreeSet;
 
 /// Names a table's parts as its bytes have them, so that any of them can be spoilt.
 #[derive(Clone, Debug, Default)]
@@ -10,8 +10,7 @@ pub struct Plan {
     pub types: Vec<[u16; 4]>,
     pub members: Vec<u16>,
     pub values: Vec<u64>,
-    /// ID, kind, type.
-    pub operations: Vec<(u32, u16, u16)>,
+    pub operations: Vec<Entry>,
     /// The largest size of each type; nothing in the bytes.
     pub sizes: Vec<u64>,
 }
@@ -63,11 +62,7 @@ impl Plan {
         count(&mut out, self.values.len());
         out.extend(self.values.iter().flat_map(|v| v.to_be_bytes()));
         count(&mut out, self.operations.len());
-        for (id, kind, of) in &self.operations {
-            out.extend(id.to_be_bytes());
-            out.extend(kind.to_be_bytes());
-            out.extend(of.to_be_bytes());
-        }
+        out.extend(self.operations.iter().flat_map(Entry::bytes));
         out
     }
 
@@ -178,29 +173,6 @@ impl Plan {
         }
         self.add([2, 0, first as u16, count as u16], size);
         true
-    }
-
-    /// Operations with rising IDs, the first and the last possible among them.
-    pub fn operate(&mut self, rng: &mut Prng, count: usize) {
-        let mut ids: BTreeSet<u32> = BTreeSet::new();
-        while ids.len() < count {
-            ids.insert(match rng.below(12) {
-                0 => 0,
-                1 => 0xFFFF_FFFE,
-                2 => rng.draw() as u32 % 0xFFFF_FFFF,
-                3 => 0x7FFF_FFFF + rng.below(3) as u32,
-                _ => rng.below(4 * count) as u32,
-            });
-        }
-        for id in ids {
-            let of = rng.below(self.types.len()) as u16;
-            let entry = match rng.below(4) {
-                0 => (id, 0, NO_TYPE),
-                1 => (id, 0, of),
-                _ => (id, 1, of),
-            };
-            self.operations.push(entry);
-        }
     }
 }
 

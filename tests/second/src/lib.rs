@@ -31,12 +31,17 @@ pub mod run;
 // Models of the other calls.
 pub mod cutting;
 pub mod message;
+#[cfg(test)]
+mod message_tests;
 pub mod payload;
 #[cfg(test)]
 mod payload_tests;
+pub mod pending;
 pub mod platform;
 #[cfg(test)]
 mod platform_tests;
+#[cfg(test)]
+mod requests_tests;
 pub mod take;
 pub mod types;
 #[cfg(test)]
@@ -53,18 +58,27 @@ pub mod calls_compose;
 pub mod calls_cutting;
 pub mod calls_damage;
 pub mod calls_joiners;
+pub mod calls_ledger;
+pub mod calls_lists;
 pub mod calls_messages;
+pub mod calls_operations;
 pub mod calls_payloads;
 pub mod calls_platforms;
+pub mod calls_requests;
 pub mod calls_tables;
 pub mod calls_values;
 
 // Files of calls worked out by hand, and one call of each code at every edge.
+#[macro_use]
+mod calls_cases_parts;
 pub mod calls_cases;
 pub mod calls_cases_bad;
 pub mod calls_cases_joining;
+pub mod calls_cases_lists;
 pub mod calls_cases_payload;
 pub mod calls_cases_platform;
+pub mod calls_cases_requests;
+pub mod calls_cases_wide;
 pub mod calls_every;
 
 // The comparison with `answers`.

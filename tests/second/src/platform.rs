@@ -1,7 +1,8 @@
 //! Platform states and replies: 01, "Platform states and replies", 000, 6.3 and 6.4, with R4, R7,
-//! R8 and R28 to R30.
+//! R8 and R28 to R30. Requests and their responses: 02, request 1.
 
 use crate::message::{read, write, Content, ALL, PULL, STATUS, UNKNOWN};
+use crate::pending::Pending;
 use crate::types::{check, Table};
 use std::collections::BTreeSet;
 
@@ -12,18 +13,32 @@ pub struct Platform {
     pub others: BTreeSet<u8>,
     /// The next own sequence number.
     pub next: u32,
+    /// The requests that are pending.
+    pub list: Pending,
 }
 
 #[derive(Clone, Debug, PartialEq, Eq)]
 pub enum What {
-    Status { up: bool },
+    Status {
+        up: bool,
+    },
     Request,
     Unknown(u32),
     PullAll,
     Pull(u32),
     PullUnknown(u32),
-    Operation { id: u32, payload: Vec<u8> },
+    /// Kind 3 too: a request that we serve goes to its component as in 01.
+    Operation {
+        id: u32,
+        payload: Vec<u8>,
+    },
     OperationUnknown(u32),
+    /// To the request that bore this number.
+    Response {
+        id: u32,
+        sequence: u32,
+        payload: Vec<u8>,
+    },
 }
 
 #[derive(Clone, Debug, PartialEq, Eq)]
@@ -35,12 +50,16 @@ pub struct Answer {
 
 const UP: u32 = 1;
 
+/// The kind of an operation whose requests we send.
+const SENT: u16 = 2;
+
 impl Platform {
     pub fn new(own: u8) -> Platform {
         Platform {
             own,
             others: BTreeSet::new(),
             next: 0,
+            list: Pending::of(&[]),
         }
     }
 
@@ -109,6 +128,19 @@ impl Platform {
                 }
             }
             Content::Operation { id, payload } => match table.operation(id) {
+                Some(entry) if entry.kind == SENT => {
+                    let sequence = got.sequence;
+                    let place = self.list.place(sequence).ok_or(61)?;
+                    if self.list.at(place) != (id, u64::from(got.from)) {
+                        return Err(61);
+                    }
+                    after.list.clear(place);
+                    What::Response {
+                        id,
+                        sequence,
+                        payload,
+                    }
+                }
                 Some(_) => What::Operation { id, payload },
                 None => {
                     replies.push((UNKNOWN, got.sequence, id));
@@ -134,6 +166,37 @@ impl Platform {
             from: got.from,
             owed,
         })
+    }
+
+    /// A request to `target`, entered in the list: its number and its bytes. `room` is how many
+    /// may be given back; on a refusal nothing has changed.
+    pub fn send(
+        &mut self,
+        table: &[u8],
+        id: u32,
+        target: u32,
+        payload: &[u8],
+        room: usize,
+    ) -> Result<(u32, Vec<u8>), u8> {
+        let table = check(table)?;
+        if table.operation(id).map(|entry| entry.kind) != Some(SENT) {
+            return Err(62);
+        }
+        let place = self.list.free().ok_or(60)?;
+        let sequence = self.list.next_free(self.next);
+        let bytes = write(self.own, 1, id, sequence, payload, room)?;
+        self.list.enter(place, sequence, id, target);
+        // Numbers that were passed over are not offered again before the round is over.
+        self.next = sequence;
+        self.draw();
+        Ok((sequence, bytes))
+    }
+
+    /// Gives up a request; whether its number was pending.
+    pub fn cancel(&mut self, sequence: u32) -> bool {
+        let place = self.list.place(sequence);
+        place.iter().for_each(|place| self.list.clear(*place));
+        place.is_some()
     }
 
     /// The next own number; after 0xFFFFFFFF comes 0.

@@ -1,4 +1,4 @@
-//! The type table: 01, "The type table", with R18, R31 and R32.
+//! The type table: 01, "The type table", with R18, R31 and R32; 02, request 1, for the operations.
 //!
 //! A table that passes is turned into trees that share their parts: what walks a payload then
 //! meets no type number, no section and no index at all.
@@ -22,6 +22,8 @@ pub struct Operation {
     pub kind: u16,
     /// 0xFFFF for none.
     pub of: u16,
+    /// The response's type: 0xFFFF for none, and in kinds 0 and 1, which have no response.
+    pub response: u16,
 }
 
 #[derive(Debug)]
@@ -62,12 +64,25 @@ pub fn integer_allows(base: u16, word: u64) -> bool {
     }
 }
 
+/// The operations' entry that begins here: 10 bytes where its kind is 2 or 3, else 8, unknown
+/// kinds too.
+fn operation_width(rest: &[u8]) -> usize {
+    match rest.get(4..6).map(number) {
+        Some(2 | 3) => 10,
+        _ => 8,
+    }
+}
+
 /// The four sections, each a list of its entries' bytes. Section by section: the count, its limit,
 /// then its entries, so that whichever of 30 and 31 is met first is given.
 fn sections(table: &[u8]) -> Result<Vec<Vec<&[u8]>>, u8> {
     let mut rest = table;
     let mut out = Vec::new();
-    for (least, most, width) in [(1, 256, 8), (0, 1024, 2), (0, 1024, 8), (0, 1024, 8)] {
+    let widths: [fn(&[u8]) -> usize; 4] = [|_| 8, |_| 2, |_| 8, operation_width];
+    for (width, (least, most)) in widths
+        .iter()
+        .zip([(1, 256), (0, 1024), (0, 1024), (0, 1024)])
+    {
         if rest.len() < 2 {
             return Err(30);
         }
@@ -76,11 +91,13 @@ fn sections(table: &[u8]) -> Result<Vec<Vec<&[u8]>>, u8> {
             return Err(31);
         }
         rest = &rest[2..];
-        if rest.len() < count * width {
-            return Err(30);
+        let mut entries = Vec::new();
+        for _ in 0..count {
+            let width = width(rest);
+            entries.push(rest.get(..width).ok_or(30)?);
+            rest = &rest[width..];
         }
-        out.push(rest[..count * width].chunks(width).collect());
-        rest = &rest[count * width..];
+        out.push(entries);
     }
     if rest.is_empty() {
         Ok(out)
@@ -128,14 +145,21 @@ fn operations(entries: &[&[u8]], types: usize) -> Option<Vec<Operation>> {
         .map(|e| Operation {
             id: number(&e[..4]) as u32,
             kind: number(&e[4..6]) as u16,
-            of: number(&e[6..]) as u16,
+            of: number(&e[6..8]) as u16,
+            response: e.get(8..10).map_or(0xFFFF, |two| number(two) as u16),
         })
         .collect();
     let rising = all.windows(2).all(|two| two[0].id < two[1].id);
     let each = all.iter().all(|op| {
-        let typed = usize::from(op.of) < types;
-        op.id != 0xFFFF_FFFF
-            && (op.kind == 0 && (typed || op.of == 0xFFFF) || op.kind == 1 && typed)
+        let typed = |of: u16| usize::from(of) < types;
+        let maybe = |of: u16| typed(of) || of == 0xFFFF;
+        let kept = match op.kind {
+            0 => maybe(op.of),
+            1 => typed(op.of),
+            2 | 3 => maybe(op.of) && maybe(op.response),
+            _ => false,
+        };
+        op.id != 0xFFFF_FFFF && kept
     });
     (rising && each).then_some(all)
 }

@@ -154,12 +154,98 @@ fn operations_rise_and_are_typed() {
     assert_eq!(operations(1, "FFFFFFFF 0000 0000"), 32);
     assert_eq!(operations(1, "00000001 0001 FFFF"), 32);
     assert_eq!(operations(1, "00000001 0001 0000"), 0);
-    assert_eq!(operations(1, "00000001 0002 0000"), 32);
+    assert_eq!(operations(1, "00000001 0004 0000"), 32);
     assert_eq!(operations(1, "00000001 0000 0001"), 32);
     assert_eq!(operations(1, "00000001 0001 0001"), 32);
     assert_eq!(operations(2, "00000001 0000 0000 00000002 0000 0000"), 0);
     assert_eq!(operations(2, "00000002 0000 0000 00000002 0000 0000"), 32);
     assert_eq!(operations(2, "00000003 0000 0000 00000002 0000 0000"), 32);
+}
+
+/// Request 1: kinds 2 and 3 have two bytes more, and every other kind has not, one that does not
+/// exist among them; the widths are judged before the kind.
+#[test]
+fn entries_of_both_widths() {
+    for kind in ["0002", "0003"] {
+        for (of, response) in [
+            ("0000", "0000"),
+            ("FFFF", "0000"),
+            ("0000", "FFFF"),
+            ("FFFF", "FFFF"),
+        ] {
+            let entry = format!("00000001 {kind} {of} {response}");
+            assert_eq!(operations(1, &entry), 0, "{entry}");
+            for cut in 1..=3 {
+                let whole = bytes(&entry);
+                let less: String = whole[..10 - cut]
+                    .iter()
+                    .map(|b| format!("{b:02X} "))
+                    .collect();
+                assert_eq!(operations(1, &less), 30, "{entry} less {cut}");
+            }
+        }
+        for (of, response) in [
+            ("0001", "FFFF"),
+            ("FFFF", "0001"),
+            ("FFFE", "0000"),
+            ("0000", "FFFE"),
+        ] {
+            assert_eq!(
+                operations(1, &format!("00000001 {kind} {of} {response}")),
+                32
+            );
+        }
+        assert_eq!(operations(1, &format!("FFFFFFFF {kind} 0000 0000")), 32);
+        assert_eq!(operations(1, &format!("00000001 {kind} 0000 0000 00")), 30);
+    }
+    for kind in ["0004", "0005", "0200", "0300", "0102", "FFFF"] {
+        assert_eq!(
+            operations(1, &format!("00000001 {kind} 0000")),
+            32,
+            "{kind}"
+        );
+        assert_eq!(
+            operations(1, &format!("00000001 {kind} 0000 FFFF")),
+            30,
+            "{kind}"
+        );
+    }
+    for kind in ["0000", "0001"] {
+        assert_eq!(
+            operations(1, &format!("00000001 {kind} 0000 0000")),
+            30,
+            "{kind}"
+        );
+    }
+    let (narrow, wide) = ("00000001 0000 FFFF", "00000001 0002 FFFF FFFF");
+    assert_eq!(
+        operations(2, &format!("{narrow} 00000002 0003 0000 0000")),
+        0
+    );
+    assert_eq!(operations(2, &format!("{wide} 00000002 0001 0000")), 0);
+    assert_eq!(operations(2, &format!("{wide} 00000002 0003 0000 FFFF")), 0);
+    // IDs rise over all kinds.
+    assert_eq!(operations(2, &format!("{wide} 00000001 0001 0000")), 32);
+    assert_eq!(
+        operations(2, &format!("{narrow} 00000000 0003 0000 0000")),
+        32
+    );
+    assert_eq!(operations(1025, "00000001 0002 FFFF FFFF"), 31);
+}
+
+#[test]
+fn what_an_operation_carries() {
+    let table = bytes(
+        "0001 0000 0008 0000 0000 0000 0000 0004 00000001 0000 FFFF 00000002 0002 FFFF 0000 \
+         00000003 0001 0000 00000004 0003 0000 FFFF",
+    );
+    let table = check(&table).unwrap();
+    let told = |id| table.operation(id).map(|op| (op.kind, op.of, op.response));
+    assert_eq!(told(1), Some((0, 0xFFFF, 0xFFFF)));
+    assert_eq!(told(2), Some((2, 0xFFFF, 0)));
+    assert_eq!(told(3), Some((1, 0, 0xFFFF)));
+    assert_eq!(told(4), Some((3, 0, 0xFFFF)));
+    assert_eq!((told(0), told(5)), (None, None));
 }
 
 #[test]

@@ -48,6 +48,16 @@ fn the_model_beside_itself() {
     assert_eq!(scratch.kept(), 0);
 }
 
+/// The run that is stored for the gate has the lines that this program gives.
+#[test]
+fn the_stored_run() {
+    let stored = Path::new(env!("CARGO_MANIFEST_DIR")).join("../answers");
+    let mut command = Command::new(SECOND);
+    command.arg("answers").arg(stored.join("sample.calls"));
+    let lines = std::fs::read(stored.join("sample.lines")).unwrap();
+    assert!(command.output().unwrap().stdout == lines);
+}
+
 /// Each damage is done to the model's own lines, both ways of running it.
 #[test]
 fn a_damaged_line_is_found() {
@@ -55,6 +65,12 @@ fn a_damaged_line_is_found() {
         ("another-number", "sed 's/refused 42/refused 43/'"),
         ("upper-case", "sed 's/^\\([0-9]* bytes .*\\)a/\\1A/'"),
         ("another-digit", "sed '100s/0$/1/;100s/[1-9]$/0/'"),
+        ("another-request", "sed 's/ sent 1 / sent 2 /'"),
+        ("no-request", "sed 's/ seq [0-9]*$//'"),
+        (
+            "a-response-owed",
+            "sed 's/response\\(.*\\) seq .*/response\\1 owed -/'",
+        ),
         ("a-space-behind", "sed '7s/$/ /'"),
         ("a-line-lost", "sed '$d'"),
         ("a-line-more", "sed '$p'"),

@@ -1,7 +1,7 @@
 -- `platform::receive` meets its contract: the table is judged first.
 -- Assumes nothing.
 use borrow.Author.Needs.{needs}
-use Rattle.platform.proofs.Receipts.{bad-table, bad-table-output, good-table, good-table-output}
+use Rattle.platform.proofs.Receipts.{bad-table, bad-table-output, bad-table-list, good-table, good-table-output, good-table-list}
 use Rattle.platform.proofs.receive.Statement.{statement}
 use Rattle.platform.proofs.receive.Tie as tie
 
@@ -14,6 +14,7 @@ receive-spec =
     (λ c κs. search needs)
     (λ c. search needs)
     (λ c κs. search needs)
-    (λ c. (search bad-table, search bad-table-output))
+    (λ c. (search bad-table, (search bad-table-output, search bad-table-list)))
     (λ c. search needs)
-    (λ c. (search good-table, search good-table-output)))
+    (λ c. search needs)
+    (λ c. (search good-table, (search good-table-output, search good-table-list))))

@@ -1,7 +1,7 @@
 -- `platform::receive_checked` meets its contract: sections that do not lie in the bytes are refused.
 -- Assumes nothing.
 use borrow.Author.Needs.{needs}
-use Rattle.platform.proofs.Receipts.{inside, inside-output, outside, outside-output}
+use Rattle.platform.proofs.Receipts.{inside, inside-output, inside-list, outside, outside-output, outside-list}
 use Rattle.platform.proofs.receive_checked.Statement.{statement}
 use Rattle.platform.proofs.receive_checked.Tie as tie
 
@@ -13,5 +13,6 @@ receive-checked-spec =
     (λ c κs. search needs)
     (λ c κs. search needs)
     (λ c. search needs)
-    (λ c. (search inside, search inside-output))
-    (λ c. (search outside, search outside-output)))
+    (λ c. search needs)
+    (λ c. (search inside, (search inside-output, search inside-list)))
+    (λ c. (search outside, (search outside-output, search outside-list))))

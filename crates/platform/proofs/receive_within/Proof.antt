@@ -1,7 +1,7 @@
 -- `platform::receive_within` meets its contract: the message is read, and what it asks for is looked up.
 -- Assumes nothing.
 use borrow.Author.Needs.{needs}
-use Rattle.platform.proofs.Receipts.{looked-up, looked-up-output}
+use Rattle.platform.proofs.Receipts.{looked-up, looked-up-output, looked-up-list}
 use Rattle.platform.proofs.receive_within.Statement.{statement}
 use Rattle.platform.proofs.receive_within.Tie as tie
 
@@ -13,4 +13,5 @@ receive-within-spec =
     (λ c κs. search needs)
     (λ c κs. search needs)
     (λ c. search needs)
-    (λ c. (search looked-up, search looked-up-output)))
+    (λ c. search needs)
+    (λ c. (search looked-up, (search looked-up-output, search looked-up-list))))

@@ -1,9 +1,9 @@
 -- `nyrkovash::nyr_check_table` meets its contract.
 -- Assumes nothing.
 use borrow.Author.Needs.{needs}
-use Rattle.wire.proofs.MetCases.{met, met-left}
-use Rattle.nyrkovash.specs.TableCalls.{sectionsLeft}
+use Rattle.wire.proofs.MetCases.{met}
 use Rattle.table.specs.Checked.{numberGiven}
+use Rattle.nyrkovash.proofs.Calling.{met-sections}
 use Rattle.nyrkovash.proofs.tables.nyr_check_table.Statement.{statement}
 use Rattle.nyrkovash.proofs.tables.nyr_check_table.Tie as tie
 
@@ -15,5 +15,5 @@ nyr-check-table-spec =
     (λ c. search needs)
     (λ c. search needs)
     (λ c κs. search needs)
-    (λ c. (search (met numberGiven), search (met-left sectionsLeft)))
-    (λ c. (search (met numberGiven), search (met-left sectionsLeft))))
+    (λ c. (search (met numberGiven), search met-sections))
+    (λ c. (search (met numberGiven), search met-sections)))

@@ -12,5 +12,5 @@ on-pull-all-spec =
     (λ c κs. search needs)
     (λ c κs. search needs)
     (λ c κs. search needs)
-    (λ c. search all-of-none)
-    (λ c. search all-of-some))
+    (λ c. search all-of-some)
+    (λ c. search all-of-none))

@@ -12,6 +12,9 @@ receive-in-spec =
     (tie.spec
     (λ c κs. search needs)
     (λ c κs. search needs)
+    (λ c. search needs)
+    (λ c. search needs)
+    (λ c. search needs)
     (λ c κs. search needs)
     (λ c. search needs)
     (λ c. (search inside-number, (search inside-words, (search inside-output, search inside-heard))))

@@ -2,7 +2,7 @@
 -- Assumes nothing.
 use borrow.Author.Needs.{needs}
 use Rattle.platform_words.proofs.Straight.{straight-number, straight-words, straight-output, straight-heard}
-use Rattle.platform_words.proofs.Straight.{answered-number, answered-words, answered-output, answered-heard}
+use Rattle.platform_words.proofs.Straight.{answered-number, answered-words, answered-heard}
 use Rattle.platform_words.proofs.on_sections.received.Statement.{statement}
 use Rattle.platform_words.proofs.on_sections.received.Tie as tie
 
@@ -18,7 +18,8 @@ received-spec =
     (λ c. search needs)
     (λ c κs. search needs)
     (λ c κs. search needs)
-    (λ c κs. search needs)
+    (λ c. search needs)
     (λ c. (search straight-number, (search straight-words, (search straight-output, search straight-heard))))
     (λ c. search needs)
-    (λ c. (search answered-number, (search answered-words, (search answered-output, search answered-heard)))))
+    (λ c. search needs)
+    (λ c. (search answered-number, (search answered-words, (search needs, search answered-heard)))))

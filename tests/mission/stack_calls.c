@@ -1,0 +1,150 @@
+/* Each call of the header on the inputs that stand here, and how much stack it may take. */
+#include "stack.h"
+
+uint8_t table[LARGEST_TABLE], rooms[NYR_CHANNELS * NYR_LARGEST_ROOM], message[70000], output[70000];
+size_t table_length, datagram_length, message_length, payload_length, words_length, given;
+uint16_t ids[NYR_CHANNELS], type_number;
+uint64_t words[70000];
+nyr_joiner joiner;
+nyr_sections sections;
+nyr_platform platform;
+uint32_t number;
+
+void call_setup(void)
+{
+    number = nyr_setup(&joiner, ids, NYR_CHANNELS, NYR_LARGEST_ROOM, sizeof rooms);
+}
+
+void call_take(void)
+{
+    nyr_taken answer;
+    number = nyr_take(&joiner, rooms, sizeof rooms, message, datagram_length, &answer);
+}
+
+void call_pieces(void)
+{
+    number = nyr_pieces(NYR_LARGEST_MESSAGE, 1400, &given);
+}
+
+void call_cut(void)
+{
+    number = nyr_cut(message, NYR_LARGEST_MESSAGE, NYR_LARGEST_PIECE, 1, 65535, 0, output, sizeof output, &given);
+}
+
+void call_read(void)
+{
+    nyr_message answer;
+    number = nyr_read(1, message, message_length, &answer);
+}
+
+void call_write(void)
+{
+    number = nyr_write(1, NYR_OPERATION_DOMAIN, EVENT_ID, 1, message, 65536, output, sizeof output, &given);
+}
+
+void call_check_table(void)
+{
+    number = nyr_check_table(table, table_length, &sections);
+}
+
+void call_find(void)
+{
+    nyr_operation operation;
+    number = nyr_find(table, table_length, &sections, EVENT_ID, &operation);
+}
+
+void call_unpack(void)
+{
+    number = nyr_unpack(table, table_length, type_number, message, payload_length, words, 70000, &given);
+}
+
+void call_unpack_in(void)
+{
+    number = nyr_unpack_in(table, table_length, &sections, type_number, message, payload_length, words, 70000, &given);
+}
+
+void call_pack(void)
+{
+    number = nyr_pack(table, table_length, type_number, words, words_length, output, sizeof output, &given);
+}
+
+void call_pack_in(void)
+{
+    number =
+        nyr_pack_in(table, table_length, &sections, type_number, words, words_length, output, sizeof output, &given);
+}
+
+void call_start(void)
+{
+    number = nyr_start(1, &platform);
+}
+
+void call_receive(void)
+{
+    nyr_heard heard;
+    number = nyr_receive(1, &platform, table, table_length, message, message_length, output, sizeof output, &heard);
+}
+
+void call_receive_in(void)
+{
+    nyr_heard heard;
+    number = nyr_receive_in(1, &platform, table, table_length, &sections, message, message_length, output,
+                            sizeof output, &heard);
+}
+
+void call_is_up(void)
+{
+    number = nyr_is_up(1, &platform, 200) & 0;
+}
+
+void call_how_many_up(void)
+{
+    number = nyr_how_many_up(1, &platform) & 0;
+}
+
+void call_send(void)
+{
+    nyr_sent sent;
+    number = nyr_send(1, &platform, table, table_length, &sections, REQUEST_ID, OTHER, message, 65536, output,
+                      sizeof output, &sent);
+}
+
+void call_cancel(void)
+{
+    number = nyr_cancel(&platform, LAST_PENDING, &given);
+}
+
+void call_pending(void)
+{
+    nyr_awaited awaited;
+    number = nyr_pending(&platform, LAST_PENDING, &awaited);
+}
+
+void call_library_version(void)
+{
+    number = nyr_library_version() & 0;
+}
+
+const Bound bounds[BOUNDS] = {
+    {"nyr_setup", call_setup, 4096},
+    {"nyr_take", call_take, 1024},
+    {"nyr_pieces", call_pieces, 256},
+    {"nyr_cut", call_cut, 1024},
+    {"nyr_read", call_read, 256},
+    {"nyr_write", call_write, 1024},
+    {"nyr_check_table", call_check_table, 4096},
+    {"nyr_find", call_find, 1024},
+    {"nyr_unpack", call_unpack, 131072},
+    {"nyr_unpack_in", call_unpack_in, 131072},
+    {"nyr_pack", call_pack, 131072},
+    {"nyr_pack_in", call_pack_in, 131072},
+    {"nyr_start", call_start, 256},
+    {"nyr_receive", call_receive, 16384},
+    {"nyr_receive_in", call_receive_in, 4096},
+    {"nyr_is_up", call_is_up, 256},
+    {"nyr_how_many_up", call_how_many_up, 256},
+    {"nyr_send", call_send, 1024},
+    {"nyr_cancel", call_cancel, 256},
+    {"nyr_pending", call_pending, 256},
+    {"nyr_library_version", call_library_version, 256},
+};
