@@ -1,11 +1,11 @@
 -- What the rules of an entry's fields come to, kind by kind.
 -- Assumes nothing.
 use Prim.Native.Nat.{ℕ, _≤_, _<_}
-use mathlib.Core.Path.{_≡_, refl, sym, ap, _∙_}
+use mathlib.Core.Path.{_≡_, refl, sym, _∙_}
 use mathlib.Core.Bool.{Bool, true, false, _&&_, _||_}
 use native.Mathlib.Omega.{arith}
 use borrow.Author.Tests.{lt-ltb, le-ltb, le-leb, lt-leb, ne-eqb}
-use lib.Dec.{ltb, leb, eqb}
+use lib.Dec.{eqb}
 use Rattle.operations.specs.declared.Operation.{Operation}
 use Rattle.operations.specs.Entries.{eventKind, dataKind, noType, noId, wide}
 use Rattle.operations.specs.Rules.{typeOrNone, fieldsOk}
