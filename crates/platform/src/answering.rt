@@ -12,7 +12,7 @@ ghost use Rattle.platform.specs.Receiving.{isSent, isAnswer, entryOf, de
 const SENT_KIND: u16 = 2;
 
 // The number of a message that no pending request asked for.
-const NOT_AWAITED: u32 = 61;
+pub const NOT_AWAITED: u32 = 61;
 
 pub(crate) fn is_answer(table: &[u8], found: Sought, message: Message) -> bool
     ensures { λ r. ⌜ r ≡ isAnswer (now (table .entry)) found message ⌝ }
