@@ -88,7 +88,7 @@ fn received(
 {
     match operation_heard(own, table, s, index, message) {
         Sought::At(entry, place) => {
-            if operations::kind_at(table, place) == requests::REQUEST_KIND {
+            if operations::kind_at(table, place) == operations::REQUEST_SENT {
                 answer_heard(words, message, entry, heard)
             } else {
                 tell_straight(words, message, heard_words::OPERATION, entry, heard);
