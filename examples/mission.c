@@ -15,7 +15,7 @@ enum {
     SENDER_IDS = 6,         /* where they stand in a recording */
     MOST_ROOMS = 65536,     /* a recording's limit for all rooms together */
     MOST_WORDS = 65560,     /* no leaf is shorter than a byte, and no joined message longer than a room */
-    TABLE_BYTES = 20488     /* the largest table */
+    TABLE_BYTES = 22536     /* the largest table */
 };
 
 static uint8_t recording[1 << 20], table[TABLE_BYTES + 1], rooms[MOST_ROOMS];
@@ -85,7 +85,7 @@ static void receive(const uint8_t *message, size_t length)
 {
     static const char *const kinds[] = {
         "", "status", "status request", "unknown operation", "pull of all", "pull",
-        "pull of what is not versioned data", "operation", "operation not in the table"};
+        "pull of what is not versioned data", "operation", "operation not in the table", "response"};
     uint8_t replies[NYR_REPLIES_BYTES];
     nyr_heard heard;
     uint32_t number = nyr_receive_in(OWN, &platform, table, table_length, &sections, message, length, replies,

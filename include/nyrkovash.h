@@ -224,8 +224,8 @@ typedef struct {
     uint64_t found;            /* 1 if the table has it, else 0 */
     uint64_t kind;             /* its kind, else 0 */
     uint64_t carries;          /* its type's number, or NYR_NO_PAYLOAD, else 0 */
-    uint64_t responds;         /* the number of its response's type, or NYR_NO_PAYLOAD, as of an event and of versioned
-                                * data, which have no response, else 0 */
+    uint64_t responds;         /* its response's type's number, or NYR_NO_PAYLOAD, as for events and versioned data,
+                                * which have no response, else 0 */
 } nyr_operation;
 
 /* An operation's kind, and the type of what has no payload. */
@@ -239,13 +239,12 @@ enum {
 
 /*
  * Checks a table.  30 to 33.
- * Leaves where its sections lie, and behind that its index: words 0 to 7, and from word 8 on as many as there are
- * operations; the words behind these stay. The calls that take sections spare the check: for a table that it accepted
- * those that end in _in answer as their namesakes do. For other tables, sections or indexes they are as safe; they give
- * 30 where the sections do not lie in the table, and those of payloads 32 for an entry that they meet and that breaks a
- * rule.
- * Stack 4096; time: each type's members or values, and the operations; where an enum's values do not rise, the square of
- * the values.
+ * Leaves where its sections lie in words 0 to 7, and its index from word 8 on, a word for each operation; the words
+ * behind these stay. The calls that take sections spare the check: for a table that it accepted those that end in _in
+ * answer as their namesakes do. For other tables, sections and indexes they are as safe; they give 30 where the
+ * sections do not lie in the table, and those of payloads 32 for an entry that they meet and that breaks a rule.
+ * Stack 4096; time: each type's members or values, and the operations; where an enum's values do not rise, the square
+ * of the values.
  */
 uint32_t nyr_check_table(const uint8_t *table, size_t table_length, nyr_sections *sections);
 
@@ -305,8 +304,9 @@ typedef struct {
 enum {
     NYR_HEARD_STATUS = 1,      /* value: 0 DOWN, 1 UP; answered where its sender was DOWN and is UP.
                                 * Of a sender above 255 no state is kept: nothing is noted or owed */
-    NYR_HEARD_REQUEST = 2,     /* answered with our status */
-    NYR_HEARD_UNKNOWN = 3,     /* value: an ID that the sender does not know; nothing is owed */
+    NYR_HEARD_REQUEST = 2,     /* of our status: answered with it */
+    NYR_HEARD_UNKNOWN = 3,     /* value: an ID that the sender does not know; nothing is owed. A request of ours stays
+                                * pending: its number is the message's sequence number */
     NYR_HEARD_PULL_ALL = 4,    /* all versioned data is asked for: the caller sends it */
     NYR_HEARD_PULL_ONE = 5,    /* value: the ID that is asked for; number is given, and the caller sends it */
     NYR_HEARD_PULL_NONE = 6,   /* value: an ID that is no versioned data here; answered */
@@ -326,11 +326,11 @@ uint32_t nyr_start(uint8_t own, nyr_platform *platform);
 /*
  * Reads a message, notes in platform the state that it tells, and writes the replies that its sender is owed at the
  * start of output, one behind another, each of NYR_REPLY_BYTES. In domain 1 a message with the ID of an operation whose
- * requests we send is the response to the request that is pending under its sequence number, where that has its ID, and
- * its sender for a target; it is delivered, and the request's place, both words of it, is 0 again. What is no response
- * to anything pending, as the same once more, is 61. No other message changes what is pending.
- *   30 to 33 for the table; then 1 to 9 for the message; then 61; then 10 where the replies do not fit.
- * Stack 16384, of nyr_receive_in 4096; time: the logarithm of the operations, or where all data is pulled their number;
+ * requests we send is the response, where a request is pending under its sequence number, with that ID and with its
+ * sender for a target; then both words of the request's place are 0 again. Nothing else changes what is pending.
+ *   30 to 33 for the table; then 1 to 9 for the message; then 61 for an ID whose requests we send, and no response (as
+ *   the same response once more); then 10 where the replies do not fit.
+ * Stack 16384, nyr_receive_in 4096; time: the logarithm of the operations, or where all data is pulled their number;
  * and, but for _in, the table's check.
  */
 uint32_t nyr_receive(uint8_t own, nyr_platform *platform, const uint8_t *table, size_t table_length,
@@ -347,7 +347,8 @@ uint32_t nyr_is_up(uint8_t own, const nyr_platform *platform, uint32_t number);
 /* How many of the 256 are UP, this one counted.  Stack 256. */
 uint32_t nyr_how_many_up(uint8_t own, const nyr_platform *platform);
 
-/* ---- Requests: of operations that are NYR_REQUEST_SENT in our table. Up to 64 await their responses at a time. */
+/* ---- Requests: of operations that are NYR_REQUEST_SENT in our table. Up to 64 are pending at a time, each under a
+ * number of its own; where a state that no call has left has one number in two places, the first is meant. */
 
 typedef struct {
     uint64_t written;          /* the bytes of the request */
