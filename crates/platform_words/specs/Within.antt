@@ -7,13 +7,13 @@ use lib.ListN.{length}
 use Rattle.table.specs.declared.Sections.{Sections}
 use Rattle.operations.specs.declared.Sought.{Sought}
 use Rattle.operations.specs.declared.Sought.the-variants.{Nowhere}
+use Rattle.operations.specs.Entries.{sentKind, kindAt}
 use Rattle.operations.specs.Search.{soughtIn}
 use Rattle.pending.specs.Answers.{isResponse}
 use Rattle.message.specs.Header.{headerLength, platformDomain, domainIn, senderIn, idIn, payloadSizeIn, sequenceIn, headerIn}
 use Rattle.message.specs.Refusal.{readRefusal}
-use Rattle.platform.specs.declared.Noting.the-variants.{Response}
 use Rattle.platform.specs.declared.Received.{Received}
-use Rattle.platform.specs.Receiving.{refused, notAwaited, outcomeIn, outputIn, listIn}
+use Rattle.platform.specs.Receiving.{listAnswered, outcomeIn, outputIn, listIn}
 use Rattle.platform.specs.Noting.{numberGiven}
 use Rattle.platform_words.specs.Words.{standingIn, pendingIn}
 use Rattle.platform_words.specs.HeardWords.{heardAfter, platformAfter}
@@ -40,16 +40,18 @@ operationHeard own t s index m =
     cond (eqb (domainIn m) platformDomain) Nowhere
     (cond (eqb (readRefusal own m) 0) (soughtIn t index (s .operations .count) (idIn m)) Nowhere)
 
--- a message under the ID of a request that we send: whether it is the response to one that is pending, and what it comes to, i being
--- the number of the ID's entry
+-- 02, 1: whether a message under the ID of a request that we send is the response to one that is pending
 abbrev pub isAwaited : List ℕ → List ℕ → Bool
 isAwaited ws m = isResponse (pendingIn ws) (sequenceIn m) (idIn m) (senderIn m)
 
-abbrev pub answerWithin : List ℕ → List ℕ → ℕ → Received
-answerWithin ws m i =
-    cond (isAwaited ws m) (record { standing = standingIn ws; answer = Response (headerIn m) i headerLength (payloadSizeIn m) })
-    (refused (standingIn ws) notAwaited)
+-- what a message is told as whose operation's entry stands at q, 9 being a response, 7 an operation and 0 nothing; and the list of
+-- the requests that are pending afterwards
+abbrev pub kindHeard : List ℕ → List ℕ → ℕ → List ℕ → ℕ
+kindHeard ws t q m = cond (eqb (kindAt t q) sentKind) (cond (isAwaited ws m) 9 0) 7
 
--- the words of what was heard, from the message's bytes: an operation, or a response, as `kind` says; nothing is owed for either
+abbrev pub listHeard : List ℕ → List ℕ → ℕ → List ℕ → List ℕ
+listHeard ws t q m = cond (eqb (kindAt t q) sentKind) (listAnswered (pendingIn ws) (headerIn m)) (pendingIn ws)
+
+-- its words, from its bytes: nothing is owed for an operation or a response
 abbrev pub straightWords : ℕ → List ℕ → ℕ → List ℕ
 straightWords kind m i = kind ∷ idIn m ∷ senderIn m ∷ sequenceIn m ∷ i ∷ headerLength ∷ payloadSizeIn m ∷ 0 ∷ []

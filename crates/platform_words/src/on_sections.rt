@@ -6,12 +6,10 @@ ghost use Prim.Native.Nat.{_≤_};
 ghost use lib.ListN.{length, take};
 ghost use Rattle.message.specs.Header.{headerIn};
 ghost use Rattle.platform.specs.Receiving.{listIn, listAnswered};
-ghost use Rattle.platform.specs.Noting.{numberGiven};
 ghost use Rattle.platform_words.specs.SectionCalls.{receiveInNumber, receiveInWords, receiveInOutput, receiveInHeard};
 ghost use Rattle.platform_words.specs.Words.{standingLength, standingIn, pendingIn, standingWords};
-ghost use Rattle.platform_words.specs.HeardWords.{heardAfter, platformAfter};
 ghost use Rattle.platform_words.specs.Within.{outcomeWithin, numberWithin, wordsWithin, outputWithin, heardWithin};
-ghost use Rattle.platform_words.specs.Within.{operationHeard, isAwaited, answerWithin, straightWords};
+ghost use Rattle.platform_words.specs.Within.{operationHeard, isAwaited, kindHeard, listHeard, straightWords};
 use crate::heard_words;
 use crate::heard_words::HEARD_WORDS;
 use crate::standing_words;
@@ -24,6 +22,9 @@ use platform::Received;
 use table::BOUNDS_WORDS;
 use table::SECTIONS_WORDS;
 use table::Sections;
+
+// What a message is told as that no pending request asked for.
+const NOTHING: u64 = 0;
 
 // `on_table::receive` by the sections that a check gave: 30 where these do not lie in the table.
 pub fn receive_in(
@@ -88,10 +89,11 @@ fn received(
 {
     match operation_heard(own, table, s, index, message) {
         Sought::At(entry, place) => {
-            if operations::kind_at(table, place) == operations::REQUEST_SENT {
-                answer_heard(words, message, entry, heard)
+            let kind = kind_heard(words, table, place, message);
+            if kind == NOTHING {
+                platform::NOT_AWAITED
             } else {
-                tell_straight(words, message, heard_words::OPERATION, entry, heard);
+                tell_straight(words, message, kind, entry, heard);
                 0
             }
         }
@@ -149,29 +151,25 @@ fn operation_heard(own: Own, table: &[u8], s: Sections, index: &[u64], message: 
     }
 }
 
-// A message under the ID of a request that we send: the response to one that is pending, or 61 (02, 1).
-fn answer_heard(
-    words: &mut [u64],
-    message: &[u8],
-    entry: u16,
-    heard: &mut [u64; HEARD_WORDS],
-) -> u32
+// What a message of domain 1 is told as, by its operation's entry: under the ID of a request that we send it is the response to one
+// that is pending, which then is so no more, or nothing (02, 1). The platform's first words are still as they were.
+fn kind_heard(words: &mut [u64], table: &[u8], place: usize, message: &[u8]) -> u64
     requires { ⌜ standingLength ≤ length (now words) ⌝ }
-    ensures { λ r. ⌜ r ≡ numberGiven (answerWithin (now (words .entry)) (now (message .entry)) entry .answer) ⌝ }
+    ensures { λ r. ⌜ r ≡ kindHeard (now (words .entry)) (now (table .entry)) place (now (message .entry)) ⌝ }
     ensures { λ _. ⌜ now (words .exit)
-        ≡ platformAfter (answerWithin (now (words .entry)) (now (message .entry)) entry) (now (words .entry))
-        (listAnswered (pendingIn (now (words .entry))) (headerIn (now (message .entry)))) ⌝ }
-    ensures { λ _. ⌜ now (heard .exit) ≡ heardAfter (answerWithin (now (words .entry)) (now (message .entry)) entry) (now (heard .entry)) ⌝ }
+        ≡ take standingLength (now (words .entry)) ++ listHeard (now (words .entry)) (now (table .entry)) place (now (message .entry)) ⌝ }
 {
-    if take_response(words, message) {
-        tell_straight(words, message, heard_words::RESPONSE, entry, heard);
-        0
+    if operations::kind_at(table, place) == operations::REQUEST_SENT {
+        if take_response(words, message) {
+            heard_words::RESPONSE
+        } else {
+            NOTHING
+        }
     } else {
-        platform::NOT_AWAITED
+        heard_words::OPERATION
     }
 }
 
-// The platform's first words are still as they were.
 fn take_response(words: &mut [u64], message: &[u8]) -> bool
     requires { ⌜ standingLength ≤ length (now words) ⌝ }
     ensures { λ r. ⌜ r ≡ isAwaited (now (words .entry)) (now (message .entry)) ⌝ }
@@ -184,7 +182,8 @@ fn take_response(words: &mut [u64], message: &[u8]) -> bool
     pending::take_response(&mut words[PENDING_AT..], sequence, id, sender)
 }
 
-// What was heard, and the platform's words with the own number that they mean.
+// What was heard, and the platform's words with the own number that they mean. Called for both kinds at one place, so that the
+// compiler puts it there.
 fn tell_straight(
     words: &mut [u64],
     message: &[u8],

@@ -1,8 +1,7 @@
 -- `platform_words::received` meets its contract: straight from its bytes, or what is answered.
 -- Assumes nothing.
 use borrow.Author.Needs.{needs}
-use Rattle.platform_words.proofs.Straight.{answer-number, answer-words, answer-leaves, answer-told}
-use Rattle.platform_words.proofs.Straight.{straight-number, straight-words, straight-output, straight-heard}
+use Rattle.platform_words.proofs.Straight.{straight-output, refused-number, refused-words, refused-heard, straight-number, straight-words, straight-heard}
 use Rattle.platform_words.proofs.Straight.{answered-number, answered-words, answered-heard}
 use Rattle.platform_words.proofs.on_sections.received.Statement.{statement}
 use Rattle.platform_words.proofs.on_sections.received.Tie as tie
@@ -15,12 +14,11 @@ received-spec =
     (λ c. search needs)
     (λ c κs. search needs)
     (λ c κs. search needs)
-    (λ c κs. search needs)
     (λ c. search needs)
     (λ c κs. search needs)
     (λ c κs. search needs)
     (λ c. search needs)
-    (λ c. (search answer-number, (search answer-words, (search answer-leaves, search answer-told))))
+    (λ c. (search refused-number, (search refused-words, (search straight-output, search refused-heard))))
     (λ c. search needs)
     (λ c. (search straight-number, (search straight-words, (search straight-output, search straight-heard))))
     (λ c. search needs)
