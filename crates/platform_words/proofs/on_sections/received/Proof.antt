@@ -1,7 +1,8 @@
 -- `platform_words::received` meets its contract: straight from its bytes, or what is answered.
 -- Assumes nothing.
 use borrow.Author.Needs.{needs}
-use Rattle.platform_words.proofs.Straight.{straight-output, refused-number, refused-words, refused-heard, straight-number, straight-words, straight-heard}
+use Rattle.platform_words.proofs.Straight.{straight-number, straight-words, straight-output, straight-heard}
+use Rattle.platform_words.proofs.Straight.{refused-number, refused-words, refused-heard}
 use Rattle.platform_words.proofs.Straight.{answered-number, answered-words, answered-heard}
 use Rattle.platform_words.proofs.on_sections.received.Statement.{statement}
 use Rattle.platform_words.proofs.on_sections.received.Tie as tie
