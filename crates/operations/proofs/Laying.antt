@@ -1,6 +1,6 @@
 -- The index as it is laid, word by word, and what its words say.
 -- Assumes nothing.
-use Prim.Native.Nat.{ℕ, zero, suc, _+_, _*_, _≤_, _<_}
+use Prim.Native.Nat.{ℕ, zero, suc, _+_, _*_, _/_, _≤_, _<_}
 use mathlib.Core.Path.{_≡_, refl, sym, ap, _∙_}
 use mathlib.Core.Logic.{⊎-elim}
 use mathlib.Core.List.{List}
@@ -35,10 +35,10 @@ module _ (t : List ℕ) (first : ℕ) (words : List ℕ) where
   pub all-laid : (n i : ℕ) (u : List ℕ) → u ≡ indexed t first i words → i ≤ n → n ≤ i → u ≡ indexed t first n words
   all-laid n i u e a b = e ∙ ap (λ (k : ℕ). indexed t first k words) (omega arith)
 
-  pub one-laid : (i p d : ℕ) (u v : List ℕ) → p ≡ opPlace t first i → d ≡ number 2 t p → u ≡ indexed t first i words
-      → v ≡ set u i (d * half + p) → v ≡ indexed t first (i + 1) words
+  pub one-laid : (i p w : ℕ) (u v : List ℕ) → p ≡ opPlace t first i → w / half ≡ number 2 t p → u ≡ indexed t first i words
+      → v ≡ set u i (w / half * half + p) → v ≡ indexed t first (i + 1) words
   unfolding indexed indexWord idAt
-  one-laid i p d u v here is e f = rw (add-one i, f, e, is, here) refl
+  one-laid i p w u v here is e f = rw (add-one i, f, e, is, here) refl
 
   -- a word below n is the entry's, where there is room for it
   pub word-laid : (n i : ℕ) → i < n → i < length words → getD (indexed t first n words) i 0 ≡ indexWord t first i
@@ -61,9 +61,9 @@ module _ (t : List ℕ) (first : ℕ) (words : List ℕ) where
       getD-set-other (indexed t first n words) n i (indexWord t first n) 0 (λ (e : i ≡ n). omega arith) ∙ word-kept n i (omega arith)
 
 -- a word fits 64 bits
-pub word-fits : (t : List ℕ) (first i p n d : ℕ) → p ≡ opPlace t first i → first < 65536 → i < n → n < 65536 → d < 4294967296
-    → Fits w64 (d * 4294967296 + p)
-word-fits t first i p n d here low l few h = record { fits = omega (arith, place-fits t first i p here n low l few) }
+pub word-fits : (t : List ℕ) (first i p n w : ℕ) → p ≡ opPlace t first i → first < 65536 → i < n → n < 65536 → w < 18446744073709551616
+    → Fits w64 (w / half * half + p)
+word-fits t first i p n w here low l few h = record { fits = omega (arith, place-fits t first i p here n low l few) }
 
 -- the two halves of an entry's word
 module _ (t : List ℕ) (first : ℕ) (index : List ℕ) (i : ℕ) (is : getD index i 0 ≡ indexWord t first i) (low : opPlace t first i < half) where

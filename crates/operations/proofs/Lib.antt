@@ -1,4 +1,6 @@
 pub mod Places
+pub mod Heads
+pub mod Fields
 pub mod Passing
 pub mod Laying
 pub mod Halving

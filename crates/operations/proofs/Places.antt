@@ -14,7 +14,6 @@ use lib.ListN.{length}
 use mir.Syntax.{w64}
 use mir.Val.{Fits}
 use Rattle.wire.specs.Bytes.{number}
-use Rattle.wire.proofs.Numbers.{past}
 use Rattle.wire.proofs.Cond.{yes-if, no-if}
 use Rattle.operations.specs.declared.Operation.{Operation}
 use Rattle.operations.specs.Entries.{noType, wide, widthOf, kindAt, opWidth, opPlace, responseAt, operationAt}
@@ -39,28 +38,19 @@ module _ (k : ℕ) (b : Bool) (e : b ≡ wide k) where
     unfolding responseAt
     no-response h = sym (no-if (number 1 t p) noType (sym e ∙ h))
 
--- the fields of the entry at p
+most-wide : (k : ℕ) → widthOf k ≤ 10
+unfolding widthOf
+most-wide k = go (wide k)
+  where
+    go : (b : Bool) → cond b 10 8 ≤ 10
+    go true = omega arith
+    go false = omega arith
+
+-- the width of the entry at p
 module _ (t : List ℕ) (p : ℕ) where
-  pub kind-read : (r : ℕ) → r ≡ number 1 t (p + 4) → r ≡ kindAt t p
-  unfolding kindAt
-  kind-read r e = e
-
-  pub kind-past : length t ≤ p → 0 ≡ kindAt t p
-  unfolding kindAt
-  kind-past h = past 1 t (p + 4) (omega arith)
-
   pub width-read : (k r : ℕ) → k ≡ kindAt t p → r ≡ widthOf k → r ≡ opWidth t p
   unfolding opWidth
   width-read k r a b = b ∙ ap widthOf a
-
-  pub operation-read : (d k o s : ℕ) → k ≡ number 1 t (p + 4) → d ≡ number 2 t p → o ≡ number 1 t (p + 6) → s ≡ responseAt t (p + 8) k
-      → _≡_ {A = Operation} (record { id = d; kind = k; carries = o; responds = s }) (operationAt t p)
-  unfolding operationAt kindAt
-  operation-read d k o s a b e f = rw (f, b, e, a) refl
-
-  pub operation-past : length t ≤ p → _≡_ {A = Operation} (record { id = 0; kind = 0; carries = 0; responds = noType }) (operationAt t p)
-  unfolding responseAt
-  operation-past h = operation-read 0 0 0 noType (past 1 t (p + 4) (omega arith)) (past 2 t p h) (past 1 t (p + 6) (omega arith)) refl
 
   -- an entry is at least 8 bytes, and at most 10
   pub width-least : 8 ≤ opWidth t p
@@ -72,12 +62,8 @@ module _ (t : List ℕ) (p : ℕ) where
       go false = omega arith
 
   pub width-most : opWidth t p ≤ 10
-  unfolding opWidth widthOf
-  width-most = go (wide (kindAt t p))
-    where
-      go : (b : Bool) → cond b 10 8 ≤ 10
-      go true = omega arith
-      go false = omega arith
+  unfolding opWidth
+  width-most = most-wide (kindAt t p)
 
 module _ (t : List ℕ) (first : ℕ) where
   pub first-place : first ≡ opPlace t first 0
@@ -127,12 +113,8 @@ module _ (t : List ℕ) (first : ℕ) where
       pub step-fits : (w : ℕ) → w ≡ opWidth t p → Fits w64 (p + w)
       step-fits w e = record { fits = omega (arith, place-most i, width-most t p) }
 
-      pub step-by-kind : (k w : ℕ) → k ≡ kindAt t p → w ≡ widthOf k → Fits w64 (p + w)
-      step-by-kind k w a b = step-fits w (width-read t p k w a b)
-
-      pub step-by-entry : (o : Operation) (w : ℕ) → o ≡ operationAt t p → w ≡ widthOf (o .kind) → Fits w64 (p + w)
-      unfolding operationAt
-      step-by-entry o w a b = step-by-kind (o .kind) w (ap (λ (x : Operation). x .kind) a) b
+      pub step-by-kind : (k w : ℕ) → w ≡ widthOf k → Fits w64 (p + w)
+      step-by-kind k w e = record { fits = omega (arith, place-most i, most-wide k) }
 
 -- the place of an entry, counted from the one behind the first
 place-behind : (t : List ℕ) (first i : ℕ) → opPlace t first (suc i) ≡ opPlace t (first + opWidth t first) i

@@ -1,8 +1,11 @@
 // Where the operations stand, one behind the other, and what they say.
 use crate::Operation;
+use crate::REQUEST_SENT;
+use crate::REQUEST_SERVED;
 ghost use mathlib.Core.Path.{_≡_};
-ghost use Prim.Native.Nat.{_<_};
+ghost use Prim.Native.Nat.{_+_, _/_, _%_, _≤_};
 ghost use lib.ListN.{length};
+ghost use Rattle.wire.specs.Bytes.{number};
 ghost use Rattle.operations.specs.Entries.{wide, widthOf, opWidth, opPlace, kindAt, responseAt, operationAt};
 
 // The type number that stands for none.
@@ -31,26 +34,55 @@ pub fn end(table: &[u8], at: u16, count: u16) -> usize
 pub fn operation_at(table: &[u8], place: usize) -> Operation
     ensures { λ r. ⌜ r ≡ operationAt (now (table .entry)) place ⌝ }
 {
-    if place < table.len() {
-        started(table, place)
-    } else {
-        Operation {
-            id: 0,
-            kind: 0,
-            carries: 0,
-            responds: NO_TYPE,
-        }
+    let head = head_at(table, place);
+    let kind = kind_of(head);
+    Operation {
+        id: (head / 4294967296) as u32,
+        kind,
+        carries: (head % 65536) as u16,
+        responds: response_at(table, place, kind),
     }
 }
 
 pub fn kind_at(table: &[u8], place: usize) -> u16
     ensures { λ r. ⌜ r ≡ kindAt (now (table .entry)) place ⌝ }
 {
-    if place < table.len() {
-        wire::u16_at(table, place + 4)
+    kind_of(head_at(table, place))
+}
+
+// An entry's ID, kind and type as one number: one test of the bytes in place of three. `wire::u64_at` is too long for the compiler
+// to put where it is called: here only what is past the end is a call.
+pub(crate) fn head_at(table: &[u8], place: usize) -> u64
+    ensures id { λ r. ⌜ r / 4294967296 ≡ number 2 (now (table .entry)) place ⌝ }
+    ensures kind { λ r. ⌜ r / 65536 % 65536 ≡ kindAt (now (table .entry)) place ⌝ }
+    ensures carries { λ r. ⌜ r % 65536 ≡ number 1 (now (table .entry)) (place + 6) ⌝ }
+{
+    if wire::has_room(table.len(), place, 8) {
+        wire::whole_u64(table, place)
     } else {
-        0
+        wire::u64_at(table, place)
     }
+}
+
+// The ID and the kind of an entry whose first 8 bytes are there: each part has just the length that is read, so that no test is left.
+pub(crate) fn whole_id(table: &[u8], place: usize) -> u32
+    requires { ⌜ place + 8 ≤ length (now table) ⌝ }
+    ensures { λ r. ⌜ r ≡ number 2 (now (table .entry)) place ⌝ }
+{
+    wire::whole_u32(&table[place..place + 4], 0)
+}
+
+pub(crate) fn whole_kind(table: &[u8], place: usize) -> u16
+    requires { ⌜ place + 8 ≤ length (now table) ⌝ }
+    ensures { λ r. ⌜ r ≡ kindAt (now (table .entry)) place ⌝ }
+{
+    wire::whole_u16(&table[place + 4..place + 6], 0)
+}
+
+pub(crate) fn kind_of(head: u64) -> u16
+    ensures { λ r. ⌜ r ≡ head / 65536 % 65536 ⌝ }
+{
+    (head / 65536 % 65536) as u16
 }
 
 pub(crate) fn width_of(kind: u16) -> usize
@@ -60,32 +92,31 @@ pub(crate) fn width_of(kind: u16) -> usize
 }
 
 // A request, sent or served: its entry goes on with the type of the response.
-fn is_wide(kind: u16) -> bool
+pub(crate) fn is_wide(kind: u16) -> bool
     ensures { λ r. ⌜ r ≡ wide kind ⌝ }
 {
-    (kind == 2) | (kind == 3)
+    (kind == REQUEST_SENT) | (kind == REQUEST_SERVED)
 }
 
-// An entry that starts within the bytes: its fields' places are numbers of 64 bits.
-fn started(table: &[u8], place: usize) -> Operation
-    requires { ⌜ place < length (now table) ⌝ }
-    ensures { λ r. ⌜ r ≡ operationAt (now (table .entry)) place ⌝ }
+fn response_at(table: &[u8], place: usize, kind: u16) -> u16
+    ensures { λ r. ⌜ r ≡ responseAt (now (table .entry)) (place + 8) kind ⌝ }
 {
-    let kind = wire::u16_at(table, place + 4);
-    Operation {
-        id: wire::u32_at(table, place),
-        kind,
-        carries: wire::u16_at(table, place + 6),
-        responds: response_at(table, place + 8, kind),
+    if is_wide(kind) {
+        behind_head(table, place)
+    } else {
+        NO_TYPE
     }
 }
 
-fn response_at(table: &[u8], behind: usize, kind: u16) -> u16
-    ensures { λ r. ⌜ r ≡ responseAt (now (table .entry)) behind kind ⌝ }
+// The number behind the first 8 bytes; past the end its place may be no number of 64 bits.
+fn behind_head(table: &[u8], place: usize) -> u16
+    ensures { λ r. ⌜ r ≡ number 1 (now (table .entry)) (place + 8) ⌝ }
 {
-    if is_wide(kind) {
-        wire::u16_at(table, behind)
+    if wire::has_room(table.len(), place, 10) {
+        wire::whole_u16(&table[place + 8..place + 10], 0)
+    } else if place < table.len() {
+        wire::u16_at(table, place + 8)
     } else {
-        NO_TYPE
+        0
     }
 }

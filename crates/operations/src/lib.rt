@@ -15,6 +15,15 @@ pub use lookup::find;
 pub use rules::are_good;
 pub use rules::has_data;
 
+// Kinds of operations: those of 01, "The type table", and the requests of 02, 1, that we send and that we serve.
+pub const EVENT: u16 = 0;
+
+pub const VERSIONED_DATA: u16 = 1;
+
+pub const REQUEST_SENT: u16 = 2;
+
+pub const REQUEST_SERVED: u16 = 3;
+
 // An operation's entry; `carries` is its type and `responds` the type of its response, or 0xFFFF for
 // none.
 pub struct Operation {

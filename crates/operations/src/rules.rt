@@ -1,9 +1,14 @@
 // The rules of the operations (01, "The type table"; 02, 1), number 32, and whether one is versioned data. Each goes from entry to
 // entry by its place, and never from the first one again.
+use crate::EVENT;
 use crate::Operation;
+use crate::VERSIONED_DATA;
 use crate::entries;
 ghost use mathlib.Core.Path.{_≡_};
-ghost use Rattle.operations.specs.Rules.{fieldsOk, operationsOk, hasData};
+ghost use Rattle.operations.specs.Rules.{typeOrNone, fieldsOk, operationsOk, hasData};
+
+// No operation has the ID that pulls all.
+const NO_ID: u32 = 0xFFFF_FFFF;
 
 // Every operation keeps its rule, in a table of so many types.
 pub fn are_good(table: &[u8], at: u16, count: u16, types: u16) -> bool
@@ -36,7 +41,7 @@ pub fn has_data(table: &[u8], at: u16, count: u16) -> bool
     let mut i: u16 = 0;
     while i < count {
         let kind = entries::kind_at(table, place);
-        if kind == 1 {
+        if kind == VERSIONED_DATA {
             return true;
         }
         place += entries::width_of(kind);
@@ -45,12 +50,36 @@ pub fn has_data(table: &[u8], at: u16, count: u16) -> bool
     false
 }
 
+// By the kind, since one kind's tests are enough.
 fn fields_ok(types: u16, o: Operation) -> bool
     ensures { λ r. ⌜ r ≡ fieldsOk types o ⌝ }
 {
-    (o.id < 0xFFFF_FFFF)
-        & ((((o.kind <= 1) & (o.carries < types)) | ((o.kind == 0) & (o.carries == 0xFFFF)))
-            | (((o.kind == 2) | (o.kind == 3))
-                & (((o.carries < types) | (o.carries == 0xFFFF))
-                    & ((o.responds < types) | (o.responds == 0xFFFF)))))
+    if NO_ID <= o.id {
+        return false;
+    }
+    if o.kind <= VERSIONED_DATA {
+        if o.carries < types {
+            true
+        } else {
+            (o.kind == EVENT) & (o.carries == entries::NO_TYPE)
+        }
+    } else if entries::is_wide(o.kind) {
+        if type_or_none(types, o.carries) {
+            type_or_none(types, o.responds)
+        } else {
+            false
+        }
+    } else {
+        false
+    }
+}
+
+fn type_or_none(types: u16, number: u16) -> bool
+    ensures { λ r. ⌜ r ≡ typeOrNone types number ⌝ }
+{
+    if number < types {
+        true
+    } else {
+        number == entries::NO_TYPE
+    }
 }

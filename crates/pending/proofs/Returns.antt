@@ -1,12 +1,12 @@
 -- What the functions of `pending` come to at their returns.
 -- Assumes nothing.
-use Prim.Native.Nat.{ℕ, suc, _+_, _-_, _≤_, _<_}
-use mathlib.Core.Path.{_≡_, refl, sym, ap, ap₂, _∙_}
+use Prim.Native.Nat.{ℕ, suc, _+_, _-_, _%_, _≤_, _<_}
+use mathlib.Core.Path.{_≡_, refl, sym, ap, ap₂, subst, _∙_}
 use mathlib.Core.Bool.{Bool, true, false, cond, _&&_, _||_}
 use mathlib.Core.List.{List}
 use native.Mathlib.Omega.{arith}
-use borrow.Author.Tests.{eq-eqb, ne-eqb}
-use lib.Dec.{eqb}
+use borrow.Author.Tests.{eq-eqb, ne-eqb, leb-true}
+use lib.Dec.{eqb, leb}
 use lib.ListN.{length, set}
 use lib.Seq.{set-out}
 use Rattle.wire.proofs.Cond.{yes-lt, no-lt, yes-eq, no-eq, yes-if, no-if}
@@ -50,6 +50,19 @@ module _ (l : List ℕ) where
   none-bears n k a b left =
       let e : 64 - k ≡ 0 = omega arith in
       sym (ap (λ (m : ℕ). bearing l n m k) e) ∙ left
+
+  -- d places further
+  module _ (n k d x : ℕ) (h : k + d < 64) (p : x ≡ numberAt l (k + d)) (left : bearing l n (64 - (k + d)) (k + d) ≡ firstBearing l n) where
+    pub next-bears-another : (x ≡ n → ⊥) → bearing l n (64 - (k + (d + 1))) (k + (d + 1)) ≡ firstBearing l n
+    next-bears-another e =
+        let q : k + d + 1 ≡ k + (d + 1) = omega arith in
+        subst (λ (j : ℕ). bearing l n (64 - j) j ≡ firstBearing l n) q (bears-another n (k + d) h x p left e)
+
+  -- a list that has all its places
+  pub in-whole : (k : ℕ) (w : Bool) → w ≡ leb 64 (length l) → w ≡ true → k < 64 → k < length l
+  in-whole k w e t h =
+      let g : 64 ≤ length l = leb-true 64 (length l) (sym e ∙ t) in
+      omega arith
 
   -- the same where only whether one bears it is asked
   or-at : (k : ℕ) (s : Slot) (a b : Bool) → ((a || b) || isAt s) ≡ (a || isAt (cond b (At k) s))

@@ -3,7 +3,8 @@
 // there reads as 0, and a write outside does nothing.
 ghost use mathlib.Core.Path.{_≡_};
 ghost use Prim.Native.Nat.{_<_};
-ghost use lib.ListN.{set};
+ghost use lib.Dec.{leb};
+ghost use lib.ListN.{length, set};
 ghost use Rattle.pending.specs.Places.{places, numberAt, pendingIdAt, targetAt, firstBearing, placeOf, freePlace, placed, entered, cleared};
 ghost use Rattle.pending.specs.Free.{drawn, isAt, isPending, blocked, nextFree};
 ghost use Rattle.pending.specs.Answers.{awaitedOf, cancelled, bears, isResponse, responded};
@@ -154,18 +155,42 @@ fn is_borne(list: &[u64], number: u32) -> bool
     found
 }
 
-// The first place with this number, 0 too.
+// The first place with this number, 0 too. Whether the list has all its places is tested once; and with four places a turn the
+// compiler leaves this a function of its own.
 fn first_bearing(list: &[u64], number: u32) -> Slot
     ensures { λ r. ⌜ r ≡ firstBearing (now (list .entry)) number ⌝ }
 {
+    let whole = PLACES <= list.len();
     let mut k: usize = 0;
     while k < PLACES {
-        if number_at(list, k) == number {
+        if number_in(list, k, whole) == number {
             return Slot::At(k);
         }
-        k += 1;
+        if number_in(list, k + 1, whole) == number {
+            return Slot::At(k + 1);
+        }
+        if number_in(list, k + 2, whole) == number {
+            return Slot::At(k + 2);
+        }
+        if number_in(list, k + 3, whole) == number {
+            return Slot::At(k + 3);
+        }
+        k += 4;
     }
     Slot::Nowhere
+}
+
+// A place's number, where it is known whether the list has all its places.
+fn number_in(list: &[u64], k: usize, whole: bool) -> u32
+    requires { ⌜ whole ≡ leb places (length (now list)) ⌝ }
+    requires { ⌜ k < places ⌝ }
+    ensures { λ r. ⌜ r ≡ numberAt (now (list .entry)) k ⌝ }
+{
+    if whole {
+        (list[k] / NUMBER) as u32
+    } else {
+        number_at(list, k)
+    }
 }
 
 fn number_at(list: &[u64], k: usize) -> u32

@@ -8,11 +8,8 @@ use operations::Sought;
 ghost use mathlib.Core.Path.{_≡_};
 ghost use Rattle.platform.specs.Receiving.{isSent, isAnswer, entryOf, delivered, responseTo, listAnswered};
 
-// The kind of an operation whose requests we send.
-const SENT_KIND: u16 = 2;
-
 // The number of a message that no pending request asked for.
-const NOT_AWAITED: u32 = 61;
+pub const NOT_AWAITED: u32 = 61;
 
 pub(crate) fn is_answer(table: &[u8], found: Sought, message: Message) -> bool
     ensures { λ r. ⌜ r ≡ isAnswer (now (table .entry)) found message ⌝ }
@@ -46,7 +43,7 @@ fn is_sent(table: &[u8], found: Sought) -> bool
     ensures { λ r. ⌜ r ≡ isSent (now (table .entry)) found ⌝ }
 {
     match found {
-        Sought::At(_, place) => operations::kind_at(table, place) == SENT_KIND,
+        Sought::At(_, place) => operations::kind_at(table, place) == operations::REQUEST_SENT,
         Sought::Nowhere => false,
     }
 }

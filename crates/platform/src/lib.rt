@@ -7,6 +7,7 @@ mod reacting;
 mod reactions;
 mod replies;
 
+pub use answering::NOT_AWAITED;
 pub use reactions::Heard;
 pub use reactions::Owed;
 pub use reactions::REPLY_LENGTH;

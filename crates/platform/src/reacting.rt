@@ -17,9 +17,6 @@ ghost use Rattle.platform.specs.Reaction.{operationFor, operationIn, isD
 ghost use Rattle.platform.specs.Reaction.{cameUp, onState, onStatus, notVersioned, onPullAll, onPullOne, onPull, onOperation};
 ghost use Rattle.platform.specs.Reaction.{reactionTo};
 
-// The kind of an operation that is versioned data.
-const DATA_KIND: u16 = 1;
-
 // The operation that the message asks for, if it asks for one.
 pub(crate) fn look_up(table: &[u8], s: Sections, index: &[u64], reading: Reading) -> Sought
     ensures { λ r. ⌜ r ≡ operationIn (now (table .entry)) s (now (index .entry)) reading ⌝ }
@@ -217,7 +214,7 @@ fn not_versioned(standing: Standing, number: u32, id: u32) -> Reaction
 fn is_data(table: &[u8], place: usize) -> bool
     ensures { λ r. ⌜ r ≡ isData (now (table .entry)) place ⌝ }
 {
-    operations::kind_at(table, place) == DATA_KIND
+    operations::kind_at(table, place) == operations::VERSIONED_DATA
 }
 
 fn silent(standing: Standing, heard: Heard) -> Reaction

@@ -4,6 +4,7 @@ mod Telling
 mod Calling
 mod OnSections
 mod Straight
+mod Answering
 mod Asking
 mod Freeing
 pub mod Kept

@@ -4,11 +4,12 @@ ghost use mathlib.Core.Path.{_≡_};
 ghost use mathlib.Core.List.{_++_};
 ghost use Prim.Native.Nat.{_≤_};
 ghost use lib.ListN.{length, take};
-ghost use Rattle.platform.specs.Receiving.{listIn};
+ghost use Rattle.message.specs.Header.{headerIn};
+ghost use Rattle.platform.specs.Receiving.{listIn, listAnswered};
 ghost use Rattle.platform_words.specs.SectionCalls.{receiveInNumber, receiveInWords, receiveInOutput, receiveInHeard};
-ghost use Rattle.platform_words.specs.Words.{standingLength, pendingIn};
+ghost use Rattle.platform_words.specs.Words.{standingLength, standingIn, pendingIn, standingWords};
 ghost use Rattle.platform_words.specs.Within.{outcomeWithin, numberWithin, wordsWithin, outputWithin, heardWithin};
-ghost use Rattle.platform_words.specs.Within.{unlessSent, operationHeard, operationWords};
+ghost use Rattle.platform_words.specs.Within.{operationHeard, isAwaited, kindHeard, listHeard, straightWords};
 use crate::heard_words;
 use crate::heard_words::HEARD_WORDS;
 use crate::standing_words;
@@ -21,6 +22,9 @@ use platform::Received;
 use table::BOUNDS_WORDS;
 use table::SECTIONS_WORDS;
 use table::Sections;
+
+// What a message is told as that no pending request asked for.
+const NOTHING: u64 = 0;
 
 // `on_table::receive` by the sections that a check gave: 30 where these do not lie in the table.
 pub fn receive_in(
@@ -60,7 +64,8 @@ pub fn receive_in(
     }
 }
 
-// An operation of the table, which comes most often, is told straight from its bytes; all else as `platform` answers it.
+// A message under the ID of an operation of the table, which comes most often, is told straight from its bytes; all else as
+// `platform` answers it.
 fn received(
     own: Own,
     words: &mut [u64],
@@ -83,11 +88,14 @@ fn received(
         (now (heard .entry)) ⌝ }
 {
     match operation_heard(own, table, s, index, message) {
-        Sought::At(entry, _) => {
-            let standing = standing_words::standing_in(words);
-            standing_words::put_standing(words, standing);
-            put_operation(heard, message, entry);
-            0
+        Sought::At(entry, place) => {
+            let kind = kind_heard(words, table, place, message);
+            if kind == NOTHING {
+                platform::NOT_AWAITED
+            } else {
+                tell_straight(words, message, kind, entry, heard);
+                0
+            }
         }
         Sought::Nowhere => {
             let outcome = taken(own, words, table, s, index, message, out);
@@ -128,7 +136,7 @@ fn taken(
     )
 }
 
-// The operation of the table that the message is, where nothing refuses it; but none whose requests we send.
+// The operation of the table that the message is, where nothing refuses it.
 fn operation_heard(own: Own, table: &[u8], s: Sections, index: &[u64], message: &[u8]) -> Sought
     ensures { λ r. ⌜ r ≡ operationHeard (own .platform) (now (table .entry)) s (now (index .entry)) (now (message .entry)) ⌝ }
 {
@@ -137,35 +145,66 @@ fn operation_heard(own: Own, table: &[u8], s: Sections, index: &[u64], message: 
     }
     if message::read_refusal(own, message) == 0 {
         let id = wire::u32_at(message, Header::ID_AT);
-        unless_sent(
-            table,
-            operations::find(table, index, s.operations.count, id),
-        )
+        operations::find(table, index, s.operations.count, id)
     } else {
         Sought::Nowhere
     }
 }
 
-fn unless_sent(table: &[u8], found: Sought) -> Sought
-    ensures { λ r. ⌜ r ≡ unlessSent (now (table .entry)) found ⌝ }
+// What a message of domain 1 is told as, by its operation's entry: under the ID of a request that we send it is the response to one
+// that is pending, which then is so no more, or nothing (02, 1). The platform's first words are still as they were.
+fn kind_heard(words: &mut [u64], table: &[u8], place: usize, message: &[u8]) -> u64
+    requires { ⌜ standingLength ≤ length (now words) ⌝ }
+    ensures { λ r. ⌜ r ≡ kindHeard (now (words .entry)) (now (table .entry)) place (now (message .entry)) ⌝ }
+    ensures { λ _. ⌜ now (words .exit)
+        ≡ take standingLength (now (words .entry)) ++ listHeard (now (words .entry)) (now (table .entry)) place (now (message .entry)) ⌝ }
 {
-    match found {
-        Sought::At(entry, place) => {
-            if operations::kind_at(table, place) == requests::REQUEST_KIND {
-                Sought::Nowhere
-            } else {
-                Sought::At(entry, place)
-            }
+    if operations::kind_at(table, place) == operations::REQUEST_SENT {
+        if take_response(words, message) {
+            heard_words::RESPONSE
+        } else {
+            NOTHING
         }
-        Sought::Nowhere => Sought::Nowhere,
+    } else {
+        heard_words::OPERATION
     }
 }
 
-fn put_operation(words: &mut [u64; HEARD_WORDS], message: &[u8], entry: u16)
-    ensures { λ _. ⌜ now (words .exit) ≡ operationWords (now (message .entry)) entry ⌝ }
+fn take_response(words: &mut [u64], message: &[u8]) -> bool
+    requires { ⌜ standingLength ≤ length (now words) ⌝ }
+    ensures { λ r. ⌜ r ≡ isAwaited (now (words .entry)) (now (message .entry)) ⌝ }
+    ensures { λ _. ⌜ now (words .exit)
+        ≡ take standingLength (now (words .entry)) ++ listAnswered (pendingIn (now (words .entry))) (headerIn (now (message .entry))) ⌝ }
+{
+    let sequence = wire::u32_at(message, Header::SEQUENCE_AT);
+    let id = wire::u32_at(message, Header::ID_AT);
+    let sender = wire::u32_at(message, Header::PLATFORM_AT);
+    pending::take_response(&mut words[PENDING_AT..], sequence, id, sender)
+}
+
+// What was heard, and the platform's words with the own number that they mean. Called for both kinds at one place, so that the
+// compiler puts it there.
+fn tell_straight(
+    words: &mut [u64],
+    message: &[u8],
+    kind: u64,
+    entry: u16,
+    heard: &mut [u64; HEARD_WORDS],
+)
+    requires { ⌜ standingLength ≤ length (now words) ⌝ }
+    ensures { λ _. ⌜ now (words .exit) ≡ standingWords (standingIn (now (words .entry))) ++ pendingIn (now (words .entry)) ⌝ }
+    ensures { λ _. ⌜ now (heard .exit) ≡ straightWords kind (now (message .entry)) entry ⌝ }
+{
+    let standing = standing_words::standing_in(words);
+    standing_words::put_standing(words, standing);
+    put_straight(heard, message, kind, entry);
+}
+
+fn put_straight(words: &mut [u64; HEARD_WORDS], message: &[u8], kind: u64, entry: u16)
+    ensures { λ _. ⌜ now (words .exit) ≡ straightWords kind (now (message .entry)) entry ⌝ }
 {
     *words = [
-        heard_words::OPERATION,
+        kind,
         wire::u32_at(message, Header::ID_AT) as u64,
         wire::u32_at(message, Header::PLATFORM_AT) as u64,
         wire::u32_at(message, Header::SEQUENCE_AT) as u64,

@@ -18,9 +18,6 @@ use table::SECTIONS_WORDS;
 // How many words say what was sent.
 pub const SENT_WORDS: usize = 2;
 
-// The kind that stands for an ID that is not in the table: an event, and no request.
-const NO_KIND: u16 = 0;
-
 // Sends a request of this platform to platform `target`: 30 where the sections do not lie in the table, 62, 60, 5, 10, or 0 and how
 // many bytes were written at the output's start, and the request's number.
 pub fn send(
@@ -64,12 +61,13 @@ pub fn send(
     }
 }
 
+// An ID that is not in the table counts as an event's, which is no request's.
 fn kind_found(table: &[u8], found: Sought) -> u16
     ensures { λ r. ⌜ r ≡ kindFound (now (table .entry)) found ⌝ }
 {
     match found {
         Sought::At(_, place) => operations::kind_at(table, place),
-        Sought::Nowhere => NO_KIND,
+        Sought::Nowhere => operations::EVENT,
     }
 }
 

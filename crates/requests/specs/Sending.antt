@@ -8,6 +8,7 @@ use Rattle.wire.specs.Bytes.{over}
 use Rattle.message.specs.Header.{headerLength}
 use Rattle.message.specs.Refusal.{writeRefusal}
 use Rattle.message.specs.Writing.{messageBytes, outputAfter}
+use Rattle.operations.specs.Entries.{sentKind}
 use Rattle.pending.specs.declared.Slot.{Slot}
 use Rattle.pending.specs.declared.Slot.the-variants.{At, Nowhere}
 use Rattle.pending.specs.Places.{freePlace, entered, enteredAt}
@@ -15,10 +16,6 @@ use Rattle.pending.specs.Free.{drawn, nextFree}
 use Rattle.requests.specs.declared.Sending.{Sending}
 use Rattle.requests.specs.declared.Sent.{Sent}
 use Rattle.requests.specs.declared.Sent.the-variants.{Refused, Under}
-
--- "kinds 2 (we send the request)"
-abbrev pub requestKind : ℕ
-requestKind = 2
 
 -- 000, Table 2: the domain of an operation's message
 abbrev pub operationDomain : ℕ
@@ -37,7 +34,7 @@ unlessFull Nowhere n = listFull
 -- "Sending under an ID that isn't kind 2 is 62, checked first, 60 next, then 01's writing numbers": the number that refuses, or 0
 abbrev pub sendRefusal : List ℕ → ℕ → ℕ → List ℕ → ℕ → ℕ
 sendRefusal l kind id payload room =
-    cond (not (eqb kind requestKind)) noRequest
+    cond (not (eqb kind sentKind)) noRequest
     (unlessFull (freePlace l) (writeRefusal operationDomain id payload room))
 
 abbrev pub refusedWith : ℕ → ℕ → Sending

@@ -6,6 +6,7 @@ ghost use Rattle.requests.specs.Sending.{sentOf, listSent, outputSent, r
 use message::Header;
 use message::Own;
 use message::Writing;
+use operations::REQUEST_SENT;
 use pending::Slot;
 
 // What became of a request: the number that refuses it, or its own number and how many bytes were written.
@@ -19,9 +20,6 @@ pub struct Sending {
     pub next: u32,
     pub answer: Sent,
 }
-
-// The kind of the operations whose requests we send.
-pub const REQUEST_KIND: u16 = 2;
 
 // 02, request 1.
 pub const LIST_FULL: u32 = 60;
@@ -43,7 +41,7 @@ pub fn send(
     ensures list { λ r. ⌜ now (list .exit) ≡ listSent next (now (list .entry)) kind id target (now (payload .entry)) (length (now (out .entry))) ⌝ }
     ensures output { λ r. ⌜ now (out .exit) ≡ outputSent (own .platform) next (now (list .entry)) kind id (now (payload .entry)) (now (out .entry)) ⌝ }
 {
-    if kind == REQUEST_KIND {
+    if kind == REQUEST_SENT {
         match pending::free_place(list) {
             Slot::At(place) => send_at(own, next, list, place, id, target, payload, out),
             Slot::Nowhere => refused(next, LIST_FULL),

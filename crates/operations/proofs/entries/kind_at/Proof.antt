@@ -1,7 +1,7 @@
--- `operations::entries::kind_at` meets its contract: the kind, and past the end 0.
+-- `operations::entries::kind_at` meets its contract: the kind that the head says.
 -- Assumes nothing.
 use borrow.Author.Needs.{needs}
-use Rattle.operations.proofs.Places.{kind-read, kind-past}
+use Rattle.operations.proofs.Heads.{kind-read}
 use Rattle.operations.proofs.entries.kind_at.Statement.{statement}
 use Rattle.operations.proofs.entries.kind_at.Tie as tie
 
@@ -9,7 +9,6 @@ pub kind-at-spec : {M : Type 1} → statement M
 kind-at-spec =
     tie.close
     (tie.spec
-    (λ c. search needs)
     (λ c κs. search needs)
-    (λ c. search kind-read)
-    (λ c. search kind-past))
+    (λ c κs. search needs)
+    (λ c. search kind-read))

@@ -5,7 +5,8 @@ use Prim.Native.Nat.{_-_, _≤_}
 use mathlib.Core.Path.{_≡_}
 use Rattle.operations.specs.Entries.{opPlace}
 use Rattle.operations.specs.Search.{indexed}
-use Rattle.operations.proofs.Places.{first-place, next-place, step-fits}
+use Rattle.operations.proofs.Places.{first-place, step-by-kind}
+use Rattle.operations.proofs.Heads.{next-by-head}
 use Rattle.operations.proofs.Laying.{none-laid, laid-length, one-laid, all-laid, word-fits}
 use Rattle.operations.proofs.index.lay_index.Statement.{statement}
 use Rattle.operations.proofs.index.lay_index.Tie as tie
@@ -25,14 +26,14 @@ lay-index-spec =
     (λ c. (search needs, (search none-laid, search first-place)))
     (λ c κs. search needs)
     (λ c. search needs)
-    (λ c. search needs)
     (λ c. search word-fits)
     (λ c. search needs)
     (λ c κs. search needs)
     (λ c κs. search needs)
-    (λ c. search step-fits)
+    (λ c κs. search needs)
+    (λ c. search step-by-kind)
     (λ c. search needs)
     (λ c. search needs)
-    (λ c. (search needs, (search one-laid, search next-place)))
+    (λ c. (search needs, (search one-laid, search next-by-head)))
     (λ c. search laid-length)
     (λ c. search all-laid))

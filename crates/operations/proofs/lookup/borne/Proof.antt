@@ -1,7 +1,8 @@
 -- `operations::lookup::borne` meets its contract: the bytes are there and bear the ID, or not.
 -- Assumes nothing.
 use borrow.Author.Needs.{needs}
-use Rattle.operations.proofs.Halving.{is-borne, not-borne}
+use Rattle.wire.proofs.Runs.{held}
+use Rattle.operations.proofs.Halving.{too-short, is-borne, not-borne}
 use Rattle.operations.proofs.lookup.borne.Statement.{statement}
 use Rattle.operations.proofs.lookup.borne.Tie as tie
 
@@ -10,7 +11,10 @@ borne-spec =
     tie.close
     (tie.spec
     (λ c κs. search needs)
+    (λ c κs. search held)
     (λ c κs. search needs)
     (λ c κs. search needs)
+    (λ c κs. search held)
     (λ c. search is-borne)
-    (λ c. search not-borne))
+    (λ c. search not-borne)
+    (λ c. search too-short))

@@ -8,7 +8,7 @@ use Rattle.wire.specs.All.{allBelow}
 use Rattle.operations.specs.Entries.{opPlace, idAt}
 use Rattle.operations.specs.Rules.{operationOk}
 use Rattle.wire.proofs.Rising.{Carried}
-use Rattle.operations.proofs.Places.{first-place, next-by-entry, step-by-entry}
+use Rattle.operations.proofs.Places.{first-place, next-by-entry, step-by-kind}
 use Rattle.operations.proofs.Passing.{none-judged, no-id-yet, all-judged, operation-next, id-next, bad-operation, falls}
 use Rattle.operations.proofs.rules.are_good.Statement.{statement}
 use Rattle.operations.proofs.rules.are_good.Tie as tie
@@ -30,7 +30,7 @@ are-good-spec =
     (λ c κs. search needs)
     (λ c κs. search needs)
     (λ c κs. search needs)
-    (λ c. search step-by-entry)
+    (λ c. search step-by-kind)
     (λ c. search needs)
     (λ c. search needs)
     (λ c. (search needs, (search operation-next, (search id-next, search next-by-entry))))

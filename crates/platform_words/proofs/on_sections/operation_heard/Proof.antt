@@ -14,6 +14,5 @@ operation-heard-spec =
     (λ c κs. search needs)
     (λ c κs. search needs)
     (λ c κs. search needs)
-    (λ c κs. search needs)
     (λ c. search was-read)
     (λ c. search unread))
