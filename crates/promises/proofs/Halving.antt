@@ -62,15 +62,13 @@ halving =
       on-accepted = lookups;
       finds = λ s words i k a n e p ok c h q.
           let t = now (a .0) in
-          let l = lookups .looks-up t s words (a .1 .1 .0) ok (c .1) in
-          (
+          let l = lookups .looks-up t s words (a .1 .1 .0) ok (c .1) in (
             finds-number t s words (now (a .1 .0)) (a .1 .1 .0) ok c n (p .0),
             finds-answer t s words (now (a .1 .0)) (a .1 .1 .0) ok c _ _ (At i (operationPlace t s i)) (p .1) (l .each i h q) ∙ entry-told t s i,
           );
       finds-none = λ s words k a n e p ok c h.
           let t = now (a .0) in
-          let l = lookups .looks-up t s words (a .1 .1 .0) ok (c .1) in
-          (
+          let l = lookups .looks-up t s words (a .1 .1 .0) ok (c .1) in (
             finds-number t s words (now (a .1 .0)) (a .1 .1 .0) ok c n (p .0),
             finds-answer t s words (now (a .1 .0)) (a .1 .1 .0) ok c _ _ Nowhere (p .1) (l .none .1 h),
           );
