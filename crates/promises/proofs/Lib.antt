@@ -37,6 +37,7 @@ pub mod Unique
 pub mod UniqueCalls
 pub mod UniqueRequests
 pub mod UniquePlatforms
+pub mod Halving
 pub mod Requests
 mod RequestTables
 mod RequestReceipts

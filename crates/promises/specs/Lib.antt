@@ -25,6 +25,7 @@ pub mod Unique
 pub mod UniqueCalls
 pub mod UniqueRequests
 pub mod UniquePlatforms
+pub mod Halving
 pub mod Requests
 pub mod RequestCalls
 pub mod RequestRuns
