@@ -52,13 +52,12 @@ static void send_reply(unsigned to, const uint8_t *reply, size_t length)
     counter = (uint16_t)(counter + pieces);
 }
 
-/* Unpacks an operation's payload by the type that the table gives it, and prints its words. */
+/* Unpacks an operation's payload by the type that the table gives it, and prints its words, or where it is refused. */
 static void unpack(uint32_t id, const uint8_t *payload, size_t length)
 {
     nyr_operation operation;
-    size_t given;
-    uint32_t number = nyr_find(table, table_length, &sections, id, &operation);
-    if (number != NYR_OK || !operation.found)
+    nyr_walked walked;
+    if (nyr_find(table, table_length, &sections, id, &operation) != NYR_OK || !operation.found)
         return;
     if (operation.carries == NYR_NO_PAYLOAD) {
         puts("  no payload");
@@ -68,14 +67,15 @@ static void unpack(uint32_t id, const uint8_t *payload, size_t length)
         puts("  not published yet");
         return;
     }
-    number = nyr_unpack_in(table, table_length, &sections, (uint16_t)operation.carries, payload, length, words,
-                           MOST_WORDS, &given);
-    if (number != NYR_OK) {
-        printf("  payload refused %" PRIu32 "\n", number);
-        return;
-    }
-    printf("  words");
-    for (size_t i = 0; i < given; i++)
+    uint32_t number = nyr_unpack_in(table, table_length, &sections, (uint16_t)operation.carries, payload, length, words,
+                                    MOST_WORDS, &walked);
+    if (number == NYR_OK)
+        printf("  words");
+    else
+        printf("  payload refused %" PRIu32, number);
+    if (NYR_INPUT_SHORT <= number && number <= NYR_ARRAY_COUNT)
+        printf(" at byte %" PRIu64 ", after %" PRIu64 " leaves", walked.at, walked.leaves);
+    for (size_t i = 0; number == NYR_OK && i < walked.given; i++)
         printf(" %" PRIX64, words[i]);
     putchar('\n');
 }

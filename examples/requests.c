@@ -72,14 +72,15 @@ static uint32_t ask(Platform *platform, uint32_t target, uint64_t track, nyr_sen
 {
     nyr_operation operation;
     uint8_t payload[MOST_BYTES];
-    size_t length;
+    nyr_walked packed;
     uint32_t number = nyr_find(platform->table, platform->table_length, &platform->sections, RANGE, &operation);
     if (number == NYR_OK)
         number = nyr_pack(platform->table, platform->table_length, (uint16_t)operation.carries, &track, 1, payload,
-                          sizeof payload, &length);
+                          sizeof payload, &packed);
     if (number == NYR_OK)
         number = nyr_send(platform->own, &platform->state, platform->table, platform->table_length,
-                          &platform->sections, RANGE, target, payload, length, sending, sizeof sending, sent);
+                          &platform->sections, RANGE, target, payload, (size_t)packed.given, sending, sizeof sending,
+                          sent);
     if (number == NYR_OK)
         sending_length = (size_t)sent->written;
     return number;
@@ -101,13 +102,13 @@ static uint32_t ask_for(Platform *platform, uint32_t target, uint64_t track)
 static size_t unpack(const Platform *platform, uint64_t type, const uint8_t *message, const nyr_heard *heard,
                      uint64_t *words)
 {
-    size_t given;
+    nyr_walked walked;
     return refused(platform, "unpacks",
                    nyr_unpack_in(platform->table, platform->table_length, &platform->sections, (uint16_t)type,
                                  message + heard->payload_start, (size_t)heard->payload_length, words, MOST_WORDS,
-                                 &given))
+                                 &walked))
                ? 0
-               : given;
+               : (size_t)walked.given;
 }
 
 /* Answers a request: a message of the same ID, with the request's own number. */
@@ -117,7 +118,7 @@ static void serve(Platform *platform, const nyr_operation *operation, const uint
     uint32_t bits;
     uint64_t words[MOST_WORDS];
     uint8_t payload[MOST_BYTES];
-    size_t length;
+    nyr_walked packed;
     if (unpack(platform, operation->carries, message, heard, words) != 1)
         return;
     printf("%d hears request %" PRIu64 " of %" PRIu64 ": track %" PRIu64 "\n", platform->own, heard->sequence,
@@ -125,10 +126,10 @@ static void serve(Platform *platform, const nyr_operation *operation, const uint
     memcpy(&bits, &range, sizeof bits);
     words[1] = bits;
     if (refused(platform, "packs", nyr_pack(platform->table, platform->table_length, (uint16_t)operation->responds,
-                                            words, 2, payload, sizeof payload, &length)) ||
+                                            words, 2, payload, sizeof payload, &packed)) ||
         refused(platform, "answers", nyr_write(platform->own, NYR_OPERATION_DOMAIN, (uint32_t)heard->value,
-                                               (uint32_t)heard->sequence, payload, length, sending, sizeof sending,
-                                               &sending_length)))
+                                               (uint32_t)heard->sequence, payload, (size_t)packed.given,
+                                               sending, sizeof sending, &sending_length)))
         return;
     printf("%d answers:", platform->own);
     put_sending();

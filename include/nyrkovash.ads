@@ -2,10 +2,11 @@
 --  gate compares the two. What differs:
 --
 --  A buffer is an array, or a slice of one, and its length: (Bytes, Bytes'Length). Of no elements it may be any.
---  What a call writes is `in out`, since a refusal leaves it as it was; nothing is null, and no two parameters of a call
---  may be parts of one object where it writes either.
+--  What a call writes is `in out`, since a refusal leaves it as it was (of Nyr_Walked, what the header says); nothing is
+--  null, and no two parameters of a call may be parts of one object where it writes either.
 --  A place that a call answers counts from 0: byte K of B is B (B'First + K).
 --  Ada has no case: the call nyr_library_version, beside the number NYR_LIBRARY_VERSION, is Nyr_Linked_Version.
+--  A word of Ada's own is no name: the field `at` of nyr_walked is At_Item.
 pragma Ada_2012;
 with Interfaces; use Interfaces;
 with Interfaces.C;
@@ -19,8 +20,8 @@ package Nyrkovash is
    type Nyr_Ids is array (Nyr_Size range <>) of Unsigned_16 with Convention => C;
    type Nyr_Words is array (Nyr_Size range <>) of Unsigned_64 with Convention => C;
 
-   Nyr_Library_Version : constant := 20_000;
-   Nyr_Library_Version_Text : constant String := "2.0.0";
+   Nyr_Library_Version : constant := 40_000;
+   Nyr_Library_Version_Text : constant String := "4.0.0";
 
    function Nyr_Linked_Version return Unsigned_32
      with Import, Convention => C, External_Name => "nyr_library_version";
@@ -236,26 +237,38 @@ package Nyrkovash is
 
    --  Payloads.
 
+   type Nyr_Walked is record
+      Given   : Unsigned_64;
+      At_Item : Unsigned_64;
+      Leaves  : Unsigned_64;
+   end record with Convention => C;
+   for Nyr_Walked use record
+      Given   at 0 range 0 .. 63;
+      At_Item at 8 range 0 .. 63;
+      Leaves  at 16 range 0 .. 63;
+   end record;
+   for Nyr_Walked'Size use 192;
+
    function Nyr_Unpack (Table : Nyr_Bytes; Table_Length : Nyr_Size; Type_Number : Unsigned_16; Payload : Nyr_Bytes;
                         Payload_Length : Nyr_Size; Words : in out Nyr_Words; Words_Length : Nyr_Size;
-                        Given : in out Nyr_Size) return Unsigned_32
+                        Walked : in out Nyr_Walked) return Unsigned_32
      with Import, Convention => C, External_Name => "nyr_unpack";
 
    function Nyr_Unpack_In (Table : Nyr_Bytes; Table_Length : Nyr_Size; Sections : Nyr_Sections;
                            Type_Number : Unsigned_16; Payload : Nyr_Bytes; Payload_Length : Nyr_Size;
                            Words : in out Nyr_Words; Words_Length : Nyr_Size;
-                           Given : in out Nyr_Size) return Unsigned_32
+                           Walked : in out Nyr_Walked) return Unsigned_32
      with Import, Convention => C, External_Name => "nyr_unpack_in";
 
    function Nyr_Pack (Table : Nyr_Bytes; Table_Length : Nyr_Size; Type_Number : Unsigned_16; Words : Nyr_Words;
                       Words_Length : Nyr_Size; Output : in out Nyr_Bytes; Output_Length : Nyr_Size;
-                      Given : in out Nyr_Size) return Unsigned_32
+                      Walked : in out Nyr_Walked) return Unsigned_32
      with Import, Convention => C, External_Name => "nyr_pack";
 
    function Nyr_Pack_In (Table : Nyr_Bytes; Table_Length : Nyr_Size; Sections : Nyr_Sections;
                          Type_Number : Unsigned_16; Words : Nyr_Words; Words_Length : Nyr_Size;
                          Output : in out Nyr_Bytes; Output_Length : Nyr_Size;
-                         Given : in out Nyr_Size) return Unsigned_32
+                         Walked : in out Nyr_Walked) return Unsigned_32
      with Import, Convention => C, External_Name => "nyr_pack_in";
 
    --  Platforms.

@@ -4,8 +4,9 @@
  * libnyrkovash.a (x86-64), which needs no library but C's.
  *
  * Every call is total: no length, number, byte or state, right or wrong, makes it read or write outside what it was
- * lent. A call answers 0, or the number that refuses it, and then it has changed nothing. Where it answers 0 it has
- * written all fields of its answer; bytes and words that a call is not said to write stay as they were.
+ * lent. A call answers 0, or the number that refuses it, and then it has changed nothing; but where 40 to 43 refuse a
+ * payload or words, two fields of nyr_walked tell where. Where a call answers 0 it has written all fields of its answer
+ * (of nyr_walked `given` alone); bytes and words that a call is not said to write stay as they were.
  *
  * What has a fixed size is a struct; a pointer to a struct or to a number may not be null, and what it points at may
  * not overlap anything else of the same call. Any values in a struct that is handed in are safe. A buffer is a pointer
@@ -34,8 +35,8 @@ extern "C" {
  * neither is so. So a program asks at its start, and goes on where the archive's first number is that of its header and
  * the whole is not less than its header's.
  */
-#define NYR_LIBRARY_VERSION 20000
-#define NYR_LIBRARY_VERSION_TEXT "2.0.0"
+#define NYR_LIBRARY_VERSION 40000
+#define NYR_LIBRARY_VERSION_TEXT "4.0.0"
 
 /* The version of the archive that was linked.  Stack 256. */
 uint32_t nyr_library_version(void);
@@ -67,7 +68,7 @@ enum {
     /* Payloads. */
     NYR_INPUT_SHORT = 40,      /* payload or words end too early */
     NYR_INPUT_LEFT = 41,       /* payload or words are left over */
-    NYR_VALUE = 42,            /* a value that its type does not have */
+    NYR_VALUE = 42,            /* a value that its type does not have, as a char8 above 127 */
     NYR_ARRAY_COUNT = 43,      /* an array's count over its maximum */
     NYR_NO_TYPE = 44,          /* the table has no type of that number */
     NYR_OUTPUT_SHORT = 45,     /* words or output too short */
@@ -254,31 +255,40 @@ uint32_t nyr_find(const uint8_t *table, size_t table_length, const nyr_sections 
 
 /* ---- Payloads: a 64-bit word for each leaf, left to right, and one for each array's count, before its elements. */
 
+typedef struct {
+    uint64_t given;            /* how many words, or packing bytes, were given */
+    uint64_t at;               /* at which byte of the payload, or packing which word, the refused item begins */
+    uint64_t leaves;           /* how many leaves come before it, each array's count among them */
+} nyr_walked;                  /* with 0 a call writes `given` alone, with 40 to 43 the two others alone, else nothing */
+
 /*
- * Unpacks a payload of the table's type of that number: integers sign- or zero-extended, floats as their bits,
- * booleans 0 or 1. `given` is how many words that made, from the start of words on.
+ * Unpacks a payload of the table's type of that number: integers sign- or zero-extended, char8 0 to 127, floats as
+ * their bits, booleans 0 or 1. `given` is how many words that made, from the start of words on.
  *   30 to 33 for the table; then 44; then 40, 42 or 43, the first met from the left; then 41; then 45.
+ * 40 to 43 tell where, in bytes from the payload's start: 42 and 43 where the leaf or count begins; 40 where the one
+ * begins that is cut or missing; 41 at the first byte left over, behind all leaves of the value.
  * Stack 131072, where types nest as deep as they can; time: the payload's length times the nesting of its types (at
  * most 255: 65,535 bytes nested 254 deep took half a second where it was tried), and for each enum among the leaves
  * its values; and, but for _in, the table's check.
  */
 uint32_t nyr_unpack(const uint8_t *table, size_t table_length, uint16_t type_number, const uint8_t *payload,
-                    size_t payload_length, uint64_t *words, size_t words_length, size_t *given);
+                    size_t payload_length, uint64_t *words, size_t words_length, nyr_walked *walked);
 
 uint32_t nyr_unpack_in(const uint8_t *table, size_t table_length, const nyr_sections *sections, uint16_t type_number,
                        const uint8_t *payload, size_t payload_length, uint64_t *words, size_t words_length,
-                       size_t *given);
+                       nyr_walked *walked);
 
 /*
  * Packs words into a payload: the other way round, with the same numbers. `given` is how many bytes that made, from the
- * start of output on.
+ * start of output on. 40 to 43 tell at which word, and as many leaves come before it, since each is a word.
  * Stack and time as nyr_unpack, with the words in the place of the payload.
  */
 uint32_t nyr_pack(const uint8_t *table, size_t table_length, uint16_t type_number, const uint64_t *words,
-                  size_t words_length, uint8_t *output, size_t output_length, size_t *given);
+                  size_t words_length, uint8_t *output, size_t output_length, nyr_walked *walked);
 
 uint32_t nyr_pack_in(const uint8_t *table, size_t table_length, const nyr_sections *sections, uint16_t type_number,
-                     const uint64_t *words, size_t words_length, uint8_t *output, size_t output_length, size_t *given);
+                     const uint64_t *words, size_t words_length, uint8_t *output, size_t output_length,
+                     nyr_walked *walked);
 
 /* ---- Platforms: which of the 256 are UP, what they are owed, and which requests they have not answered yet. */
 

@@ -10,7 +10,7 @@ mod payloads;
 mod requests;
 
 use crate::measure::Case;
-use crate::tables::{self, id_of, message, Random, SENT};
+use crate::tables::{self, id_of, message, Random, CHAR8, FLOAT32, SENT};
 use bench::plain::types;
 use joining::{cutting, joining};
 use lookups::{checking, finding};
@@ -119,7 +119,7 @@ pub fn all() -> Vec<Named> {
 /// What is unpacked and packed: a table, the number of a type in it, and the words of a value.
 type Value = (Vec<u8>, u16, Vec<u64>);
 
-fn values() -> [(&'static str, fn() -> Value); 6] {
+fn values() -> [(&'static str, fn() -> Value); 7] {
     [
         ("record of 64 uint16", || {
             (tables::record_of_uint16(), 1, thousands())
@@ -128,7 +128,10 @@ fn values() -> [(&'static str, fn() -> Value); 6] {
             (tables::record_of_all(), 14, tables::words_of_all())
         }),
         ("array of 1,000 float32", || {
-            (tables::array_of_floats(), 1, behind(&[1_000], floats()))
+            (tables::array_of(FLOAT32), 1, behind(&[1_000], floats()))
+        }),
+        ("array of 1,000 char8", || {
+            (tables::array_of(CHAR8), 1, behind(&[1_000], text()))
         }),
         ("8 records of 8 uint16", || {
             (tables::record_of_records(), 2, thousands())
@@ -159,6 +162,11 @@ fn floats() -> Vec<u64> {
     (0..1_000)
         .map(|i| u64::from((i as f32 * 1.25).to_bits()))
         .collect()
+}
+
+/// Every char8 by turns.
+fn text() -> Vec<u64> {
+    (0..1_000).map(|i| i % 128).collect()
 }
 
 fn behind(first: &[u64], rest: Vec<u64>) -> Vec<u64> {

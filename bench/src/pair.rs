@@ -3,6 +3,7 @@
 use bench::plain::joiner::{Channel, Joiner, Outcome, Place};
 use bench::plain::message::{Kind, Message};
 use bench::plain::operations::{Operation, Place as Indexed};
+use bench::plain::payload::Refused;
 use bench::plain::pending::{Pending, Request, Sent, PLACES};
 use bench::plain::platform::{Answer, Heard, Platform};
 use bench::plain::types::{Bounds, Section, Sections};
@@ -155,6 +156,17 @@ pub fn our_operation(found: Option<Operation>) -> ours::Operation {
         kind: u64::from(operation.kind),
         carries: u64::from(operation.carries),
         responds: u64::from(operation.responds),
+    })
+}
+
+/// What unpacking or packing gave, or why and where it did not.
+pub fn our_given(given: Result<usize, Refused>) -> Result<usize, ours::Refused> {
+    given.map_err(|refused| ours::Refused {
+        number: refused.number,
+        spot: refused.spot.map(|spot| ours::Spot {
+            at: spot.at,
+            leaves: spot.leaves,
+        }),
     })
 }
 

@@ -105,9 +105,17 @@ pub fn record_of_all() -> Vec<u8> {
     table(&types, &members, &[1, 2, 3, 5], &operations(16))
 }
 
-/// Type 1: an array of up to 1,000 float32.
-pub fn array_of_floats() -> Vec<u8> {
-    table(&[[0, 11, 0, 0], [4, 0, 0, 1000]], &[], &[], &operations(16))
+pub const CHAR8: u16 = 2;
+pub const FLOAT32: u16 = 11;
+
+/// Type 1: an array of up to 1,000 of a base code.
+pub fn array_of(code: u16) -> Vec<u8> {
+    table(
+        &[[0, code, 0, 0], [4, 0, 0, 1000]],
+        &[],
+        &[],
+        &operations(16),
+    )
 }
 
 /// Type 2: a record of 8 records of 8 uint16.
@@ -124,7 +132,12 @@ pub fn record_of_records() -> Vec<u8> {
 /// Type 3: a record of four uint32 and an array of up to 1,000 float32.
 pub fn record_with_array() -> Vec<u8> {
     table(
-        &[[0, 9, 0, 0], [0, 11, 0, 0], [4, 1, 0, 1000], [2, 0, 0, 5]],
+        &[
+            [0, 9, 0, 0],
+            [0, FLOAT32, 0, 0],
+            [4, 1, 0, 1000],
+            [2, 0, 0, 5],
+        ],
         &[0, 0, 0, 0, 2],
         &[],
         &operations(16),
@@ -137,7 +150,7 @@ pub fn array_of_records() -> Vec<u8> {
         &[
             [0, 9, 0, 0],
             [0, 8, 0, 0],
-            [0, 11, 0, 0],
+            [0, FLOAT32, 0, 0],
             [0, 12, 0, 0],
             [2, 0, 0, 8],
             [4, 4, 0, 100],

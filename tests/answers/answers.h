@@ -37,11 +37,12 @@ uint64_t number_at(const uint8_t *bytes, size_t width);
 /* The answer's part of a call's line, on standard output. */
 void answer(const Call *call);
 
-/* Its parts: a number, and bytes (`-` for none), each behind a space; whether a call refused, and then that it did; a name and the
- * output's first bytes behind it, or that the call refused. */
+/* Its parts: a number, and bytes (`-` for none), each behind a space; whether a call refused, and then that it did; the same of a
+ * walk, and then where too; a name and the output's first bytes behind it, or that the call refused. */
 void put_number(uint64_t number);
 void put_bytes(const uint8_t *bytes, size_t length);
 int refused(uint32_t number);
+int stopped(uint32_t number, const nyr_walked *walked);
 void put_output(uint32_t number, const char *name, size_t length);
 
 /* What the calls write to. */

@@ -33,6 +33,15 @@ int refused(uint32_t number)
     return number != NYR_OK;
 }
 
+int stopped(uint32_t number, const nyr_walked *walked)
+{
+    if (refused(number) && NYR_INPUT_SHORT <= number && number <= NYR_ARRAY_COUNT) {
+        put_number(walked->at);
+        put_number(walked->leaves);
+    }
+    return number != NYR_OK;
+}
+
 void put_output(uint32_t number, const char *name, size_t length)
 {
     if (refused(number))
@@ -112,33 +121,37 @@ static void find(const Argument *a)
 
 static void unpack(const Argument *a, int in)
 {
-    size_t given = 0, room = (size_t)a[3].number;
+    uint32_t number;
+    size_t room = (size_t)a[3].number;
+    nyr_walked walked;
     nyr_sections sections;
     uint16_t type = (uint16_t)a[1].number;
     if (in && refused(nyr_check_table(a[0].bytes, a[0].length, &sections)))
         return;
-    if (refused(in ? nyr_unpack_in(a[0].bytes, a[0].length, &sections, type, a[2].bytes, a[2].length, words, room,
-                                   &given)
-                   : nyr_unpack(a[0].bytes, a[0].length, type, a[2].bytes, a[2].length, words, room, &given)))
+    number = in ? nyr_unpack_in(a[0].bytes, a[0].length, &sections, type, a[2].bytes, a[2].length, words, room, &walked)
+                : nyr_unpack(a[0].bytes, a[0].length, type, a[2].bytes, a[2].length, words, room, &walked);
+    if (stopped(number, &walked))
         return;
-    printf(given == 0 ? "words -" : "words");
-    for (size_t i = 0; i < given; i++)
+    printf(walked.given == 0 ? "words -" : "words");
+    for (size_t i = 0; i < walked.given; i++)
         put_number(words[i]);
 }
 
 static void pack(const Argument *a, int in)
 {
     uint32_t number;
-    size_t given = 0, count = a[2].length / 8, room = (size_t)a[3].number;
+    size_t count = a[2].length / 8, room = (size_t)a[3].number;
+    nyr_walked walked;
     nyr_sections sections;
     uint16_t type = (uint16_t)a[1].number;
     for (size_t i = 0; i < count; i++)
         words[i] = number_at(a[2].bytes + 8 * i, 8);
     if (in && refused(nyr_check_table(a[0].bytes, a[0].length, &sections)))
         return;
-    number = in ? nyr_pack_in(a[0].bytes, a[0].length, &sections, type, words, count, output, room, &given)
-                : nyr_pack(a[0].bytes, a[0].length, type, words, count, output, room, &given);
-    put_output(number, "bytes", given);
+    number = in ? nyr_pack_in(a[0].bytes, a[0].length, &sections, type, words, count, output, room, &walked)
+                : nyr_pack(a[0].bytes, a[0].length, type, words, count, output, room, &walked);
+    if (!stopped(number, &walked))
+        put_output(number, "bytes", (size_t)walked.given);
 }
 
 /* A joiner of all the records, or where these are too many of the first: its count alone makes it none. */

@@ -7,6 +7,11 @@ function plain(type) {
     sub(/^Nyr_/, "", type)
     return tolower(type)
 }
+# `at` is a word of Ada's own.
+function field(name) {
+    name = tolower(name)
+    return name == "at_item" ? "at" : name
+}
 function passed(type, out) {
     out = "in "
     if (sub(/^in out /, "", type)) out = "out "
@@ -38,8 +43,8 @@ function call(text, name, count, i, part, pair, line) {
 /^type .* is record/ { name = tolower(substr($2, 5)); line = ""; inside = 1; next }
 /^for .* use record/ { name = tolower(substr($2, 5)); places = 1; next }
 /^end record/ { if (inside) print "fields " name line; inside = places = 0 }
-inside { sub(/;$/, ""); type = $0; sub(/.* : /, "", type); line = line " " tolower($1) ":" plain(type) }
-places { gsub(/[;_]/, "", $7); print "at " name " " tolower($1) " " $3 " (" $7 "+1)/8" }
+inside { sub(/;$/, ""); type = $0; sub(/.* : /, "", type); line = line " " field($1) ":" plain(type) }
+places { gsub(/[;_]/, "", $7); print "at " name " " field($1) " " $3 " (" $7 "+1)/8" }
 /^for .*'Size use / { sub(/'Size/, "", $2); gsub(/[;_]/, "", $4); print "size " tolower(substr($2, 5)) " " $4 "/8" }
 /^function / { text = ""; calling = 1 }
 calling { text = text (text == "" ? "" : " ") $0; if (/;$/ && text ~ /External_Name/) { call(text); calling = 0 } }

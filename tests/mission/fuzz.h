@@ -24,6 +24,7 @@ int differ(const void *one, const void *other, size_t bytes);
 typedef struct {
     uint8_t *pages, *at, *before;
     size_t room, length, from, to, field;
+    int tells;
 } Lent;
 
 enum { IDS, JOINER, ROOMS, DATAGRAM, ANSWER, MESSAGE, OUT, PAYLOAD, TABLE, SECTIONS, WORDS, PLATFORM, BUFFERS };
@@ -37,6 +38,8 @@ void *lend(int buffer, const void *bytes, size_t elements, size_t width);
 void *lend_answer(int buffer, size_t size, size_t field);
 /* The call may have changed these elements, and no others, of a buffer. */
 void may_change(int buffer, size_t from, size_t to, size_t width);
+/* The call refused, and must all the same have written these elements, and no others, of an answer. */
+void must_tell(int buffer, size_t from, size_t to, size_t width);
 
 /* A call starts, by name; it ended, with one of these numbers (a bit each) or 0. The number is handed on. */
 void calling(const char *name);

@@ -102,32 +102,94 @@ void fuzz_table(void)
 /* Words that were given are a value: they pack, to as many bytes as they came from. */
 static void check_value(size_t type, size_t count, size_t length)
 {
-    size_t given;
+    nyr_walked walked;
     calling("nyr_pack_in, of what was unpacked");
     expect(nyr_pack_in(table.bytes, table.length, &table.sections, (uint16_t)type, first_words, count, first_bytes,
-                       MOST_BYTES, &given) == 0 &&
-               given == length,
+                       MOST_BYTES, &walked) == 0 &&
+               walked.given == length,
            "unpacked words are no value");
 }
 
 /* The words of a value, and through nyr_pack_in its payload: both right, before anything is spoilt. */
 static size_t make_payload(size_t type, size_t *count)
 {
-    size_t given;
+    nyr_walked walked;
     *count = make_words(&table, type, words, 4000);
     if (*count == 0)
         return 0;
     calling("nyr_pack_in, of a value");
     expect(nyr_pack_in(table.bytes, table.length, &table.sections, (uint16_t)type, words, *count, payload, MOST_BYTES,
-                       &given) == 0,
+                       &walked) == 0,
            "a value is refused");
-    return given;
+    return (size_t)walked.given;
+}
+
+static int tells_where(uint32_t number)
+{
+    return NYR_INPUT_SHORT <= number && number <= NYR_ARRAY_COUNT;
+}
+
+/* Of a walk's three fields 0 writes the first, 40 to 43 the two others, and any other number none. */
+static void check_fields(uint32_t number)
+{
+    if (tells_where(number))
+        must_tell(ANSWER, 1, 3, sizeof(uint64_t));
+    else
+        may_change(ANSWER, 0, 1, sizeof(uint64_t));
+}
+
+/* The payload's first bytes unpacked, and the first words packed, into room that is enough. */
+typedef uint32_t First(int in, const nyr_sections *sections, size_t type, size_t length, nyr_walked *walked);
+
+static uint32_t unpack_first(int in, const nyr_sections *sections, size_t type, size_t length, nyr_walked *walked)
+{
+    static uint64_t out[MOST_WORDS];
+    if (!in)
+        return nyr_unpack(table.bytes, table.length, (uint16_t)type, payload, length, out, MOST_WORDS, walked);
+    return nyr_unpack_in(table.bytes, table.length, sections, (uint16_t)type, payload, length, out, MOST_WORDS, walked);
+}
+
+static uint32_t pack_first(int in, const nyr_sections *sections, size_t type, size_t length, nyr_walked *walked)
+{
+    static uint8_t out[8 * MOST_WORDS];
+    if (!in)
+        return nyr_pack(table.bytes, table.length, (uint16_t)type, words, length, out, sizeof out, walked);
+    return nyr_pack_in(table.bytes, table.length, sections, (uint16_t)type, words, length, out, sizeof out, walked);
+}
+
+/* Cut off where it stopped, the input ends too early just there, or behind 41 it is whole, and all its leaves came before. Of 42
+ * and 43 nothing matters that lies behind the item, which is no longer than this. Of 40 the last byte or word completes a leaf, and
+ * moves the place, or neither. */
+static void check_spot(First *first, size_t item, int in, const nyr_sections *sections, size_t type, size_t length,
+                       uint32_t number, nyr_walked was)
+{
+    nyr_walked now = was;
+    size_t at = (size_t)was.at;
+    uint32_t again;
+    calling(first == pack_first ? "nyr_pack, cut off where it stopped" : "nyr_unpack, cut off where it stopped");
+    expect(at <= length && (at < length || number == NYR_INPUT_SHORT), "a place that is not there");
+    expect(first != pack_first || was.at == was.leaves, "leaves that are not words");
+    again = first(in, sections, type, at, &now);
+    if (number == NYR_INPUT_LEFT) {
+        expect(again == 0, "what lies before what is left over is no value");
+        expect(first == pack_first || now.given == was.leaves, "other leaves than the value has");
+        return;
+    }
+    expect(again == NYR_INPUT_SHORT && now.at == was.at && now.leaves == was.leaves, "cut there it stops elsewhere");
+    if (number != NYR_INPUT_SHORT) {
+        again = first(in, sections, type, length - at < item ? length : at + item, &now);
+        expect(again == number && now.at == was.at && now.leaves == was.leaves, "what lies behind the item matters");
+    } else if (length > 0) {
+        again = first(in, sections, type, length - 1, &now);
+        expect(again == number && (now.at == was.at) == (now.leaves == was.leaves), "a place where no leaf begins");
+    }
 }
 
 void fuzz_unpack(void)
 {
-    size_t type, count, length, room, first = 0;
+    size_t type, count, length, room;
     nyr_sections sections;
+    nyr_walked first = {0, 0, 0};
     uint32_t number = 0, again;
     int whole = !one_in(3), same, spoilt = 0;
     make_table(&table);
@@ -150,36 +212,40 @@ void fuzz_unpack(void)
         uint8_t *lent_table = lend(TABLE, table.bytes, table.length, 1), *lent = lend(PAYLOAD, payload, length, 1);
         nyr_sections *lent_sections = lend(SECTIONS, &sections, 1, sizeof sections);
         uint64_t *out = lend(WORDS, NULL, room, sizeof *out);
-        size_t *given = lend_answer(ANSWER, sizeof *given, sizeof *given);
+        nyr_walked *walked = lend_answer(ANSWER, sizeof *walked, sizeof walked->given);
         again =
-            in ? nyr_unpack_in(lent_table, table.length, lent_sections, (uint16_t)type, lent, length, out, room, given)
-               : nyr_unpack(lent_table, table.length, (uint16_t)type, lent, length, out, room, given);
-        may_change(WORDS, 0, again == 0 ? *given : 0, sizeof *out);
+            in ? nyr_unpack_in(lent_table, table.length, lent_sections, (uint16_t)type, lent, length, out, room, walked)
+               : nyr_unpack(lent_table, table.length, (uint16_t)type, lent, length, out, room, walked);
+        may_change(WORDS, 0, again == 0 ? (size_t)walked->given : 0, sizeof *out);
+        check_fields(again);
         called(again, CHECKING | WALKING);
         expect(!in || (again == NYR_TABLE_LENGTH) == !lie_in(&sections, table.length), "30 at the wrong place");
         if (again == 0)
-            expect(*given <= room && *given <= length, "more words than bytes");
+            expect(walked->given <= room && walked->given <= length, "more words than bytes");
         if (whole && count > 0 && (in ? same : !spoilt))
-            expect(again == 0 && *given == count && !differ(out, words, count * sizeof *out),
+            expect(again == 0 && walked->given == count && !differ(out, words, count * sizeof *out),
                    "not the words that were packed");
         if (!in) {
             number = again;
-            first = again == 0 ? *given : 0;
-            copy(first_words, out, first * sizeof *out);
+            first = *walked;
+            copy(first_words, out, again == 0 ? (size_t)first.given * sizeof *out : 0);
         } else if (same) {
-            expect(again == number &&
-                       (again != 0 || (*given == first && !differ(out, first_words, first * sizeof *out))),
+            expect(again == number && !differ(walked, &first, sizeof first) &&
+                       (again != 0 || !differ(out, first_words, (size_t)first.given * sizeof *out)),
                    "by sections another answer");
         }
+        if (tells_where(again))
+            check_spot(unpack_first, 8, in, &sections, type, length, again, *walked);
     }
     if (number == 0 && !spoilt)
-        check_value(type, first, length);
+        check_value(type, (size_t)first.given, length);
 }
 
 void fuzz_pack(void)
 {
-    size_t type, count, length, room, first = 0;
+    size_t type, count, length, room;
     nyr_sections sections;
+    nyr_walked first = {0, 0, 0};
     uint32_t number = 0, again;
     int whole = !one_in(3), same, spoilt = 0;
     make_table(&table);
@@ -203,23 +269,29 @@ void fuzz_pack(void)
         uint8_t *lent_table = lend(TABLE, table.bytes, table.length, 1), *out = lend(OUT, NULL, room, 1);
         nyr_sections *lent_sections = lend(SECTIONS, &sections, 1, sizeof sections);
         uint64_t *lent = lend(WORDS, words, count, sizeof *lent);
-        size_t *given = lend_answer(ANSWER, sizeof *given, sizeof *given);
-        again = in ? nyr_pack_in(lent_table, table.length, lent_sections, (uint16_t)type, lent, count, out, room, given)
-                   : nyr_pack(lent_table, table.length, (uint16_t)type, lent, count, out, room, given);
-        may_change(OUT, 0, again == 0 ? *given : 0, 1);
+        nyr_walked *walked = lend_answer(ANSWER, sizeof *walked, sizeof walked->given);
+        again =
+            in ? nyr_pack_in(lent_table, table.length, lent_sections, (uint16_t)type, lent, count, out, room, walked)
+               : nyr_pack(lent_table, table.length, (uint16_t)type, lent, count, out, room, walked);
+        may_change(OUT, 0, again == 0 ? (size_t)walked->given : 0, 1);
+        check_fields(again);
         called(again, CHECKING | WALKING);
         expect(!in || (again == NYR_TABLE_LENGTH) == !lie_in(&sections, table.length), "30 at the wrong place");
         if (again == 0)
-            expect(*given <= room && *given <= 8 * count, "more bytes than words can be");
+            expect(walked->given <= room && walked->given <= 8 * count, "more bytes than words can be");
         if (whole && count > 0 && (in ? same : !spoilt))
-            expect(again == 0 && *given == length && !differ(out, payload, length), "not the payload that was packed");
+            expect(again == 0 && walked->given == length && !differ(out, payload, length),
+                   "not the payload that was packed");
         if (!in) {
             number = again;
-            first = again == 0 ? *given : 0;
-            copy(first_bytes, out, first);
+            first = *walked;
+            copy(first_bytes, out, again == 0 ? (size_t)first.given : 0);
         } else if (same) {
-            expect(again == number && (again != 0 || (*given == first && !differ(out, first_bytes, first))),
+            expect(again == number && !differ(walked, &first, sizeof first) &&
+                       (again != 0 || !differ(out, first_bytes, (size_t)first.given)),
                    "by sections another answer");
         }
+        if (tells_where(again))
+            check_spot(pack_first, 1, in, &sections, type, count, again, *walked);
     }
 }

@@ -18,6 +18,7 @@ static uint64_t make_word(unsigned code)
     switch (code) {
     case 0: return edge & 1;
     case 1: return (uint64_t)(int64_t)(int8_t)edge;
+    case 2: return edge & 0x7F;
     case 3: return (uint64_t)(int64_t)(int16_t)edge;
     case 4: return (uint64_t)(int64_t)(int32_t)edge;
     case 5:

@@ -16,6 +16,7 @@ extern uint8_t table[LARGEST_TABLE], rooms[NYR_CHANNELS * NYR_LARGEST_ROOM], mes
 extern size_t table_length, datagram_length, message_length, payload_length, words_length, given;
 extern uint16_t ids[NYR_CHANNELS], type_number;
 extern uint64_t words[70000];
+extern nyr_walked walked;
 extern nyr_joiner joiner;
 extern nyr_sections sections;
 extern nyr_platform platform;

@@ -5,6 +5,7 @@ uint8_t table[LARGEST_TABLE], rooms[NYR_CHANNELS * NYR_LARGEST_ROOM], message[70
 size_t table_length, datagram_length, message_length, payload_length, words_length, given;
 uint16_t ids[NYR_CHANNELS], type_number;
 uint64_t words[70000];
+nyr_walked walked;
 nyr_joiner joiner;
 nyr_sections sections;
 nyr_platform platform;
@@ -55,23 +56,23 @@ void call_find(void)
 
 void call_unpack(void)
 {
-    number = nyr_unpack(table, table_length, type_number, message, payload_length, words, 70000, &given);
+    number = nyr_unpack(table, table_length, type_number, message, payload_length, words, 70000, &walked);
 }
 
 void call_unpack_in(void)
 {
-    number = nyr_unpack_in(table, table_length, &sections, type_number, message, payload_length, words, 70000, &given);
+    number = nyr_unpack_in(table, table_length, &sections, type_number, message, payload_length, words, 70000, &walked);
 }
 
 void call_pack(void)
 {
-    number = nyr_pack(table, table_length, type_number, words, words_length, output, sizeof output, &given);
+    number = nyr_pack(table, table_length, type_number, words, words_length, output, sizeof output, &walked);
 }
 
 void call_pack_in(void)
 {
     number =
-        nyr_pack_in(table, table_length, &sections, type_number, words, words_length, output, sizeof output, &given);
+        nyr_pack_in(table, table_length, &sections, type_number, words, words_length, output, sizeof output, &walked);
 }
 
 void call_start(void)

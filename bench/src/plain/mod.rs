@@ -1,5 +1,6 @@
 //! The library's calls as plain Rust: typed state behind `&mut`, slices, `Result`, the standard library, no proofs. Every
-//! check that 01 and 02's request 1 ask for is made at each call, as the proved library makes it. A refusal is its number.
+//! check that 01 and 02's requests 1 and 2 ask for is made at each call, as the proved library makes it. A refusal is its number,
+//! and of a payload also where, as request 3 has it.
 
 pub mod binding;
 pub mod joiner;

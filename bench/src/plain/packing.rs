@@ -1,7 +1,7 @@
 //! Words to a payload.
 
 use super::be16;
-use super::payload::{entry_of, smaller};
+use super::payload::{entry_of, smaller, Refused, Spot};
 use super::types::{allowed, width, Entry, Sections, Table, ARRAY, BASE, ENUM, FIXED, RECORD};
 
 #[inline(never)]
@@ -11,20 +11,23 @@ pub fn pack_in(
     number: u16,
     words: &[u64],
     out: &mut [u8],
-) -> Result<usize, u32> {
+) -> Result<usize, Refused> {
     let table = Table::within(bytes, sections)?;
     if usize::from(number) >= table.types() {
-        return Err(44);
+        return Err(44.into());
     }
     let mut weigh = Weigh {
         table,
         rest: words,
         bytes: 0,
     };
-    weigh.meet(usize::from(number))?;
+    let weighed = weigh.meet(usize::from(number));
     let count = weigh.bytes;
+    let at = words.len() - weigh.rest.len();
+    let stopped = Spot { at, leaves: at };
+    weighed.map_err(|number| stopped.refused(number))?;
     if !weigh.rest.is_empty() {
-        return Err(41);
+        return Err(stopped.refused(41));
     }
     let out = out.get_mut(..count).ok_or(45u32)?;
     Lay {
@@ -36,7 +39,7 @@ pub fn pack_in(
     Ok(count)
 }
 
-/// The first walk of packing.
+/// The first walk of packing. Where it refuses, it stands before the word that it refuses.
 struct Weigh<'a> {
     table: Table<'a>,
     rest: &'a [u64],
@@ -116,9 +119,10 @@ impl Weigh<'_> {
                 .all(|word| allowed(code, *word) && self.table.has_value(e, *word)),
             (_, 0) => each!(0),
             (_, 1) => each!(1),
+            (_, 2) => each!(2),
             (_, 3) => each!(3),
             (_, 4) => each!(4),
-            (_, 2 | 6 | 7) => each!(6),
+            (_, 6 | 7) => each!(6),
             (_, 8) => each!(8),
             (_, 9) => each!(9),
             (_, 11) => each!(11),
@@ -126,12 +130,13 @@ impl Weigh<'_> {
             _ => true,
         };
         if !good {
-            return Err(42);
+            // Which of them it is, one by one.
+            run.iter().try_for_each(|_| self.leaf(e))?;
         }
+        self.rest = rest;
         if run.len() < count {
             return Err(40);
         }
-        self.rest = rest;
         self.bytes += count * width(e.of);
         Ok(())
     }

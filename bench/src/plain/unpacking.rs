@@ -1,6 +1,6 @@
 //! A payload to words.
 
-use super::payload::{entry_of, smaller};
+use super::payload::{entry_of, smaller, Refused, Spot};
 use super::types::{allowed, width, Entry, Sections, Table, ARRAY, BASE, ENUM, RECORD};
 use super::{be16, be32, be64};
 
@@ -11,20 +11,25 @@ pub fn unpack_in(
     number: u16,
     payload: &[u8],
     words: &mut [u64],
-) -> Result<usize, u32> {
+) -> Result<usize, Refused> {
     let table = Table::within(bytes, sections)?;
     if usize::from(number) >= table.types() {
-        return Err(44);
+        return Err(44.into());
     }
     let mut judge = Judge {
         table,
         rest: payload,
         words: 0,
     };
-    judge.meet(usize::from(number))?;
+    let judged = judge.meet(usize::from(number));
     let count = judge.words;
+    let stopped = Spot {
+        at: payload.len() - judge.rest.len(),
+        leaves: count,
+    };
+    judged.map_err(|number| stopped.refused(number))?;
     if !judge.rest.is_empty() {
-        return Err(41);
+        return Err(stopped.refused(41));
     }
     let out = words.get_mut(..count).ok_or(45u32)?;
     Store {
@@ -51,7 +56,7 @@ fn word(code: u16, bytes: &[u8]) -> u64 {
     }
 }
 
-/// The first walk of unpacking.
+/// The first walk of unpacking. Where it refuses, it stands before the leaf or count that it refuses.
 struct Judge<'a> {
     table: Table<'a>,
     rest: &'a [u8],
@@ -90,6 +95,7 @@ impl Judge<'_> {
         let (leaf, rest) = self.rest.split_at(width);
         let good = match (e.kind, e.of) {
             (ENUM, code) => self.table.has_value(e, word(code, leaf)),
+            (_, 2) => leaf.is_ascii(),
             (_, 11) => allowed(11, u64::from(be32(leaf, 0))),
             (_, 12) => allowed(12, be64(leaf, 0)),
             _ => true,
@@ -137,6 +143,7 @@ impl Judge<'_> {
             (ENUM, code) => run
                 .chunks_exact(width)
                 .all(|leaf| self.table.has_value(e, word(code, leaf))),
+            (_, 2) => run.is_ascii(),
             (_, 11) => run.chunks_exact(4).fold(true, |good, leaf| {
                 good & allowed(11, u64::from(be32(leaf, 0)))
             }),
@@ -146,13 +153,14 @@ impl Judge<'_> {
             _ => true,
         };
         if !good {
-            return Err(42);
+            // Which of them it is, one by one.
+            (0..whole).try_for_each(|_| self.leaf(e))?;
         }
+        self.rest = rest;
+        self.words += whole;
         if whole < count {
             return Err(40);
         }
-        self.rest = rest;
-        self.words += count;
         Ok(())
     }
 }

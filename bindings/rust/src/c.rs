@@ -1,6 +1,6 @@
 //! The calls as C has them. The functions at the crate's root are these over slices, and safe.
 
-use crate::{Awaited, Heard, Joiner, Message, Operation, Platform, Sections, Sent, Taken};
+use crate::{Awaited, Heard, Joiner, Message, Operation, Platform, Sections, Sent, Taken, Walked};
 
 extern "C" {
     pub fn nyr_library_version() -> u32;
@@ -64,7 +64,7 @@ extern "C" {
         payload_length: usize,
         words: *mut u64,
         words_length: usize,
-        given: *mut usize,
+        walked: *mut Walked,
     ) -> u32;
     pub fn nyr_unpack_in(
         table: *const u8,
@@ -75,7 +75,7 @@ extern "C" {
         payload_length: usize,
         words: *mut u64,
         words_length: usize,
-        given: *mut usize,
+        walked: *mut Walked,
     ) -> u32;
     pub fn nyr_pack(
         table: *const u8,
@@ -85,7 +85,7 @@ extern "C" {
         words_length: usize,
         output: *mut u8,
         output_length: usize,
-        given: *mut usize,
+        walked: *mut Walked,
     ) -> u32;
     pub fn nyr_pack_in(
         table: *const u8,
@@ -96,7 +96,7 @@ extern "C" {
         words_length: usize,
         output: *mut u8,
         output_length: usize,
-        given: *mut usize,
+        walked: *mut Walked,
     ) -> u32;
     pub fn nyr_start(own: u8, platform: *mut Platform) -> u32;
     pub fn nyr_receive(

@@ -1,8 +1,9 @@
-//! The calls over slices, each at the cost of the C call alone: nothing is copied or tested here. A reference is never null, and
-//! what is lent to be written overlaps nothing, which is all that the header asks of a caller; so every one is safe.
+//! The calls over slices, each at the cost of the C call alone: nothing is copied or tested here, but the number of unpacking and
+//! packing, which makes their result. A reference is never null, and what is lent to be written overlaps nothing, which is all that
+//! the header asks of a caller; so every one is safe.
 
 use crate::c;
-use crate::{Heard, Joiner, Message, Operation, Platform, Sections, Taken};
+use crate::{Heard, Joiner, Message, Operation, Platform, Refused, Sections, Taken, Walked};
 
 /// The version of the archive that was linked, to be held beside `LIBRARY_VERSION`.
 #[inline]
@@ -107,16 +108,16 @@ pub fn find(table: &[u8], sections: &Sections, id: u32, operation: &mut Operatio
     unsafe { c::nyr_find(table.as_ptr(), table.len(), sections, id, operation) }
 }
 
-/// Unpacks a payload into words: 30 to 33, 40 to 45.
+/// Unpacks a payload into words, and says how many it gave: 30 to 33, 40 to 45.
 #[inline]
 pub fn unpack(
     table: &[u8],
     type_number: u16,
     payload: &[u8],
     words: &mut [u64],
-    given: &mut usize,
-) -> u32 {
-    unsafe {
+) -> Result<usize, Refused> {
+    let mut walked = Walked::default();
+    let number = unsafe {
         c::nyr_unpack(
             table.as_ptr(),
             table.len(),
@@ -125,9 +126,10 @@ pub fn unpack(
             payload.len(),
             words.as_mut_ptr(),
             words.len(),
-            given,
+            &mut walked,
         )
-    }
+    };
+    walked.told(number)
 }
 
 /// The same by the sections of a check: 30, 32, 40 to 45.
@@ -138,9 +140,9 @@ pub fn unpack_in(
     type_number: u16,
     payload: &[u8],
     words: &mut [u64],
-    given: &mut usize,
-) -> u32 {
-    unsafe {
+) -> Result<usize, Refused> {
+    let mut walked = Walked::default();
+    let number = unsafe {
         c::nyr_unpack_in(
             table.as_ptr(),
             table.len(),
@@ -150,21 +152,22 @@ pub fn unpack_in(
             payload.len(),
             words.as_mut_ptr(),
             words.len(),
-            given,
+            &mut walked,
         )
-    }
+    };
+    walked.told(number)
 }
 
-/// Packs words into a payload: 30 to 33, 40 to 45.
+/// Packs words into a payload, and says how many bytes it gave: 30 to 33, 40 to 45.
 #[inline]
 pub fn pack(
     table: &[u8],
     type_number: u16,
     words: &[u64],
     output: &mut [u8],
-    given: &mut usize,
-) -> u32 {
-    unsafe {
+) -> Result<usize, Refused> {
+    let mut walked = Walked::default();
+    let number = unsafe {
         c::nyr_pack(
             table.as_ptr(),
             table.len(),
@@ -173,9 +176,10 @@ pub fn pack(
             words.len(),
             output.as_mut_ptr(),
             output.len(),
-            given,
+            &mut walked,
         )
-    }
+    };
+    walked.told(number)
 }
 
 /// The same by the sections of a check: 30, 32, 40 to 45.
@@ -186,9 +190,9 @@ pub fn pack_in(
     type_number: u16,
     words: &[u64],
     output: &mut [u8],
-    given: &mut usize,
-) -> u32 {
-    unsafe {
+) -> Result<usize, Refused> {
+    let mut walked = Walked::default();
+    let number = unsafe {
         c::nyr_pack_in(
             table.as_ptr(),
             table.len(),
@@ -198,9 +202,10 @@ pub fn pack_in(
             words.len(),
             output.as_mut_ptr(),
             output.len(),
-            given,
+            &mut walked,
         )
-    }
+    };
+    walked.told(number)
 }
 
 /// A fresh platform: 0.

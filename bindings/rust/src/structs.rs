@@ -64,6 +64,14 @@ pub struct Operation {
 }
 
 #[repr(C)]
+#[derive(Clone, Copy, Debug, Default, PartialEq, Eq)]
+pub struct Walked {
+    pub given: u64,
+    pub at: u64,
+    pub leaves: u64,
+}
+
+#[repr(C)]
 #[derive(Clone, Copy, Debug, PartialEq, Eq)]
 pub struct Platform {
     pub up: [u64; 4],
@@ -116,6 +124,7 @@ const _: () = assert!(size_of::<Taken>() == 40);
 const _: () = assert!(size_of::<Message>() == 48);
 const _: () = assert!(size_of::<Sections>() == 8256);
 const _: () = assert!(size_of::<Operation>() == 32);
+const _: () = assert!(size_of::<Walked>() == 24);
 const _: () = assert!(size_of::<Platform>() == 1064);
 const _: () = assert!(size_of::<Heard>() == 64);
 const _: () = assert!(size_of::<Sent>() == 16);

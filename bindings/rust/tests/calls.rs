@@ -128,36 +128,69 @@ fn checked_found() {
 #[test]
 fn packed_unpacked() {
     let (known, payload, values) = (sections(), [1, 0xFF, 0xFE], [1, -2i64 as u64]);
-    let (mut words, mut bytes, mut given) = ([0; 4], [0; 8], 0);
-    assert_eq!(unpack(TABLE, 8, &payload, &mut words, &mut given), OK);
-    assert_eq!((given, words), (2, [values[0], values[1], 0, 0]));
+    let (mut words, mut bytes) = ([0; 4], [0; 8]);
+    assert_eq!(unpack(TABLE, 8, &payload, &mut words), Ok(2));
+    assert_eq!(words, [values[0], values[1], 0, 0]);
     assert_eq!(
-        unpack_in(TABLE, &known, 8, &payload[..2], &mut words, &mut given),
-        INPUT_SHORT
+        unpack_in(TABLE, &known, 8, &payload, &mut words[..1]),
+        refused(OUTPUT_SHORT, None)
     );
+    assert_eq!(unpack_in(TABLE, &known, 8, &payload, &mut words), Ok(2));
+    assert_eq!(pack(TABLE, 8, &values, &mut bytes), Ok(3));
+    assert_eq!(bytes[..3], payload);
     assert_eq!(
-        unpack_in(TABLE, &known, 8, &payload, &mut words[..1], &mut given),
-        OUTPUT_SHORT
+        pack_in(TABLE, &known, 9, &values, &mut bytes),
+        refused(NO_TYPE, None)
     );
+    assert_eq!(pack_in(TABLE, &known, 8, &values, &mut bytes), Ok(3));
+    assert_eq!(bytes, [1, 0xFF, 0xFE, 0, 0, 0, 0, 0]);
     assert_eq!(
-        unpack_in(TABLE, &known, 8, &payload, &mut words, &mut given),
-        OK
+        unpack(&TABLE[..9], 8, &payload, &mut words),
+        refused(TABLE_LENGTH, None)
     );
-    assert_eq!(pack(TABLE, 8, &values, &mut bytes, &mut given), OK);
-    assert_eq!((given, &bytes[..3]), (3, &payload[..]));
+}
+
+fn refused(number: u32, spot: Option<(usize, usize)>) -> Result<usize, Refused> {
+    let spot = spot.map(|(at, leaves)| Spot { at, leaves });
+    Err(Refused { number, spot })
+}
+
+/// Type 5: a mode, and up to 4 tracks of a uint16 and two float32.
+#[test]
+fn refused_where() {
+    let (known, mut words, mut bytes) = (sections(), [7; 9], [7; 40]);
+    let good = [4, 2, 1, 0x3FC0_0000, 0, 0x102, 0x42C8_0000, 0];
+    assert_eq!(pack(TABLE, 5, &good, &mut bytes), Ok(25));
+    let mut ask = |payload: &[u8]| {
+        let told = unpack(TABLE, 5, payload, &mut words);
+        assert_eq!(unpack_in(TABLE, &known, 5, payload, &mut words), told);
+        told
+    };
+    let payload = bytes;
+    assert_eq!(ask(&payload[..20]), refused(INPUT_SHORT, Some((17, 6))));
+    assert_eq!(ask(&payload[..0]), refused(INPUT_SHORT, Some((0, 0))));
+    assert_eq!(ask(&payload[..26]), refused(INPUT_LEFT, Some((25, 8))));
+    let mut wrong = payload;
+    wrong[17..19].fill(0xFF);
+    assert_eq!(ask(&wrong[..25]), refused(VALUE, Some((17, 6))));
+    wrong[4] = 5;
+    assert_eq!(ask(&wrong[..25]), refused(ARRAY_COUNT, Some((1, 1))));
+    assert_eq!(words, [7; 9]);
+    let mut ask = |words: &[u64]| {
+        let told = pack(TABLE, 5, words, &mut bytes);
+        assert_eq!(pack_in(TABLE, &known, 5, words, &mut bytes), told);
+        told
+    };
+    assert_eq!(ask(&good[..7]), refused(INPUT_SHORT, Some((7, 7))));
     assert_eq!(
-        pack_in(TABLE, &known, 9, &values, &mut bytes, &mut given),
-        NO_TYPE
+        ask(&[&good[..], &[0]].concat()),
+        refused(INPUT_LEFT, Some((8, 8)))
     );
-    assert_eq!(
-        pack_in(TABLE, &known, 8, &[2, 0], &mut bytes, &mut given),
-        VALUE
-    );
-    assert_eq!(
-        pack_in(TABLE, &known, 8, &values, &mut bytes, &mut given),
-        OK
-    );
-    assert_eq!((given, bytes), (3, [1, 0xFF, 0xFE, 0, 0, 0, 0, 0]));
+    assert_eq!(ask(&[4, 1, 1 << 16]), refused(VALUE, Some((2, 2))));
+    assert_eq!(ask(&[4, 1 << 32]), refused(ARRAY_COUNT, Some((1, 1))));
+    let shown = ask(&[4, 5]).unwrap_err().to_string();
+    assert_eq!(shown, "refused 43 at 1, after 1 leaves");
+    assert_eq!(bytes, payload);
 }
 
 #[test]

@@ -97,7 +97,7 @@ module _ (w : ℕ) (fits : w < 18446744073709551616) where
   counts = (
     from-zero 1 (omega arith),
     of-signed 0 (omega arith),
-    of-unsigned 0 256 (omega arith) (omega arith),
+    of-unsigned 0 128 (omega arith) (omega arith),
     of-signed 1 (omega arith),
     of-signed 2 (omega arith),
     of-signed 3 (omega arith),
@@ -175,21 +175,25 @@ signs =
     (λ n h. rw (no-base n h)
     (simp (ne-eqb n 1 (λ e. omega arith), ne-eqb n 3 (λ e. omega arith), ne-eqb n 4 (λ e. omega arith), ne-eqb n 5 (λ e. omega arith))))
 
-by-sign : (x : ℕ) → range (cond (isSigned (base x)) (rangeOf (base x) .last / 2 + 1) 0) (rangeOf (base x) .last) (ltb x 11) ≡ rangeOf (base x)
+-- the integers of which every word that their bytes can be is allowed: all but char8
+abbrev takesAll : ℕ → Bool
+takesAll x = ltb x 11 && not (eqb x 2)
+
+by-sign : (x : ℕ) → range (cond (isSigned (base x)) (rangeOf (base x) .last / 2 + 1) 0) (rangeOf (base x) .last) (takesAll x) ≡ rangeOf (base x)
 unfolding base isSigned rangeOf
 by-sign =
-    any (λ n. range (cond (isSigned (base n)) (rangeOf (base n) .last / 2 + 1) 0) (rangeOf (base n) .last) (ltb n 11) ≡ rangeOf (base n))
+    any (λ n. range (cond (isSigned (base n)) (rangeOf (base n) .last / 2 + 1) 0) (rangeOf (base n) .last) (takesAll n) ≡ rangeOf (base n))
     (refl, refl, refl, refl, refl, refl, refl, refl, refl, refl, refl, refl, refl)
     (λ n h. rw (no-base n h, le-ltb n 11 (omega arith)) refl)
 
 module _ (x l : ℕ) (s : Bool) (last : l ≡ rangeOf (base x) .last) (sign : s ≡ isSigned (base x)) where
-  with-sign : (b : Bool) → s ≡ b → range (cond b (l / 2 + 1) 0) l (ltb x 11) ≡ rangeOf (base x)
+  with-sign : (b : Bool) → s ≡ b → range (cond b (l / 2 + 1) 0) l (takesAll x) ≡ rangeOf (base x)
   with-sign b h = rw (← h, sign, last) (by-sign x)
 
-  pub both-signs : s ≡ true → range (l / 2 + 1) l (ltb x 11) ≡ rangeOf (base x)
+  pub both-signs : s ≡ true → range (l / 2 + 1) l (takesAll x) ≡ rangeOf (base x)
   both-signs h = with-sign true h
 
-  pub no-signs : s ≡ false → range 0 l (ltb x 11) ≡ rangeOf (base x)
+  pub no-signs : s ≡ false → range 0 l (takesAll x) ≡ rangeOf (base x)
   no-signs h = with-sign false h
 
 -- a number of two's complement that is read is in its range

@@ -10,11 +10,13 @@ use borrow.Author.Tests.{eq-eqb, ne-eqb, leb-true}
 use mir.Syntax.{w64}
 use mir.Val.{Fits}
 use lib.Dec.{ltb, leb, eqb}
-use lib.ListN.{length}
-use Rattle.wire.specs.Bytes.{span, number, whole, bytes, written}
+use lib.ListN.{length, take, drop}
+use Rattle.wire.specs.Bytes.{span, number, whole, bytes, written, Octets}
+use Rattle.wire.specs.LowFirst.{swapped}
 use Rattle.wire.proofs.Cond.{yes-lt, no-lt, yes-eq, no-eq}
-use Rattle.wire.proofs.Numbers.{whole-in}
+use Rattle.wire.proofs.Numbers.{number-lt, read-in}
 use Rattle.wire.proofs.Runs.{over-none}
+use Rattle.wire.proofs.Swaps.{swapped-twice, swapped-eqb}
 use Rattle.table.specs.declared.Sections.{Sections}
 use Rattle.table.specs.declared.Entry.{Entry}
 use Rattle.wire.specs.All.{allBelow}
@@ -22,7 +24,7 @@ use Rattle.table.specs.Leaf.{width, allowed}
 use Rattle.table.specs.Entries.{valueAt}
 use Rattle.leaf.specs.Forms.{truth, extended, formOf}
 use Rattle.leaf.proofs.Leaves.{Other, form-is, no-bytes}
-use Rattle.leaf.specs.Choice.{other, otherAt, among, choice, takes}
+use Rattle.leaf.specs.Choice.{other, otherAt, amongAt, among, choice, takes}
 
 -- nothing written changes nothing
 nothing : (s : List ℕ) (p : ℕ) → s ≡ written s p []
@@ -58,13 +60,46 @@ pub is-true : (x : ℕ) → (x ≡ 0 → ⊥) → 1 ≡ truth x
 unfolding truth
 is-true x h = sym (no-eq 0 1 x 0 h)
 
+-- values by their place: one that may not be there, and one that is there and is compared as it lies
+module _ (t : List ℕ) (p w : ℕ) where
+  pub compared-cut : (k v : ℕ) → v ≡ number 3 t (p + 8 * k) → not (eqb v w) ≡ otherAt t p w k
+  unfolding otherAt
+  compared-cut k v h = ap (λ (n : ℕ). not (eqb n w)) h
+
+  pub compared-lying : (k v : ℕ) → Octets t → w < span 3 → p + 8 * k + 8 ≤ length t
+      → v ≡ swapped 3 (whole 3 (take (p + 8 * k + 8 - (p + 8 * k)) (drop (p + 8 * k) t)) 0) → not (eqb v w) ≡ otherAt t p (swapped 3 w) k
+  unfolding otherAt
+  compared-lying k v o l i h =
+      let q : ℕ = p + 8 * k in
+      let e : whole 3 (take (q + 8 - q) (drop q t)) 0 ≡ number 3 t q = read-in 3 t q (whole 3 (take (q + 8 - q) (drop q t)) 0) i refl in
+      ap not (ap (λ (n : ℕ). eqb n w) (h ∙ ap (swapped 3) e) ∙ swapped-eqb 3 (number 3 t q) w (number-lt 3 t q o) l)
+
+  -- one of them is the word, or none is
+  pub hit : (n : ℕ) → false ≡ allBelow (otherAt t p w) n → true ≡ amongAt t p n w
+  unfolding amongAt
+  hit n h = ap not h
+
+  pub missed : (n : ℕ) → true ≡ allBelow (otherAt t p w) n → false ≡ amongAt t p n w
+  unfolding amongAt
+  missed n h = ap not h
+
+  -- and so of a word that was turned
+  module _ {x : ℕ} (e : x ≡ swapped 3 w) (l : w < span 3) where
+    back : swapped 3 x ≡ w
+    back = ap (swapped 3) e ∙ swapped-twice 3 w l
+
+    pub hit-turned : (n : ℕ) → false ≡ allBelow (otherAt t p (swapped 3 x)) n → true ≡ amongAt t p n w
+    hit-turned n h = hit n (h ∙ ap (λ (v : ℕ). allBelow (otherAt t p v) n) back)
+
+    pub missed-turned : (n : ℕ) → true ≡ allBelow (otherAt t p (swapped 3 x)) n → false ≡ amongAt t p n w
+    missed-turned n h = missed n (h ∙ ap (λ (v : ℕ). allBelow (otherAt t p v) n) back)
+
+pub values-there : {r : Bool} (n m : ℕ) → r ≡ leb n m → r ≡ true → n ≤ m
+values-there n m e t = leb-true n m (sym e ∙ t)
+
 -- the values of an enum
 module _ (t : List ℕ) (s : Sections) (e : Entry) (w : ℕ) where
-  pub compared : (k v : ℕ) → v ≡ valueAt t s (e .first + k) → not (eqb v w) ≡ other t s e w k
-  unfolding other
-  compared k v h = ap (λ (n : ℕ). not (eqb n w)) h
-
-  pub same-other : (k : ℕ) → otherAt t (s .values .at + 8 * e .first) w k ≡ other t s e w k
+  same-other : (k : ℕ) → otherAt t (s .values .at + 8 * e .first) w k ≡ other t s e w k
   unfolding other otherAt valueAt
   same-other k = ap (λ (n : ℕ). not (eqb (number 3 t n) w)) (omega arith)
 
@@ -73,32 +108,9 @@ module _ (t : List ℕ) (s : Sections) (e : Entry) (w : ℕ) where
   all-same zero = refl
   all-same (suc n) = ap₂ _&&_ (all-same n) (same-other n)
 
-  pub all-there : {r : Bool} → r ≡ not (allBelow (otherAt t (s .values .at + 8 * e .first) w) (e .count)) → r ≡ among t s e w
-  unfolding among
-  all-there h = h ∙ ap not (all-same (e .count))
-
-  pub found : false ≡ allBelow (other t s e w) (e .count) → true ≡ among t s e w
-  unfolding among
-  found h = ap not h
-
-  pub not-found : true ≡ allBelow (other t s e w) (e .count) → false ≡ among t s e w
-  unfolding among
-  not-found h = ap not h
-
--- a value that stands there
-pub compared-at : (t : List ℕ) (p w k v : ℕ) → p + 8 * k + 8 ≤ length t → v ≡ whole 3 t (p + 8 * k) → not (eqb v w) ≡ otherAt t p w k
-unfolding otherAt
-compared-at t p w k v i h = ap (λ (n : ℕ). not (eqb n w)) (h ∙ whole-in 3 t (p + 8 * k) i)
-
-pub values-there : {r : Bool} (n m : ℕ) → r ≡ leb n m → r ≡ true → n ≤ m
-values-there n m e t = leb-true n m (sym e ∙ t)
-
--- one of them is the word, or none is
-pub hit : {b : Bool} → false ≡ b → true ≡ not b
-hit h = ap not h
-
-pub missed : {b : Bool} → true ≡ b → false ≡ not b
-missed h = ap not h
+  pub by-place : {r : Bool} → r ≡ amongAt t (s .values .at + 8 * e .first) (e .count) w → r ≡ among t s e w
+  unfolding among amongAt
+  by-place h = h ∙ ap not (all-same (e .count))
 
 module _ (t : List ℕ) (s : Sections) (e : Entry) (w : ℕ) {a : Bool} (p : a ≡ allowed (e .of) w) where
   pub outside : a ≡ false → false ≡ takes t s e w

@@ -19,7 +19,10 @@ other t s e w k = not (eqb (valueAt t s (e .first + k)) w)
 unfoldable pub otherAt : List ℕ → ℕ → ℕ → ℕ → Bool
 otherAt t p w k = not (eqb (number 3 t (p + 8 * k)) w)
 
--- it is one of them
+-- it is one of the n that stand at p, and one of the enum's
+unfoldable pub amongAt : List ℕ → ℕ → ℕ → ℕ → Bool
+amongAt t p n w = not (allBelow (otherAt t p w) n)
+
 unfoldable pub among : List ℕ → Sections → Entry → ℕ → Bool
 among t s e w = not (allBelow (other t s e w) (e .count))
 

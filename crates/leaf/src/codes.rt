@@ -33,9 +33,11 @@ pub const FLOAT32: u16 = 11;
 
 pub const DOUBLE64: u16 = 12;
 
-// The last of as many values as an integer of so many bits has, counted from 0, a boolean having two; and the last of a float's
-// measures.
+// The last of as many values as an integer of so many bits has, counted from 0, a boolean having two; the last of ASCII (02,
+// request 2); and the last of a float's measures.
 const LAST_BOOLEAN: u64 = 1;
+
+const LAST_ASCII: u64 = 127;
 
 const LAST_OF_8: u64 = 255;
 
@@ -114,12 +116,13 @@ pub fn measure(code: u16, word: u64) -> u64
     }
 }
 
-// Of an integer that has both signs half of the values are below 0. Of the codes before the floats every word is allowed.
+// Of an integer that has both signs half of the values are below 0. Of the codes before the floats every word is allowed, save of
+// char8.
 pub fn range_of(code: u16) -> Range
     ensures { λ r. ⌜ r ≡ rangeOf (base code) ⌝ }
 {
     let last = last(code);
-    let every = code < FLOAT32;
+    let every = (code < FLOAT32) & (code != CHAR8);
     if is_signed(code) {
         Range {
             below: last / 2 + 1,
@@ -149,7 +152,7 @@ fn last(code: u16) -> u64
     match code {
         BOOLEAN8 => LAST_BOOLEAN,
         INT8 => LAST_OF_8,
-        CHAR8 => LAST_OF_8,
+        CHAR8 => LAST_ASCII,
         INT16 => LAST_OF_16,
         INT32 => LAST_OF_32,
         INT64 => LAST_OF_64,

@@ -20,6 +20,7 @@ pub use codes::allowed;
 pub use codes::measure;
 pub use codes::range_of;
 pub use codes::width;
+pub use words::among_at;
 pub use words::put;
 pub use words::signed8;
 pub use words::signed16;

@@ -3,14 +3,12 @@
 use table::Entry;
 use table::Sections;
 ghost use mathlib.Core.Path.{_≡_};
-ghost use mathlib.Core.Bool.{cond, not};
 ghost use Prim.Native.Nat.{_+_, _-_, _*_, _^_, _≤_, _<_};
-ghost use lib.Dec.{ltb};
 ghost use lib.ListN.{length};
-ghost use Rattle.wire.specs.All.{allBelow};
 ghost use Rattle.wire.specs.Bytes.{written};
+ghost use Rattle.wire.specs.LowFirst.{swapped};
 ghost use Rattle.leaf.specs.Forms.{truth, extended, formOf};
-ghost use Rattle.leaf.specs.Choice.{other, otherAt, among, takes};
+ghost use Rattle.leaf.specs.Choice.{otherAt, amongAt, among, takes};
 use crate::codes;
 
 // Writes the bytes of the leaf's word at `at`, where they fit.
@@ -39,6 +37,18 @@ pub fn takes(table: &[u8], s: Sections, e: Entry, word: u64) -> bool
         }
     } else {
         false
+    }
+}
+
+// Whether the word is one of the `count` values that stand at `at`. Where all of them are there, they are compared with no look at
+// the table's end.
+pub fn among_at(table: &[u8], at: u32, count: u16, word: u64) -> bool
+    ensures { λ r. ⌜ r ≡ amongAt (now (table .entry)) at count word ⌝ }
+{
+    if wire::has_room(table.len(), at as usize, 8 * (count as usize)) {
+        among_whole(table, at as usize, count as usize, word)
+    } else {
+        among_cut(table, at, count, word)
     }
 }
 
@@ -80,26 +90,27 @@ fn extended(x: u64, half: u64) -> u64
     }
 }
 
-// Where all values are there, they are compared with no look at the table's end.
+// Whether the word is one of the enum's own values.
 fn among(table: &[u8], s: Sections, e: Entry, word: u64) -> bool
     ensures { λ r. ⌜ r ≡ among (now (table .entry)) s e word ⌝ }
 {
-    let at = s.values.at as usize + 8 * (e.first as usize);
-    let count = e.count as usize;
-    if wire::has_room(table.len(), at, 8 * count) {
-        among_whole(table, at, count, word)
-    } else {
-        among_cut(table, s, e, word)
-    }
+    among_at(
+        table,
+        s.values.at as u32 + 8 * (e.first as u32),
+        e.count,
+        word,
+    )
 }
 
+// The word's bytes are turned once, so that no value's are.
 fn among_whole(table: &[u8], at: usize, count: usize, word: u64) -> bool
     requires { ⌜ at + 8 * count ≤ length (now table) ⌝ }
-    ensures { λ r. ⌜ r ≡ not (allBelow (otherAt (now (table .entry)) at word) count) ⌝ }
+    ensures { λ r. ⌜ r ≡ amongAt (now (table .entry)) at count word ⌝ }
 {
+    let turned = wire::swap64(word);
     let mut k: usize = 0;
     while k < count {
-        if other_at(table, at, word, k) {
+        if other_whole(table, at, turned, k) {
             k += 1;
         } else {
             return true;
@@ -108,20 +119,21 @@ fn among_whole(table: &[u8], at: usize, count: usize, word: u64) -> bool
     false
 }
 
-fn other_at(table: &[u8], at: usize, word: u64, k: usize) -> bool
+// Whether the word that is turned is not the k-th value. In a part of just its length the compiler sees that it is there.
+fn other_whole(table: &[u8], at: usize, turned: u64, k: usize) -> bool
     requires { ⌜ at + 8 * k + 8 ≤ length (now table) ⌝ }
-    ensures { λ r. ⌜ r ≡ otherAt (now (table .entry)) at word k ⌝ }
+    ensures { λ r. ⌜ r ≡ otherAt (now (table .entry)) at (swapped 3 turned) k ⌝ }
 {
-    wire::whole_u64(table, at + 8 * k) != word
+    let place = at + 8 * k;
+    wire::swapped_u64(&table[place..place + 8], 0) != turned
 }
 
-fn among_cut(table: &[u8], s: Sections, e: Entry, word: u64) -> bool
-    ensures { λ r. ⌜ r ≡ among (now (table .entry)) s e word ⌝ }
+fn among_cut(table: &[u8], at: u32, count: u16, word: u64) -> bool
+    ensures { λ r. ⌜ r ≡ amongAt (now (table .entry)) at count word ⌝ }
 {
-    let count = e.count;
     let mut k: u16 = 0;
     while k < count {
-        if other(table, s, e, word, k) {
+        if other_cut(table, at, word, k) {
             k += 1;
         } else {
             return true;
@@ -130,9 +142,9 @@ fn among_cut(table: &[u8], s: Sections, e: Entry, word: u64) -> bool
     false
 }
 
-// Whether the word is not the enum's k-th value.
-fn other(table: &[u8], s: Sections, e: Entry, word: u64, k: u16) -> bool
-    ensures { λ r. ⌜ r ≡ other (now (table .entry)) s e word k ⌝ }
+// Whether the word is not the k-th value, which may not be there.
+fn other_cut(table: &[u8], at: u32, word: u64, k: u16) -> bool
+    ensures { λ r. ⌜ r ≡ otherAt (now (table .entry)) at word k ⌝ }
 {
-    table::entries::value_at(table, s, e.first as u32 + k as u32) != word
+    wire::u64_at(table, at as usize + 8 * (k as usize)) != word
 }

@@ -1,48 +1,25 @@
 -- What a search by halving comes to, look by look, over any index.
 -- Assumes nothing.
-use Prim.Native.Nat.{ℕ, zero, suc, _+_, _-_, _*_, _/_, _≤_, _<_}
-use mathlib.Core.Path.{_≡_, refl, sym, ap, subst, _∙_}
+use Prim.Native.Nat.{ℕ, zero, suc, _+_, _*_, _≤_, _<_}
+use mathlib.Core.Path.{_≡_, refl, sym, subst, _∙_}
 use mathlib.Core.Bool.{Bool, true, false, cond, _&&_}
 use mathlib.Core.List.{List}
 use native.Mathlib.Nat.{add-zero, add-suc}
 use native.Mathlib.Omega.{arith}
-use borrow.Author.Tests.{ltb-true, ltb-false, leb-true, lt-leb, eqb-true}
+use borrow.Author.Tests.{ltb-true, ltb-false, leb-true, eqb-true}
 use lib.Dec.{ltb, leb, eqb}
-use lib.ListN.{length, getD}
+use lib.ListN.{length}
 use Rattle.wire.specs.Bytes.{number}
-use Rattle.wire.proofs.Cond.{yes-lt, no-lt, yes-eq, no-eq, yes-if, no-if, and-left, and-right}
-use Rattle.wire.proofs.Runs.{held, failed}
+use Rattle.wire.proofs.Cond.{yes-lt, no-lt, yes-eq, no-eq, and-left, and-right}
 use Rattle.operations.specs.declared.Sought.{Sought}
 use Rattle.operations.specs.declared.Sought.the-variants.{At, Nowhere}
-use Rattle.operations.specs.Entries.{widthOf, kindAt, opWidth}
-use Rattle.operations.specs.Search.{half, idIn, placeIn, borne, middle, halved, mostLooks, soughtIn}
-use Rattle.operations.proofs.Places.{width-read, width-least}
+use Rattle.operations.specs.Entries.{opWidth}
+use Rattle.operations.specs.Search.{idIn, placeIn, borne, middle, halved, mostLooks, soughtIn}
 
 -- so many entries are fewer than n looks can tell apart
 abbrev pub reach : ℕ → ℕ
 reach zero = 1
 reach (suc n) = 2 * reach n
-
--- held against the bytes: 8 of them are not there
-pub too-short : (t : List ℕ) (id m p : ℕ) (b : Bool) → b ≡ leb (p + 8) (length t) → b ≡ false → Nowhere ≡ borne t id m p
-unfolding borne
-too-short t id m p b e h =
-    let l : length t < p + opWidth t p = omega (arith, failed (p + 8) (length t) e h, width-least t p) in
-    rw (lt-leb (p + opWidth t p) (length t) l) refl
-
--- and where they are
-module _ (t : List ℕ) (id m p k d w : ℕ) (b : Bool) (kind : k ≡ kindAt t p) (is : w ≡ widthOf k) (room : b ≡ leb (p + w) (length t))
-    (bears : d ≡ number 2 t p) where
-  both-tests : (b && eqb d id) ≡ (leb (p + opWidth t p) (length t) && eqb (number 2 t p) id)
-  both-tests = rw (room, width-read t p k w kind is, bears) refl
-
-  pub is-borne : (b && eqb d id) ≡ true → At m p ≡ borne t id m p
-  unfolding borne
-  is-borne h = sym (yes-if {A = Sought} (At m p) Nowhere (sym both-tests ∙ h))
-
-  pub not-borne : (b && eqb d id) ≡ false → Nowhere ≡ borne t id m p
-  unfolding borne
-  not-borne h = sym (no-if {A = Sought} (At m p) Nowhere (sym both-tests ∙ h))
 
 -- one look
 module _ (t index : List ℕ) (id low high n : ℕ) where
@@ -172,45 +149,3 @@ module _ (t index : List ℕ) (id : ℕ) where
   pub eleven-looks : (count : ℕ) → count ≤ 1024 → soughtIn t index count id ≡ halved t index id 11 0 count
   unfolding soughtIn
   eleven-looks count h = looks-enough 11 5 0 count (omega arith)
-
--- the middle of what is left has its word, where the index has all of them
-pub word-there : (count n low high : ℕ) (all : Bool) → all ≡ leb count n → high ≤ count → low < high → all ≡ true → (low + high) / 2 < n
-word-there count n low high all e h l t = omega (arith, held count n e t)
-
--- what is left to search, k being the least word that bears the ID: the entries from low on and below high, with looks enough
-abbrev pub Left : List ℕ → List ℕ → ℕ → ℕ → ℕ → ℕ → ℕ → Type 0
-Left t index count id k low high =
-    (n : ℕ) × ((k ≡ id * half) × ((high < low + reach n) × (soughtIn t index count id ≡ halved t index id n low high)))
-
-module _ (t index : List ℕ) (count id k : ℕ) where
-  pub all-left : k ≡ id * half → count < 65536 → Left t index count id k 0 count
-  unfolding soughtIn
-  all-left s h = (mostLooks, (s, (h, refl)))
-
-  module _ (low high : ℕ) where
-    pub nowhere : Left t index count id k low high → high ≤ low → Nowhere ≡ soughtIn t index count id
-    nowhere (n, (s, (b, e))) h = sym (e ∙ none-left t index id low high n h)
-
-    module _ (m w : ℕ) (em : m ≡ (low + high) / 2) (is : w ≡ getD index m 0) (l : low < high) where
-      its-word : getD index (middle low high) 0 ≡ w
-      its-word = sym (is ∙ ap (λ (i : ℕ). getD index i 0) em)
-
-      pub found-at : (r : Sought) → Left t index count id k low high → k ≤ w → w - k < half → r ≡ borne t id m (w - k)
-          → r ≡ soughtIn t index count id
-      found-at r (zero, (s, (b, e))) a h f = absurd (omega arith)
-      found-at r (suc n, (s, (b, e))) a h f =
-          let q : idIn index (middle low high) ≡ id = omega (arith, its-word) in
-          let p : w - k ≡ placeIn index (middle low high) = omega (arith, its-word) in
-          f ∙ rw (p, em) refl ∙ sym (e ∙ bears-it t index id low high n l q)
-
-      pub upper : Left t index count id k low high → w < k → Left t index count id k (m + 1) high
-      upper (zero, (s, (b, e))) h = absurd (omega arith)
-      upper (suc n, (s, (b, e))) h =
-          let g : idIn index (middle low high) < id = omega (arith, its-word) in
-          (n, (s, (omega arith, e ∙ above-it t index id low high n l g ∙ ap (λ (i : ℕ). halved t index id n (i + 1) high) (sym em))))
-
-      pub lower : Left t index count id k low high → k ≤ w → half ≤ w - k → Left t index count id k low m
-      lower (zero, (s, (b, e))) a h = absurd (omega arith)
-      lower (suc n, (s, (b, e))) a h =
-          let g : id < idIn index (middle low high) = omega (arith, its-word) in
-          (n, (s, (omega arith, e ∙ below-it t index id low high n l g ∙ ap (halved t index id n low) (sym em))))

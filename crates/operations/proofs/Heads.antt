@@ -50,10 +50,10 @@ module _ (t : List ℕ) (p w k : ℕ) (kind : w / 65536 % 65536 ≡ kindAt t p) 
   pub kind-read : k ≡ kindAt t p
   kind-read = is ∙ kind
 
-  pub operation-read : (s : ℕ) → w / half ≡ number 2 t p → w % 65536 ≡ number 1 t (p + 6) → s ≡ responseAt t (p + 8) k
-      → _≡_ {A = Operation} (record { id = w / half; kind = k; carries = w % 65536; responds = s }) (operationAt t p)
+  pub operation-read : (d s : ℕ) → w / half ≡ number 2 t p → d ≡ w / half → w % 65536 ≡ number 1 t (p + 6) → s ≡ responseAt t (p + 8) k
+      → _≡_ {A = Operation} (record { id = d; kind = k; carries = w % 65536; responds = s }) (operationAt t p)
   unfolding operationAt
-  operation-read s a b e = rw (e, a, b, kind-read) refl
+  operation-read d s a g b e = rw (e, g, a, b, kind-read) refl
 
   pub next-by-head : (first i v : ℕ) → p ≡ opPlace t first i → v ≡ widthOf k → p + v ≡ opPlace t first (i + 1)
   next-by-head first i v here e = next-by-kind t first i p here k v kind-read e
@@ -63,13 +63,6 @@ two-in : (t : List ℕ) (p q k : ℕ) → q ≡ p + 2 → q ≤ length t → k �
 two-in t p q k e h g = read-in 1 t p k (omega arith) (g ∙ ap (λ (n : ℕ). whole 1 (take (n - p) (drop p t)) 0) e)
 
 module _ (t : List ℕ) (p k : ℕ) where
-  pub id-whole : p + 8 ≤ length t → k ≡ whole 2 (take (p + 4 - p) (drop p t)) 0 → k ≡ number 2 t p
-  id-whole h g = read-in 2 t p k (omega arith) g
-
-  pub kind-whole : p + 8 ≤ length t → k ≡ whole 1 (take (p + 6 - (p + 4)) (drop (p + 4) t)) 0 → k ≡ kindAt t p
-  unfolding kindAt
-  kind-whole h g = two-in t (p + 4) (p + 6) k (omega arith) (omega arith) g
-
   pub behind-whole : {b : Bool} → b ≡ leb (p + 10) (length t) → b ≡ true → k ≡ whole 1 (take (p + 10 - (p + 8)) (drop (p + 8) t)) 0
       → k ≡ number 1 t (p + 8)
   behind-whole e h g = two-in t (p + 8) (p + 10) k (omega arith) (held (p + 10) (length t) e h) g

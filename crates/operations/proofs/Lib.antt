@@ -4,4 +4,5 @@ pub mod Fields
 pub mod Passing
 pub mod Laying
 pub mod Halving
+pub mod Looking
 pub mod WhereIDsRise

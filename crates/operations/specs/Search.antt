@@ -2,6 +2,7 @@
 -- index is the table's, what is found is the operation of that ID (`found-first` of proofs/WhereIDsRise); with any index it is an entry
 -- that bears the ID and lies within the bytes, or none (`found-bears` of proofs/Halving).
 use Prim.Native.Nat.{ℕ, zero, suc, _+_, _*_, _/_, _%_}
+use mathlib.Core.Path.{_≡_}
 use mathlib.Core.Bool.{cond, _&&_}
 use mathlib.Core.List.{List}
 use lib.Dec.{ltb, leb, eqb}
@@ -37,13 +38,16 @@ borne t id m p = cond (leb (p + opWidth t p) (length t) && eqb (number 2 t p) id
 abbrev pub middle : ℕ → ℕ → ℕ
 middle low high = (low + high) / 2
 
--- the ID among the entries from low on and below high, in at most n looks: the middle one bears it, or it is above or below that
+-- the ID among the entries from low on and below high, in at most n looks: the middle one bears it, or it is above or below that. What
+-- `let` names is computed only where it is read: one half of the two
 unfoldable pub halved : List ℕ → List ℕ → ℕ → ℕ → ℕ → ℕ → Sought
 halved t index id zero low high = Nowhere
 halved t index id (suc n) low high =
+    let upper = halved t index id n (middle low high + 1) high in
+    let lower = halved t index id n low (middle low high) in
     cond (ltb low high)
     (cond (eqb (idIn index (middle low high)) id) (borne t id (middle low high) (placeIn index (middle low high)))
-    (cond (ltb (idIn index (middle low high)) id) (halved t index id n (middle low high + 1) high) (halved t index id n low (middle low high))))
+    (cond (ltb (idIn index (middle low high)) id) upper lower))
     Nowhere
 
 -- a count has 16 bits, so that 16 looks are enough
@@ -52,6 +56,14 @@ mostLooks = 16
 
 unfoldable pub soughtIn : List ℕ → List ℕ → ℕ → ℕ → Sought
 soughtIn t index count id = halved t index id mostLooks 0 count
+
+-- what an index says of an ID, an entry or none: held against the bytes of any table, it is what is sought there
+abbrev pub heldTo : List ℕ → ℕ → Sought → Sought
+heldTo t id (At m p) = borne t id m p
+heldTo t id Nowhere = Nowhere
+
+abbrev pub Says : List ℕ → ℕ → ℕ → Sought → Type 0
+Says index count id r = (t : List ℕ) → heldTo t id r ≡ soughtIn t index count id
 
 -- the first of the entries below n that bears the ID, by a plain scan; the operation of an ID is the first of all
 abbrev pub orElse : Sought → Sought → Sought

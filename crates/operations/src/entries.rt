@@ -3,8 +3,7 @@ use crate::Operation;
 use crate::REQUEST_SENT;
 use crate::REQUEST_SERVED;
 ghost use mathlib.Core.Path.{_≡_};
-ghost use Prim.Native.Nat.{_+_, _/_, _%_, _≤_};
-ghost use lib.ListN.{length};
+ghost use Prim.Native.Nat.{_+_, _/_, _%_};
 ghost use Rattle.wire.specs.Bytes.{number};
 ghost use Rattle.operations.specs.Entries.{wide, widthOf, opWidth, opPlace, kindAt, responseAt, operationAt};
 
@@ -37,7 +36,7 @@ pub fn operation_at(table: &[u8], place: usize) -> Operation
     let head = head_at(table, place);
     let kind = kind_of(head);
     Operation {
-        id: (head / 4294967296) as u32,
+        id: id_of(head),
         kind,
         carries: (head % 65536) as u16,
         responds: response_at(table, place, kind),
@@ -64,19 +63,10 @@ pub(crate) fn head_at(table: &[u8], place: usize) -> u64
     }
 }
 
-// The ID and the kind of an entry whose first 8 bytes are there: each part has just the length that is read, so that no test is left.
-pub(crate) fn whole_id(table: &[u8], place: usize) -> u32
-    requires { ⌜ place + 8 ≤ length (now table) ⌝ }
-    ensures { λ r. ⌜ r ≡ number 2 (now (table .entry)) place ⌝ }
+pub(crate) fn id_of(head: u64) -> u32
+    ensures { λ r. ⌜ r ≡ head / 4294967296 ⌝ }
 {
-    wire::whole_u32(&table[place..place + 4], 0)
-}
-
-pub(crate) fn whole_kind(table: &[u8], place: usize) -> u16
-    requires { ⌜ place + 8 ≤ length (now table) ⌝ }
-    ensures { λ r. ⌜ r ≡ kindAt (now (table .entry)) place ⌝ }
-{
-    wire::whole_u16(&table[place + 4..place + 6], 0)
+    (head / 4294967296) as u32
 }
 
 pub(crate) fn kind_of(head: u64) -> u16

@@ -2,6 +2,11 @@ mod WriteReturns
 pub mod WriteBases
 mod Measures
 mod JudgedRuns
+mod AlikeLeaves
+mod PlanWalks
+mod PlanLeaves
+mod PlanStores
+mod PlanReturns
 mod Laid
 pub mod There
 pub mod Behind

@@ -48,7 +48,7 @@ module _ (code w k n to len : ℕ) (is : w ≡ width code) (below : k < n) (room
   at-room e = omega (arith, far)
 
 module _ (ws : List ℕ) (code : ℕ) (p : Place) (x : List ℕ) where
-  length-all : (n : ℕ) → length (storedAll ws code p n x) ≡ length x
+  pub length-all : (n : ℕ) → length (storedAll ws code p n x) ≡ length x
   unfolding storedAll
   length-all zero = refl
   length-all (suc n) = length-written (storedAll ws code p n x) (p .to + n * width code) (formOf code (getD ws (p .from + n) 0)) ∙ length-all n

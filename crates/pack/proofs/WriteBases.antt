@@ -17,7 +17,8 @@ use Rattle.table.specs.declared.Entry.{Entry}
 use Rattle.table.specs.Entries.{memberAt}
 use Rattle.table.specs.Leaf.{allowed}
 use Rattle.walk.specs.declared.Place.{Place}
-use Rattle.walk.specs.Tree.{child, baseAt}
+use Rattle.walk.specs.Tree.{baseAt}
+use Rattle.walk.specs.Planned.{childBy}
 use Rattle.walk.specs.Walk.{on, through, walk, Goes, Going}
 use Rattle.walk.specs.Codes.{codeCount, codesOf}
 use Rattle.walk.proofs.Bases.{base-on}
@@ -28,12 +29,12 @@ use Rattle.pack.specs.Writing.{writer, Writing, Writes, memberWritten}
 
 -- a base among a record's members, and as an array's element
 module _ (ws t : List ℕ) (s : Sections) (i c code : ℕ) (is : code ≡ baseAt t s i c) (p : Place) (x : List ℕ) (there : isThere ws code (p .from) ≡ true) where
-  pub base-writes : walk (writer ws) (child t s i c) p x ≡ on (behind code p) (stored ws code p x)
+  pub base-writes : (ps : List ℕ) → walk (writer ws) (childBy ps t s i c) p x ≡ on (behind code p) (stored ws code p x)
   unfolding isThere writer
-  base-writes =
+  base-writes ps =
       let h : (ltb (p .from) (length ws) ≡ true)
       × (allowed code (getD ws (p .from) 0) ≡ true) = both (ltb (p .from) (length ws)) (allowed code (getD ws (p .from) 0)) there in
-      base-on t s i c (writer ws) code p x is (h .0) (h .1)
+      base-on t s i c (writer ws) ps code p x is (h .0) (h .1)
 
 -- the codes that were got of a record's members from the m-th on
 module _ (ws t : List ℕ) (s : Sections) (i : ℕ) (e : Entry) (m r : ℕ) (u v : List ℕ) (counts : r ≡ codeCount t s i e m (length u))
@@ -51,11 +52,11 @@ module _ (ws t : List ℕ) (s : Sections) (i : ℕ) (e : Entry) (m r : ℕ) (u v
       go zero q = omega arith
       go (suc k) q = omega (arith, code-member t s i e m r u counts k (omega arith))
 
-  pub codes-written : WritesEach ws (take r v) m (memberWritten ws t s i e)
-  codes-written k q y inside there =
+  pub codes-written : (ps : List ℕ) → WritesEach ws (take r v) m (memberWritten ws ps t s i e)
+  codes-written ps k q y inside there =
       let l : k < r = omega (arith, so-many) in
       base-writes ws t s i (memberAt t s (e .first + (m + k))) (getD (take r v) k 0)
-      (code-is t s i e m r u counts v got k (getD (take r v) k 0) l (getD-take r v k 0 l)) q y there
+      (code-is t s i e m r u counts v got k (getD (take r v) k 0) l (getD-take r v k 0 l)) q y there ps
 
   -- the first j of them take their words, and have b bytes
   module _ (p : Place) (j b : ℕ) (many : j ≡ takenCount ws (take r v) (p .from))
@@ -105,20 +106,21 @@ module _ (ws t : List ℕ) (s : Sections) (i : ℕ) (e : Entry) (m r : ℕ) (u v
           let a : take j v ≡ taken = ap (λ (n : ℕ). take n v) many ∙ sym (take-take count r v (omega (arith, many, few .0))) in
           ap (take (length ws - p .from)) a ∙ take-all (length ws - p .from) taken (omega (arith, as-many, many, count-words ws (take r v) (p .from)))
 
-      taken-written : Goes (memberWritten ws t s i e) m p x (m + j) (record { from = p .from + j; to = p .to + b }) y
-      taken-written p₀ x₀ h =
-          let f = memberWritten ws t s i e in
+      taken-written : (ps : List ℕ) → Goes (memberWritten ws ps t s i e) m p x (m + j) (record { from = p .from + j; to = p .to + b }) y
+      taken-written ps p₀ x₀ h =
+          let f = memberWritten ws ps t s i e in
           let w : through (m + length taken) f p₀ x₀
           ≡ on (record { from = p .from + length taken; to = ends taken (p .to) }) (laid ws taken p x) = written-over ws taken m f
-          (fewer-written ws (take r v) m f count codes-written) p (count-taken ws (take r v) (p .from)) x p₀ x₀ h in
+          (fewer-written ws (take r v) m f count (codes-written ps)) p (count-taken ws (take r v) (p .from)) x p₀ x₀ h in
           let o : ends taken (p .to) ≡ p .to + b = ends-from taken (p .to) ∙ ap (λ (n : ℕ). p .to + n) (sym bytes) in
           let q : laid ws taken p x ≡ y = sym (put ∙ ap (λ (cs : List ℕ). laid ws cs p x) all-there) in
           rw (as-many, o, q) at w
 
-      pub taken-going : m ≤ e .count → Writing ws p
-          → Going (Writing ws) (memberWritten ws t s i e) (e .count) m p x (m + j) (record { from = p .from + j; to = p .to + b }) y
-      taken-going h so-far =
-          record { onward = omega arith; most = taken-end h; here = writing-taken so-far; as-long = taken-long; goes = taken-written }
+      pub taken-going : m ≤ e .count → Writing ws p → (ps : List ℕ)
+          → Going (Writing ws) (memberWritten ws ps t s i e) (e .count) m p x (m + j) (record { from = p .from + j; to = p .to + b }) y
+      taken-going h so-far ps =
+          record { onward = omega arith; most = taken-end h; here = writing-taken so-far; as-long = taken-long; goes = taken-written ps }
 
-pub element-writes : (ws t : List ℕ) (s : Sections) (i c code : ℕ) → code ≡ baseAt t s i c → Writes ws code (λ k q y. walk (writer ws) (child t s i c) q y)
-element-writes ws t s i c code is k q y there = base-writes ws t s i c code is q y there
+pub element-writes : (ws ps t : List ℕ) (s : Sections) (i c code : ℕ) → code ≡ baseAt t s i c
+    → Writes ws code (λ k q y. walk (writer ws) (childBy ps t s i c) q y)
+element-writes ws ps t s i c code is k q y there = base-writes ws t s i c code is q y there ps

@@ -2,3 +2,5 @@ pub mod Writing
 pub mod JudgedRuns
 pub mod Stored
 pub mod StoredRuns
+pub mod ByPlan
+pub mod Alike

@@ -11,7 +11,7 @@ use Rattle.table.specs.Leaf.{width}
 use Rattle.table.specs.Entries.{memberAt}
 use Rattle.leaf.specs.Forms.{formOf}
 use Rattle.walk.specs.declared.Place.{Place}
-use Rattle.walk.specs.Tree.{child}
+use Rattle.walk.specs.Planned.{childBy}
 use Rattle.walk.specs.Walk.{Step, on, Codec, walk}
 use Rattle.pack.specs.Stored.{isThere, behind, stored}
 
@@ -23,6 +23,7 @@ writer ws =
       there = λ code p. ltb (p .from) (length ws);
       after = λ code p. record { from = p .from + 1; to = p .to + width code };
       gives = λ code w. formOf code w;
+      leaves = λ p. p .from;
     }
 
 -- a place that writing can come to: no leaf has more than 8 bytes
@@ -34,5 +35,5 @@ abbrev pub Writes : List ℕ → ℕ → (ℕ → Place → List ℕ → Step) �
 Writes ws code f = (k : ℕ) (q : Place) (y : List ℕ) → isThere ws code (q .from) ≡ true → f k q y ≡ on (behind code q) (stored ws code q y)
 
 -- the step over a record's k-th member
-abbrev pub memberWritten : List ℕ → List ℕ → Sections → ℕ → Entry → ℕ → Place → List ℕ → Step
-memberWritten ws t s i e k q y = walk (writer ws) (child t s i (memberAt t s (e .first + k))) q y
+abbrev pub memberWritten : List ℕ → List ℕ → List ℕ → Sections → ℕ → Entry → ℕ → Place → List ℕ → Step
+memberWritten ws ps t s i e k q y = walk (writer ws) (childBy ps t s i (memberAt t s (e .first + k))) q y

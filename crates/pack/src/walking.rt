@@ -9,35 +9,38 @@ ghost use mathlib.Core.Path.{_≡_};
 ghost use mathlib.Core.List.{List};
 ghost use Prim.Native.Nat.{ℕ, _≤_};
 ghost use lib.ListN.{getD};
-ghost use Rattle.walk.specs.declared.Place.{Place};
 ghost use Rattle.walk.specs.declared.Met.the-variants.{Members, Elements};
-ghost use Rattle.walk.specs.Walk.{Step, start, answer, left, begun, times, leafWalk, metWalk, typeWalk, Going};
-ghost use Rattle.pack.specs.Writing.{writer, Writing, Writes, memberWritten};
+ghost use Rattle.walk.specs.Walk.{start, answer, left, walk, begun, times, leafWalk, Going};
+ghost use Rattle.walk.specs.Planned.{typeBy, walkBy};
+ghost use Rattle.pack.specs.Writing.{writer, Writing, memberWritten};
+use crate::alike;
+use crate::alike::Reached;
 use crate::by_codes;
-use crate::limits;
-use crate::runs;
+use crate::by_plan;
 use walk::COUNT_BYTES;
 use walk::COUNT_WORDS;
 
 // How many base codes of a record's members are got at once.
 const MOST_CODES: usize = 64;
 
-// How far a run of leaves was written: up to which member or element, and where it ends.
-struct Reached {
-    upto: u32,
-    at: Place,
-}
-
 // Packs the words as a payload of type i, and stores the bytes of each where there is room for them.
-pub(crate) fn write_once(table: &[u8], s: Sections, i: u16, words: &[u64], out: &mut [u8]) -> Walked
-    ensures { λ r. ⌜ r ≡ answer (typeWalk (writer (now (words .entry))) (now (table .entry)) s i start (now (out .entry))) ⌝ }
-    ensures { λ _. ⌜ now (out .exit) ≡ left (typeWalk (writer (now (words .entry))) (now (table .entry)) s i start (now (out .entry))) ⌝ }
+pub(crate) fn write_once(
+    table: &[u8],
+    s: Sections,
+    plans: &[u64],
+    i: u16,
+    words: &[u64],
+    out: &mut [u8],
+) -> Walked
+    ensures { λ r. ⌜ r ≡ answer (walk (writer (now (words .entry))) (typeBy (now (plans .entry)) (now (table .entry)) s i) start (now (out .entry))) ⌝ }
+    ensures { λ _. ⌜ now (out .exit)
+        ≡ left (walk (writer (now (words .entry))) (typeBy (now (plans .entry)) (now (table .entry)) s i) start (now (out .entry))) ⌝ }
 {
     let p = Place { from: 0, to: 0 };
     match walk::look(table, s, i) {
         Met::Leaf(e) => write_leaf(table, s, e, words, out, p),
-        Met::Members(e) => write_members(table, s, i, e, words, out, p),
-        Met::Elements(e) => write_elements(table, s, i, e, words, out, p),
+        Met::Members(e) => write_members(table, s, plans, i, e, words, out, p),
+        Met::Elements(e) => write_elements(table, s, plans, i, e, words, out, p),
         Met::Broken => Walked::Stopped(types::RULE_BROKEN, p),
     }
 }
@@ -46,6 +49,7 @@ pub(crate) fn write_once(table: &[u8], s: Sections, i: u16, words: &[u64], out: 
 fn write_members(
     table: &[u8],
     s: Sections,
+    plans: &[u64],
     i: u16,
     e: Entry,
     words: &[u64],
@@ -53,9 +57,13 @@ fn write_members(
     p: Place,
 ) -> Walked
     requires { ⌜ Writing (now words) p ⌝ }
-    ensures { λ r. ⌜ r ≡ answer (metWalk (writer (now (words .entry))) (now (table .entry)) s i (Members e) p (now (out .entry))) ⌝ }
-    ensures { λ _. ⌜ now (out .exit) ≡ left (metWalk (writer (now (words .entry))) (now (table .entry)) s i (Members e) p (now (out .entry))) ⌝ }
+    ensures { λ r. ⌜ r ≡ answer (walkBy (writer (now (words .entry))) (now (plans .entry)) (now (table .entry)) s i (Members e) p (now (out .entry))) ⌝ }
+    ensures { λ _. ⌜ now (out .exit)
+        ≡ left (walkBy (writer (now (words .entry))) (now (plans .entry)) (now (table .entry)) s i (Members e) p (now (out .entry))) ⌝ }
 {
+    if walk::plans::is_planned(plans, i) {
+        return by_plan::write_planned(table, plans, i, words, out, p);
+    }
     let count = e.count as u32;
     let mut at = p;
     let mut k: u32 = 0;
@@ -69,8 +77,8 @@ fn write_members(
         let child = table::entries::member_at(table, s, e.first as u32 + next);
         let step = match walk::meet(table, s, i, child) {
             Met::Leaf(c) => write_leaf(table, s, c, words, out, here),
-            Met::Members(c) => write_members(table, s, child, c, words, out, here),
-            Met::Elements(c) => write_elements(table, s, child, c, words, out, here),
+            Met::Members(c) => write_members(table, s, plans, child, c, words, out, here),
+            Met::Elements(c) => write_elements(table, s, plans, child, c, words, out, here),
             Met::Broken => Walked::Stopped(types::RULE_BROKEN, here),
         };
         match step {
@@ -88,6 +96,7 @@ fn write_members(
 fn write_elements(
     table: &[u8],
     s: Sections,
+    plans: &[u64],
     i: u16,
     e: Entry,
     words: &[u64],
@@ -95,25 +104,35 @@ fn write_elements(
     p: Place,
 ) -> Walked
     requires { ⌜ Writing (now words) p ⌝ }
-    ensures { λ r. ⌜ r ≡ answer (metWalk (writer (now (words .entry))) (now (table .entry)) s i (Elements e) p (now (out .entry))) ⌝ }
-    ensures { λ _. ⌜ now (out .exit) ≡ left (metWalk (writer (now (words .entry))) (now (table .entry)) s i (Elements e) p (now (out .entry))) ⌝ }
+    ensures { λ r. ⌜ r ≡ answer (walkBy (writer (now (words .entry))) (now (plans .entry)) (now (table .entry)) s i (Elements e) p (now (out .entry))) ⌝ }
+    ensures { λ _. ⌜ now (out .exit)
+        ≡ left (walkBy (writer (now (words .entry))) (now (plans .entry)) (now (table .entry)) s i (Elements e) p (now (out .entry))) ⌝ }
 {
+    if walk::plans::is_planned(plans, i) {
+        return by_plan::write_planned(table, plans, i, words, out, p);
+    }
     let child = e.of;
-    let met = walk::meet(table, s, i, child);
     match begin(words, out, e, p) {
         Walked::Stopped(n, q) => Walked::Stopped(n, q),
         Walked::Went(q) => {
             let count = times(words, e, p);
             let code = walk::base_at(table, s, i, child);
-            let run = write_run(words, out, code, count, q);
-            let mut at = run.at;
-            let mut k = run.upto;
+            let run = alike::write_run(words, out, code, count, q);
+            let next = run.upto;
+            let end = run.at;
+            if next == count {
+                return Walked::Went(end);
+            }
+            let met = walk::meet(table, s, i, child);
+            let rest = alike::write_enums(table, s, met, words, out, next, count, end);
+            let mut at = rest.at;
+            let mut k = rest.upto;
             while k < count {
                 let here = met;
                 let step = match here {
                     Met::Leaf(c) => write_leaf(table, s, c, words, out, at),
-                    Met::Members(c) => write_members(table, s, child, c, words, out, at),
-                    Met::Elements(c) => write_elements(table, s, child, c, words, out, at),
+                    Met::Members(c) => write_members(table, s, plans, child, c, words, out, at),
+                    Met::Elements(c) => write_elements(table, s, plans, child, c, words, out, at),
                     Met::Broken => Walked::Stopped(types::RULE_BROKEN, at),
                 };
                 match step {
@@ -216,8 +235,8 @@ fn write_bases(
     p: Place,
 ) -> Reached
     requires { ⌜ Writing (now words) p × (from ≤ e .count) ⌝ }
-    ensures { λ r. ⌜ Going (Writing (now (words .entry))) (memberWritten (now (words .entry)) (now (table .entry)) s i e) (e .count)
-        from p (now (out .entry)) (r .upto) (r .at) (now (out .exit)) ⌝ }
+    ensures { λ r. ⌜ ((ps : List ℕ) → Going (Writing (now (words .entry))) (memberWritten (now (words .entry)) ps (now (table .entry)) s i e) (e .count)
+        from p (now (out .entry)) (r .upto) (r .at) (now (out .exit))) ⌝ }
 {
     let mut codes = [0u8; MOST_CODES];
     let n = walk::runs::base_codes(table, s, i, e, from, &mut codes);
@@ -230,32 +249,5 @@ fn write_bases(
             from: p.from + count,
             to: p.to + part.bytes,
         },
-    }
-}
-
-// Writes the elements of an array of one base code, where all their words are there and taken, and else none: then it is for the
-// walk to say which is refused.
-fn write_run(words: &[u64], out: &mut [u8], code: u16, count: u32, p: Place) -> Reached
-    requires { ⌜ Writing (now words) p ⌝ }
-    ensures { λ r. ⌜ ((f : ℕ → Place → List ℕ → Step) → Writes (now (words .entry)) code f
-        → Going (Writing (now (words .entry))) f count 0 p (now (out .entry)) (r .upto) (r .at) (now (out .exit))) ⌝ }
-{
-    let left = words.len() - p.from;
-    let many = count as usize;
-    if left < many {
-        return Reached { upto: 0, at: p };
-    }
-    if limits::judged(words, p.from, code, many) {
-        runs::store_run(words, out, code, many, p);
-        let width = leaf::width(code);
-        Reached {
-            upto: count,
-            at: Place {
-                from: p.from + many,
-                to: p.to + many * width,
-            },
-        }
-    } else {
-        Reached { upto: 0, at: p }
     }
 }

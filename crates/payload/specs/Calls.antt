@@ -1,6 +1,6 @@
--- 01, "Numbers given back", 40 to 45: what the calls answer, and what they leave. 44 comes before the walk, 41 after it and 45
--- last; a call handed table bytes gives 30 to 33 for them before anything else. On sections (docs/DECISIONS.md, 20), 30 where they do
--- not lie in the bytes, and 32 for an entry that the walk meets and that breaks a rule.
+-- 01, "Numbers given back", 40 to 45: what the calls answer, and what they leave; and where a walk stopped (02, request 3). 44 comes
+-- before the walk, 41 after it and 45 last; a call handed table bytes gives 30 to 33 for them before anything else. On sections
+-- (docs/DECISIONS.md, 20), 30 where they do not lie in the bytes, and 32 for an entry that the walk meets and that breaks a rule.
 use Prim.Native.Nat.{ℕ}
 use mathlib.Core.Bool.{cond}
 use mathlib.Core.List.{List, []}
@@ -12,11 +12,14 @@ use Rattle.table.specs.declared.Checked.the-variants as check
 use Rattle.table.specs.Layout.{cutShort, within}
 use Rattle.table.specs.Entries.{isType}
 use Rattle.types.specs.Table.{ruleBroken, checked}
+use Rattle.walk.specs.declared.Place.{Place}
 use Rattle.walk.specs.declared.Walked.{Walked}
 use Rattle.walk.specs.declared.Walked.the-variants as walked
+use Rattle.payload.specs.declared.Spot.{Spot}
 use Rattle.payload.specs.declared.Answer.{Answer}
 use Rattle.payload.specs.declared.Answer.the-variants.{Refused, Stopped, Gave}
-use Rattle.walk.specs.Walk.{Codec, start, leftOver, answer, left, typeWalk}
+use Rattle.walk.specs.Tree.{Tree, tree}
+use Rattle.walk.specs.Walk.{Codec, start, leftOver, answer, left, walk, typeWalk}
 use Rattle.unpack.specs.Reading.{reader}
 use Rattle.pack.specs.Writing.{writer}
 
@@ -26,35 +29,45 @@ noSuchType = 44
 abbrev pub outputTooShort : ℕ
 outputTooShort = 45
 
--- what the end of a walk comes to, over n bytes or words of input and with that much room
-unfoldable pub answered : ℕ → ℕ → Walked → Answer
-answered n room (walked.Stopped k q) = cond (eqb k ruleBroken) (Refused k) (Stopped k)
-answered n room (walked.Went q) =
-    cond (ltb (q .from) n) (Stopped leftOver) (cond (ltb room (q .to)) (Refused outputTooShort) (Gave (q .to)))
+-- 02, request 3: the byte, packing the word, at which an item begins, and the leaves before it, counts of arrays among them
+abbrev pub spot : Place → ℕ → Spot
+spot q l = record { at = q .from; leaves = l }
 
--- the walk is over no room: what it comes to does not depend on what it writes into
+-- what a walk comes to that stopped at a place, and one that went there, over n bytes or words of input and with that much room; l
+-- leaves come before the place
+unfoldable pub stoppedAt : ℕ → Place → ℕ → Answer
+stoppedAt k q l = cond (eqb k ruleBroken) (Refused k) (Stopped k (spot q l))
+
+unfoldable pub wentTo : ℕ → ℕ → Place → ℕ → Answer
+wentTo n room q l =
+    cond (ltb (q .from) n) (Stopped leftOver (spot q l)) (cond (ltb room (q .to)) (Refused outputTooShort) (Gave (q .to)))
+
+-- what the end of a walk comes to, by how many leaves come before a place
+unfoldable pub answered : (Place → ℕ) → ℕ → ℕ → Walked → Answer
+answered leaves n room (walked.Stopped k q) = stoppedAt k q (leaves q)
+answered leaves n room (walked.Went q) = wentTo n room q (leaves q)
+
+-- what a walk over a tree comes to, and over a type. It is over no room: what it comes to does not depend on what it writes into
+abbrev pub answeredTree : Codec → ℕ → Tree → ℕ → Answer
+answeredTree c n tr room = answered (c .leaves) n room (answer (walk c tr start []))
+
 unfoldable pub answeredType : Codec → ℕ → List ℕ → Sections → ℕ → ℕ → Answer
-answeredType c n t s i room = answered n room (answer (typeWalk c t s i start []))
+answeredType c n t s i room = answeredTree c n (tree t s i) room
 
 unfoldable pub answeredIn : Codec → ℕ → List ℕ → Sections → ℕ → ℕ → Answer
 answeredIn c n t s i room =
     cond (within t s) (cond (isType s i) (answeredType c n t s i room) (Refused noSuchType)) (Refused cutShort)
 
--- by cases: the number that an answer gives back (0: all was given), and how many words or bytes were given
+-- by cases: the number that an answer gives back, 0 where all was given
 abbrev pub numberGiven : Answer → ℕ
 numberGiven (Refused k) = k
-numberGiven (Stopped k) = k
+numberGiven (Stopped k s) = k
 numberGiven (Gave k) = 0
-
-abbrev pub countIn : Answer → ℕ
-countIn (Refused k) = 0
-countIn (Stopped k) = 0
-countIn (Gave k) = k
 
 -- what is left: what the walk writes where all of it is given, and as it was at a refusal
 unfoldable pub leftBy : {A : Type 0} → Answer → A → A → A
 leftBy (Refused k) before after = before
-leftBy (Stopped k) before after = before
+leftBy (Stopped k s) before after = before
 leftBy (Gave k) before after = after
 
 unfoldable pub leftIn : Codec → ℕ → List ℕ → Sections → ℕ → List ℕ → List ℕ

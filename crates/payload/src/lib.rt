@@ -1,25 +1,36 @@
-// Payloads unpacked to words and packed from words, by a type of a table (01, "Payload and words"), whole or not at all.
+// Payloads unpacked to words and packed from words, by a type of a table (01, "Payload and words"), whole or not at all; and where
+// one was refused (02, request 3).
+mod by_plans;
+
+pub use by_plans::pack_by;
+pub use by_plans::pack_plan;
+pub use by_plans::unpack_by;
+pub use by_plans::unpack_plan;
 use table::Checked;
 use table::Sections;
+use walk::Place;
 use walk::Walked;
 ghost use mathlib.Core.Path.{_≡_};
-ghost use mathlib.Core.List.{[]};
 ghost use lib.ListN.{length};
-ghost use Rattle.walk.specs.Walk.{start, answer, left, typeWalk};
-ghost use Rattle.unpack.specs.Reading.{reader};
-ghost use Rattle.pack.specs.Writing.{writer};
-ghost use Rattle.payload.specs.Calls.{answered, answeredType, leftBy, unpackedIn, wordsIn, unpacked, wordsAfter, packedIn, bytesIn, packed, bytesAfter};
+ghost use Rattle.walk.specs.declared.Place.{Place};
+ghost use Rattle.payload.specs.Calls.{stoppedAt, wentTo, answered, unpackedIn, wordsIn, unpacked, wordsAfter, packedIn, bytesIn, packed, bytesAfter};
 
 // 01, Numbers given back. 40 to 43 are the walk's, 30 to 33 the table's.
 pub const NO_SUCH_TYPE: u32 = 44;
 
 pub const OUTPUT_TOO_SHORT: u32 = 45;
 
-// What unpacking and packing answer: a number, which is a case of its own where it is the walk's (40 to 43), or how many words
-// or bytes were given.
+// Where a walk stopped: the byte of the payload, packing the word, at which the refused item begins, or the first that is left over;
+// and how many leaves come before it, counts of arrays among them.
+pub struct Spot {
+    pub at: usize,
+    pub leaves: usize,
+}
+
+// What unpacking and packing answer: a number; one of the walk's own (40 to 43) and where; or how many words or bytes were given.
 pub enum Answer {
     Refused(u32),
-    Stopped(u32),
+    Stopped(u32, Spot),
     Gave(usize),
 }
 
@@ -45,15 +56,7 @@ pub fn unpack_in(
     ensures { λ r. ⌜ r ≡ unpackedIn (now (table .entry)) s number (now (payload .entry)) (length (now (words .entry))) ⌝ }
     ensures { λ _. ⌜ now (words .exit) ≡ wordsIn (now (table .entry)) s number (now (payload .entry)) (now (words .entry)) ⌝ }
 {
-    if table::within(table, s) {
-        if table::entries::is_type(s, number) {
-            unpack_type(table, s, number, payload, words)
-        } else {
-            Answer::Refused(NO_SUCH_TYPE)
-        }
-    } else {
-        Answer::Refused(table::CUT_SHORT)
-    }
+    by_plans::unpack_parts(table, s, &[], number, payload, words)
 }
 
 // Packs the words as a payload of the table's type of that number into the output.
@@ -72,58 +75,49 @@ pub fn pack_in(table: &[u8], s: Sections, number: u16, words: &[u64], out: &mut 
     ensures { λ r. ⌜ r ≡ packedIn (now (table .entry)) s number (now (words .entry)) (length (now (out .entry))) ⌝ }
     ensures { λ _. ⌜ now (out .exit) ≡ bytesIn (now (table .entry)) s number (now (words .entry)) (now (out .entry)) ⌝ }
 {
-    if table::within(table, s) {
-        if table::entries::is_type(s, number) {
-            pack_type(table, s, number, words, out)
-        } else {
-            Answer::Refused(NO_SUCH_TYPE)
-        }
-    } else {
-        Answer::Refused(table::CUT_SHORT)
-    }
+    by_plans::pack_parts(table, s, &[], number, words, out)
 }
 
-fn unpack_type(table: &[u8], s: Sections, number: u16, payload: &[u8], words: &mut [u64]) -> Answer
-    ensures { λ r. ⌜ r ≡ answeredType (reader (now (payload .entry))) (length (now (payload .entry))) (now (table .entry)) s number
-        (length (now (words .entry))) ⌝ }
-    ensures { λ r. ⌜ now (words .exit)
-        ≡ leftBy r (now (words .entry)) (left (typeWalk (reader (now (payload .entry))) (now (table .entry)) s number start (now (words .entry)))) ⌝ }
-{
-    let room = words.len();
-    let walked = unpack::read_type(table, s, number, payload, words);
-    answered(payload.len(), room, walked)
-}
-
-// What the walk's end comes to: 41 where input is left over, and last 45 where the output is too short.
-fn answered(len: usize, room: usize, walked: Walked) -> Answer
-    ensures { λ r. ⌜ r ≡ answered len room walked ⌝ }
+// Unpacked, each leaf is a word.
+pub(crate) fn read_to(len: usize, room: usize, walked: Walked) -> Answer
+    ensures { λ r. ⌜ r ≡ answered (λ q. q .to) len room walked ⌝ }
 {
     match walked {
-        Walked::Stopped(n, _) => {
-            if n == types::RULE_BROKEN {
-                Answer::Refused(n)
-            } else {
-                Answer::Stopped(n)
-            }
-        }
-        Walked::Went(q) => {
-            if q.from < len {
-                return Answer::Stopped(walk::LEFT_OVER);
-            }
-            if room < q.to {
-                return Answer::Refused(OUTPUT_TOO_SHORT);
-            }
-            Answer::Gave(q.to)
-        }
+        Walked::Stopped(n, q) => stopped_at(n, q, q.to),
+        Walked::Went(q) => went_to(len, room, q, q.to),
     }
 }
 
-fn pack_type(table: &[u8], s: Sections, number: u16, words: &[u64], out: &mut [u8]) -> Answer
-    ensures { λ r. ⌜ r ≡ answeredType (writer (now (words .entry))) (length (now (words .entry))) (now (table .entry)) s number (length (now (out .entry))) ⌝ }
-    ensures { λ r. ⌜ now (out .exit)
-        ≡ leftBy r (now (out .entry)) (left (typeWalk (writer (now (words .entry))) (now (table .entry)) s number start (now (out .entry)))) ⌝ }
+// Packed, each word is a leaf.
+pub(crate) fn written_to(len: usize, room: usize, walked: Walked) -> Answer
+    ensures { λ r. ⌜ r ≡ answered (λ q. q .from) len room walked ⌝ }
 {
-    let room = out.len();
-    let walked = pack::write_type(table, s, number, words, out);
-    answered(words.len(), room, walked)
+    match walked {
+        Walked::Stopped(n, q) => stopped_at(n, q, q.from),
+        Walked::Went(q) => went_to(len, room, q, q.from),
+    }
+}
+
+// 32, of sections that no check gave, is not the walk's own.
+fn stopped_at(n: u32, q: Place, leaves: usize) -> Answer
+    ensures { λ r. ⌜ r ≡ stoppedAt n q leaves ⌝ }
+{
+    if n == types::RULE_BROKEN {
+        Answer::Refused(n)
+    } else {
+        Answer::Stopped(n, Spot { at: q.from, leaves })
+    }
+}
+
+// 41 where input is left over, and last 45 where the output is too short.
+fn went_to(len: usize, room: usize, q: Place, leaves: usize) -> Answer
+    ensures { λ r. ⌜ r ≡ wentTo len room q leaves ⌝ }
+{
+    if q.from < len {
+        return Answer::Stopped(walk::LEFT_OVER, Spot { at: q.from, leaves });
+    }
+    if room < q.to {
+        return Answer::Refused(OUTPUT_TOO_SHORT);
+    }
+    Answer::Gave(q.to)
 }

@@ -37,7 +37,7 @@ use Rattle.platform.specs.declared.Noting.the-variants as noting
 use Rattle.platform.specs.Receiving.{receivedOf, leftOf, listAfter, sectionsOutcome, sectionsOutput, sectionsList}
 use Rattle.platform.specs.Noting.{numberGiven as receiveNumber}
 use Rattle.platform.proofs.Unchanged.{Unchanged, refusal-changes-nothing, sections-refusal-changes-nothing}
-use Rattle.promises.specs.Checks.{Check, Answers, Keeps, none, this, next}
+use Rattle.promises.specs.Checks.{CheckOf, Answers, Keeps, none, this, next}
 use Rattle.promises.specs.Order.{InOrder}
 use Rattle.promises.specs.Demand1.{Kept, ChangesNothing, Demand1}
 use Rattle.promises.proofs.Order.{read-in-order, write-in-order, header-in-order, pieces-in-order, cut-in-order}
@@ -48,7 +48,8 @@ use Rattle.promises.proofs.PayloadOrder.{payload-in-order}
 use Rattle.promises.proofs.ReceiveOrder.{receive-in-order, receive-checked-in-order}
 
 -- one answer
-one : {A : Type 0} (refuse : ℕ → A) (good : A) (cs : List Check) (x y : A) → Answers refuse good cs x → Answers refuse good cs y → x ≡ y
+one : {R A : Type 0} (refuse : R → A) (good : A) (cs : List (CheckOf R)) (x y : A)
+    → Answers refuse good cs x → Answers refuse good cs y → x ≡ y
 one refuse good [] x y none none = refl
 one refuse good (c ∷ cs) x y (this a) (this b) = refl
 one refuse good (c ∷ cs) x y (this a) (next n b) = absurd (n a)
@@ -75,7 +76,7 @@ taken-refused (outcome.TooLong m) k = absurd (k refl)
 left-keeps : (a : Answer) (x y : List ℕ) → Keeps (numberGiven a) x (leftBy a x y)
 unfolding leftBy
 left-keeps (answer.Refused n) x y k = refl
-left-keeps (answer.Stopped n) x y k = refl
+left-keeps (answer.Stopped n s) x y k = refl
 left-keeps (answer.Gave n) x y k = absurd (k refl)
 
 in-keeps : (c : Codec) (n : ℕ) (t : List ℕ) (s : Sections) (i : ℕ) (x : List ℕ) → Keeps (numberGiven (answeredIn c n t s i (length x))) x (leftIn c n t s i x)

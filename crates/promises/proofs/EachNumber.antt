@@ -27,7 +27,7 @@ use Rattle.walk.specs.Tree.{byKind, look, elementsOf, treeOf, trees, tree}
 use Rattle.walk.specs.Walk.{answer, left, next, through, item, counted, walk, typeWalk}
 use Rattle.unpack.specs.Reading.{reader}
 use Rattle.pack.specs.Writing.{writer}
-use Rattle.payload.specs.Calls.{answered, answeredType, answeredIn, leftBy, leftIn, answeredIf, leftIf}
+use Rattle.payload.specs.Calls.{stoppedAt, wentTo, answered, answeredType, answeredIn, leftBy, leftIn, answeredIf, leftIf}
 use Rattle.states.specs.States.{bitOf, isUp, turned, withWord, withOwn}
 use Rattle.states.specs.States as states
 use Rattle.platform.specs.Reaction.{operationFor, operationIn, cameUp, onState, onStatus, reactionTo}
@@ -61,7 +61,7 @@ unfolding missedOf keeping notedOf begunOf followedOf placedOf steppedOf goodSiz
     width allowed fieldsOk memberOk membersOk pointedOk typeOk operationFields operationOk operationsOk sizeOf sizes largest sizeFits entriesOk
     sizesOk judged judging checked truth
     extended wordOf form wordAt formOf choice byKind look elementsOf treeOf trees tree answer left next through item counted walk
-    typeWalk reader writer answered answeredType answeredIn leftBy leftIn answeredIf leftIf bearing
+    typeWalk reader writer stoppedAt wentTo answered answeredType answeredIn leftBy leftIn answeredIf leftIf bearing
 each-number = record {
   read = refl and refl and refl and refl and refl and refl and refl and refl and refl and tt;
   write-4 = refl;
@@ -79,8 +79,8 @@ each-number = record {
   cut = refl and refl and refl and refl and tt;
   table-checks = refl and refl and refl and refl and refl and refl and refl and refl and refl and refl and refl and refl and refl and refl and refl
       and refl and refl and refl and refl and refl and refl and refl and refl and refl and refl and refl and refl and refl and refl and tt;
-  unpack = refl and refl and refl and refl and refl and refl and tt;
-  pack = refl and refl and refl and refl and refl and refl and tt;
+  unpack = refl and refl and refl and refl and refl and refl and refl and refl and tt;
+  pack = refl and refl and refl and refl and refl and refl and refl and refl and tt;
   on-sections = refl and refl and tt;
   packing-on-sections = refl and refl and tt;
   receive-10 = one-call .0;

@@ -37,6 +37,8 @@ use Rattle.table.specs.declared.Checked.{Checked}
 use Rattle.table.specs.declared.Checked.the-variants as check
 use Rattle.types.specs.Table.{checked}
 use Rattle.table.specs.Words.{sectionsIn, indexIn}
+use Rattle.unpack.specs.Reading.{reader}
+use Rattle.pack.specs.Writing.{writer}
 use Rattle.payload.specs.declared.Answer.{Answer}
 use Rattle.payload.specs.declared.Answer.the-variants as answer
 use Rattle.payload.specs.Calls.{unpacked, unpackedIn, packed, packedIn}
@@ -53,10 +55,12 @@ use Rattle.platform_words.proofs.Kept.{receive-keeps, receive-in-keeps, send-ke
 use Rattle.nyrkovash.specs.PieceCalls.{countLeft, madeLeft}
 use Rattle.nyrkovash.specs.MessageCalls.{readLeft, writeLeft}
 use Rattle.nyrkovash.specs.TableCalls.{sectionsLeft, foundWords}
-use Rattle.nyrkovash.specs.PayloadCalls.{givenLeft}
-use Rattle.promises.specs.Checks.{Keeps}
+use Rattle.nyrkovash.specs.PayloadCalls.{walkedLeft}
+use Rattle.promises.specs.Checks.{Keeps, Outside}
 use Rattle.promises.specs.Demand1.{ChangesNothing}
-use Rattle.promises.specs.ExportsKeep.{ExportsKeep}
+use Rattle.promises.specs.ExportsKeep.{WordsKept, ExportsKeep}
+use Rattle.promises.proofs.Checks.{not-outside}
+use Rattle.promises.proofs.Numbered.{Numbered, in-numbered, bytes-numbered}
 use Rattle.promises.proofs.Demand1.{demand-1}
 
 -- what was lent for an answer
@@ -80,11 +84,12 @@ check-keeps : (t was : List ℕ) (x : Checked) → Keeps (checkNumber x) was (se
 check-keeps t was (check.Refused n) k = refl
 check-keeps t was (check.Table s) k = absurd (k refl)
 
-given-keeps : (was : ℕ) (x : Answer) → Keeps (payload.numberGiven x) was (givenLeft was x)
-unfolding payload.leftBy
-given-keeps was (answer.Refused n) k = refl
-given-keeps was (answer.Stopped n) k = refl
-given-keeps was (answer.Gave n) k = absurd (k refl)
+walked-keeps : (was : List ℕ) (x : Answer) → Numbered x → WordsKept (payload.numberGiven x) was (walkedLeft was x)
+walked-keeps was (answer.Refused n) h = record { given = λ k. refl; spot = λ o. (refl, refl); all = λ o k. refl }
+walked-keeps was (answer.Stopped n s) h =
+    let inside : ¬ (Outside 40 43 n) = not-outside 40 43 n (h .0) (h .1) in
+    record { given = λ k. refl; spot = λ o. absurd (inside o); all = λ o. absurd (inside o) }
+walked-keeps was (answer.Gave n) h = record { given = λ k. absurd (k refl); spot = λ o. (refl, refl); all = λ o k. absurd (k refl) }
 
 found-keeps : (b : Bool) (was x : List ℕ) → Keeps (cond b 0 cutShort) was (cond b x was)
 found-keeps true was x k = absurd (k refl)
@@ -145,6 +150,10 @@ none-given-up false n e z = refl
 by : {B : Type 0} {n m : ℕ} {was left z : B} → n ≡ m → left ≡ z → Keeps m was z → Keeps n was left
 by e f g k = f ∙ g (λ z. k (e ∙ z))
 
+by-walked : {n : ℕ} {was left : List ℕ} (x : Answer) → n ≡ payload.numberGiven x → left ≡ walkedLeft was x → Numbered x
+    → WordsKept n was left
+by-walked {n} {was} {left} x e f h = rw (e, f) (walked-keeps was x h)
+
 kept : ChangesNothing
 kept = demand-1 .changes-nothing
 
@@ -171,17 +180,33 @@ exports-keep =
           let s = sectionsIn (now (a .1 .0)) in
           by (p .0) (p .1) (found-keeps (within t s) _ (foundWords t (soughtIn t (indexIn (now (a .1 .0))) (s .operations .count) (a .1 .1 .0))));
       unpack-words = λ k a n e p. by (p .0) (p .1 .0) (kept .unpack-words (now (a .0)) (a .1 .0) (now (a .1 .1 .0)) (now (a .1 .1 .1 .0)));
-      unpack-given = λ k a n e p. by (p .0) (p .1 .1) (given-keeps _ (unpacked (now (a .0)) (a .1 .0) (now (a .1 .1 .0)) (length (now (a .1 .1 .1 .0)))));
+      unpack-walked = λ k a n e p.
+          let t = now (a .0) in
+          let b = now (a .1 .1 .0) in
+          let room = length (now (a .1 .1 .1 .0)) in
+          by-walked (unpacked t (a .1 .0) b room) (p .0) (p .1 .1) (bytes-numbered (reader b) (length b) t (a .1 .0) room);
       unpack-in-words = λ k a n e p. by (p .0) (p .1 .0)
           (kept .unpack-in-words (now (a .0)) (sectionsIn (now (a .1 .0))) (a .1 .1 .0) (now (a .1 .1 .1 .0)) (now (a .1 .1 .1 .1 .0)));
-      unpack-in-given = λ k a n e p. by (p .0) (p .1 .1)
-          (given-keeps _ (unpackedIn (now (a .0)) (sectionsIn (now (a .1 .0))) (a .1 .1 .0) (now (a .1 .1 .1 .0)) (length (now (a .1 .1 .1 .1 .0)))));
+      unpack-in-walked = λ k a n e p.
+          let t = now (a .0) in
+          let s = sectionsIn (now (a .1 .0)) in
+          let b = now (a .1 .1 .1 .0) in
+          let room = length (now (a .1 .1 .1 .1 .0)) in
+          by-walked (unpackedIn t s (a .1 .1 .0) b room) (p .0) (p .1 .1) (in-numbered (reader b) (length b) t s (a .1 .1 .0) room);
       pack-out = λ k a n e p. by (p .0) (p .1 .0) (kept .pack-output (now (a .0)) (a .1 .0) (now (a .1 .1 .0)) (now (a .1 .1 .1 .0)));
-      pack-given = λ k a n e p. by (p .0) (p .1 .1) (given-keeps _ (packed (now (a .0)) (a .1 .0) (now (a .1 .1 .0)) (length (now (a .1 .1 .1 .0)))));
+      pack-walked = λ k a n e p.
+          let t = now (a .0) in
+          let ws = now (a .1 .1 .0) in
+          let room = length (now (a .1 .1 .1 .0)) in
+          by-walked (packed t (a .1 .0) ws room) (p .0) (p .1 .1) (bytes-numbered (writer ws) (length ws) t (a .1 .0) room);
       pack-in-out = λ k a n e p. by (p .0) (p .1 .0)
           (kept .pack-in-output (now (a .0)) (sectionsIn (now (a .1 .0))) (a .1 .1 .0) (now (a .1 .1 .1 .0)) (now (a .1 .1 .1 .1 .0)));
-      pack-in-given = λ k a n e p. by (p .0) (p .1 .1)
-          (given-keeps _ (packedIn (now (a .0)) (sectionsIn (now (a .1 .0))) (a .1 .1 .0) (now (a .1 .1 .1 .0)) (length (now (a .1 .1 .1 .1 .0)))));
+      pack-in-walked = λ k a n e p.
+          let t = now (a .0) in
+          let s = sectionsIn (now (a .1 .0)) in
+          let ws = now (a .1 .1 .1 .0) in
+          let room = length (now (a .1 .1 .1 .1 .0)) in
+          by-walked (packedIn t s (a .1 .1 .0) ws room) (p .0) (p .1 .1) (in-numbered (writer ws) (length ws) t s (a .1 .1 .0) room);
       receive-platform = λ k a n e p. by (p .0) (p .1 .0)
           (receive-keeps (a .0) (now (a .1 .0)) (now (a .1 .1 .0)) (now (a .1 .1 .1 .0)) (now (a .1 .1 .1 .1 .0)));
       receive-out = λ k a n e p.

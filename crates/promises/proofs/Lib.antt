@@ -10,6 +10,11 @@ pub mod Headers
 pub mod CutAndJoined
 pub mod Payloads
 pub mod OneCodec
+mod SameItems
+mod CutShort
+mod StoppedAt
+pub mod Places
+pub mod WorkedPlaces
 pub mod Lookups
 mod ByID
 mod Kind2
@@ -27,10 +32,12 @@ pub mod Demand3
 pub mod SmallTraffic
 pub mod WrongJoiners
 pub mod WrongCodecs
+pub mod WrongPlaces
 pub mod WrongPlatforms
 pub mod NotRuledOut
 pub mod WrongTurns
 pub mod Starred
+pub mod Amended
 pub mod EachNumber
 pub mod AtLimits
 pub mod Unique
@@ -48,6 +55,10 @@ mod OneRequestRun
 pub mod RequestRuns
 pub mod WrongListings
 pub mod UniqueOperations
+pub mod UniquePlans
+pub mod Plans
+pub mod WorkedPlans
+pub mod PlanCalls
 pub mod ExportsKeep
 mod LinkedRuns
 pub mod Linked

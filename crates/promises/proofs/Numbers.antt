@@ -21,15 +21,15 @@ use Rattle.walk.specs.Tree.{byKind, look, elementsOf, treeOf, trees, tree}
 use Rattle.walk.specs.Walk.{answer, left, next, through, item, counted, walk, typeWalk}
 use Rattle.unpack.specs.Reading.{reader}
 use Rattle.pack.specs.Writing.{writer}
-use Rattle.payload.specs.Calls.{answered, answeredType, answeredIn, leftBy, leftIn, answeredIf, leftIf}
+use Rattle.payload.specs.Calls.{stoppedAt, wentTo, answered, answeredType, answeredIn, leftBy, leftIn, answeredIf, leftIf}
 use Rattle.promises.specs.Numbers.{TableIs, FourKindsAre, MessagesAre, Numbers}
 
 table-is : TableIs
 unfolding allBelow above sectionAt after ended afterValues afterMembers afterTypes sectionsOf liesIn within typeAt memberAt valueAt
     opPlace base bytesOf inSigned finite isValue width allowed fieldsOk memberOk membersOk pointedOk typeOk operationsOk
     sumOf sizeOf sizes largest sizeFits entriesOk sizesOk judged judging checked truth extended wordOf form wordAt formOf choice
-    byKind look elementsOf treeOf trees tree answer left next through item counted walk typeWalk reader writer answered answeredType
-    answeredIn leftBy leftIn answeredIf leftIf
+    byKind look elementsOf treeOf trees tree answer left next through item counted walk typeWalk reader writer stoppedAt wentTo
+    answered answeredType answeredIn leftBy leftIn answeredIf leftIf
 table-is =
     record { long = refl; accepted = refl; unpacks = refl; words = refl; packs = refl; bytes = refl }
 

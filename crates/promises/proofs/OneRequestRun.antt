@@ -29,8 +29,8 @@ use Rattle.promises.proofs.RequestTables.{one-entry}
 -- two lists of checks that apply alike
 data ApplyAlike : List Check → List Check → Type 1 where
   alike : ApplyAlike [] []
-  also : {c d : Check} {cs ds : List Check} → c .number ≡ d .number → (c .applies → d .applies) → (d .applies → c .applies) → ApplyAlike cs ds
-      → ApplyAlike (c ∷ cs) (d ∷ ds)
+  also : {c d : Check} {cs ds : List Check} → c .refusal ≡ d .refusal → (c .applies → d .applies) → (d .applies → c .applies)
+      → ApplyAlike cs ds → ApplyAlike (c ∷ cs) (d ∷ ds)
 
 itself : (cs : List Check) → ApplyAlike cs cs
 itself [] = alike
@@ -39,7 +39,7 @@ itself (c ∷ cs) = also refl (λ h. h) (λ h. h) (itself cs)
 module _ {A : Type 0} {f g : ℕ → A} {a b : A} (R : A → A → Type 0) (refused : (k : ℕ) → R (f k) (g k)) (good : R a b) where
   one-answer : {cs ds : List Check} {x y : A} → ApplyAlike cs ds → Answers f a cs x → Answers g b ds y → R x y
   one-answer alike none none = good
-  one-answer (also {c} {d} e h k r) (this u) (this v) = subst (λ (n : ℕ). R (f (c .number)) (g n)) e (refused (c .number))
+  one-answer (also {c} {d} e h k r) (this u) (this v) = subst (λ (n : ℕ). R (f (c .refusal)) (g n)) e (refused (c .refusal))
   one-answer (also e h k r) (this u) (next v q) = absurd (v (h u))
   one-answer (also e h k r) (next u p) (this v) = absurd (u (k v))
   one-answer (also e h k r) (next u p) (next v q) = one-answer r p q

@@ -30,7 +30,7 @@ use Rattle.walk.specs.Tree.{byKind, look, elementsOf, treeOf, trees, tree}
 use Rattle.walk.specs.Walk.{answer, left, next, through, item, counted, walk, typeWalk}
 use Rattle.unpack.specs.Reading.{reader}
 use Rattle.pack.specs.Writing.{writer}
-use Rattle.payload.specs.Calls.{answered, answeredType, answeredIn, leftBy, leftIn, answeredIf, leftIf}
+use Rattle.payload.specs.Calls.{stoppedAt, wentTo, answered, answeredType, answeredIn, leftBy, leftIn, answeredIf, leftIf}
 use Rattle.promises.specs.Cases.{CutPiece, CutAs, CutsInto}
 use Rattle.promises.specs.Starred.{Starred}
 
@@ -92,7 +92,7 @@ unfolding missedOf keeping notedOf begunOf followedOf placedOf steppedOf goodSiz
     sectionsOf liesIn within typeAt memberAt valueAt opPlace base bytesOf inSigned finite isValue width allowed fieldsOk
     memberOk membersOk pointedOk typeOk operationsOk sizeOf sizes largest sizeFits entriesOk sizesOk judged judging checked truth
     extended wordOf form wordAt formOf choice byKind look elementsOf treeOf trees tree answer left next through item counted walk
-    typeWalk reader writer answered answeredType answeredIn leftBy leftIn answeredIf leftIf
+    typeWalk reader writer stoppedAt wentTo answered answeredType answeredIn leftBy leftIn answeredIf leftIf
 starred =
     refl
     and refl

@@ -28,6 +28,8 @@ wire =
       whole-u32 = λ k a z z′ e e′ p q. p ∙ sym q;
       whole-u64 = λ k a z z′ e e′ p q. p ∙ sym q;
       word-at = λ k a z z′ e e′ p q. p ∙ sym q;
+      swap64 = λ k a z z′ e e′ p q. p ∙ sym q;
+      swapped-u64 = λ k a z z′ e e′ p q. p ∙ sym q;
     }
 
 message : MessageUnique
@@ -102,6 +104,7 @@ leaf =
       measure = λ k a z z′ e e′ p q. p ∙ sym q;
       put-s = λ k a z z′ e e′ p q. p ∙ sym q;
       takes = λ k a z z′ e e′ p q. p ∙ sym q;
+      among-at = λ k a z z′ e e′ p q. p ∙ sym q;
       truth = λ k a z z′ e e′ p q. p ∙ sym q;
       signed8 = λ k a z z′ e e′ p q. p ∙ sym q;
       signed16 = λ k a z z′ e e′ p q. p ∙ sym q;

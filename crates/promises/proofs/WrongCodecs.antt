@@ -26,7 +26,8 @@ use Rattle.walk.specs.Tree.{byKind, look, elementsOf, treeOf, trees, tree}
 use Rattle.walk.specs.Walk.{answer, left, next, through, item, counted, walk, typeWalk}
 use Rattle.unpack.specs.Reading.{reader}
 use Rattle.pack.specs.Writing.{writer}
-use Rattle.payload.specs.Calls.{numberGiven, answered, answeredType, answeredIn, leftBy, leftIn, answeredIf, leftIf, unpacked}
+use Rattle.payload.specs.Calls.{numberGiven, stoppedAt, wentTo, answered, answeredType, answeredIn, leftBy, leftIn, answeredIf, leftIf}
+use Rattle.payload.specs.Calls.{unpacked}
 use Rattle.payload.specs.declared.Answer.{Answer}
 use Rattle.payload.specs.declared.Answer.the-variants.{Refused, Stopped, Gave}
 use Rattle.values.specs.Values.{Value, Spoken, Over, Row}
@@ -81,7 +82,7 @@ unpacking C p = p table sections uint16 (known uint16 (omega arith)) .1 .forms (
 abbrev given : Answer → ℕ
 given (Gave k) = k
 given (Refused n) = 0
-given (Stopped n) = 0
+given (Stopped n s) = 0
 
 pub packs-nothing : (C : Coding) → PacksNothing C → PayloadsBy C → ⊥
 packs-nothing C n p = n table uint16 (258 ∷ []) 2 2 (packing C p .0)
@@ -165,16 +166,16 @@ refused-42 : numberGiven (unpacked pair 1 late 2) ≡ 42
 unfolding allBelow above sectionAt after ended afterValues afterMembers afterTypes sectionsOf liesIn within typeAt memberAt
     valueAt opPlace base bytesOf inSigned finite isValue width allowed fieldsOk memberOk membersOk pointedOk typeOk
     operationsOk sizeOf sizes largest sizeFits entriesOk sizesOk judged judging checked truth extended wordOf form wordAt formOf
-    choice byKind look elementsOf treeOf trees tree answer left next through item counted walk typeWalk reader writer answered
-    answeredType answeredIn leftBy leftIn answeredIf leftIf
+    choice byKind look elementsOf treeOf trees tree answer left next through item counted walk typeWalk reader writer stoppedAt wentTo
+    answered answeredType answeredIn leftBy leftIn answeredIf leftIf
 refused-42 = refl
 
 pub stores-at-once : KeepsBy storesAtOnce → ⊥
 unfolding allBelow above sectionAt after ended afterValues afterMembers afterTypes sectionsOf liesIn within typeAt memberAt
     valueAt opPlace base bytesOf inSigned finite isValue width allowed fieldsOk memberOk membersOk pointedOk typeOk
     operationsOk sizeOf sizes largest sizeFits entriesOk sizesOk judged judging checked truth extended wordOf form wordAt formOf
-    choice byKind look elementsOf treeOf trees tree answer left next through item counted walk typeWalk reader writer answered
-    answeredType answeredIn leftBy leftIn answeredIf leftIf
+    choice byKind look elementsOf treeOf trees tree answer left next through item counted walk typeWalk reader writer stoppedAt wentTo
+    answered answeredType answeredIn leftBy leftIn answeredIf leftIf
 stores-at-once k =
     let n : ¬ (numberGiven (unpacked pair 1 late 2) ≡ 0) = λ (z : numberGiven (unpacked pair 1 late 2) ≡ 0). let y : _≡_ {A = ℕ} 42 0 =
     sym refused-42 ∙ z in absurd (omega (arith, y)) in

@@ -1,5 +1,5 @@
--- What a case of 01's "Values at the edges" says, over the definitions that the contracts of `unpack`, `pack`, `cut`, `setup`,
--- `take` and `message` cite.
+-- What a case of 01's "Values at the edges" says, or one that 02 adds, over the definitions that the contracts of `unpack`, `pack`,
+-- `cut`, `setup`, `take` and `message` cite.
 use Prim.{Unit}
 use Prim.Native.Nat.{ℕ, suc, _+_, _*_, _≤_, _<_}
 use mathlib.Core.Path.{_≡_}
@@ -12,6 +12,7 @@ use Rattle.binding.specs.declared.cutter.Made.the-variants as made
 use Rattle.binding.specs.Header.{headerOf, headerBytes, headingIn, pieceIn}
 use Rattle.binding.specs.Cutting.{countedOf, madeOf, cutInto}
 use Rattle.channel.specs.declared.Outcome.{Outcome}
+use Rattle.payload.specs.declared.Spot.{Spot}
 use Rattle.payload.specs.declared.Answer.{Answer}
 use Rattle.payload.specs.declared.Answer.the-variants.{Stopped, Gave}
 use Rattle.payload.specs.Calls.{unpacked, wordsAfter, packed, bytesAfter}
@@ -66,12 +67,18 @@ pub record CutPiece : Type 0 where
   pub counter : ℕ
   pub bytes : ℕ
 
+-- 02, request 3: the byte, packing the word, at which the refused item begins, and the leaves before it
+infix 68 _behind_
+abbrev pub _behind_ : ℕ → ℕ → Spot
+_behind_ at leaves = record { at = at; leaves = leaves }
+
 pub data Case : Type 0 where
-  -- the payload of the type gives the words, or is refused with the number; and the words give the payload, or are refused
+  -- the payload of the type gives the words, or is refused with the number and at the spot; and the words give the payload, or are
+  -- refused
   unpacks : ℕ → List ℕ → List ℕ → Case
-  unpack-refused : ℕ → List ℕ → ℕ → Case
+  unpack-refused : ℕ → List ℕ → ℕ → Spot → Case
   packs : ℕ → List ℕ → List ℕ → Case
-  pack-refused : ℕ → List ℕ → ℕ → Case
+  pack-refused : ℕ → List ℕ → ℕ → Spot → Case
   -- a message of m bytes at piece size s gives these pieces, whose counters start at the third number
   cuts : ℕ → ℕ → ℕ → List CutPiece → Case
   -- in a room of R bytes, from fresh, the datagrams have these outcomes, and these messages are delivered
@@ -118,17 +125,17 @@ pub record Done : Type 0 where
 abbrev pub lent : ℕ → List ℕ
 lent n = replicate n 9
 
-abbrev pub unpacking : ℕ → List ℕ → ℕ → Done
-unpacking i b n = record { answer = unpacked table i b n; left = wordsAfter table i b (lent n) }
+abbrev pub unpacking : List ℕ → ℕ → List ℕ → ℕ → Done
+unpacking t i b n = record { answer = unpacked t i b n; left = wordsAfter t i b (lent n) }
 
-abbrev pub packing : ℕ → List ℕ → ℕ → Done
-packing i ws n = record { answer = packed table i ws n; left = bytesAfter table i ws (lent n) }
+abbrev pub packing : List ℕ → ℕ → List ℕ → ℕ → Done
+packing t i ws n = record { answer = packed t i ws n; left = bytesAfter t i ws (lent n) }
 
 abbrev pub gives : List ℕ → Done
 gives xs = record { answer = Gave (length xs); left = xs }
 
-abbrev pub refusedWith : ℕ → Done
-refusedWith n = record { answer = Stopped n; left = lent 8 }
+abbrev pub refusedWith : ℕ → Spot → Done
+refusedWith n o = record { answer = Stopped n o; left = lent 8 }
 
 -- what taking the datagrams comes to
 pub record Joined : Type 0 where
@@ -142,11 +149,15 @@ joining R xs =
       delivered = deliveredOn ids 0 (fresh ids R (room R)) (room R) (datagrams xs);
     }
 
--- what a case says
-abbrev pub Holds : Case → Type 0
-Holds (unpacks i b ws) = unpacking i b (length ws) ≡ gives ws
-Holds (unpack-refused i b n) = unpacking i b 8 ≡ refusedWith n
-Holds (packs i ws b) = packing i ws (length b) ≡ gives b
-Holds (pack-refused i ws n) = packing i ws 8 ≡ refusedWith n
-Holds (cuts m s first ps) = CutsInto m s first ps
-Holds (joins R xs outcomes delivered) = joining R xs ≡ record { outcomes = outcomes; delivered = delivered }
+-- what a case says, its types being those of the table t
+abbrev pub Holds : List ℕ → Case → Type 0
+Holds t (unpacks i b ws) = unpacking t i b (length ws) ≡ gives ws
+Holds t (unpack-refused i b n o) = unpacking t i b 8 ≡ refusedWith n o
+Holds t (packs i ws b) = packing t i ws (length b) ≡ gives b
+Holds t (pack-refused i ws n o) = packing t i ws 8 ≡ refusedWith n o
+Holds t (cuts m s first ps) = CutsInto m s first ps
+Holds t (joins R xs outcomes delivered) = joining R xs ≡ record { outcomes = outcomes; delivered = delivered }
+
+abbrev pub AllHold : List ℕ → List Case → Type 0
+AllHold t [] = Unit {0}
+AllHold t (c ∷ cs) = Holds t c × AllHold t cs

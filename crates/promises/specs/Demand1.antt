@@ -26,7 +26,7 @@ use Rattle.platform.specs.Replies.{owedLength}
 use Rattle.platform.specs.Reaction.{operationFor, reactionTo}
 use Rattle.platform.specs.Receiving.{receivedOf, leftOf, listAfter, sectionsOutcome, sectionsOutput, sectionsList}
 use Rattle.platform.specs.Noting.{numberGiven as receiveNumber}
-use Rattle.promises.specs.Checks.{Check, _when_, Answers, Gives, Keeps}
+use Rattle.promises.specs.Checks.{CheckOf, Check, _when_, Answers, Gives, Keeps}
 use Rattle.promises.specs.Order.{readChecks, InOrder, NumbersInOrder}
 use Rattle.promises.specs.TableOrder.{sectionsIn, tableChecks, TableInOrder, TableNumberInOrder}
 use Rattle.promises.specs.PayloadOrder.{LieIn, PayloadInOrder}
@@ -114,5 +114,6 @@ pub record Demand1 : Type 1 where
   pub receive-in-order : ReceiveInOrder
   pub receive-checked-in-order : ReceiveCheckedInOrder
   -- which leaves no choice
-  pub one-answer : {A : Type 0} (refused : ℕ → A) (good : A) (cs : List Check) (x y : A) → Answers refused good cs x → Answers refused good cs y → x ≡ y
+  pub one-answer : {R A : Type 0} (refused : R → A) (good : A) (cs : List (CheckOf R)) (x y : A)
+      → Answers refused good cs x → Answers refused good cs y → x ≡ y
   pub changes-nothing : ChangesNothing

@@ -1,6 +1,6 @@
 -- Demand 1: no line of the lists of checks (specs/Order, TableOrder, PayloadOrder, Demand1) can go. A list says what is answered to
 -- every input, so that without a line it says something else of the inputs for which that line is the first that applies; here is one
--- for each, which breaks that rule alone, and the number that it gets. The theorem is in proofs/EachNumber.antt.
+-- for each, which breaks that rule alone, and the number that it gets, or the whole refusal. The theorem is in proofs/EachNumber.antt.
 use Prim.{Unit}
 use Prim.Native.Nat.{ℕ, _+_, _*_, _^_}
 use mathlib.Core.Path.{_≡_}
@@ -28,23 +28,24 @@ use Rattle.types.specs.Table.{checked}
 use Rattle.platform.specs.Receiving.{freshStanding, receivedOf, sectionsOutcome}
 use Rattle.platform.specs.Noting.{numberGiven}
 use Rattle.requests.specs.Sending.{sentOf, numberGiven as sendNumber}
+use Rattle.payload.specs.declared.Answer.the-variants.{Refused, Stopped}
 use Rattle.payload.specs.Calls.{numberGiven as payloadNumber, unpackedIn, packedIn, unpacked, packed}
 use Rattle.promises.specs.TableOrder.{sectionsIn}
 use Rattle.promises.specs.Numbers.{wholeTable, status}
-use Rattle.promises.specs.Cases.{table, uint16, uint8, float32, upToThree}
+use Rattle.promises.specs.Cases.{table, uint16, uint8, float32, upToThree, _behind_}
 
--- inputs, each with the number that it gets
-pub record Given (I : Type 0) : Type 0 where
-  pub number : ℕ
+-- inputs, each with the number, or with the refusal, that it gets
+pub record Given (R I : Type 0) : Type 0 where
+  pub refusal : R
   pub input : I
 
 infix 68 _for_
-abbrev pub _for_ : {I : Type 0} → ℕ → I → Given I
-_for_ n x = record { number = n; input = x }
+abbrev pub _for_ : {R I : Type 0} → R → I → Given R I
+_for_ r x = record { refusal = r; input = x }
 
-abbrev pub Each : {I A : Type 0} → (ℕ → A) → (I → A) → List (Given I) → Type 0
+abbrev pub Each : {R I A : Type 0} → (R → A) → (I → A) → List (Given R I) → Type 0
 Each refused f [] = Unit {0}
-Each refused f (c ∷ cs) = (f (c .input) ≡ refused (c .number)) × Each refused f cs
+Each refused f (c ∷ cs) = (f (c .input) ≡ refused (c .refusal)) × Each refused f cs
 
 -- a message by the fields of 000, Table 2
 abbrev pub message : ℕ → ℕ → ℕ → ℕ → ℕ → ℕ → List ℕ → List ℕ
@@ -181,22 +182,26 @@ pub record EachNumber : Type 0 where
       ∷ 33 for
       (0 ∷ 2 ∷ 0 ∷ 0 ∷ 0 ∷ 12 ∷ 0 ∷ 0 ∷ 0 ∷ 0 ∷ 0 ∷ 3 ∷ 0 ∷ 0 ∷ 0 ∷ 0 ∷ 0xFF ∷ 0xFF ∷ noEntry ++ (noEntry ++ noEntry))
       ∷ [])
-  -- a payload of the table of specs/Cases: type, payload and room
-  pub unpack : Each (λ n. n) (λ (x : ℕ × List ℕ × ℕ). payloadNumber (unpacked table (x .0) (x .1) (x .2)))
-      (44 for (7, [], 9)
-      ∷ 40 for (uint16, 1 ∷ [], 9)
-      ∷ 42 for (float32, 0x7F ∷ 0x80 ∷ 0 ∷ 0 ∷ [], 9)
-      ∷ 43 for (upToThree, 0 ∷ 0 ∷ 0 ∷ 4 ∷ 1 ∷ 2 ∷ 3 ∷ 4 ∷ [], 9)
-      ∷ 41 for (uint8, 1 ∷ 2 ∷ [], 9)
-      ∷ 45 for (uint16, 1 ∷ 2 ∷ [], 0)
+  -- a payload of the table of specs/Cases: type, payload and room; 40 to 43 with the spot, in an array behind its count and an element
+  pub unpack : Each (λ r. r) (λ (x : ℕ × List ℕ × ℕ). unpacked table (x .0) (x .1) (x .2))
+      (Refused 44 for (7, [], 9)
+      ∷ Stopped 40 (0 behind 0) for (uint16, 1 ∷ [], 9)
+      ∷ Stopped 40 (5 behind 2) for (upToThree, 0 ∷ 0 ∷ 0 ∷ 2 ∷ 1 ∷ [], 9)
+      ∷ Stopped 42 (0 behind 0) for (float32, 0x7F ∷ 0x80 ∷ 0 ∷ 0 ∷ [], 9)
+      ∷ Stopped 43 (0 behind 0) for (upToThree, 0 ∷ 0 ∷ 0 ∷ 4 ∷ 1 ∷ 2 ∷ 3 ∷ 4 ∷ [], 9)
+      ∷ Stopped 41 (1 behind 1) for (uint8, 1 ∷ 2 ∷ [], 9)
+      ∷ Stopped 41 (5 behind 2) for (upToThree, 0 ∷ 0 ∷ 0 ∷ 1 ∷ 7 ∷ 8 ∷ 9 ∷ [], 9)
+      ∷ Refused 45 for (uint16, 1 ∷ 2 ∷ [], 0)
       ∷ [])
-  pub pack : Each (λ n. n) (λ (x : ℕ × List ℕ × ℕ). payloadNumber (packed table (x .0) (x .1) (x .2)))
-      (44 for (7, [], 9)
-      ∷ 40 for (uint16, [], 9)
-      ∷ 42 for (uint8, 256 ∷ [], 9)
-      ∷ 43 for (upToThree, 4 ∷ 1 ∷ 2 ∷ 3 ∷ 4 ∷ [], 9)
-      ∷ 41 for (uint8, 1 ∷ 2 ∷ [], 9)
-      ∷ 45 for (uint16, 258 ∷ [], 1)
+  pub pack : Each (λ r. r) (λ (x : ℕ × List ℕ × ℕ). packed table (x .0) (x .1) (x .2))
+      (Refused 44 for (7, [], 9)
+      ∷ Stopped 40 (0 behind 0) for (uint16, [], 9)
+      ∷ Stopped 40 (2 behind 2) for (upToThree, 2 ∷ 1 ∷ [], 9)
+      ∷ Stopped 42 (0 behind 0) for (uint8, 256 ∷ [], 9)
+      ∷ Stopped 42 (2 behind 2) for (upToThree, 2 ∷ 1 ∷ 256 ∷ [], 9)
+      ∷ Stopped 43 (0 behind 0) for (upToThree, 4 ∷ 1 ∷ 2 ∷ 3 ∷ 4 ∷ [], 9)
+      ∷ Stopped 41 (1 behind 1) for (uint8, 1 ∷ 2 ∷ [], 9)
+      ∷ Refused 45 for (uint16, 258 ∷ [], 1)
       ∷ [])
   -- on sections: which do not lie in the bytes; and an entry that breaks a rule, where it is met
   pub on-sections : Each (λ n. n) (λ (x : List ℕ × Sections). payloadNumber (unpackedIn (x .0) (x .1) 0 (1 ∷ 2 ∷ []) 9))

@@ -3,8 +3,10 @@
 -- pending changes nothing". The theorem is in proofs/ExportsKeep.antt.
 use Prim.Native.Nat.{ℕ}
 use mathlib.Core.Path.{_≡_}
+use mathlib.Core.List.{List}
+use lib.ListN.{getD}
 use denote.Ref.{now}
-use Rattle.promises.specs.Checks.{Keeps}
+use Rattle.promises.specs.Checks.{Keeps, Outside}
 use Rattle.nyrkovash.proofs.nyr_setup.Reads.{Post as nyr-setup}
 use Rattle.nyrkovash.proofs.nyr_take.Reads.{Post as nyr-take}
 use Rattle.nyrkovash.proofs.nyr_pieces.Reads.{Post as nyr-pieces}
@@ -26,6 +28,17 @@ use Rattle.nyrkovash.proofs.nyr_cancel.Reads.{Post as nyr-cancel}
 abbrev pub Untouched : {K : Type 0} {A E : K → Type 0} {B : Type 0} → ((k : K) → A k → ℕ → E k → Type 0) → ((k : K) → A k → B) → ((k : K) → E k → B) → Type 0
 Untouched {K} {A} {E} post before after = (k : K) (a : A k) (n : ℕ) (e : E k) → post k a n e → Keeps n (before k a) (after k e)
 
+-- 02, request 3 amends this for 40 to 43 of packing and unpacking alone: of the three words success writes the first, what was given;
+-- these four numbers the other two, where; and any other refusal none
+pub record WordsKept (n : ℕ) (was left : List ℕ) : Type 0 where
+  pub given : Keeps n (getD was 0 0) (getD left 0 0)
+  pub spot : Outside 40 43 n → (getD left 1 0 ≡ getD was 1 0) × (getD left 2 0 ≡ getD was 2 0)
+  pub all : Outside 40 43 n → Keeps n was left
+
+abbrev pub SpotOnly : {K : Type 0} {A E : K → Type 0}
+    → ((k : K) → A k → ℕ → E k → Type 0) → ((k : K) → A k → List ℕ) → ((k : K) → E k → List ℕ) → Type 0
+SpotOnly {K} {A} {E} post before after = (k : K) (a : A k) (n : ℕ) (e : E k) → post k a n e → WordsKept n (before k a) (after k e)
+
 pub record ExportsKeep : Type 0 where
   pub setup : Untouched nyr-setup (λ k a. now (a .0)) (λ k e. now (e .0))
   pub take-state : Untouched nyr-take (λ k a. now (a .0)) (λ k e. now (e .0))
@@ -40,13 +53,13 @@ pub record ExportsKeep : Type 0 where
   pub check-table : Untouched nyr-check-table (λ k a. now (a .1 .0)) (λ k e. now (e .1 .0))
   pub find : Untouched nyr-find (λ k a. now (a .1 .1 .1 .0)) (λ k e. now (e .1 .1 .1 .0))
   pub unpack-words : Untouched nyr-unpack (λ k a. now (a .1 .1 .1 .0)) (λ k e. now (e .1 .1 .1 .0))
-  pub unpack-given : Untouched nyr-unpack (λ k a. now (a .1 .1 .1 .1 .0)) (λ k e. now (e .1 .1 .1 .1 .0))
+  pub unpack-walked : SpotOnly nyr-unpack (λ k a. now (a .1 .1 .1 .1 .0)) (λ k e. now (e .1 .1 .1 .1 .0))
   pub unpack-in-words : Untouched nyr-unpack-in (λ k a. now (a .1 .1 .1 .1 .0)) (λ k e. now (e .1 .1 .1 .1 .0))
-  pub unpack-in-given : Untouched nyr-unpack-in (λ k a. now (a .1 .1 .1 .1 .1 .0)) (λ k e. now (e .1 .1 .1 .1 .1 .0))
+  pub unpack-in-walked : SpotOnly nyr-unpack-in (λ k a. now (a .1 .1 .1 .1 .1 .0)) (λ k e. now (e .1 .1 .1 .1 .1 .0))
   pub pack-out : Untouched nyr-pack (λ k a. now (a .1 .1 .1 .0)) (λ k e. now (e .1 .1 .1 .0))
-  pub pack-given : Untouched nyr-pack (λ k a. now (a .1 .1 .1 .1 .0)) (λ k e. now (e .1 .1 .1 .1 .0))
+  pub pack-walked : SpotOnly nyr-pack (λ k a. now (a .1 .1 .1 .1 .0)) (λ k e. now (e .1 .1 .1 .1 .0))
   pub pack-in-out : Untouched nyr-pack-in (λ k a. now (a .1 .1 .1 .1 .0)) (λ k e. now (e .1 .1 .1 .1 .0))
-  pub pack-in-given : Untouched nyr-pack-in (λ k a. now (a .1 .1 .1 .1 .1 .0)) (λ k e. now (e .1 .1 .1 .1 .1 .0))
+  pub pack-in-walked : SpotOnly nyr-pack-in (λ k a. now (a .1 .1 .1 .1 .1 .0)) (λ k e. now (e .1 .1 .1 .1 .1 .0))
   pub receive-platform : Untouched nyr-receive (λ k a. now (a .1 .0)) (λ k e. now (e .1 .0))
   pub receive-out : Untouched nyr-receive (λ k a. now (a .1 .1 .1 .1 .0)) (λ k e. now (e .1 .1 .1 .1 .0))
   pub receive-heard : Untouched nyr-receive (λ k a. now (a .1 .1 .1 .1 .1 .0)) (λ k e. now (e .1 .1 .1 .1 .1 .0))

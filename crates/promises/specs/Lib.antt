@@ -7,6 +7,8 @@ pub mod Headers
 pub mod CutAndJoined
 pub mod Payloads
 pub mod OneCodec
+pub mod Places
+pub mod WorkedPlaces
 pub mod Platforms
 pub mod Demand2
 pub mod Senders
@@ -15,10 +17,12 @@ pub mod Demand3
 pub mod Cases
 pub mod WrongJoiners
 pub mod WrongCodecs
+pub mod WrongPlaces
 pub mod WrongPlatforms
 pub mod NotRuledOut
 pub mod WrongTurns
 pub mod Starred
+pub mod Amended
 pub mod EachNumber
 pub mod AtLimits
 pub mod Unique
@@ -32,6 +36,10 @@ pub mod RequestRuns
 pub mod AskedAndAnswered
 pub mod WrongListings
 pub mod UniqueOperations
+pub mod UniquePlans
+pub mod Plans
+pub mod WorkedPlans
+pub mod PlanCalls
 pub mod Lookups
 pub mod ExportsKeep
 pub mod InNumbers

@@ -1,13 +1,13 @@
--- 01, "Values at the edges": the starred cases, each part of each line, as one table with one statement. What a case says
--- is `Holds` (specs/Cases.antt); the theorem is in proofs/Starred.antt.
-use Prim.{Unit}
+-- 01, "Values at the edges": the starred cases, each part of each line, as one table with one statement; a refusal with the spot of
+-- 02, request 3, which is the start in each: one leaf, or a count. What a case says is `Holds` (specs/Cases.antt); the theorem is in
+-- proofs/Starred.antt.
 use mathlib.Core.List.{List, [], _∷_, _++_}
 use lib.ListN.{replicate}
 use Rattle.binding.specs.declared.MessagePart.the-variants.{Begin, End, Whole}
 use Rattle.channel.specs.declared.Outcome.the-variants.{Delivered, Held, TooLong}
 use Rattle.channel.specs.declared.Slice.the-variants.{Rooms}
-use Rattle.promises.specs.Cases.{uint16, int16, int8, uint8, boolean8, float32, upToThree, Case, unpacks, unpack-refused}
-use Rattle.promises.specs.Cases.{packs, pack-refused, cuts, joins, Holds}
+use Rattle.promises.specs.Cases.{table, uint16, int16, int8, uint8, boolean8, float32, upToThree, Case, unpacks, unpack-refused}
+use Rattle.promises.specs.Cases.{packs, pack-refused, _behind_, cuts, joins, AllHold}
 
 abbrev pub starred : List Case
 starred =
@@ -19,10 +19,10 @@ starred =
     ∷ unpacks int16 (0xFF ∷ 0xFE ∷ []) (0xFFFFFFFFFFFFFFFE ∷ [])
     -- int8 word 127 packs, 128 is 42, 0xFFFFFFFFFFFFFF80 packs to `80`
     ∷ packs int8 (127 ∷ []) (0x7F ∷ [])
-    ∷ pack-refused int8 (128 ∷ []) 42
+    ∷ pack-refused int8 (128 ∷ []) 42 (0 behind 0)
     ∷ packs int8 (0xFFFFFFFFFFFFFF80 ∷ []) (0x80 ∷ [])
     -- uint8 word 256: 42
-    ∷ pack-refused uint8 (256 ∷ []) 42
+    ∷ pack-refused uint8 (256 ∷ []) 42 (0 behind 0)
     -- boolean byte 7: word 1, packs to `01`
     ∷ unpacks boolean8 (7 ∷ []) (1 ∷ [])
     ∷ packs boolean8 (1 ∷ []) (0x01 ∷ [])
@@ -31,13 +31,13 @@ starred =
     ∷ packs float32 (0x7F7FFFFF ∷ []) (0x7F ∷ 0x7F ∷ 0xFF ∷ 0xFF ∷ [])
     ∷ unpacks float32 (0x80 ∷ 0x00 ∷ 0x00 ∷ 0x00 ∷ []) (0x80000000 ∷ [])
     ∷ packs float32 (0x80000000 ∷ []) (0x80 ∷ 0x00 ∷ 0x00 ∷ 0x00 ∷ [])
-    ∷ unpack-refused float32 (0x7F ∷ 0x80 ∷ 0x00 ∷ 0x00 ∷ []) 42
-    ∷ pack-refused float32 (0x7F800000 ∷ []) 42
+    ∷ unpack-refused float32 (0x7F ∷ 0x80 ∷ 0x00 ∷ 0x00 ∷ []) 42 (0 behind 0)
+    ∷ pack-refused float32 (0x7F800000 ∷ []) 42 (0 behind 0)
     -- array of uint8, maximum 3: `00 00 00 00` is the one word 0; count 4 is 43
     ∷ unpacks upToThree (0 ∷ 0 ∷ 0 ∷ 0 ∷ []) (0 ∷ [])
     ∷ packs upToThree (0 ∷ []) (0 ∷ 0 ∷ 0 ∷ 0 ∷ [])
-    ∷ unpack-refused upToThree (0 ∷ 0 ∷ 0 ∷ 4 ∷ 1 ∷ 2 ∷ 3 ∷ 4 ∷ []) 43
-    ∷ pack-refused upToThree (4 ∷ 1 ∷ 2 ∷ 3 ∷ 4 ∷ []) 43
+    ∷ unpack-refused upToThree (0 ∷ 0 ∷ 0 ∷ 4 ∷ 1 ∷ 2 ∷ 3 ∷ 4 ∷ []) 43 (0 behind 0)
+    ∷ pack-refused upToThree (4 ∷ 1 ∷ 2 ∷ 3 ∷ 4 ∷ []) 43 (0 behind 0)
     -- 65,503 bytes make one whole piece; 65,504 make two at s = 65,503, the second of 1 byte; counters from
     -- 7, and from M-1, 65,535, on
     ∷ cuts 65503 65503 7 (record { mark = Whole; counter = 7; bytes = 65503 } ∷ [])
@@ -56,10 +56,6 @@ starred =
     (Held 0 1 ∷ Delivered 0 (Rooms 0 2) ∷ []) ((0xAA ∷ 0xBB ∷ []) ∷ [])
     ∷ []
 
-abbrev pub AllHold : List Case → Type 0
-AllHold [] = Unit {0}
-AllHold (c ∷ cs) = Holds c × AllHold cs
-
 -- every starred case holds
 abbrev pub Starred : Type 0
-Starred = AllHold starred
+Starred = AllHold table starred

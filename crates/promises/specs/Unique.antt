@@ -31,6 +31,8 @@ use Rattle.wire.proofs.whole_u16.Reads.{Post as wire-whole-u16}
 use Rattle.wire.proofs.whole_u32.Reads.{Post as wire-whole-u32}
 use Rattle.wire.proofs.whole_u64.Reads.{Post as wire-whole-u64}
 use Rattle.wire.proofs.word_at.Reads.{Post as wire-word-at}
+use Rattle.wire.proofs.swap64.Reads.{Post as wire-swap64}
+use Rattle.wire.proofs.swapped_u64.Reads.{Post as wire-swapped-u64}
 use Rattle.message.proofs.Header.new.Reads.{Post as message-Header-new}
 use Rattle.message.proofs.read.Reads.{Post as message-read}
 use Rattle.message.proofs.payload.Reads.{Post as message-payload}
@@ -68,6 +70,7 @@ use Rattle.leaf.proofs.range_of.Reads.{Post as leaf-range-of}
 use Rattle.leaf.proofs.measure.Reads.{Post as leaf-measure}
 use Rattle.leaf.proofs.put.Reads.{Post as leaf-put}
 use Rattle.leaf.proofs.takes.Reads.{Post as leaf-takes}
+use Rattle.leaf.proofs.among_at.Reads.{Post as leaf-among-at}
 use Rattle.leaf.proofs.truth.Reads.{Post as leaf-truth}
 use Rattle.leaf.proofs.signed8.Reads.{Post as leaf-signed8}
 use Rattle.leaf.proofs.signed16.Reads.{Post as leaf-signed16}
@@ -124,6 +127,8 @@ pub record WireUnique : Type 0 where
   pub whole-u32 : Answer wire-whole-u32
   pub whole-u64 : Answer wire-whole-u64
   pub word-at : Answer wire-word-at
+  pub swap64 : Answer wire-swap64
+  pub swapped-u64 : Answer wire-swapped-u64
 
 pub record MessageUnique : Type 0 where
   pub new : Answer message-Header-new
@@ -180,6 +185,7 @@ pub record LeafUnique : Type 0 where
   pub measure : Answer leaf-measure
   pub put-s : Lent leaf-put (λ k e. now (e .0))
   pub takes : Answer leaf-takes
+  pub among-at : Answer leaf-among-at
   pub truth : Answer leaf-truth
   pub signed8 : Answer leaf-signed8
   pub signed16 : Answer leaf-signed16
@@ -199,11 +205,11 @@ pub record WalkUnique : Type 0 where
 
 pub record UnpackUnique : Type 0 where
   pub read-type : Answer unpack-read-type
-  pub read-type-words : Lent unpack-read-type (λ k e. now (e .1 .1 .1 .1 .0))
+  pub read-type-words : Lent unpack-read-type (λ k e. now (e .1 .1 .1 .1 .1 .0))
 
 pub record PackUnique : Type 0 where
   pub write-type : Answer pack-write-type
-  pub write-type-out : Lent pack-write-type (λ k e. now (e .1 .1 .1 .1 .0))
+  pub write-type-out : Lent pack-write-type (λ k e. now (e .1 .1 .1 .1 .1 .0))
 
 pub record PayloadUnique : Type 0 where
   pub unpack : Answer payload-unpack

@@ -41,16 +41,16 @@ pub record UniqueCalls : Type 0 where
   pub nyr-find-answer : Lent nyrkovash-nyr-find (λ k e. now (e .1 .1 .1 .0))
   pub nyr-unpack : Answer nyrkovash-nyr-unpack
   pub nyr-unpack-words : Lent nyrkovash-nyr-unpack (λ k e. now (e .1 .1 .1 .0))
-  pub nyr-unpack-given : Lent nyrkovash-nyr-unpack (λ k e. now (e .1 .1 .1 .1 .0))
+  pub nyr-unpack-walked : Lent nyrkovash-nyr-unpack (λ k e. now (e .1 .1 .1 .1 .0))
   pub nyr-unpack-in : Answer nyrkovash-nyr-unpack-in
   pub nyr-unpack-in-words : Lent nyrkovash-nyr-unpack-in (λ k e. now (e .1 .1 .1 .1 .0))
-  pub nyr-unpack-in-given : Lent nyrkovash-nyr-unpack-in (λ k e. now (e .1 .1 .1 .1 .1 .0))
+  pub nyr-unpack-in-walked : Lent nyrkovash-nyr-unpack-in (λ k e. now (e .1 .1 .1 .1 .1 .0))
   pub nyr-pack : Answer nyrkovash-nyr-pack
   pub nyr-pack-out : Lent nyrkovash-nyr-pack (λ k e. now (e .1 .1 .1 .0))
-  pub nyr-pack-given : Lent nyrkovash-nyr-pack (λ k e. now (e .1 .1 .1 .1 .0))
+  pub nyr-pack-walked : Lent nyrkovash-nyr-pack (λ k e. now (e .1 .1 .1 .1 .0))
   pub nyr-pack-in : Answer nyrkovash-nyr-pack-in
   pub nyr-pack-in-out : Lent nyrkovash-nyr-pack-in (λ k e. now (e .1 .1 .1 .1 .0))
-  pub nyr-pack-in-given : Lent nyrkovash-nyr-pack-in (λ k e. now (e .1 .1 .1 .1 .1 .0))
+  pub nyr-pack-in-walked : Lent nyrkovash-nyr-pack-in (λ k e. now (e .1 .1 .1 .1 .1 .0))
   pub nyr-setup : Answer nyrkovash-nyr-setup
   pub nyr-setup-state : Lent nyrkovash-nyr-setup (λ k e. now (e .0))
   pub nyr-take : Answer nyrkovash-nyr-take

@@ -49,13 +49,17 @@ plainCopy =
 abbrev pub isBase : ℕ → List ℕ → ℕ → Bool
 isBase code t i = eqb (kindOf t (sectionsIn t) i) 0 && eqb (ofOf t (sectionsIn t) i) code
 
+-- refused at the start, where no leaf is completed
+abbrev pub refusedAtStart : ℕ → Answer
+refusedAtStart n = Stopped n (record { at = 0; leaves = 0 })
+
 -- arrays, types of kind 4, are refused
 abbrev pub arraysRefused : Coding
 arraysRefused =
     record {
-      packs = λ t i ws room. cond (eqb (kindOf t (sectionsIn t) i) 4) (Stopped 42) (packed t i ws room);
+      packs = λ t i ws room. cond (eqb (kindOf t (sectionsIn t) i) 4) (refusedAtStart 42) (packed t i ws room);
       bytes-left = bytesAfter;
-      unpacks = λ t i b room. cond (eqb (kindOf t (sectionsIn t) i) 4) (Stopped 42) (unpacked t i b room);
+      unpacks = λ t i b room. cond (eqb (kindOf t (sectionsIn t) i) 4) (refusedAtStart 42) (unpacked t i b room);
       words-left = wordsAfter;
     }
 
@@ -65,7 +69,7 @@ onlyOneIsTrue =
     record {
       packs = packed;
       bytes-left = bytesAfter;
-      unpacks = λ t i b room. cond (isBase 0 t i && ltb 1 (getD b 0 0)) (Stopped 42) (unpacked t i b room);
+      unpacks = λ t i b room. cond (isBase 0 t i && ltb 1 (getD b 0 0)) (refusedAtStart 42) (unpacked t i b room);
       words-left = wordsAfter;
     }
 

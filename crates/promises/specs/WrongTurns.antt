@@ -3,6 +3,7 @@
 use Rattle.promises.specs.WrongJoiners.{NoWrongJoiner}
 use Rattle.promises.specs.WrongCalls.{NoWrongCall}
 use Rattle.promises.specs.WrongCodecs.{NoWrongCodec}
+use Rattle.promises.specs.WrongPlaces.{NoWrongPlace}
 use Rattle.promises.specs.WrongPlatforms.{NoWrongPlatform}
 use Rattle.promises.specs.WrongReports.{NoWrongReport}
 use Rattle.promises.specs.WrongResponses.{NoWrongResponse}
@@ -15,6 +16,8 @@ pub record WrongTurns : Type 1 where
   pub calls : NoWrongCall
   -- demand 2, and of demand 1 that a refusal changes no word and no byte
   pub codecs : NoWrongCodec
+  -- where a payload or words were refused
+  pub places : NoWrongPlace
   -- the replies of start-up: two platforms fall silent
   pub platforms : NoWrongPlatform
   -- what was heard of a message

@@ -15,10 +15,11 @@ pub data Leaf : Type 0 where
   float : ℕ → ℕ → ℕ → Leaf
   none : Leaf
 
--- 01, Base codes, from 0 on: boolean8, int8, char8, int16, int32, int64, uint8, byte, uint16, uint32, uint64, float32, double64
+-- 01, Base codes, from 0 on: boolean8, int8, char8, int16, int32, int64, uint8, byte, uint16, uint32, uint64, float32, double64.
+-- char8 is ASCII: 02, request 2; 000, Table 6
 abbrev pub codes : List Leaf
 codes =
-    boolean ∷ signed 0 ∷ unsigned 0 256 ∷ signed 1 ∷ signed 2 ∷ signed 3 ∷ unsigned 0 256 ∷ unsigned 0 256 ∷ unsigned 1 65536
+    boolean ∷ signed 0 ∷ unsigned 0 128 ∷ signed 1 ∷ signed 2 ∷ signed 3 ∷ unsigned 0 256 ∷ unsigned 0 256 ∷ unsigned 1 65536
     ∷ unsigned 2 4294967296 ∷ unsigned 3 18446744073709551616 ∷ float 2 8 23 ∷ float 3 11 52 ∷ []
 
 unfoldable pub base : ℕ → Leaf

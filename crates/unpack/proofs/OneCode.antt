@@ -27,7 +27,7 @@ use Rattle.walk.specs.declared.Place.{Place}
 use Rattle.walk.specs.Walk.{Step, on, through}
 use Rattle.walk.proofs.Walks.{through-none, through-more}
 use Rattle.walk.proofs.Returns.{stored as put-in}
-use Rattle.unpack.specs.Leaves.{isThere}
+use Rattle.unpack.specs.Leaves.{isThere, behind, stored}
 use Rattle.unpack.specs.OneCode.{along, isGood, filled}
 use Rattle.unpack.specs.Steps.{Reads}
 
@@ -138,23 +138,35 @@ module _ (b : List ℕ) (code : ℕ) (p : Place) (x : List ℕ) where
       (λ (i : m < n). past n m (omega arith) l)
       (eq-or-lt-of-le l)
 
+-- the k-th of n leaves that have their bytes is there where its word is allowed
+pub good-there : (b : List ℕ) (code from n k : ℕ) → from + n * width code ≤ length b → k < n → isGood b code from k ≡ true
+    → isThere b code (from + k * width code) ≡ true
+unfolding isThere
+good-there b code from n k h l g =
+    let r : leb (from + k * width code + width code) (length b) ≡ true = le-leb (from + k * width code + width code) (length b)
+    (leaf-room (length b) from n (width code) code k refl h l) in
+    rw (r, g) refl
+
 -- a run that is there and allowed is walked over
 same-place : {a b c d : ℕ} (y : List ℕ) → a ≡ c → b ≡ d → on (record { from = a; to = b }) y ≡ on (record { from = c; to = d }) y
 same-place y e h = rw (e, h) refl
 
-module _ (b : List ℕ) (code : ℕ) (p : Place) (x : List ℕ) (f : ℕ → Place → List ℕ → Step) (reads : Reads b code f) where
-  pub run-on : (n : ℕ) → p .from + n * width code ≤ length b → ((k : ℕ) → k < n → isGood b code (p .from) k ≡ true) → through n f p x
-      ≡ on (along code p n) (filled b code p n x)
-  unfolding filled isThere
-  run-on zero h g = through-none f p x ∙ rw (zero-mul (width code), add-zero (p .from), add-zero (p .to)) refl
-  run-on (suc n) h g =
-      let q : Place = along code p n in
+module _ (b : List ℕ) (code : ℕ) (p : Place) (x : List ℕ) (f : ℕ → Place → List ℕ → Step) where
+  pub steps-on : (n : ℕ)
+      → ((k : ℕ) → k < n → f k (along code p k) (filled b code p k x)
+      ≡ on (behind code (along code p k)) (stored b code (along code p k) (filled b code p k x)))
+      → through n f p x ≡ on (along code p n) (filled b code p n x)
+  unfolding filled
+  steps-on zero g = through-none f p x ∙ rw (zero-mul (width code), add-zero (p .from), add-zero (p .to)) refl
+  steps-on (suc n) g =
       let a : n * width code + width code ≡ suc n * width code = sym (suc-mul n (width code)) in
-      let m : p .from + n * width code ≤ length b = omega arith in
-      let r : leb (p .from + n * width code + width code) (length b) ≡ true = le-leb (p .from + n * width code + width code) (length b) (omega arith) in
       let u : p .from + n * width code + width code ≡ p .from + suc n * width code = omega arith in
       let v : p .to + n + 1 ≡ p .to + suc n = omega arith in
       ap (λ (j : ℕ). through j f p x) (sym (add-one n))
-      ∙ through-more f p x n q (filled b code p n x) (run-on n m (λ k l. g k (omega arith)))
-      ∙ reads n q (filled b code p n x) (rw (r, g n (omega arith)) refl)
+      ∙ through-more f p x n (along code p n) (filled b code p n x) (steps-on n (λ k l. g k (omega arith)))
+      ∙ g n (omega arith)
       ∙ same-place (filled b code p (suc n) x) u v
+
+  pub run-on : Reads b code f → (n : ℕ) → p .from + n * width code ≤ length b → ((k : ℕ) → k < n → isGood b code (p .from) k ≡ true) → through n f p x
+      ≡ on (along code p n) (filled b code p n x)
+  run-on reads n h g = steps-on n (λ k l. reads k (along code p k) (filled b code p k x) (good-there b code (p .from) n k h l (g k l)))

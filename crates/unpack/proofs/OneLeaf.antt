@@ -72,13 +72,21 @@ module _ (b : List ℕ) (from code n : ℕ) (in-payload : from ≤ length b) (is
     pub all-there : from + width code ≤ length b
     all-there = omega (arith, is)
 
-    pub surely : Octets b → (g : Range) → g ≡ rangeOf (base code) → g .every ≡ true → true ≡ isThere b code from
+    pub judged : (r : Bool) → r ≡ allowed code (wordAt code b from) → r ≡ isThere b code from
     unfolding isThere
-    surely o g e h = rw (le-leb (from + width code) (length b) all-there, every-word b from o code g e h) refl
+    judged r g = rw (le-leb (from + width code) (length b) all-there) g
 
-    pub judged : (w : ℕ) (r : Bool) → w ≡ wordAt code b from → r ≡ allowed code w → r ≡ isThere b code from
-    unfolding isThere
-    judged w r e g = rw (le-leb (from + width code) (length b) all-there, ← e) g
+-- the word of a leaf that is there is allowed: of char8; where every word is; and by its test
+module _ (b : List ℕ) (from code : ℕ) where
+  pub is-char8 : (w : ℕ) (r : Bool) → code ≡ 2 → w ≡ number 0 b from → r ≡ allowed 2 w → r ≡ allowed code (wordAt code b from)
+  unfolding wordAt base wordOf
+  is-char8 w r c e h = rw (c, ← e) h
+
+  pub surely : Octets b → (g : Range) → g ≡ rangeOf (base code) → g .every ≡ true → true ≡ allowed code (wordAt code b from)
+  surely o g e h = sym (every-word b from o code g e h)
+
+  pub by-word : (w : ℕ) (r : Bool) → w ≡ wordAt code b from → r ≡ allowed code w → r ≡ allowed code (wordAt code b from)
+  by-word w r e h = rw (← e) h
 
 -- where it is there, its bytes are
 pub there-room : (b : List ℕ) (from code : ℕ) (r : Bool) → r ≡ isThere b code from → r ≡ true → from + width code ≤ length b

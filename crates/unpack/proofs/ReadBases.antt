@@ -17,7 +17,8 @@ use Rattle.table.specs.Leaf.{width, allowed}
 use Rattle.wire.proofs.AllBelow.{at-below}
 use Rattle.leaf.specs.Forms.{wordAt}
 use Rattle.walk.specs.declared.Place.{Place}
-use Rattle.walk.specs.Tree.{child, baseAt}
+use Rattle.walk.specs.Tree.{baseAt}
+use Rattle.walk.specs.Planned.{childBy}
 use Rattle.walk.specs.Walk.{Step, on, through, walk, Goes, Going}
 use Rattle.walk.proofs.Walks.{some-bytes}
 use Rattle.walk.proofs.Bases.{base-on}
@@ -32,16 +33,16 @@ use Rattle.unpack.proofs.WholeRuns.{run-room, run-good, run-walked}
 use Rattle.unpack.specs.Reading.{reader, Reading}
 
 -- a base that is met, among a record's members or as an array's element
-module _ (b t : List ℕ) (s : Sections) (i c code : ℕ) (is : code ≡ baseAt t s i c) (p : Place) (x : List ℕ) (there : isThere b code (p .from) ≡ true) where
-  pub base-reads : walk (reader b) (child t s i c) p x ≡ on (behind code p) (stored b code p x)
+module _ (b ps t : List ℕ) (s : Sections) (i c code : ℕ) (is : code ≡ baseAt t s i c) (p : Place) (x : List ℕ) (there : isThere b code (p .from) ≡ true) where
+  pub base-reads : walk (reader b) (childBy ps t s i c) p x ≡ on (behind code p) (stored b code p x)
   unfolding isThere reader
   base-reads =
       let h : (leb (p .from + width code) (length b) ≡ true)
       × (allowed code (wordAt code b (p .from)) ≡ true) = both (leb (p .from + width code) (length b)) (allowed code (wordAt code b (p .from))) there in
-      base-on t s i c (reader b) code p x is (h .0) (h .1)
+      base-on t s i c (reader b) ps code p x is (h .0) (h .1)
 
-pub element-reads : (b t : List ℕ) (s : Sections) (i c code : ℕ) → code ≡ baseAt t s i c → Reads b code (λ k q y. walk (reader b) (child t s i c) q y)
-element-reads b t s i c code is k q y there = base-reads b t s i c code is q y there
+pub element-reads : (b ps t : List ℕ) (s : Sections) (i c code : ℕ) → code ≡ baseAt t s i c → Reads b code (λ k q y. walk (reader b) (childBy ps t s i c) q y)
+element-reads b ps t s i c code is k q y there = base-reads b ps t s i c code is q y there
 
 -- the leaves of a list of codes, as they were judged and stored
 module _ (b codes : List ℕ) (first c : ℕ) (counts : c ≡ thereCount b codes first) where

@@ -33,8 +33,8 @@ module _ (t : List ℕ) (s : Sections) (i : ℕ) (e : Entry) (m r : ℕ) (u v : 
   pub upto-in : (n : ℕ) → m ≤ e .count → n ≤ m + length (take r v) → n ≤ e .count
   upto-in n h l = omega (arith, members-in h)
 
-  pub codes-read : (b : List ℕ) → ReadsCodes b (take r v) m (memberRead b t s i e)
-  codes-read b j q y less there =
+  pub codes-read : (b ps : List ℕ) → ReadsCodes b (take r v) m (memberRead b ps t s i e)
+  codes-read b ps j q y less there =
       let k : j < r = omega (arith, as-given) in
-      base-reads b t s i (memberAt t s (e .first + (m + j))) (getD (take r v) j 0)
+      base-reads b ps t s i (memberAt t s (e .first + (m + j))) (getD (take r v) j 0)
       (code-is t s i e m r u counts v given j (getD (take r v) j 0) k (getD-take r v j 0 k)) q y there

@@ -2,3 +2,4 @@ pub mod Reading
 pub mod Leaves
 pub mod OneCode
 pub mod Steps
+pub mod RunByRun

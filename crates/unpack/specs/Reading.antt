@@ -1,5 +1,6 @@
 -- 01, "Payload and words": reading a payload.
-use Prim.Native.Nat.{ℕ, _+_, _≤_}
+use Prim.Native.Nat.{ℕ, _+_, _*_, _≤_}
+use mathlib.Core.Bool.{Bool}
 use mathlib.Core.List.{List, [], _∷_}
 use lib.Dec.{leb}
 use lib.ListN.{length}
@@ -7,10 +8,12 @@ use Rattle.table.specs.declared.Sections.{Sections}
 use Rattle.table.specs.declared.Entry.{Entry}
 use Rattle.table.specs.Leaf.{width}
 use Rattle.table.specs.Entries.{memberAt}
+use Rattle.leaf.specs.Choice.{choice, takes}
 use Rattle.leaf.specs.Forms.{wordAt}
 use Rattle.walk.specs.declared.Place.{Place}
-use Rattle.walk.specs.Tree.{child}
+use Rattle.walk.specs.Tree.{leaf}
 use Rattle.walk.specs.Walk.{Step, Codec, walk}
+use Rattle.walk.specs.Planned.{childBy}
 
 -- a leaf of a payload is its word, one for each leaf
 unfoldable pub reader : List ℕ → Codec
@@ -20,6 +23,7 @@ reader b =
       there = λ code p. leb (p .from + width code) (length b);
       after = λ code p. record { from = p .from + width code; to = p .to + 1 };
       gives = λ code w. w ∷ [];
+      leaves = λ p. p .to;
     }
 
 -- a place that reading can come to: every leaf has a byte at least
@@ -27,5 +31,16 @@ abbrev pub Reading : List ℕ → Place → Type 0
 Reading b p = (p .to ≤ p .from) × (p .from ≤ length b)
 
 -- the step over a record's k-th member
-abbrev pub memberRead : List ℕ → List ℕ → Sections → ℕ → Entry → ℕ → Place → List ℕ → Step
-memberRead b t s i e k q y = walk (reader b) (child t s i (memberAt t s (e .first + k))) q y
+abbrev pub memberRead : List ℕ → List ℕ → List ℕ → Sections → ℕ → Entry → ℕ → Place → List ℕ → Step
+memberRead b ps t s i e k q y = walk (reader b) (childBy ps t s i (memberAt t s (e .first + k))) q y
+
+-- and over an element of type c
+abbrev pub elementRead : List ℕ → List ℕ → List ℕ → Sections → ℕ → ℕ → ℕ → Place → List ℕ → Step
+elementRead b ps t s i c k q y = walk (reader b) (childBy ps t s i c) q y
+
+-- which is a leaf; and whether its entry takes the k-th of several, one behind another
+abbrev pub entryRead : List ℕ → List ℕ → Sections → Entry → ℕ → Place → List ℕ → Step
+entryRead b t s e k q y = walk (reader b) (leaf (e .of) (choice t s e)) q y
+
+abbrev pub entryTakes : List ℕ → List ℕ → Sections → Entry → ℕ → ℕ → Bool
+entryTakes b t s e from k = takes t s e (wordAt (e .of) b (from + k * width (e .of)))

@@ -3,17 +3,29 @@ ghost use mathlib.Core.Path.{_≡_};
 ghost use Prim.Native.Nat.{_+_, _≤_};
 ghost use lib.ListN.{length};
 ghost use Rattle.wire.specs.Bytes.{number};
-ghost use Rattle.table.specs.Leaf.{width};
+ghost use Rattle.table.specs.Leaf.{width, allowed};
 ghost use Rattle.leaf.specs.Forms.{wordAt};
 ghost use Rattle.unpack.specs.Leaves.{isThere};
 
-// Whether a leaf of the base code is there, and its word is allowed: of most codes every word is.
-pub(crate) fn is_there(payload: &[u8], from: usize, code: u16) -> bool
-    requires { ⌜ from ≤ length (now payload) ⌝ }
+// Whether a leaf of the base code, which has so many bytes, is there, and its word is allowed.
+pub(crate) fn is_there(payload: &[u8], from: usize, code: u16, bytes: usize) -> bool
+    requires { ⌜ (from ≤ length (now payload)) × (bytes ≡ width code) ⌝ }
     ensures { λ r. ⌜ r ≡ isThere (now (payload .entry)) code from ⌝ }
 {
-    if payload.len() - from < leaf::width(code) {
+    if payload.len() - from < bytes {
         return false;
+    }
+    is_allowed(payload, from, code)
+}
+
+// Whether the word of a leaf that is there is allowed: of most codes every word is. char8, whose code stands among theirs, is
+// asked for first, so that one comparison tells the others.
+fn is_allowed(payload: &[u8], from: usize, code: u16) -> bool
+    requires { ⌜ from + width code ≤ length (now payload) ⌝ }
+    ensures { λ r. ⌜ r ≡ allowed code (wordAt code (now (payload .entry)) from) ⌝ }
+{
+    if code == leaf::CHAR8 {
+        return leaf::allowed(leaf::CHAR8, u8_in(payload, from) as u64);
     }
     if leaf::range_of(code).every {
         return true;

@@ -38,8 +38,9 @@ fn judge_within(payload: &[u8], codes: &[u8], first: usize) -> Passed
     let mut k: usize = 0;
     while k < codes.len() {
         let code = codes[k] as u16;
-        if bases::is_there(payload, from, code) {
-            from = from + leaf::width(code);
+        let width = leaf::width(code);
+        if bases::is_there(payload, from, code, width) {
+            from = from + width;
             k += 1;
         } else {
             return Passed { count: k, from };

@@ -1,7 +1,9 @@
 // A payload is unpacked whole or not at all: what is refused, even at its end, changes nothing. So it is judged before any word is
 // stored.
+mod at_once;
 mod bases;
 mod by_codes;
+mod by_plan;
 pub mod runs;
 mod walking;
 
@@ -10,22 +12,31 @@ use walk::Walked;
 ghost use mathlib.Core.Path.{_≡_};
 ghost use mathlib.Core.List.{[]};
 ghost use lib.ListN.{length};
-ghost use Rattle.walk.specs.Walk.{start, answer, typeWalk};
+ghost use Rattle.walk.specs.Walk.{start, answer, walk};
+ghost use Rattle.walk.specs.Planned.{planTree, typeBy};
 ghost use Rattle.walk.specs.Whole.{allOrNothing};
 ghost use Rattle.unpack.specs.Reading.{reader};
 
-// Unpacks a payload as type i, and stores its words where all of it was read and there is room for all of them. Walks
+// Unpacks a payload as type i, what of it has a plan by its plan, and stores its words where all of it was read and there is room for all of them. Walks
 // twice: over no room, to judge, and once more to store. Answers what the walk comes to.
-pub fn read_type(table: &[u8], s: Sections, i: u16, payload: &[u8], words: &mut [u64]) -> Walked
-    ensures { λ r. ⌜ r ≡ answer (typeWalk (reader (now (payload .entry))) (now (table .entry)) s i start []) ⌝ }
+pub fn read_type(
+    table: &[u8],
+    s: Sections,
+    plans: &[u64],
+    i: u16,
+    payload: &[u8],
+    words: &mut [u64],
+) -> Walked
+    ensures { λ r. ⌜ r ≡ answer (walk (reader (now (payload .entry))) (typeBy (now (plans .entry)) (now (table .entry)) s i) start []) ⌝ }
     ensures { λ _. ⌜ now (words .exit)
-        ≡ allOrNothing (reader (now (payload .entry))) (length (now (payload .entry))) (now (table .entry)) s i (now (words .entry)) ⌝ }
+        ≡ allOrNothing (reader (now (payload .entry))) (length (now (payload .entry)))
+        (typeBy (now (plans .entry)) (now (table .entry)) s i) (now (words .entry)) ⌝ }
 {
-    match first_read(table, s, i, payload, words) {
+    match first_read(table, s, plans, i, payload, words) {
         Walked::Stopped(n, q) => Walked::Stopped(n, q),
         Walked::Went(q) => {
             if walk::fits(q, payload.len(), words.len()) {
-                walking::read_once(table, s, i, payload, words)
+                walking::read_once(table, s, plans, i, payload, words)
             } else {
                 Walked::Went(q)
             }
@@ -33,11 +44,31 @@ pub fn read_type(table: &[u8], s: Sections, i: u16, payload: &[u8], words: &mut 
     }
 }
 
+// Unpacks a payload as type i by its plan, likewise: judged, and stored where all of it was read and there is room.
+pub fn read_plan(table: &[u8], plans: &[u64], i: u16, payload: &[u8], words: &mut [u64]) -> Walked
+    ensures { λ r. ⌜ r ≡ answer (walk (reader (now (payload .entry))) (planTree (now (table .entry)) (now (plans .entry)) i) start []) ⌝ }
+    ensures { λ _. ⌜ now (words .exit)
+        ≡ allOrNothing (reader (now (payload .entry))) (length (now (payload .entry)))
+        (planTree (now (table .entry)) (now (plans .entry)) i) (now (words .entry)) ⌝ }
+{
+    let plan = walk::plans::plan_of(plans, i);
+    let first = plan.first;
+    let end = plan.first + plan.runs;
+    by_plan::read_whole(table, &plans[first..end], payload, words)
+}
+
 // The walk with no room for a word: it stores nothing.
-fn first_read(table: &[u8], s: Sections, i: u16, payload: &[u8], words: &mut [u64]) -> Walked
+fn first_read(
+    table: &[u8],
+    s: Sections,
+    plans: &[u64],
+    i: u16,
+    payload: &[u8],
+    words: &mut [u64],
+) -> Walked
     ensures { λ _. ⌜ now (words .exit) ≡ now (words .entry) ⌝ }
-    ensures { λ r. ⌜ r ≡ answer (typeWalk (reader (now (payload .entry))) (now (table .entry)) s i start []) ⌝ }
+    ensures { λ r. ⌜ r ≡ answer (walk (reader (now (payload .entry))) (typeBy (now (plans .entry)) (now (table .entry)) s i) start []) ⌝ }
 {
     let no_word = 0;
-    walking::read_once(table, s, i, payload, &mut words[..no_word])
+    walking::read_once(table, s, plans, i, payload, &mut words[..no_word])
 }

@@ -53,6 +53,9 @@ fn judged(payload: &[u8], from: usize, code: u16, count: usize) -> bool
     if leaf::range_of(code).every {
         return true;
     }
+    if code == leaf::CHAR8 {
+        return are_ascii(payload, from, count);
+    }
     let width = leaf::width(code);
     let mut bad: u32 = 0;
     let mut seen: usize = 0;
@@ -61,6 +64,21 @@ fn judged(payload: &[u8], from: usize, code: u16, count: usize) -> bool
         seen += 1;
     }
     bad == 0
+}
+
+// The same for char8, by one test for all: bytes put together are not above the last of ASCII where none of them is, since that
+// is one less than a power of two.
+fn are_ascii(payload: &[u8], from: usize, count: usize) -> bool
+    requires { ⌜ from + count ≤ length (now payload) ⌝ }
+    ensures { λ r. ⌜ r ≡ allBelow (isGood (now (payload .entry)) 2 from) count ⌝ }
+{
+    let mut all: u8 = 0;
+    let mut seen: usize = 0;
+    while seen < count {
+        all = all | payload[from + seen];
+        seen += 1;
+    }
+    all as u64 <= leaf::range_of(leaf::CHAR8).last
 }
 
 fn refused(code: u16, word: u64) -> u32

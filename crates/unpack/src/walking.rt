@@ -6,46 +6,36 @@ use walk::Met;
 use walk::Place;
 use walk::Walked;
 ghost use mathlib.Core.Path.{_≡_};
-ghost use Prim.Native.Nat.{ℕ, _+_, _≤_};
-ghost use lib.ListN.{length};
 ghost use Rattle.walk.specs.declared.Met.the-variants.{Members, Elements};
 ghost use Rattle.wire.specs.Bytes.{written};
-ghost use mathlib.Core.List.{List, [], _∷_};
-ghost use Rattle.walk.specs.declared.Place.{Place};
-ghost use Rattle.walk.specs.Walk.{Step, start, answer, left, begun, times, leafWalk, metWalk, typeWalk, Goes, Going};
-ghost use Rattle.unpack.specs.Steps.{Reads, ReadsCodes};
-ghost use Rattle.unpack.specs.Reading.{reader, Reading, memberRead};
+ghost use mathlib.Core.List.{[], _∷_};
+ghost use Rattle.walk.specs.Walk.{start, answer, left, walk, begun, times, leafWalk};
+ghost use Rattle.walk.specs.Planned.{typeBy, walkBy};
+ghost use Rattle.unpack.specs.Reading.{reader, Reading};
+use crate::at_once;
 use crate::bases;
-use crate::by_codes;
-use crate::runs;
+use crate::by_plan;
 use walk::COUNT_BYTES;
 use walk::COUNT_WORDS;
-
-// How many base codes of a record's members are read at once.
-const MOST_CODES: usize = 64;
-
-// How far a run of leaves was read: up to which member or element, and where it ends.
-struct Reached {
-    upto: u32,
-    at: Place,
-}
 
 // Unpacks a payload as type i, and stores each word where there is room for it.
 pub(crate) fn read_once(
     table: &[u8],
     s: Sections,
+    plans: &[u64],
     i: u16,
     payload: &[u8],
     words: &mut [u64],
 ) -> Walked
-    ensures { λ r. ⌜ r ≡ answer (typeWalk (reader (now (payload .entry))) (now (table .entry)) s i start (now (words .entry))) ⌝ }
-    ensures { λ _. ⌜ now (words .exit) ≡ left (typeWalk (reader (now (payload .entry))) (now (table .entry)) s i start (now (words .entry))) ⌝ }
+    ensures { λ r. ⌜ r ≡ answer (walk (reader (now (payload .entry))) (typeBy (now (plans .entry)) (now (table .entry)) s i) start (now (words .entry))) ⌝ }
+    ensures { λ _. ⌜ now (words .exit)
+        ≡ left (walk (reader (now (payload .entry))) (typeBy (now (plans .entry)) (now (table .entry)) s i) start (now (words .entry))) ⌝ }
 {
     let p = Place { from: 0, to: 0 };
     match walk::look(table, s, i) {
         Met::Leaf(e) => read_leaf(table, s, e, payload, words, p),
-        Met::Members(e) => read_members(table, s, i, e, payload, words, p),
-        Met::Elements(e) => read_elements(table, s, i, e, payload, words, p),
+        Met::Members(e) => read_members(table, s, plans, i, e, payload, words, p),
+        Met::Elements(e) => read_elements(table, s, plans, i, e, payload, words, p),
         Met::Broken => Walked::Stopped(types::RULE_BROKEN, p),
     }
 }
@@ -54,6 +44,7 @@ pub(crate) fn read_once(
 fn read_members(
     table: &[u8],
     s: Sections,
+    plans: &[u64],
     i: u16,
     e: Entry,
     payload: &[u8],
@@ -61,14 +52,18 @@ fn read_members(
     p: Place,
 ) -> Walked
     requires { ⌜ Reading (now payload) p ⌝ }
-    ensures { λ r. ⌜ r ≡ answer (metWalk (reader (now (payload .entry))) (now (table .entry)) s i (Members e) p (now (words .entry))) ⌝ }
-    ensures { λ _. ⌜ now (words .exit) ≡ left (metWalk (reader (now (payload .entry))) (now (table .entry)) s i (Members e) p (now (words .entry))) ⌝ }
+    ensures { λ r. ⌜ r ≡ answer (walkBy (reader (now (payload .entry))) (now (plans .entry)) (now (table .entry)) s i (Members e) p (now (words .entry))) ⌝ }
+    ensures { λ _. ⌜ now (words .exit)
+        ≡ left (walkBy (reader (now (payload .entry))) (now (plans .entry)) (now (table .entry)) s i (Members e) p (now (words .entry))) ⌝ }
 {
+    if walk::plans::is_planned(plans, i) {
+        return by_plan::read_planned(table, plans, i, payload, words, p);
+    }
     let count = e.count as u32;
     let mut at = p;
     let mut k: u32 = 0;
     while k < count {
-        let run = read_bases(table, s, i, e, k, payload, words, at);
+        let run = at_once::read_bases(table, s, i, e, k, payload, words, at);
         let next = run.upto;
         let here = run.at;
         if next == count {
@@ -77,8 +72,8 @@ fn read_members(
         let child = table::entries::member_at(table, s, e.first as u32 + next);
         let step = match walk::meet(table, s, i, child) {
             Met::Leaf(c) => read_leaf(table, s, c, payload, words, here),
-            Met::Members(c) => read_members(table, s, child, c, payload, words, here),
-            Met::Elements(c) => read_elements(table, s, child, c, payload, words, here),
+            Met::Members(c) => read_members(table, s, plans, child, c, payload, words, here),
+            Met::Elements(c) => read_elements(table, s, plans, child, c, payload, words, here),
             Met::Broken => Walked::Stopped(types::RULE_BROKEN, here),
         };
         match step {
@@ -96,6 +91,7 @@ fn read_members(
 fn read_elements(
     table: &[u8],
     s: Sections,
+    plans: &[u64],
     i: u16,
     e: Entry,
     payload: &[u8],
@@ -103,25 +99,40 @@ fn read_elements(
     p: Place,
 ) -> Walked
     requires { ⌜ Reading (now payload) p ⌝ }
-    ensures { λ r. ⌜ r ≡ answer (metWalk (reader (now (payload .entry))) (now (table .entry)) s i (Elements e) p (now (words .entry))) ⌝ }
-    ensures { λ _. ⌜ now (words .exit) ≡ left (metWalk (reader (now (payload .entry))) (now (table .entry)) s i (Elements e) p (now (words .entry))) ⌝ }
+    ensures { λ r. ⌜ r ≡ answer (walkBy (reader (now (payload .entry))) (now (plans .entry)) (now (table .entry)) s i (Elements e) p (now (words .entry))) ⌝ }
+    ensures { λ _. ⌜ now (words .exit)
+        ≡ left (walkBy (reader (now (payload .entry))) (now (plans .entry)) (now (table .entry)) s i (Elements e) p (now (words .entry))) ⌝ }
 {
+    if walk::plans::is_planned(plans, i) {
+        return by_plan::read_planned(table, plans, i, payload, words, p);
+    }
     let child = e.of;
-    let met = walk::meet(table, s, i, child);
     match begin(payload, words, e, p) {
         Walked::Stopped(n, q) => Walked::Stopped(n, q),
         Walked::Went(q) => {
             let count = times(payload, e, p);
-            let code = walk::base_at(table, s, i, child);
-            let run = read_run(payload, words, code, count, q);
+            let run = at_once::read_leaves(table, s, i, child, payload, words, count, q);
             let mut at = run.at;
             let mut k = run.upto;
+            if k == count {
+                return Walked::Went(at);
+            }
+            let met = walk::meet(table, s, i, child);
             while k < count {
                 let here = met;
                 let step = match here {
                     Met::Leaf(c) => read_leaf(table, s, c, payload, words, at),
-                    Met::Members(c) => read_members(table, s, child, c, payload, words, at),
-                    Met::Elements(c) => read_elements(table, s, child, c, payload, words, at),
+                    Met::Members(c) => read_members(table, s, plans, child, c, payload, words, at),
+                    Met::Elements(c) => read_elements(
+                        table,
+                        s,
+                        plans,
+                        child,
+                        c,
+                        payload,
+                        words,
+                        at,
+                    ),
                     Met::Broken => Walked::Stopped(types::RULE_BROKEN, at),
                 };
                 match step {
@@ -209,66 +220,5 @@ fn put_word(words: &mut [u64], at: usize, word: u64)
 {
     if at < words.len() {
         words[at] = word;
-    }
-}
-
-// Reads a record's members from the k-th on, up to one that is no base, or whose leaf is refused, and no more at once than there
-// is room for their codes: most members are bases.
-fn read_bases(
-    table: &[u8],
-    s: Sections,
-    i: u16,
-    e: Entry,
-    from: u32,
-    payload: &[u8],
-    words: &mut [u64],
-    p: Place,
-) -> Reached
-    requires { ⌜ Reading (now payload) p × (from ≤ e .count) ⌝ }
-    ensures { λ r. ⌜ Going (Reading (now (payload .entry))) (memberRead (now (payload .entry)) (now (table .entry)) s i e) (e .count)
-        from p (now (words .entry)) (r .upto) (r .at) (now (words .exit)) ⌝ }
-{
-    let mut codes = [0u8; MOST_CODES];
-    let n = walk::runs::base_codes(table, s, i, e, from, &mut codes);
-    read_codes(payload, words, &codes[..n], from, p)
-}
-
-// Reads leaves of these base codes, up to one that is refused: they are the codes of members from the k-th on.
-fn read_codes(payload: &[u8], words: &mut [u64], codes: &[u8], from: u32, p: Place) -> Reached
-    requires { ⌜ Reading (now payload) p × (from + length (now codes) ≤ 65535) ⌝ }
-    ensures { λ r. ⌜ (from ≤ r .upto) × (r .upto ≤ from + length (now (codes .entry))) × Reading (now (payload .entry)) (r .at) ⌝ }
-    ensures { λ _. ⌜ length (now (words .exit)) ≡ length (now (words .entry)) ⌝ }
-    ensures { λ r. ⌜ ((f : ℕ → Place → List ℕ → Step) → ReadsCodes (now (payload .entry)) (now (codes .entry)) from f
-        → Goes f from p (now (words .entry)) (r .upto) (r .at) (now (words .exit))) ⌝ }
-{
-    let part = by_codes::judge_codes(payload, codes, p.from);
-    by_codes::store_codes(payload, words, &codes[..part.count], p);
-    Reached {
-        upto: from + part.count as u32,
-        at: Place {
-            from: part.from,
-            to: p.to + part.count,
-        },
-    }
-}
-
-// Reads elements of one base code: all of them, or none where one is not there or not allowed.
-fn read_run(payload: &[u8], words: &mut [u64], code: u16, count: u32, p: Place) -> Reached
-    requires { ⌜ Reading (now payload) p ⌝ }
-    ensures { λ r. ⌜ ((f : ℕ → Place → List ℕ → Step) → Reads (now (payload .entry)) code f
-        → Going (Reading (now (payload .entry))) f count 0 p (now (words .entry)) (r .upto) (r .at) (now (words .exit))) ⌝ }
-{
-    if runs::judge_run(payload, p.from, code, count) {
-        runs::store_run(payload, words, code, count, p);
-        let many = count as usize;
-        Reached {
-            upto: count,
-            at: Place {
-                from: p.from + many * leaf::width(code),
-                to: p.to + many,
-            },
-        }
-    } else {
-        Reached { upto: 0, at: p }
     }
 }

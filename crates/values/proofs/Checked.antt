@@ -1,5 +1,5 @@
 -- On a table that `check` accepts, the calls on sections and the calls on bytes answer and leave the same; none of them gives 30
--- to 33; and a walk's own numbers are 40 to 43. And any call that gives nothing leaves everything as it was.
+-- to 33; and a walk's own numbers are 40 to 43.
 -- Assumes nothing.
 use Prim.Native.Nat.{ℕ, zero, suc, _+_, _≤_, _<_}
 use mathlib.Core.Path.{_≡_, refl, sym, ap, subst, _∙_}
@@ -16,11 +16,12 @@ use Rattle.table.specs.declared.Entry.{Entry}
 use Rattle.table.specs.declared.Checked.{Checked}
 use Rattle.table.specs.declared.Checked.the-variants as check
 use Rattle.table.specs.Layout.{within}
-use Rattle.table.specs.Entries.{typeAt, memberAt, isType}
-use Rattle.table.specs.Leaf.{allowed}
+use Rattle.table.specs.Entries.{typeAt, memberAt, valueAt, isType}
+use Rattle.table.specs.Leaf.{base, bytesOf, width, allowed}
 use Rattle.table.specs.Fields.{fieldsOk}
 use Rattle.types.specs.Table.{checked}
-use Rattle.types.proofs.Accepted.{Accepted, accepted, is-within, fields-keep, kind-known, record-is, fixed-is, array-is}
+use Rattle.table.proofs.Leaves.{each}
+use Rattle.types.proofs.Accepted.{Accepted, accepted, is-within, fields-keep, kind-known, base-is, enum-is, record-is, fixed-is, array-is}
 use Rattle.leaf.specs.Choice.{choice}
 use Rattle.walk.specs.declared.Place.{Place}
 use Rattle.walk.specs.declared.Met.{Met}
@@ -31,7 +32,8 @@ use Rattle.payload.specs.declared.Answer.{Answer}
 use Rattle.payload.specs.declared.Answer.the-variants.{Refused, Stopped, Gave}
 use Rattle.walk.specs.Tree.{Tree, leaf, row, array, broken, byKind, look, elementsOf, treeOf, trees, tree}
 use Rattle.walk.specs.Walk.{start, Step, on, stop, answer, next, through, Codec, item, counted, countCode, walk, typeWalk}
-use Rattle.payload.specs.Calls.{answered, answeredType, answeredIn, leftBy, leftIn, answeredIf, leftIf}
+use Rattle.payload.specs.Calls.{spot, stoppedAt, wentTo, answered, answeredType, answeredIn, leftIn, answeredIf, leftIf}
+use Rattle.walk.proofs.Walks.{some-bytes}
 use Rattle.walk.proofs.Trees.{known}
 
 -- both forms of a call are one
@@ -44,9 +46,9 @@ module _ (t : List ℕ) (s : Sections) (h : checked t ≡ check.Table s) (c : Co
   unfolding leftIf
   same-left x = ap (λ (r : Checked). leftIf r c n t i x) h
 
--- a tree with no broken part
-abbrev Whole : Tree → Type 0
-Whole (leaf code ok) = 0 ≤ 1
+-- a tree with no broken part, each of whose leaves has a byte at least
+abbrev pub Whole : Tree → Type 0
+Whole (leaf code ok) = 1 ≤ width code
 Whole (row n f) = (k : ℕ) → k < n → Whole (f k)
 Whole (array most a) = Whole a
 Whole broken = ⊥
@@ -89,19 +91,24 @@ walk-own c broken p x w = absurd w
 -- the numbers of a call on an accepted table: none of 30 to 33, and the walk's own apart
 abbrev pub Numbers : Answer → Type 0
 Numbers (Refused k) = (k ≡ 44) ⊎ (k ≡ 45)
-Numbers (Stopped k) = (40 ≤ k) × (k ≤ 43)
+Numbers (Stopped k s) = (40 ≤ k) × (k ≤ 43)
 Numbers (Gave k) = 0 ≤ 1
 
-own-numbers : (n room : ℕ) (st : Step) → Own st → Numbers (answered n room (answer st))
-unfolding answered answer
-own-numbers n room (on q x) o = go (ltb (q .from) n) (ltb room (q .to)) refl refl
+own-numbers : (l : Place → ℕ) (n room : ℕ) (st : Step) → Own st → Numbers (answered l n room (answer st))
+unfolding answered stoppedAt wentTo answer
+own-numbers l n room (on q x) o = go (ltb (q .from) n) (ltb room (q .to)) refl refl
   where
     go : (a b : Bool) → ltb (q .from) n ≡ a → ltb room (q .to) ≡ b
-        → Numbers (cond (ltb (q .from) n) (Stopped 41) (cond (ltb room (q .to)) (Refused 45) (Gave (q .to))))
+        → Numbers (cond (ltb (q .from) n) (Stopped 41 (spot q (l q))) (cond (ltb room (q .to)) (Refused 45) (Gave (q .to))))
     go true b e g = rw e (omega arith, omega arith)
     go false true e g = rw (e, g) (inr refl)
     go false false e g = rw (e, g) (omega arith)
-own-numbers n room (stop k q x) o = subst Numbers (sym (no-eq (Refused k) (Stopped k) k 32 (λ e. omega (arith, o .0)))) o
+own-numbers l n room (stop k q x) o = subst Numbers (sym (no-eq (Refused k) (Stopped k (spot q (l q))) k 32 (λ e. omega (arith, o .0)))) o
+
+-- every base code has a byte at least
+base-bytes : (code : ℕ) → code ≤ 12 → 1 ≤ width code
+unfolding width base bytesOf
+base-bytes code h = each (λ n. 1 ≤ width n) (omega arith) code (omega arith)
 
 four : (n : ℕ) → 1 < n → n ≤ 4 → (n ≡ 2 → ⊥) → (n ≡ 3 → ⊥) → n ≡ 4
 four n u o x y = omega arith
@@ -111,6 +118,19 @@ module _ (t : List ℕ) (s : Sections) (a : Accepted t s) where
   module _ (i : ℕ) (h : i < s .types .count) (before : (c : ℕ) → c < i → Whole (tree t s c)) where
     child-whole : (c : ℕ) → c < i → Whole (getD (trees t s i) c broken)
     child-whole c l = subst Whole (sym (known t s i c l)) (before c l)
+
+    leaf-bytes : typeAt t s i .kind ≤ 1 → 1 ≤ width (typeAt t s i .of)
+    leaf-bytes l = go (eqb (x .kind) 0) refl
+      where
+        x : Entry
+        x = typeAt t s i
+
+        go : (b : Bool) → eqb (x .kind) 0 ≡ b → 1 ≤ width (x .of)
+        go true e = base-bytes (x .of) (leb-true (x .of) 12 (base-is t s a i h (eqb-true (x .kind) 0 e) .code))
+        go false e =
+            let n : x .kind ≡ 0 → ⊥ = eqb-false (x .kind) 0 e in
+            let o = enum-is t s a i h (omega arith) in
+            some-bytes (x .of) (valueAt t s (x .first + 0)) (o .values 0 (o .some))
 
     entry-whole : Whole (treeOf t s (trees t s i) (byKind (typeAt t s i)))
     unfolding byKind treeOf elementsOf
@@ -123,7 +143,7 @@ module _ (t : List ℕ) (s : Sections) (a : Accepted t s) where
         k = e .kind
 
         go : (x y z : Bool) → leb k 1 ≡ x → eqb k 2 ≡ y → eqb k 3 ≡ z → Whole (treeOf t s (trees t s i) (byKind (typeAt t s i)))
-        go true y z p q r = rw p (omega arith)
+        go true y z p q r = rw p (leaf-bytes (leb-true k 1 p))
         go false true z p q r = rw (p, q) (λ j l. child-whole (memberAt t s (e .first + j)) (record-is t s a i h (eqb-true k 2 q) .smaller j l))
         go false false true p q r = rw (p, q, r) (λ j l. child-whole (e .of) (fixed-is t s a i h (eqb-true k 3 r) .smaller))
         go false false false p q r =
@@ -136,7 +156,7 @@ module _ (t : List ℕ) (s : Sections) (a : Accepted t s) where
     unfolding tree look
     tree-next = rw (fields-keep t s a i h) entry-whole
 
-  trees-whole : (n i : ℕ) → i < n → i < s .types .count → Whole (tree t s i)
+  pub trees-whole : (n i : ℕ) → i < n → i < s .types .count → Whole (tree t s i)
   trees-whole zero i l h = absurd (omega arith)
   trees-whole (suc n) i l h = tree-next i h (λ c g. trees-whole n c (omega arith) (omega arith))
 
@@ -146,17 +166,7 @@ module _ (t : List ℕ) (s : Sections) (a : Accepted t s) where
   numbers c n i room = rw (is-within t s a) (go (ltb i (s .types .count)) refl)
     where
       go : (b : Bool) → ltb i (s .types .count) ≡ b
-          → Numbers (cond (ltb i (s .types .count)) (answered n room (answer (walk c (tree t s i) start []))) (Refused 44))
-      go true e = rw e (own-numbers n room (walk c (tree t s i) start [])
+          → Numbers (cond (ltb i (s .types .count)) (answered (c .leaves) n room (answer (walk c (tree t s i) start []))) (Refused 44))
+      go true e = rw e (own-numbers (c .leaves) n room (walk c (tree t s i) start [])
           (walk-own c (tree t s i) start [] (trees-whole (suc i) i (omega arith) (ltb-true i (s .types .count) e))))
       go false e = rw e (inl refl)
-
--- a refusal leaves everything as it was, on sections and on bytes
-module _ (c : Codec) (n : ℕ) (t : List ℕ) (i : ℕ) (x : List ℕ) where
-  pub refused-left : (s : Sections) (k : ℕ) → answeredIn c n t s i (length x) ≡ Refused k → leftIn c n t s i x ≡ x
-  unfolding leftIn leftBy
-  refused-left s k h = rw h refl
-
-  pub stopped-left : (s : Sections) (k : ℕ) → answeredIn c n t s i (length x) ≡ Stopped k → leftIn c n t s i x ≡ x
-  unfolding leftIn leftBy
-  stopped-left s k h = rw h refl

@@ -24,7 +24,7 @@ use Rattle.walk.specs.Tree.{tree}
 use Rattle.walk.specs.Walk.{start, Step, on, answer, left, Codec, walk, typeWalk}
 use Rattle.unpack.specs.Reading.{reader}
 use Rattle.pack.specs.Writing.{writer}
-use Rattle.payload.specs.Calls.{answered, answeredType, answeredIn, leftBy, leftIn, unpackedIn, wordsIn, packedIn, bytesIn}
+use Rattle.payload.specs.Calls.{spot, stoppedAt, wentTo, answered, answeredType, answeredIn, leftBy, leftIn, unpackedIn, wordsIn, packedIn, bytesIn}
 use Rattle.values.specs.Values.{Over, exact, loose, Value, Spoken}
 use Rattle.walk.proofs.Walks.{went, walk-same}
 use Rattle.values.proofs.Belonging.{Took, Goes, behind, Sound, Complete, walk-sound, walk-complete}
@@ -39,16 +39,17 @@ record Ends (n room : ℕ) (w : Walked) (k : ℕ) : Type 0 where
   room-is : q .to ≤ room
   gives : k ≡ q .to
 
-ends : (n room : ℕ) (w : Walked) (k : ℕ) → answered n room w ≡ Gave k → Ends n room w k
-unfolding answered
-ends n room (walked.Stopped m q) k h = absurd (go (eqb m 32) h)
+ends : (l : Place → ℕ) (n room : ℕ) (w : Walked) (k : ℕ) → answered l n room w ≡ Gave k → Ends n room w k
+unfolding answered stoppedAt wentTo
+ends l n room (walked.Stopped m q) k h = absurd (go (eqb m 32) h)
   where
-    go : (b : Bool) → cond b (Refused m) (Stopped m) ≡ Gave k → ⊥
+    go : (b : Bool) → cond b (Refused m) (Stopped m (spot q (l q))) ≡ Gave k → ⊥
     go true e = let z : _≡_ {A = ℕ} 0 1 = cc in omega arith
     go false e = let z : _≡_ {A = ℕ} 0 1 = cc in omega arith
-ends n room (walked.Went q) k h = go (ltb (q .from) n) (ltb room (q .to)) refl refl h
+ends l n room (walked.Went q) k h = go (ltb (q .from) n) (ltb room (q .to)) refl refl h
   where
-    go : (a b : Bool) → ltb (q .from) n ≡ a → ltb room (q .to) ≡ b → cond a (Stopped 41) (cond b (Refused 45) (Gave (q .to))) ≡ Gave k
+    go : (a b : Bool) → ltb (q .from) n ≡ a → ltb room (q .to) ≡ b → cond a (Stopped 41 (spot q (l q))) (cond b (Refused 45) (Gave (q .to)))
+        ≡ Gave k
         → Ends n room (walked.Went q) k
     go true b e g d = absurd (let z : _≡_ {A = ℕ} 0 1 = cc in omega arith)
     go false true e g d = absurd (let z : _≡_ {A = ℕ} 0 1 = cc in omega arith)
@@ -106,7 +107,7 @@ module _ (c : Codec) (L : ℕ → ℕ → List ℕ → List ℕ → Type 0) (t :
   ends-there : (k : ℕ) → answeredIn c (length input) t s i (length x) ≡ Gave k → Ends (length input) (length x) (answer (walk c (tree t s i) start [])) k
   unfolding answeredType typeWalk
   ends-there k h =
-      ends (length input) (length x) (answer (walk c (tree t s i) start [])) k
+      ends (c .leaves) (length input) (length x) (answer (walk c (tree t s i) start [])) k
       (sym (in-call c (length input) t s i (length x) (callable c (length input) t s i (length x) k h)) ∙ h)
 
   call-sound : ((code : ℕ) (p : Place) → c .there code p ≡ true → allowed code (c .word code p) ≡ true
@@ -122,7 +123,7 @@ module _ (c : Codec) (L : ℕ → ℕ → List ℕ → List ℕ → Type 0) (t :
   call-complete : ((code w : ℕ) (p : Place) (xs ys rest : List ℕ) → L code w xs ys → allowed code w ≡ true → drop (p .from) input ≡ xs
       ++ rest → Complete c code w p xs ys) → (ys : List ℕ) → Callable t s i → Over L (tree t s i) input ys → length ys ≤ length x
       → (answeredIn c (length input) t s i (length x) ≡ Gave (length ys)) × (leftIn c (length input) t s i x ≡ over x 0 ys)
-  unfolding answeredType typeWalk leftIn leftBy answered answer left
+  unfolding answeredType typeWalk leftIn leftBy answered wentTo answer left
   call-complete complete ys u o l =
       let z : Goes (walk c (tree t s i) start []) start [] input ys = walk-complete c input L complete (tree t s i) start [] input ys [] o
       (sym (append-nil input)) in
@@ -132,8 +133,8 @@ module _ (c : Codec) (L : ℕ → ℕ → List ℕ → List ℕ → Type 0) (t :
       let b : 0 + length ys ≡ length ys = omega arith in
       let ans : answeredIn c (length input) t s i (length x) ≡ Gave (length ys) =
       in-call c (length input) t s i (length x) u
-      ∙ ap (λ (st : Step). answered (length input) (length x) (answer st)) (z .goes)
-      ∙ no-lt (Stopped 41) (cond (ltb (length x) (q .to)) (Refused 45) (Gave (q .to))) (q .from) (length input) (omega arith)
+      ∙ ap (λ (st : Step). answered (c .leaves) (length input) (length x) (answer st)) (z .goes)
+      ∙ no-lt (Stopped 41 (spot q (c .leaves q))) (cond (ltb (length x) (q .to)) (Refused 45) (Gave (q .to))) (q .from) (length input) (omega arith)
       ∙ no-lt (Refused 45) (Gave (q .to)) (length x) (q .to) (omega arith)
       ∙ ap Gave b in
       (ans, ap (λ (a : Answer). leftBy a x (left (walk c (tree t s i) start x))) ans ∙ ap left (g .goes) ∙ g .given (omega arith))

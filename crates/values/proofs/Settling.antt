@@ -33,7 +33,7 @@ settled-one (unsigned k n) bs cs ds a b = a ∙ sym b
 settled-one (float k e f) bs cs ds a b = a ∙ sym b
 settled-one none bs cs ds a b = a ∙ sym b
 
--- the walk that settles a payload
+-- the walk that settles a payload; of its leaves nobody asks
 abbrev settler : List ℕ → Codec
 settler b =
     record {
@@ -41,6 +41,7 @@ settler b =
       there = λ code p. leb (p .from + width code) (length b);
       after = λ code p. record { from = p .from + width code; to = p .to + width code };
       gives = λ code w. formOf code w;
+      leaves = λ p. 0;
     }
 
 settle-complete : (b : List ℕ) (code w : ℕ) (p : Place) (xs ys rest : List ℕ) → settled code w xs ys → allowed code w ≡ true

@@ -18,8 +18,9 @@ use Rattle.leaf.specs.Choice.{choice}
 use Rattle.walk.specs.declared.Place.{Place}
 use Rattle.walk.specs.declared.Met.{Met}
 use Rattle.walk.specs.declared.Met.the-variants.{Leaf, Broken}
-use Rattle.walk.specs.Tree.{byKind, look, meet, treeOf, trees, child, baseOf, baseAt}
+use Rattle.walk.specs.Tree.{byKind, look, meet, treeOf, baseOf, baseAt}
 use Rattle.walk.specs.Walk.{on, Codec, item, walk}
+use Rattle.walk.specs.Planned.{treeBy, childBy}
 use Rattle.walk.proofs.Trees.{a-leaf, looked, met, child-met}
 use Rattle.walk.proofs.Returns.{item-on}
 
@@ -67,17 +68,17 @@ module _ (t : List ℕ) (s : Sections) (i c : ℕ) where
   no-base-met h = sym (no-lt (baseOf (typeAt t s c)) 13 c i h)
 
   -- a base that is there and whose word is allowed is walked over
-  module _ (w : Codec) (code : ℕ) (p : Place) (x : List ℕ) (is : code ≡ baseAt t s i c) (there : w .there code p ≡ true)
+  module _ (w : Codec) (ps : List ℕ) (code : ℕ) (p : Place) (x : List ℕ) (is : code ≡ baseAt t s i c) (there : w .there code p ≡ true)
       (good : allowed code (w .word code p) ≡ true) where
     none : code ≡ 13 → ⊥
     unfolding allowed base isValue
     none h = let z : false ≡ true = rw h at good in let y : _≡_ {A = ℕ} 0 1 = cc in omega arith
 
-    pub base-on : walk w (child t s i c) p x ≡ on (w .after code p) (written x (p .to) (w .gives code (w .word code p)))
-    unfolding baseAt baseOf walk treeOf
+    pub base-on : walk w (childBy ps t s i c) p x ≡ on (w .after code p) (written x (p .to) (w .gives code (w .word code p)))
+    unfolding baseAt baseOf walk treeOf treeBy
     base-on = go (ltb c i) (Plain (typeAt t s c)) refl refl
       where
-        go : (a b : Bool) → ltb c i ≡ a → Plain (typeAt t s c) ≡ b → walk w (child t s i c) p x
+        go : (a b : Bool) → ltb c i ≡ a → Plain (typeAt t s c) ≡ b → walk w (childBy ps t s i c) p x
             ≡ on (w .after code p) (written x (p .to) (w .gives code (w .word code p)))
         go false b g h = absurd (none (is ∙ no-if (baseOf (typeAt t s c)) 13 g))
         go true false g h = absurd (none (is ∙ yes-if (baseOf (typeAt t s c)) 13 g ∙ no-if (typeAt t s c .of) 13 h))
@@ -89,6 +90,6 @@ module _ (t : List ℕ) (s : Sections) (i c : ℕ) where
             ≡ meet t s i c = met t s i c (Leaf (typeAt t s c)) (ltb-true c i g)
             (looked t s c (typeAt t s c) true (Leaf (typeAt t s c)) refl (base-fields s c (typeAt t s c) f) refl
             (a-leaf (typeAt t s c) (omega (arith, f .kind)))) in
-            ap (λ u. walk w u p x) (child-met t s i c (Leaf (typeAt t s c)) m)
+            ap (λ u. walk w u p x) (child-met ps t s i c (Leaf (typeAt t s c)) m)
             ∙ ap (λ (n : ℕ). item w 42 n (choice t s (typeAt t s c)) p x) (sym k)
             ∙ item-on w 42 code (choice t s (typeAt t s c)) p x there (rw (good, all-taken t s (typeAt t s c) (w .word code p) (f .kind)) refl)

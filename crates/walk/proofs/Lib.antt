@@ -1,3 +1,5 @@
+pub mod WherePlans
+pub mod ByPlans
 pub mod Trees
 pub mod Walks
 pub mod Returns

@@ -21,7 +21,9 @@ use Rattle.table.specs.Entries.{typeAt}
 use Rattle.table.specs.Fields.{fieldsOk}
 use Rattle.walk.specs.declared.Met.{Met}
 use Rattle.walk.specs.declared.Met.the-variants.{Leaf, Members, Elements, Broken}
-use Rattle.walk.specs.Tree.{Tree, broken, byKind, entryIn, metIn, look, meet, treeOf, trees, tree, child}
+use Rattle.walk.specs.Tree.{Tree, broken, byKind, entryIn, metIn, look, meet, trees, tree}
+use Rattle.walk.specs.Planned.{treeBy, treesBy, typeBy, childBy}
+use Rattle.walk.proofs.ByPlans.{trees-same, type-same}
 
 -- by the kind
 pub a-leaf : (e : Entry) → e .kind ≤ 1 → Leaf e ≡ byKind e
@@ -125,32 +127,27 @@ module _ (t : List ℕ) (s : Sections) where
   not-met i c h = sym (no-lt (look t s c) Broken c i h)
 
   -- the trees below n are those of the types below n
-  length-trees : (n : ℕ) → length (trees t s n) ≡ n
-  unfolding trees
-  length-trees zero = refl
-  length-trees (suc n) =
-      length-append (trees t s n) (treeOf t s (trees t s n) (look t s n) ∷ []) ∙ ap (λ (k : ℕ). k + 1) (length-trees n) ∙ add-one n
+  module _ (ps : List ℕ) where
+    length-trees : (n : ℕ) → length (treesBy ps t s n) ≡ n
+    unfolding treesBy
+    length-trees zero = refl
+    length-trees (suc n) =
+        length-append (treesBy ps t s n) (treeBy ps t s n (treesBy ps t s n) (look t s n) ∷ []) ∙ ap (λ (k : ℕ). k + 1) (length-trees n) ∙ add-one n
+
+    pub known-by : (n c : ℕ) → c < n → getD (treesBy ps t s n) c broken ≡ typeBy ps t s c
+    unfolding treesBy typeBy
+    known-by zero c h = absurd (omega arith)
+    known-by (suc n) c h =
+        let l : c ≤ n = omega arith in
+        ⊎-elim
+        (λ (e : c ≡ n). ap (λ (k : ℕ). getD (treesBy ps t s (suc n)) k broken) e
+        ∙ getD-at (treesBy ps t s n) (typeBy ps t s n) [] broken n (length-trees n)
+        ∙ ap (typeBy ps t s) (sym e))
+        (λ (g : c < n). List·getD-append (treesBy ps t s n) (typeBy ps t s n ∷ []) broken c (omega (arith, length-trees n)) ∙ known-by n c g)
+        (eq-or-lt-of-le l)
 
   pub known : (n c : ℕ) → c < n → getD (trees t s n) c broken ≡ tree t s c
-  unfolding trees tree
-  known zero c h = absurd (omega arith)
-  known (suc n) c h =
-      let l : c ≤ n = omega arith in
-      ⊎-elim
-      (λ (e : c ≡ n). ap (λ (k : ℕ). getD (trees t s (suc n)) k broken) e ∙ getD-at (trees t s n) (tree t s n) [] broken n (length-trees n)
-      ∙ ap (tree t s) (sym e))
-      (λ (g : c < n). List·getD-append (trees t s n) (tree t s n ∷ []) broken c (omega (arith, length-trees n)) ∙ known n c g)
-      (eq-or-lt-of-le l)
-
-  pub child-met : (i c : ℕ) (m : Met) → m ≡ meet t s i c → child t s i c ≡ treeOf t s (trees t s c) m
-  unfolding child meet tree treeOf
-  child-met i c m h = go (ltb c i) refl ∙ ap (treeOf t s (trees t s c)) (sym h)
-    where
-      go : (b : Bool) → ltb c i ≡ b → child t s i c ≡ treeOf t s (trees t s c) (meet t s i c)
-      go true e = known i c (ltb-true c i e) ∙ ap (treeOf t s (trees t s c)) (sym (yes-if (look t s c) Broken e))
-      go false e =
-          List·getD-eq-default (trees t s i) broken (omega (arith, length-trees i, ltb-false c i e))
-          ∙ ap (treeOf t s (trees t s c)) (sym (no-if (look t s c) Broken e))
+  known n c h = ap (λ (ts : List Tree). getD ts c broken) (sym (trees-same t s n)) ∙ known-by [] n c h ∙ type-same t s c
 
   -- a type that was met from type i, whose number is n, has a smaller one
   met-smaller : (i c : ℕ) (m : Met) → m ≡ meet t s i c → (m ≡ Broken → ⊥) → c < i
@@ -167,3 +164,14 @@ module _ (t : List ℕ) (s : Sections) where
 
     pub elements-smaller : m ≡ Elements e → c < n
     elements-smaller g = let l : c < i = met-smaller i c m h (λ b. let z : _≡_ {A = ℕ} 0 1 = cc in omega arith) in omega (arith, is)
+
+-- a child by what was met there
+pub child-met : (ps t : List ℕ) (s : Sections) (i c : ℕ) (m : Met) → m ≡ meet t s i c → childBy ps t s i c ≡ treeBy ps t s c (treesBy ps t s c) m
+unfolding childBy meet typeBy treeBy
+child-met ps t s i c m h = go (ltb c i) refl ∙ ap (treeBy ps t s c (treesBy ps t s c)) (sym h)
+  where
+    go : (b : Bool) → ltb c i ≡ b → childBy ps t s i c ≡ treeBy ps t s c (treesBy ps t s c) (meet t s i c)
+    go true e = known-by t s ps i c (ltb-true c i e) ∙ ap (treeBy ps t s c (treesBy ps t s c)) (sym (yes-if (look t s c) Broken e))
+    go false e =
+        List·getD-eq-default (treesBy ps t s i) broken (omega (arith, length-trees t s ps i, ltb-false c i e))
+        ∙ ap (treeBy ps t s c (treesBy ps t s c)) (sym (no-if (look t s c) Broken e))

@@ -21,8 +21,9 @@ use Rattle.walk.specs.declared.Met.{Met}
 use Rattle.walk.specs.declared.Met.the-variants.{Leaf, Members, Elements, Broken}
 use Rattle.walk.specs.declared.Walked.{Walked}
 use Rattle.walk.specs.declared.Walked.the-variants.{Went, Stopped}
-use Rattle.walk.specs.Tree.{Tree, treeOf, trees, child, meet}
-use Rattle.walk.specs.Walk.{Step, on, answer, left, through, Codec, item, counted, countCode, walk, begun, times, leafWalk, metWalk, Goes, Going}
+use Rattle.walk.specs.Tree.{Tree, meet}
+use Rattle.walk.specs.Walk.{Step, on, answer, left, through, Codec, item, counted, countCode, walk, begun, times, leafWalk, Goes, Going}
+use Rattle.walk.specs.Planned.{isPlanned, treeBy, treesBy, childBy, walkBy}
 use Rattle.walk.proofs.Walks.{went, through-none, Holds, walk-holds, begun-holds}
 use Rattle.walk.proofs.Trees.{child-met}
 use Rattle.walk.proofs.Returns.{Did, item-short, item-bad, met-leaf, met-members, met-elements, met-broken}
@@ -50,11 +51,11 @@ keeps w P over =
     within x code q y e a h = (over code q e a (h .0), length-written y (q .to) (w .gives code (w .word code q)) ∙ h .1)
 
 -- what a walk writes into stays as long
-pub met-long : {w : Codec} {P : Place → Type 0} (t : List ℕ) (s : Sections) (i : ℕ) (m : Met) (p : Place) (x : List ℕ) (r : Walked)
-    (y : List ℕ) → Keeps w P → P p → Did (metWalk w t s i m p x) r y → length y ≡ length x
-unfolding metWalk
-met-long {w} {P} t s i m p x r y k h d =
-    kept-length P (length x) (walk w (treeOf t s (trees t s i) m) p x) (k .walks (treeOf t s (trees t s i) m) p x h) r y d
+pub met-long : {w : Codec} {P : Place → Type 0} (ps t : List ℕ) (s : Sections) (i : ℕ) (m : Met) (p : Place) (x : List ℕ) (r : Walked)
+    (y : List ℕ) → Keeps w P → P p → Did (walkBy w ps t s i m p x) r y → length y ≡ length x
+unfolding walkBy
+met-long {w} {P} ps t s i m p x r y k h d =
+    kept-length P (length x) (walk w (treeBy ps t s i (treesBy ps t s i) m) p x) (k .walks (treeBy ps t s i (treesBy ps t s i) m) p x h) r y d
 
 -- where the elements of an array begin
 pub begun-here : {w : Codec} {P : Place → Type 0} (e : Entry) (p : Place) (x : List ℕ) (r : Walked) (y : List ℕ) (q : Place) → Keeps w P → P p
@@ -84,24 +85,24 @@ pub of-four : {A B C D X : Type 0} → (A → X) → (B → X) → (C → X) →
 of-four a b c d w = ⊎-elim a (⊎-elim b (⊎-elim c d)) w
 
 -- a step over a child, by what was met there, as it leaves the match
-module _ (w : Codec) (t : List ℕ) (s : Sections) (i c d : ℕ) (is : c ≡ d) (p : Place) (x : List ℕ) (m : Met) (meets : m ≡ meet t s i c) where
-  child-is : child t s i d ≡ treeOf t s (trees t s c) m
-  child-is = ap (child t s i) (sym is) ∙ child-met t s i c m meets
+module _ (w : Codec) (ps t : List ℕ) (s : Sections) (i c d : ℕ) (is : c ≡ d) (p : Place) (x : List ℕ) (m : Met) (meets : m ≡ meet t s i c) where
+  child-is : childBy ps t s i d ≡ treeBy ps t s c (treesBy ps t s c) m
+  child-is = ap (childBy ps t s i) (sym is) ∙ child-met ps t s i c m meets
 
   pub leaf-stepped : (e : Entry) (v r : Walked) (z y : List ℕ) → m ≡ Leaf e → Did (leafWalk w t s e p x) v z → y ≡ z → r ≡ v
-      → Did (walk w (child t s i d) p x) r y
-  leaf-stepped e v r z y h g a b = met-leaf w t s c (child t s i d) p x m child-is e r y h (b ∙ g .0) (a ∙ g .1)
+      → Did (walk w (childBy ps t s i d) p x) r y
+  leaf-stepped e v r z y h g a b = met-leaf w ps t s c (childBy ps t s i d) p x m child-is e r y h (b ∙ g .0) (a ∙ g .1)
 
-  pub members-stepped : (e : Entry) (v r : Walked) (z y : List ℕ) → m ≡ Members e → Did (metWalk w t s c (Members e) p x) v z → y ≡ z → r ≡ v
-      → Did (walk w (child t s i d) p x) r y
-  members-stepped e v r z y h g a b = met-members w t s c (child t s i d) p x m child-is e r y h (b ∙ g .0) (a ∙ g .1)
+  pub members-stepped : (e : Entry) (v r : Walked) (z y : List ℕ) → m ≡ Members e → Did (walkBy w ps t s c (Members e) p x) v z → y ≡ z → r ≡ v
+      → Did (walk w (childBy ps t s i d) p x) r y
+  members-stepped e v r z y h g a b = met-members w ps t s c (childBy ps t s i d) p x m child-is e r y h (b ∙ g .0) (a ∙ g .1)
 
-  pub elements-stepped : (e : Entry) (v r : Walked) (z y : List ℕ) → m ≡ Elements e → Did (metWalk w t s c (Elements e) p x) v z → y ≡ z
-      → r ≡ v → Did (walk w (child t s i d) p x) r y
-  elements-stepped e v r z y h g a b = met-elements w t s c (child t s i d) p x m child-is e r y h (b ∙ g .0) (a ∙ g .1)
+  pub elements-stepped : (e : Entry) (v r : Walked) (z y : List ℕ) → m ≡ Elements e → Did (walkBy w ps t s c (Elements e) p x) v z → y ≡ z
+      → r ≡ v → Did (walk w (childBy ps t s i d) p x) r y
+  elements-stepped e v r z y h g a b = met-elements w ps t s c (childBy ps t s i d) p x m child-is e r y h (b ∙ g .0) (a ∙ g .1)
 
-  pub broken-stepped : (r : Walked) (y : List ℕ) → m ≡ Broken → y ≡ x → r ≡ Stopped 32 p → Did (walk w (child t s i d) p x) r y
-  broken-stepped r y h a b = let g = met-broken w t s c (child t s i d) p x m child-is h in (b ∙ g .0, a ∙ g .1)
+  pub broken-stepped : (r : Walked) (y : List ℕ) → m ≡ Broken → y ≡ x → r ≡ Stopped 32 p → Did (walk w (childBy ps t s i d) p x) r y
+  broken-stepped r y h a b = let g = met-broken w ps t s c (childBy ps t s i d) p x m child-is h in (b ∙ g .0, a ∙ g .1)
 
 -- a turn
 module _ {P : Place → Type 0} {f : ℕ → Place → List ℕ → Step} {n k : ℕ} {p : Place} {x : List ℕ} {m : ℕ} {q : Place} {y : List ℕ}
@@ -148,30 +149,32 @@ from-first {P} {f} {n} {p} {x} {m} {q} {y} l h s g =
     same-start f p x p₀ x₀ m e = ap₂ (through m f) (cc) (cc)
 
 -- how the members end
-module _ {P : Place → Type 0} (w : Codec) (t : List ℕ) (s : Sections) (i : ℕ) (e : Entry) {p : Place} {x : List ℕ} {m : ℕ} {q : Place} {y : List ℕ}
-    (g : Going P (memberStep w t s i e) (e .count) 0 p x m q y) where
-  pub members-done : e .count ≤ m → Did (metWalk w t s i (Members e) p x) (Went q) y
+module _ {P : Place → Type 0} (w : Codec) (ps t : List ℕ) (s : Sections) (i : ℕ) (e : Entry) {u : Bool} (is : u ≡ isPlanned ps i) (no : u ≡ false)
+    {p : Place} {x : List ℕ} {m : ℕ} {q : Place} {y : List ℕ} (g : Going P (memberStep w ps t s i e) (e .count) 0 p x m q y) where
+  pub members-done : e .count ≤ m → Did (walkBy w ps t s i (Members e) p x) (Went q) y
   members-done l =
-      let f = memberStep w t s i e in
-      members-did w t s i e p x (Went q) y (loop-done f p x m q y (g .goes p x (through-none f p x)) (e .count) (g .most) l)
+      let f = memberStep w ps t s i e in
+      members-did w ps t s i e is no p x (Went q) y (loop-done f p x m q y (g .goes p x (through-none f p x)) (e .count) (g .most) l)
 
-  pub members-stop : (r : Walked) (z : List ℕ) (n : ℕ) (o : Place) → m < e .count → Did (memberStep w t s i e m q y) r z → r ≡ Stopped n o
-      → Did (metWalk w t s i (Members e) p x) (Stopped n o) z
+  pub members-stop : (r : Walked) (z : List ℕ) (n : ℕ) (o : Place) → m < e .count → Did (memberStep w ps t s i e m q y) r z → r ≡ Stopped n o
+      → Did (walkBy w ps t s i (Members e) p x) (Stopped n o) z
   members-stop r z n o l d h =
-      let f = memberStep w t s i e in
-      members-did w t s i e p x (Stopped n o) z (loop-stop f p x m q y (g .goes p x (through-none f p x)) r z n (e .count) o d h l)
+      let f = memberStep w ps t s i e in
+      members-did w ps t s i e is no p x (Stopped n o) z (loop-stop f p x m q y (g .goes p x (through-none f p x)) r z n (e .count) o d h l)
 
 -- how the elements end, behind what began them
-module _ {P : Place → Type 0} (w : Codec) (t : List ℕ) (s : Sections) (i : ℕ) (e : Entry) (p : Place) (x : List ℕ) (b : Walked)
+module _ {P : Place → Type 0} (w : Codec) (ps t : List ℕ) (s : Sections) (i : ℕ) (e : Entry) {u : Bool} (is : u ≡ isPlanned ps i) (no : u ≡ false)
+    (p : Place) (x : List ℕ) (b : Walked)
     {p₀ : Place} {x₀ : List ℕ} (begins : Did (begun w e p x) b x₀) (went : b ≡ Went p₀) {n : ℕ} (many : n ≡ times w e p) {m : ℕ} {q : Place}
-    {y : List ℕ} (g : Going P (elementStep w t s i (e .of)) n 0 p₀ x₀ m q y) where
-  pub elements-done : n ≤ m → Did (metWalk w t s i (Elements e) p x) (Went q) y
+    {y : List ℕ} (g : Going P (elementStep w ps t s i (e .of)) n 0 p₀ x₀ m q y) where
+  pub elements-done : n ≤ m → Did (walkBy w ps t s i (Elements e) p x) (Went q) y
   elements-done l =
-      let f = elementStep w t s i (e .of) in
-      elements-did w t s i e p x b x₀ begins p₀ n (Went q) y went many (loop-done f p₀ x₀ m q y (g .goes p₀ x₀ (through-none f p₀ x₀)) n (g .most) l)
+      let f = elementStep w ps t s i (e .of) in
+      elements-did w ps t s i e is no p x b x₀ begins p₀ n (Went q) y went many (loop-done f p₀ x₀ m q y (g .goes p₀ x₀ (through-none f p₀ x₀)) n (g .most) l)
 
-  pub elements-stop : (r : Walked) (z : List ℕ) (c : ℕ) (o : Place) → m < n → Did (elementStep w t s i (e .of) m q y) r z → r ≡ Stopped c o
-      → Did (metWalk w t s i (Elements e) p x) (Stopped c o) z
+  pub elements-stop : (r : Walked) (z : List ℕ) (c : ℕ) (o : Place) → m < n → Did (elementStep w ps t s i (e .of) m q y) r z → r ≡ Stopped c o
+      → Did (walkBy w ps t s i (Elements e) p x) (Stopped c o) z
   elements-stop r z c o l d h =
-      let f = elementStep w t s i (e .of) in
-      elements-did w t s i e p x b x₀ begins p₀ n (Stopped c o) z went many (loop-stop f p₀ x₀ m q y (g .goes p₀ x₀ (through-none f p₀ x₀)) r z c n o d h l)
+      let f = elementStep w ps t s i (e .of) in
+      elements-did w ps t s i e is no p x b x₀ begins p₀ n (Stopped c o) z went many
+      (loop-stop f p₀ x₀ m q y (g .goes p₀ x₀ (through-none f p₀ x₀)) r z c n o d h l)

@@ -9,12 +9,11 @@ use borrow.Author.Tests.{leb-true}
 use lib.Dec.{leb}
 use lib.ListN.{length, take, drop}
 use Rattle.wire.proofs.Cond.{yes-if, no-if, and-right}
-use Rattle.table.specs.declared.Sections.{Sections}
 use Rattle.walk.specs.declared.Place.{Place}
 use Rattle.walk.specs.declared.Walked.{Walked}
 use Rattle.walk.specs.declared.Walked.the-variants.{Went, Stopped}
-use Rattle.walk.specs.Tree.{tree}
-use Rattle.walk.specs.Walk.{Step, on, Codec, start, answer, left, typeWalk}
+use Rattle.walk.specs.Tree.{Tree}
+use Rattle.walk.specs.Walk.{Step, on, Codec, start, answer, left, walk}
 use Rattle.walk.specs.Whole.{fits, isWhole, allOrNothing}
 use Rattle.walk.proofs.Walks.{walk-same}
 
@@ -33,19 +32,19 @@ module _ (n room : ℕ) (q : Place) (b : Bool) (is : b ≡ fits n room q) where
   pub if-not : (x z : List ℕ) → b ≡ false → x ≡ cond (fits n room q) z x
   if-not x z h = sym (no-if z x (sym is ∙ h))
 
-module _ (c : Codec) (n : ℕ) (t : List ℕ) (s : Sections) (i : ℕ) (x : List ℕ) where
+module _ (c : Codec) (n : ℕ) (tr : Tree) (x : List ℕ) where
   -- what a function answers and leaves is what the walk says
   abbrev pub Gives : Walked → List ℕ → Type 0
-  Gives r y = (r ≡ answer (typeWalk c t s i start [])) × (y ≡ allOrNothing c n t s i x)
+  Gives r y = (r ≡ answer (walk c tr start [])) × (y ≡ allOrNothing c n tr x)
 
-  module _ (w : Walked) (first : w ≡ answer (typeWalk c t s i start [])) where
-    nothing : (y : List ℕ) → y ≡ x → isWhole n (length x) w ≡ false → y ≡ allOrNothing c n t s i x
+  module _ (w : Walked) (first : w ≡ answer (walk c tr start [])) where
+    nothing : (y : List ℕ) → y ≡ x → isWhole n (length x) w ≡ false → y ≡ allOrNothing c n tr x
     unfolding allOrNothing
-    nothing y same h = same ∙ sym (no-if (left (typeWalk c t s i start x)) x (ap (isWhole n (length x)) (sym first) ∙ h))
+    nothing y same h = same ∙ sym (no-if (left (walk c tr start x)) x (ap (isWhole n (length x)) (sym first) ∙ h))
 
-    all : (z : List ℕ) → z ≡ left (typeWalk c t s i start x) → isWhole n (length x) w ≡ true → z ≡ allOrNothing c n t s i x
+    all : (z : List ℕ) → z ≡ left (walk c tr start x) → isWhole n (length x) w ≡ true → z ≡ allOrNothing c n tr x
     unfolding allOrNothing
-    all z is h = is ∙ sym (yes-if (left (typeWalk c t s i start x)) x (ap (isWhole n (length x)) (sym first) ∙ h))
+    all z is h = is ∙ sym (yes-if (left (walk c tr start x)) x (ap (isWhole n (length x)) (sym first) ∙ h))
 
     module _ (y : List ℕ) (same : y ≡ x) where
       pub refused : (k : ℕ) (q : Place) → w ≡ Stopped k q → Gives (Stopped k q) y
@@ -61,18 +60,17 @@ module _ (c : Codec) (n : ℕ) (t : List ℕ) (s : Sections) (i : ℕ) (x : List
         not-whole e = (sym h ∙ first, nothing y same (whole-is ∙ e))
 
         -- the second pass ends as the first
-        pub all-stored : (v : Walked) (z : List ℕ) → b ≡ true → v ≡ answer (typeWalk c t s i start y) → z ≡ left (typeWalk c t s i start y) → Gives v z
-        unfolding typeWalk
+        pub all-stored : (v : Walked) (z : List ℕ) → b ≡ true → v ≡ answer (walk c tr start y) → z ≡ left (walk c tr start y) → Gives v z
         all-stored v z e f g =
-            (f ∙ walk-same c (tree t s i) start y [], all z (g ∙ ap (λ (u : List ℕ). left (typeWalk c t s i start u)) same) (whole-is ∙ e))
+            (f ∙ walk-same c tr start y [], all z (g ∙ ap (λ (u : List ℕ). left (walk c tr start u)) same) (whole-is ∙ e))
 
   -- a walk that goes to q whatever it writes into, of which nothing was stored before it had
-  pub gone : (q : Place) (l : List ℕ → List ℕ) → ((z : List ℕ) → typeWalk c t s i start z ≡ on q (l z)) → (r : Walked) (y : List ℕ) → r
+  pub gone : (q : Place) (l : List ℕ → List ℕ) → ((z : List ℕ) → walk c tr start z ≡ on q (l z)) → (r : Walked) (y : List ℕ) → r
       ≡ Went q → y ≡ cond (fits n (length x) q) (l x) x → Gives r y
   unfolding allOrNothing isWhole answer left
   gone q l goes r y h e = (
     h ∙ ap answer (sym (goes [])),
     e
         ∙ ap (λ (st : Step). cond (fits n (length x) q) (left st) x) (sym (goes x))
-        ∙ ap (λ (st : Step). cond (isWhole n (length x) (answer st)) (left (typeWalk c t s i start x)) x) (sym (goes [])),
+        ∙ ap (λ (st : Step). cond (isWhole n (length x) (answer st)) (left (walk c tr start x)) x) (sym (goes [])),
   )

@@ -68,7 +68,3 @@ trees t s (suc n) = trees t s n ++ (treeOf t s (trees t s n) (look t s n) ∷ []
 
 unfoldable pub tree : List ℕ → Sections → ℕ → Tree
 tree t s i = treeOf t s (trees t s i) (look t s i)
-
--- type c as a member or an element of type i
-unfoldable pub child : List ℕ → Sections → ℕ → ℕ → Tree
-child t s i c = getD (trees t s i) c broken

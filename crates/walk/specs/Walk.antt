@@ -13,11 +13,10 @@ use Rattle.table.specs.Leaf.{allowed}
 use Rattle.table.specs.Entries.{fixedKind}
 use Rattle.types.specs.Table.{ruleBroken}
 use Rattle.leaf.specs.Choice.{choice}
-use Rattle.walk.specs.declared.Met.{Met}
 use Rattle.walk.specs.declared.Place.{Place}
 use Rattle.walk.specs.declared.Walked.{Walked}
 use Rattle.walk.specs.declared.Walked.the-variants.{Went, Stopped}
-use Rattle.walk.specs.Tree.{Tree, leaf, row, array, broken, tree, trees, treeOf}
+use Rattle.walk.specs.Tree.{Tree, leaf, row, array, broken, tree}
 
 -- the numbers of 01 for a walk
 abbrev pub endsEarly : ℕ
@@ -75,12 +74,14 @@ pub record Going (P : Place → Type 0) (f : ℕ → Place → List ℕ → Step
   pub as-long : length y ≡ length x
   pub goes : Goes f k p x m q y
 
--- what a leaf of a base code is to a walk: its word, whether the input goes as far, the place behind it, and what is written for it
+-- what a leaf of a base code is to a walk: its word, whether the input goes as far, the place behind it, and what is written for it;
+-- and how many leaves come before a place
 pub record Codec : Type 0 where
   pub word : ℕ → Place → ℕ
   pub there : ℕ → Place → Bool
   pub after : ℕ → Place → Place
   pub gives : ℕ → ℕ → List ℕ
+  pub leaves : Place → ℕ
 
 -- a leaf whose other words are refused with n
 unfoldable pub item : Codec → ℕ → ℕ → (ℕ → Bool) → Place → List ℕ → Step
@@ -106,12 +107,9 @@ begun c e p x = cond (eqb (e .kind) fixedKind) (on p x) (counted c (e .count) p 
 unfoldable pub times : Codec → Entry → Place → ℕ
 times c e p = cond (eqb (e .kind) fixedKind) (e .count) (c .word countCode p)
 
--- a leaf's entry, what was met at type i, and type i
+-- a leaf's entry, and type i
 unfoldable pub leafWalk : Codec → List ℕ → Sections → Entry → Place → List ℕ → Step
 leafWalk c t s e p x = item c notAllowed (e .of) (choice t s e) p x
-
-unfoldable pub metWalk : Codec → List ℕ → Sections → ℕ → Met → Place → List ℕ → Step
-metWalk c t s i m p x = walk c (treeOf t s (trees t s i) m) p x
 
 unfoldable pub typeWalk : Codec → List ℕ → Sections → ℕ → Place → List ℕ → Step
 typeWalk c t s i p x = walk c (tree t s i) p x

@@ -1,7 +1,7 @@
 pub mod Cond
 pub mod Numbers
 pub mod Runs
-mod Swaps
+pub mod Swaps
 mod Writes
 pub mod MetCases
 pub mod AllBelow

@@ -3,15 +3,18 @@
 -- Assumes nothing.
 use Prim.Native.Nat.{ℕ, zero, suc, _+_, _*_, _/_, _%_, _^_, _≤_, _<_}
 use mathlib.Core.Path.{_≡_, refl, sym, ap, subst, _∙_}
+use mathlib.Core.Bool.{Bool, true, false}
 use mathlib.Core.List.{List, [], _∷_, _++_}
-use native.Mathlib.Nat.{add-assoc, zero-lt-suc, mod-lt, div-lt-iff-lt-mul, div-div-eq-div-mul}
+use native.Mathlib.Nat.{add-assoc, zero-lt-suc, mod-lt, div-lt-iff-lt-mul, div-div-eq-div-mul, div-add-mod'}
 use native.Mathlib.Omega.{arith}
+use borrow.Author.Tests.{eqb-true, eqb-false, eq-eqb, ne-eqb}
 use lib.Arith.{digits-lt, digits-div, digits-mod, mod-mul}
+use lib.Dec.{leb, eqb}
 use lib.ListN.{length, set, length-append}
-use Rattle.wire.specs.Bytes.{span, number, bytes, over, Octets}
+use Rattle.wire.specs.Bytes.{span, number, whole, bytes, over, Octets}
 use Rattle.wire.specs.LowFirst.{little, lowFirst, swapped}
-use Rattle.wire.proofs.Numbers.{span-suc, span-pos, twice}
-use Rattle.wire.proofs.Runs.{length-over, over-over, set-over}
+use Rattle.wire.proofs.Numbers.{span-suc, span-pos, twice, whole-in, whole-none}
+use Rattle.wire.proofs.Runs.{held, length-over, over-over, set-over}
 
 little-lt : (k : ℕ) (s : List ℕ) (p : ℕ) → Octets s → little k s p < span k
 little-lt zero s p o = o p
@@ -34,6 +37,28 @@ swapped-lt : (k x : ℕ) → x < span k → swapped k x < span k
 swapped-lt zero x h = h
 swapped-lt (suc k) x h = rw (span-suc k) (digits-lt (swapped-lt k (x % span k) (mod-lt x (span-pos k))) (swapped-lt k (x / span k) (high-lt k x h)))
 
+-- swapped again, it is the number
+pub swapped-twice : (k x : ℕ) → x < span k → swapped k (swapped k x) ≡ x
+swapped-twice zero x h = refl
+swapped-twice (suc k) x h =
+    let l : swapped k (x / span k) < span k = swapped-lt k (x / span k) (high-lt k x h) in
+    rw (
+      digits-div (swapped k (x % span k)) l,
+      digits-mod (swapped k (x % span k)) l,
+      swapped-twice k (x / span k) (high-lt k x h),
+      swapped-twice k (x % span k) (mod-lt x (span-pos k)),
+    )
+    (div-add-mod' x (span k))
+
+-- so a number is swapped exactly where the other is
+pub swapped-eqb : (k x y : ℕ) → x < span k → y < span k → eqb (swapped k x) y ≡ eqb x (swapped k y)
+swapped-eqb k x y h l = go (eqb x (swapped k y)) refl
+  where
+    go : (b : Bool) → eqb x (swapped k y) ≡ b → eqb (swapped k x) y ≡ eqb x (swapped k y)
+    go true e = eq-eqb (swapped k x) y (ap (swapped k) (eqb-true x (swapped k y) e) ∙ swapped-twice k y l) ∙ sym e
+    go false e =
+        ne-eqb (swapped k x) y (λ q. eqb-false x (swapped k y) e (sym (swapped-twice k x h) ∙ ap (swapped k) q)) ∙ sym e
+
 pub low-swapped : (k x : ℕ) → x < span k → lowFirst k (swapped k x) ≡ bytes k x
 low-swapped zero x h = refl
 low-swapped (suc k) x h =
@@ -49,6 +74,17 @@ pub length-low : (k x : ℕ) → length (lowFirst k x) ≡ 2 ^ k
 length-low zero x = refl
 length-low (suc k) x =
     rw (length-append (lowFirst k (x % span k)) (lowFirst k (x / span k)), length-low k (x % span k), length-low k (x / span k)) (sym (twice k))
+
+-- the bytes as they lie are those of the swapped number
+little-swapped : (k : ℕ) (s : List ℕ) (p : ℕ) → Octets s → little k s p ≡ swapped k (number k s p)
+little-swapped k s p o = sym (swapped-twice k (little k s p) (little-lt k s p o)) ∙ ap (swapped k) (swapped-little k s p o)
+
+pub lying-read : (k : ℕ) {t : Bool} {r : ℕ} (s : List ℕ) (p : ℕ) → Octets s → t ≡ leb (p + 2 ^ k) (length s) → t ≡ true → r ≡ little k s p → r
+    ≡ swapped k (whole k s p)
+lying-read k s p o e t r = r ∙ little-swapped k s p o ∙ ap (swapped k) (sym (whole-in k s p (held (p + 2 ^ k) (length s) e t)))
+
+pub lying-none : {t : Bool} (s : List ℕ) (p : ℕ) → t ≡ leb (p + 8) (length s) → t ≡ false → 0 ≡ swapped 3 (whole 3 s p)
+lying-none s p e t = ap (swapped 3) (whole-none 3 s p e t)
 
 -- what a reader and a writer of a big-endian number do
 pub read-swapped : (k : ℕ) {l r : ℕ} (s : List ℕ) (p : ℕ) → Octets s → l ≡ little k s p → r ≡ swapped k l → r ≡ number k s p

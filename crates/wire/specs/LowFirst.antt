@@ -1,5 +1,5 @@
--- Numbers whose low byte comes first, and what makes them big endian: the bytes in the other order. No contract of a public
--- function says these.
+-- Numbers whose low byte comes first, and what makes them big endian: the bytes in the other order. Of the public functions only
+-- those say so that compare numbers as their bytes lie.
 use Prim.Native.Nat.{ℕ, zero, suc, _+_, _*_, _/_, _%_, _^_}
 use mathlib.Core.List.{List, [], _∷_, _++_}
 use lib.ListN.{getD}

@@ -5,11 +5,13 @@ ghost use Prim.Native.Nat.{min, _+_, _≤_};
 ghost use lib.Dec.{leb};
 ghost use lib.ListN.{length};
 ghost use Rattle.wire.specs.Bytes.{number, whole, bytes, over, written, part};
+ghost use Rattle.wire.specs.LowFirst.{swapped};
 ghost use Rattle.wire.specs.Blocks.{blockLength};
 
 mod order;
 mod words;
 
+pub use order::swap64;
 pub use words::word_at;
 
 // How many bytes are copied at once: more than a datagram has.
@@ -72,6 +74,15 @@ pub fn whole_u64(s: &[u8], at: usize) -> u64
 {
     let is_whole = has_room(s.len(), at, 8);
     if is_whole { order::be64(s, at) } else { 0 }
+}
+
+// The same with its bytes in the other order, which are the bytes as they lie: whoever compares many numbers with one swaps that one
+// (`swap64`), and none of them.
+pub fn swapped_u64(s: &[u8], at: usize) -> u64
+    ensures { λ r. ⌜ r ≡ swapped 3 (whole 3 (now (s .entry)) at) ⌝ }
+{
+    let is_whole = has_room(s.len(), at, 8);
+    if is_whole { order::le64(s, at) } else { 0 }
 }
 
 pub fn put_u8(s: &mut [u8], at: usize, x: u8)

@@ -63,7 +63,7 @@ fn le32(s: &[u8], at: usize) -> u32
     byte(s, at) + byte(s, at + 1) * 256 + byte(s, at + 2) * 65536 + byte(s, at + 3) * 16777216
 }
 
-fn le64(s: &[u8], at: usize) -> u64
+pub(crate) fn le64(s: &[u8], at: usize) -> u64
     requires { ⌜ at + 8 ≤ length (now s) ⌝ }
     ensures { λ r. ⌜ r ≡ little 3 (now (s .entry)) at ⌝ }
 {
@@ -90,7 +90,7 @@ fn swap32(x: u32) -> u32
     x % 256 * 16777216 + x / 256 % 256 * 65536 + x / 65536 % 256 * 256 + x / 16777216
 }
 
-fn swap64(x: u64) -> u64
+pub fn swap64(x: u64) -> u64
     ensures { λ r. ⌜ r ≡ swapped 3 x ⌝ }
 {
     (swap32((x % 4294967296) as u32) as u64) * 4294967296 + (swap32((x / 4294967296) as u32) as u64)

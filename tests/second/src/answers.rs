@@ -3,7 +3,7 @@
 use crate::call::{next, Argument, Next};
 use crate::cutting::{piece, pieces};
 use crate::message::{self, Content};
-use crate::payload::{pack, pack_checked, unpack, unpack_checked};
+use crate::payload::{pack, pack_checked, unpack, unpack_checked, Refused};
 use crate::pending::Pending;
 use crate::platform::{Answer, Platform, What};
 use crate::take::{Joiner, Record};
@@ -47,8 +47,8 @@ pub fn tell(file: &[u8]) -> Told {
             }
             Next::Call(code, arguments) => {
                 let told = answer(&mut platform, code, &arguments);
-                calls.push((code, told.as_ref().err().copied()));
-                let text = told.unwrap_or_else(|refusal| format!("refused {refusal}"));
+                calls.push((code, told.as_ref().err().map(|refused| refused.number)));
+                let text = told.unwrap_or_else(|refused| refused.to_string());
                 lines.push_str(&format!("{place} {text}\n"));
             }
         }
@@ -60,12 +60,10 @@ pub fn tell(file: &[u8]) -> Told {
     }
 }
 
-/// One call: its answer without the number and the LF, or the number it is refused with.
-fn answer(platform: &mut Platform, code: u64, arguments: &[Argument]) -> Result<String, u8> {
+/// One call: its answer without the call's number and the LF, or what it is refused with.
+fn answer(platform: &mut Platform, code: u64, arguments: &[Argument]) -> Result<String, Refused> {
     match (code, arguments) {
-        (1, [Number(own), Bytes(bytes)]) => {
-            message::read(*own as u8, bytes).map(|got| message_read(&got))
-        }
+        (1, [Number(own), Bytes(bytes)]) => Ok(message_read(&message::read(*own as u8, bytes)?)),
         (
             2,
             [Number(own), Number(domain), Number(id), Number(sequence), Bytes(payload), Number(room)],
@@ -123,7 +121,7 @@ fn answer(platform: &mut Platform, code: u64, arguments: &[Argument]) -> Result<
                 records: records.clone(),
                 rooms: rooms.to_vec(),
             };
-            taken(joiner, datagram)
+            Ok(taken(joiner, datagram)?)
         }
         (12, [Number(length), Number(size)]) => Ok(format!("pieces {}", pieces(*length, *size)?)),
         (15, [Bytes(table), Number(id)]) => Ok(match check(table)?.operation(*id as u32) {

@@ -1,9 +1,11 @@
 //! Files of calls worked out by hand, with their lines.
 
+use crate::calls_cases_places;
 use crate::compare::Case;
 use crate::program::By;
-use crate::{answers, calls_cases_bad, calls_cases_joining, calls_cases_lists, hex};
-use crate::{calls_cases_payload, calls_cases_platform, calls_cases_requests, calls_cases_wide};
+use crate::{answers, calls_cases_bad, calls_cases_char8, calls_cases_joining, hex};
+use crate::{calls_cases_lists, calls_cases_payload, calls_cases_platform};
+use crate::{calls_cases_requests, calls_cases_wide};
 
 /// A file worked out by hand. In its lines, bytes between braces stand for their hex digits.
 pub struct Worked {
@@ -16,8 +18,10 @@ pub fn worked() -> impl Iterator<Item = &'static Worked> {
     let joining = calls_cases_joining::CASES.iter();
     joining
         .chain(calls_cases_payload::CASES)
+        .chain(calls_cases_char8::CASES)
         .chain(calls_cases_platform::CASES)
         .chain(calls_cases_wide::CASES)
+        .chain(calls_cases_places::CASES)
         .chain(calls_cases_requests::CASES)
         .chain(calls_cases_lists::CASES)
         .chain(calls_cases_bad::CASES)

@@ -55,7 +55,7 @@ pub const CASES: &[Worked] = &[
                 0005 0004 | 00000018 0002 00000006 00000000 00040000 00000003 0000 0000 0000 | 00000001 01 | 00000004 00000004 | 00000001 01 \
                 0005 0004 | 00000018 0002 00000006 00000000 00040000 00000003 0000 0000 0000 | 00000001 01 | 00000007 00000003 FF0001 | 00000001 04",
         lines: "0 words 258\n1 words 18446744073709551614\n2 words 1\n3 words 2139095039\n4 words 2147483648\n\
-                5 refused 42\n6 words 0\n7 refused 43\n8 words 3 255 0 1\n",
+                5 refused 42 0 0\n6 words 0\n7 refused 43 0 0\n8 words 3 255 0 1\n",
     },
     Worked {
         name: "payloads to words",
@@ -68,7 +68,7 @@ pub const CASES: &[Worked] = &[
                 0005 0004 | 0000001C 0002 00000008 00000000 00020000 00000002 0002 0000 0000 0000 0000 | 00000001 01 | 00000004 01020304 | 00000001 01 \
                 0005 0004 | 00000002 0000 | 00000002 FFFF | 00000000 | 00000001 00 \
                 0005 0004 | 00000010 0001 00000005 00000000 0000 0000 0000 | 00000001 00 | 00000008 8000000000000000 | 00000001 01",
-        lines: "0 words 258 772\n1 refused 40\n2 refused 41\n3 words 18446744073709551615\n4 refused 42\n5 refused 44\n\
+        lines: "0 words 258 772\n1 refused 40 2 1\n2 refused 41 4 2\n3 words 18446744073709551615\n4 refused 42 0 0\n5 refused 44\n\
                 6 refused 45\n7 refused 31\n8 words 9223372036854775808\n",
     },
     Worked {
@@ -85,8 +85,8 @@ pub const CASES: &[Worked] = &[
                 0006 0004 | 00000010 0001 0000000B 00000000 0000 0000 0000 | 00000001 00 | 00000008 000000007F800000 | 00000001 04 \
                 0006 0004 | 00000018 0002 00000006 00000000 00040000 00000003 0000 0000 0000 | 00000001 01 | 00000008 0000000000000000 | 00000001 04 \
                 0006 0004 | 00000018 0002 00000006 00000000 00040000 00000003 0000 0000 0000 | 00000001 01 | 00000008 0000000000000004 | 00000001 04",
-        lines: "0 bytes 0102\n1 bytes fffe\n2 bytes 7f\n3 refused 42\n4 bytes 80\n5 refused 42\n6 bytes 01\n\
-                7 bytes 7f7fffff\n8 bytes 80000000\n9 refused 42\n10 bytes 00000000\n11 refused 43\n",
+        lines: "0 bytes 0102\n1 bytes fffe\n2 bytes 7f\n3 refused 42 0 0\n4 bytes 80\n5 refused 42 0 0\n6 bytes 01\n\
+                7 bytes 7f7fffff\n8 bytes 80000000\n9 refused 42 0 0\n10 bytes 00000000\n11 refused 43 0 0\n",
     },
     Worked {
         name: "words to payloads",
@@ -105,8 +105,8 @@ pub const CASES: &[Worked] = &[
                             00000008 0000000000000102 | 00000001 02 \
                 0006 0004 | 00000020 0001 00010003 00000002 0000 0002 FFFFFFFFFFFFFFFF 0000000000000102 0000 | 00000001 00 | \
                             00000008 000000000000FFFF | 00000001 02",
-        lines: "0 bytes 01020304\n1 refused 40\n2 refused 41\n3 refused 45\n4 refused 44\n5 refused 43\n6 refused 42\n\
-                7 refused 42\n8 bytes 0102\n9 refused 42\n",
+        lines: "0 bytes 01020304\n1 refused 40 1 1\n2 refused 41 1 1\n3 refused 45\n4 refused 44\n5 refused 43 0 0\n6 refused 42 0 0\n\
+                7 refused 42 0 0\n8 bytes 0102\n9 refused 42 0 0\n",
     },
     Worked {
         name: "on a checked table",
@@ -119,6 +119,6 @@ pub const CASES: &[Worked] = &[
                 000E 0004 | 00000010 0001 00090000 00000000 0000 0000 0000 | 00000001 00 | 00000000 | 00000001 04 \
                 000E 0004 | 0000001C 0002 00000008 00000000 00020000 00000002 0002 0000 0000 0000 0000 | 00000001 01 | \
                             00000010 0000000000000102 0000000000010000 | 00000001 04",
-        lines: "0 words 258 772\n1 refused 30\n2 refused 44\n3 refused 40\n4 bytes 01020304\n5 refused 32\n6 refused 42\n",
+        lines: "0 words 258 772\n1 refused 30\n2 refused 44\n3 refused 40 2 1\n4 bytes 01020304\n5 refused 32\n6 refused 42 1 1\n",
     },
 ];

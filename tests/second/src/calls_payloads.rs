@@ -163,7 +163,8 @@ fn recount(rng: &mut Prng, leaves: &mut [Leaf]) {
 #[cfg(test)]
 mod tests {
     use super::*;
-    use crate::calls_tables::good;
+    use crate::calls_tables::{good, CHAR8};
+    use crate::payload::Place;
     use crate::{payload as model, types};
 
     /// Every good table is accepted, with the sizes it was made to have.
@@ -210,5 +211,36 @@ mod tests {
         let each = [1, 3, 4, 5, 6, 7, 8, 9, 10];
         assert!(each.iter().all(|base| enums[*base] > 20), "{enums:?}");
         assert!(counts > 300, "{counts}");
+    }
+
+    /// One char8 of a good value made wrong, wherever it stands, is 42 both ways, and there.
+    #[test]
+    fn a_wrong_char8_is_42() {
+        let mut rng = Prng::new(13);
+        let mut places = 0;
+        for _ in 0..1500 {
+            let plan = good(&mut rng);
+            let of = some_type(&mut rng, &plan, SHORT);
+            let mut leaves = value(&mut rng, &plan, of);
+            let at = |leaf: &Leaf| leaf.of == Of::Base(CHAR8);
+            let texts: Vec<usize> = (0..leaves.len()).filter(|i| at(&leaves[*i])).collect();
+            if texts.is_empty() {
+                continue;
+            }
+            places += 1;
+            let wrong = rng.pick(&texts);
+            let leaf = &mut leaves[wrong];
+            (leaf.word, leaf.wire) = (outside(&mut rng, leaf), outside_wire(&mut rng, leaf));
+            let (table, of) = (plan.bytes(), usize::from(of));
+            let refused = |at| model::Refused {
+                number: 42,
+                place: Some(Place { at, leaves: wrong }),
+            };
+            let read = model::unpack(&table, of, &payload(&leaves), MOST_WORDS);
+            assert_eq!(read, Err(refused(payload(&leaves[..wrong]).len())));
+            let written = model::pack(&table, of, &words(&leaves), MOST_BYTES);
+            assert_eq!(written, Err(refused(wrong)));
+        }
+        assert!(places > 200, "{places}");
     }
 }

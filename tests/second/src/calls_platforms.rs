@@ -29,6 +29,9 @@ impl Talk {
         }
         let mut ids: Vec<u32> = plan.operations.iter().map(|entry| entry.id).collect();
         ids.truncate(6);
+        // What can be pulled is named once more, or it is pulled too seldom.
+        let pulled = plan.operations.iter().find(|entry| entry.kind == 1);
+        ids.extend(pulled.map(|entry| entry.id));
         ids.push(rng.below(40) as u32);
         let count = rng.pick(&[1, 2, 4, 10]);
         let mut talk = Talk {

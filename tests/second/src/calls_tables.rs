@@ -21,6 +21,7 @@ pub const NO_TYPE: u16 = 0xFFFF;
 /// Bytes of each base code.
 const WIDTHS: [u64; 13] = [1, 1, 1, 2, 4, 8, 1, 1, 2, 4, 8, 4, 8];
 const SIGNED: [u16; 4] = [1, 3, 4, 5];
+pub const CHAR8: u16 = 2;
 pub const ENUM_BASES: [u16; 9] = [1, 3, 4, 5, 6, 7, 8, 9, 10];
 
 pub fn width(code: u16) -> usize {
@@ -30,10 +31,11 @@ pub fn width(code: u16) -> usize {
 /// The least and the greatest value of an integer base.
 pub fn ends(code: u16) -> (i128, i128) {
     let reach = 1i128 << (8 * width(code));
-    if SIGNED.contains(&code) {
-        (-(reach / 2), reach / 2 - 1)
-    } else {
-        (0, reach - 1)
+    match code {
+        // Half of what its byte could be.
+        CHAR8 => (0, reach / 2 - 1),
+        _ if SIGNED.contains(&code) => (-(reach / 2), reach / 2 - 1),
+        _ => (0, reach - 1),
     }
 }
 
@@ -185,13 +187,14 @@ fn late(rng: &mut Prng, known: usize) -> u16 {
 /// A good table of any kind.
 pub fn good(rng: &mut Prng) -> Plan {
     let mut plan = Plan::default();
-    match rng.below(24) {
+    match rng.below(28) {
         0..=9 => (0..rng.from_to(1, 6)).for_each(|_| plan.grow(rng)),
         10..=14 => (0..rng.from_to(7, 30)).for_each(|_| plan.grow(rng)),
         15 => return every_base(rng),
         16 => return at_the_limits(rng),
         17 => return deep(rng),
         18 => return full(rng),
+        19..=22 => texts(rng, &mut plan),
         _ => {
             // One base or enum and what is made of it, each leaf easy to reach.
             plan.base(rng.below(13) as u16);
@@ -216,10 +219,22 @@ pub fn every_base(rng: &mut Prng) -> Plan {
     plan
 }
 
+/// Texts in every way: single char8, many in a record, in arrays long and short, beside those of a
+/// base that has the same bytes and all 256 of them.
+fn texts(rng: &mut Prng, plan: &mut Plan) {
+    plan.base(CHAR8);
+    plan.base(rng.pick(&[6, 7]));
+    for of in [0, 0, 1] {
+        plan.array(rng.pick(&[3, 4]), of, rng.pick(&[1, 3, 16, 17, 64, 90]));
+    }
+    plan.record(&vec![0; rng.from_to(2, 40)]);
+    plan.record(&[0, 2, 1, 4, 3, 0]);
+}
+
 /// Types of 65,536 bytes, or as near as their kind comes.
 pub fn at_the_limits(rng: &mut Prng) -> Plan {
     let mut plan = Plan::default();
-    plan.base(rng.pick(&[6, 8, 9, 10]));
+    plan.base(rng.pick(&[CHAR8, 6, 8, 9, 10]));
     plan.array(3, 0, 65535);
     plan.array(4, 0, 65535);
     plan.array(3, 0, rng.from_to(1, 5) as u64);

@@ -1,7 +1,7 @@
 //! Values of a type as lists of leaves, each with its word and its bytes on the wire, made
 //! without the model; and the same lists spoilt.
 
-use crate::calls_tables::{ends, integer, width, Plan};
+use crate::calls_tables::{ends, integer, width, Plan, CHAR8};
 use crate::prng::Prng;
 
 #[derive(Clone, Debug, PartialEq, Eq)]
@@ -140,6 +140,12 @@ pub fn outside(rng: &mut Prng, leaf: &Leaf) -> u64 {
             _ => not_finite(rng, 8, 23),
         },
         Of::Base(12) => not_finite(rng, 11, 52),
+        // Half of them are what a byte could be.
+        Of::Base(CHAR8) => match rng.below(4) {
+            0 => rng.pick(&[128, 255, 256, u64::MAX]),
+            1 => leaf.word | 1 << rng.from_to(8, 63),
+            _ => leaf.word | 1 << 7,
+        },
         Of::Base(code) => {
             let (least, greatest) = ends(*code);
             match rng.below(3) {
@@ -164,11 +170,12 @@ pub fn outside(rng: &mut Prng, leaf: &Leaf) -> u64 {
     }
 }
 
-/// Bytes that are not allowed where a leaf stands; a plain integer has none.
+/// Bytes that are not allowed where a leaf stands; a plain integer but char8 has none.
 pub fn outside_wire(rng: &mut Prng, leaf: &Leaf) -> Vec<u8> {
     match &leaf.of {
         Of::Base(11) => low(i128::from(not_finite(rng, 8, 23)), 4),
         Of::Base(12) => low(i128::from(not_finite(rng, 11, 52)), 8),
+        Of::Base(CHAR8) => vec![rng.pick(&[0x80, 0xFF, leaf.wire[0] | 1 << 7])],
         Of::Base(_) => leaf.wire.clone(),
         Of::Enum(code, _) => match rng.below(2) {
             0 => low(integer(rng, *code), width(*code)),

@@ -4,7 +4,7 @@
 use crate::answers::{self, Ending, Told};
 use crate::program::{difference, output, By};
 use crate::{calls, calls_cases, calls_every};
-use std::collections::BTreeMap;
+use std::collections::{BTreeMap, BTreeSet};
 use std::io::{Error, Result};
 use std::ops::Range;
 use std::path::Path;
@@ -14,6 +14,9 @@ use std::sync::Mutex;
 const LEAST_CALLS: usize = 20_000;
 const CODES: [Range<u64>; 2] = [1..16, 20..24];
 const REFUSALS: [Range<u8>; 6] = [1..11, 20..24, 30..34, 40..46, 50..53, 60..63];
+/// Unpacking and packing, and the numbers with which each tells where.
+const WALKS: [u64; 4] = [5, 6, 13, 14];
+const PLACED: Range<u8> = 40..44;
 
 /// Programs under test run side by side: on an emulator most of the time goes into starting them.
 const SIDE_BY_SIDE: usize = 2;
@@ -54,6 +57,8 @@ struct Tally {
     calls: usize,
     codes: BTreeMap<u64, usize>,
     refusals: BTreeMap<u8, usize>,
+    /// Codes and the numbers they were refused with.
+    pairs: BTreeSet<(u64, u8)>,
     bad: usize,
     cut: usize,
 }
@@ -72,6 +77,7 @@ impl Tally {
             *self.codes.entry(*code).or_default() += 1;
             if let Some(refusal) = refusal {
                 *self.refusals.entry(*refusal).or_default() += 1;
+                self.pairs.insert((*code, *refusal));
             }
         }
     }
@@ -88,6 +94,11 @@ impl Tally {
         let refusals = REFUSALS.into_iter().flatten();
         let unmet = refusals.filter(|refusal| !self.refusals.contains_key(refusal));
         out.extend(unmet.map(|refusal| format!("refusal {refusal} never came")));
+        let places = WALKS
+            .into_iter()
+            .flat_map(|code| PLACED.map(move |r| (code, r)));
+        let unmet = places.filter(|pair| !self.pairs.contains(pair));
+        out.extend(unmet.map(|(code, refusal)| format!("{refusal} of code {code} never came")));
         if self.bad == 0 || self.cut == 0 {
             out.push("no bad call, or nothing cut short".to_string());
         }

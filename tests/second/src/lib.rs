@@ -37,6 +37,8 @@ pub mod payload;
 #[cfg(test)]
 mod payload_tests;
 pub mod pending;
+#[cfg(test)]
+mod places_tests;
 pub mod platform;
 #[cfg(test)]
 mod platform_tests;
@@ -73,9 +75,11 @@ pub mod calls_values;
 mod calls_cases_parts;
 pub mod calls_cases;
 pub mod calls_cases_bad;
+pub mod calls_cases_char8;
 pub mod calls_cases_joining;
 pub mod calls_cases_lists;
 pub mod calls_cases_payload;
+pub mod calls_cases_places;
 pub mod calls_cases_platform;
 pub mod calls_cases_requests;
 pub mod calls_cases_wide;

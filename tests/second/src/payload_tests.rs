@@ -1,10 +1,19 @@
 //! Payloads worked out by hand: 01's edges with a star and without, and the order of refusals.
 
 use crate::hex::bytes;
-use crate::payload::{pack, unpack};
+use crate::payload;
 use crate::types_tests::RECORD;
 
 const PLENTY: usize = 70000;
+
+// Numbers only: the places are worked out in places_tests.
+fn unpack(table: &[u8], of: usize, payload: &[u8], room: usize) -> Result<Vec<u64>, u8> {
+    payload::unpack(table, of, payload, room).map_err(|refused| refused.number)
+}
+
+fn pack(table: &[u8], of: usize, words: &[u64], room: usize) -> Result<Vec<u8>, u8> {
+    payload::pack(table, of, words, room).map_err(|refused| refused.number)
+}
 
 /// A table of this one base.
 fn base(code: u16) -> Vec<u8> {
@@ -64,7 +73,7 @@ fn every_base_at_its_ends() {
         (1, "80", 0xFFFF_FFFF_FFFF_FF80),
         (1, "7F", 127),
         (2, "00", 0),
-        (2, "FF", 255),
+        (2, "7F", 127),
         (3, "8000", 0xFFFF_FFFF_FFFF_8000),
         (3, "7FFF", 0x7FFF),
         (4, "80000000", 0xFFFF_FFFF_8000_0000),
@@ -87,7 +96,7 @@ fn every_base_at_its_ends() {
         assert_eq!(writes(code, word), Ok(bytes(wire)), "{code} {wire}");
     }
     for (code, word) in [
-        (2, 256),
+        (2, 128),
         (7, 256),
         (8, 65536),
         (9, 1 << 32),
@@ -96,6 +105,53 @@ fn every_base_at_its_ends() {
     ] {
         assert_eq!(writes(code, word), Err(42), "{code}");
     }
+}
+
+/// 02, request 2: bytes and words above 127 are 42; uint8 and byte keep all 256.
+#[test]
+fn char8_is_ascii() {
+    for value in 0..=255u8 {
+        let wire = format!("{value:02X}");
+        let word = u64::from(value);
+        let (read, written) = match value {
+            0..=127 => (Ok(word), Ok(vec![value])),
+            _ => (Err(42), Err(42)),
+        };
+        assert_eq!(reads(2, &wire), read, "{wire}");
+        assert_eq!(writes(2, word), written, "{wire}");
+        for all in [6, 7] {
+            assert_eq!(reads(all, &wire), Ok(word), "{all} {wire}");
+            assert_eq!(writes(all, word), Ok(vec![value]), "{all} {wire}");
+        }
+    }
+    // What would be ASCII if it were cut to its byte, or to seven bits of it.
+    for word in [0x141, 0xC1, 1 << 32 | 0x41, 1 << 63, u64::MAX] {
+        assert_eq!(writes(2, word), Err(42), "{word}");
+    }
+}
+
+/// In an array the first met from the left is given, as anywhere.
+#[test]
+fn arrays_of_char8() {
+    let table = bytes("0002 0000 0002 0000 0000 0004 0000 0000 0003 0000 0000 0000");
+    let read = |wire: &str| unpack(&table, 1, &bytes(wire), PLENTY);
+    assert_eq!(read("00000003 00417F"), Ok(vec![3, 0, 0x41, 0x7F]));
+    for bad in ["00000002 4180", "00000003 804141", "00000003 414180"] {
+        assert_eq!(read(bad), Err(42), "{bad}");
+    }
+    // Cut behind the bad byte, and before it; a count over the maximum; a bad byte left over.
+    assert_eq!(read("00000003 4180"), Err(42));
+    assert_eq!(read("00000003 4141"), Err(40));
+    assert_eq!(read("00000004 80414141"), Err(43));
+    assert_eq!(read("00000001 4180"), Err(41));
+    let write = |words: &[u64]| pack(&table, 1, words, PLENTY);
+    assert_eq!(write(&[3, 0, 0x41, 0x7F]), Ok(bytes("00000003 00417F")));
+    assert_eq!(write(&[2, 0x41, 0x80]), Err(42));
+    assert_eq!(write(&[3, 0x80, 0x41, 0x41]), Err(42));
+    assert_eq!(write(&[3, 0x80]), Err(42));
+    assert_eq!(write(&[3, 0x41]), Err(40));
+    assert_eq!(write(&[4, 0x80]), Err(43));
+    assert_eq!(write(&[1, 0x41, 0x80]), Err(41));
 }
 
 /// Array of uint8, maximum 3, and the record round it.
@@ -206,7 +262,9 @@ fn round_trips() {
     let mut rng = crate::prng::Prng::new(1);
     let mut passed = 0;
     for _ in 0..500 {
-        let payload = rng.bytes(45);
+        let mut payload = rng.bytes(45);
+        // Of the bytes that a char8 could be one half is refused.
+        payload[2] &= 0x7F;
         if let Ok(words) = unpack(&table, 13, &payload, PLENTY) {
             passed += 1;
             let mut again = payload.clone();

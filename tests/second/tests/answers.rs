@@ -63,6 +63,9 @@ fn the_stored_run() {
 fn a_damaged_line_is_found() {
     let damages = [
         ("another-number", "sed 's/refused 42/refused 43/'"),
+        ("no-place", "sed 's/\\(refused 4[0-3]\\) .*/\\1/'"),
+        ("no-leaves", "sed 's/\\(refused 4[0-3] [0-9]*\\) .*/\\1/'"),
+        ("a-place-more", "sed 's/refused 4[45]$/& 0 0/'"),
         ("upper-case", "sed 's/^\\([0-9]* bytes .*\\)a/\\1A/'"),
         ("another-digit", "sed '100s/0$/1/;100s/[1-9]$/0/'"),
         ("another-request", "sed 's/ sent 1 / sent 2 /'"),

@@ -13,13 +13,13 @@ first-write-spec =
     tie.close
     (tie.spec
     (λ c. search needs)
-    (λ c. sym (length-take-le _ (c .before .before .before .before .args .out .now) (omega arith)))
+    (λ c. sym (length-take-le _ (c .before .before .before .before .before .args .out .now) (omega arith)))
     (λ c κs. search needs)
     (λ c. search needs)
     (λ c.
     let at-write-once = c .before .before in
-    let start = at-write-once .before .before .before .before .before in (
-      nothing-left (at-write-once .write-once .last .1 .1 .1 .1 .0) (start .args .out .now)
-          (at-write-once .write-once .kept .1 .1 .1 .1 .0),
+    let start = at-write-once .before .before .before .before .before .before in (
+      nothing-left (at-write-once .write-once .last .1 .1 .1 .1 .1 .0) (start .args .out .now)
+          (at-write-once .write-once .kept .1 .1 .1 .1 .1 .0),
       at-write-once .write-once .ensures .0,
     )))

@@ -17,7 +17,7 @@ write-type-spec =
     (λ c. search needs)
     (λ c.
     let at-first-write = c .before .before .before .before .before in
-    refused _ _ _ _ _ _ _ (at-first-write .first-write .ensures .1) _ (at-first-write .first-write .ensures .0) _ _ (c .before .n .given .1))
+    refused _ _ _ _ _ (at-first-write .first-write .ensures .1) _ (at-first-write .first-write .ensures .0) _ _ (c .before .n .given .1))
     (λ c. search needs)
     (λ c.
     let at-write-once = c .before .before in
@@ -25,11 +25,11 @@ write-type-spec =
     let at-fits2 = at-if1 .before in
     let at-q = at-fits2 .before .before in
     let at-first-write = at-q .before .before .before .before in
-    all-stored _ _ _ _ _ _ _ (at-first-write .first-write .ensures .1) _ (at-first-write .first-write .ensures .0) _ (at-q .q .given .1)
+    all-stored _ _ _ _ _ (at-first-write .first-write .ensures .1) _ (at-first-write .first-write .ensures .0) _ (at-q .q .given .1)
     _ (at-fits2 .fits2 .ensures) _ _ (at-if1 .if1 .taken) (at-write-once .write-once .ensures .0) (at-write-once .write-once .ensures .1))
     (λ c. search needs)
     (λ c.
     let at-q = c .before .before .before in
     let at-first-write = at-q .before .before .before .before in
-    not-whole _ _ _ _ _ _ _ (at-first-write .first-write .ensures .1) _ (at-first-write .first-write .ensures .0) _ (at-q .q .given .1)
+    not-whole _ _ _ _ _ (at-first-write .first-write .ensures .1) _ (at-first-write .first-write .ensures .0) _ (at-q .q .given .1)
     _ (c .before .fits2 .ensures) (c .if1 .left)))

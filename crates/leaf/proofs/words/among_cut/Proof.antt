@@ -6,16 +6,16 @@ use mathlib.Core.Path.{_≡_}
 use mathlib.Core.Bool.{true}
 use Rattle.wire.specs.All.{allBelow}
 use Rattle.wire.proofs.AllBelow.{none-below, next-below, stop-below, done-below}
-use Rattle.leaf.specs.Choice.{other}
-use Rattle.leaf.proofs.Returns.{found, not-found}
+use Rattle.leaf.specs.Choice.{otherAt}
+use Rattle.leaf.proofs.Returns.{hit, missed}
 use Rattle.leaf.proofs.words.among_cut.Statement.{statement}
 use Rattle.leaf.proofs.words.among_cut.Tie as tie
 
 abbrev Inv-loop : tie.InvT-loop
-Inv-loop table s e word count k₀ k = (k ≤ e .count) × (allBelow (other table s e word) k ≡ true)
+Inv-loop table at count word k₀ k = (k ≤ count) × (allBelow (otherAt table at word) k ≡ true)
 
 abbrev μ-loop : tie.MeasureT-loop
-μ-loop table s e word count k₀ k = e .count - k
+μ-loop table at count word k₀ k = count - k
 
 pub among-cut-spec : {M : Type 1} → statement M
 among-cut-spec =
@@ -28,5 +28,5 @@ among-cut-spec =
     (λ c. search needs)
     (λ c. search needs)
     (λ c. (search needs, search next-below))
-    (λ c. search (found, stop-below))
-    (λ c. search (not-found, done-below)))
+    (λ c. search (hit, stop-below))
+    (λ c. search (missed, done-below)))

@@ -1,7 +1,7 @@
 -- `nyrkovash::nyr_unpack` meets its contract.
 -- Assumes nothing.
 use borrow.Author.Needs.{needs}
-use Rattle.nyrkovash.proofs.Giving.{given-number, given-count}
+use Rattle.nyrkovash.proofs.Giving.{given-number, given-words}
 use Rattle.nyrkovash.proofs.payloads.nyr_unpack.Statement.{statement}
 use Rattle.nyrkovash.proofs.payloads.nyr_unpack.Tie as tie
 
@@ -12,4 +12,4 @@ nyr-unpack-spec =
     (λ c κs. search needs)
     (λ c κs. search needs)
     (λ c. search needs)
-    (λ c. (search given-number, (search needs, search given-count))))
+    (λ c. (search given-number, (search needs, search given-words))))

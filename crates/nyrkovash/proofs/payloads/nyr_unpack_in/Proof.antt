@@ -1,7 +1,7 @@
 -- `nyrkovash::nyr_unpack_in` meets its contract.
 -- Assumes nothing.
 use borrow.Author.Needs.{needs}
-use Rattle.nyrkovash.proofs.Giving.{number-in, left-in, count-in}
+use Rattle.nyrkovash.proofs.Giving.{number-in, left-in, words-in}
 use Rattle.nyrkovash.proofs.payloads.nyr_unpack_in.Statement.{statement}
 use Rattle.nyrkovash.proofs.payloads.nyr_unpack_in.Tie as tie
 
@@ -13,4 +13,4 @@ nyr-unpack-in-spec =
     (λ c κs. search needs)
     (λ c κs. search needs)
     (λ c. search needs)
-    (λ c. (search number-in, (search left-in, search count-in))))
+    (λ c. (search number-in, (search left-in, search words-in))))

@@ -1,12 +1,11 @@
--- `nyrkovash::told` meets its contract: the number and the count of each case.
+-- `nyrkovash::told` meets its contract: the number and the words of each case.
 -- Assumes nothing.
 use borrow.Author.Needs.{needs}
-use Rattle.payload.specs.Calls.{leftBy}
+use Rattle.nyrkovash.proofs.Giving.{at-stop, at-end}
 use Rattle.nyrkovash.proofs.payloads.told.Statement.{statement}
 use Rattle.nyrkovash.proofs.payloads.told.Tie as tie
 
 pub told-spec : {M : Type 1} → statement M
-unfolding leftBy
 told-spec =
     tie.close
     (tie.spec
@@ -15,4 +14,7 @@ told-spec =
     (λ c. search needs)
     (λ c. search needs)
     (λ c. search needs)
-    (λ c. search needs))
+    (λ c. search needs)
+    (λ c. search needs)
+    (λ c. at-stop _ _ _ _ (c .before .before .before .answer2 .given .1))
+    (λ c. at-end _ _ _ (c .before .before .before .before .answer3 .given .1)))

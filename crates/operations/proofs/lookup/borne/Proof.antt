@@ -2,7 +2,7 @@
 -- Assumes nothing.
 use borrow.Author.Needs.{needs}
 use Rattle.wire.proofs.Runs.{held}
-use Rattle.operations.proofs.Halving.{too-short, is-borne, not-borne}
+use Rattle.operations.proofs.Looking.{too-short, bears-another, is-borne, not-whole}
 use Rattle.operations.proofs.lookup.borne.Statement.{statement}
 use Rattle.operations.proofs.lookup.borne.Tie as tie
 
@@ -11,10 +11,11 @@ borne-spec =
     tie.close
     (tie.spec
     (λ c κs. search needs)
-    (λ c κs. search held)
+    (λ c κs. search needs)
     (λ c κs. search needs)
     (λ c κs. search needs)
     (λ c κs. search held)
     (λ c. search is-borne)
-    (λ c. search not-borne)
+    (λ c. search not-whole)
+    (λ c. search bears-another)
     (λ c. search too-short))

@@ -29,7 +29,7 @@ judge-within-spec =
     (λ c. search needs)
     (λ c. record { fits = omega (arith, c .shared-slice-known3 .given (c .before .before .loop .k)) })
     (λ c κs. search needs)
-    (λ c κs. search needs)
+    (λ c κs. (search needs, search needs))
     (λ c. search (behind-fits, there-room))
     (λ c. search needs)
     (λ c. search needs)

@@ -7,6 +7,7 @@ use native.Mathlib.Omega.{arith}
 use lib.Dec.{eqb}
 use Rattle.wire.specs.All.{allBelow}
 use Rattle.unpack.specs.OneCode.{isGood}
+use Rattle.unpack.proofs.Ascii.{chars-in, chars-judged}
 use Rattle.unpack.proofs.OneCode.{leaf-room, product-fits, place-fits, all-good, judged-none, judged-more, judged-all}
 use Rattle.unpack.proofs.runs.judged.Statement.{statement}
 use Rattle.unpack.proofs.runs.judged.Tie as tie
@@ -25,6 +26,8 @@ judged-spec =
     μ-loop
     (λ c κs. search needs)
     (λ c. all-good _ _ _ _ (λ k. omega (arith, c .before .before .shared-slice-known .given k)) _ (c .before .range-of .ensures) (c .if1 .taken))
+    (λ c κs. search chars-in)
+    (λ c. search chars-judged)
     (λ c κs. search needs)
     (λ c. (search judged-none, search needs, search needs))
     (λ c. search product-fits)

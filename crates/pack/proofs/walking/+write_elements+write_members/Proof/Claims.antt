@@ -13,35 +13,40 @@ use Rattle.pack.proofs.walking.+write_elements+write_members.Lts-write_
 use Rattle.pack.proofs.walking.begin.Reads as begin
 use Rattle.pack.proofs.walking.times.Reads as times
 use Rattle.pack.proofs.walking.write_leaf.Reads as write-leaf
-use Rattle.pack.proofs.walking.write_run.Reads as write-run
+use Rattle.pack.proofs.alike.write_run.Reads as write-run
+use Rattle.pack.proofs.alike.write_enums.Reads as write-enums
 use Rattle.pack.proofs.walking.write_bases.Reads as write-bases
+use Rattle.pack.proofs.by_plan.write_planned.Reads as write-planned
+use Rattle.walk.proofs.plans.is_planned.Reads as is-planned
 use Rattle.walk.proofs.meet.Reads as meet
 use Rattle.walk.proofs.base_at.Reads as base-at
 use Rattle.table.proofs.entries.member_at.Reads as member-at
 
 -- the measure of both: the type number
-abbrev pub elements-μ : Measures 3 elements-kinds.ps ℕ
-elements-μ κs a = a .1 .1 .0
+abbrev pub elements-μ : Measures 4 elements-kinds.ps ℕ
+elements-μ κs a = a .1 .1 .1 .0
 
-abbrev pub members-μ : Measures 3 members-kinds.ps ℕ
-members-μ κs a = a .1 .1 .0
+abbrev pub members-μ : Measures 4 members-kinds.ps ℕ
+members-μ κs a = a .1 .1 .1 .0
 
-abbrev pub elements-at : ℕ → In 3 elements-kinds.ps
-elements-at t = and 3 elements-kinds.ps (is 3 elements-kinds.ps elements-μ t) write-elements.Pre
+abbrev pub elements-at : ℕ → In 4 elements-kinds.ps
+elements-at t = and 4 elements-kinds.ps (is 4 elements-kinds.ps elements-μ t) write-elements.Pre
 
-abbrev pub members-at : ℕ → In 3 members-kinds.ps
-members-at t = and 3 members-kinds.ps (is 3 members-kinds.ps members-μ t) write-members.Pre
+abbrev pub members-at : ℕ → In 4 members-kinds.ps
+members-at t = and 4 members-kinds.ps (is 4 members-kinds.ps members-μ t) write-members.Pre
 
-abbrev elements-below : ℕ → In 3 elements-kinds.ps
-elements-below t = and 3 elements-kinds.ps (falls 3 elements-kinds.ps _<_ elements-μ t) write-elements.Pre
+abbrev elements-below : ℕ → In 4 elements-kinds.ps
+elements-below t = and 4 elements-kinds.ps (falls 4 elements-kinds.ps _<_ elements-μ t) write-elements.Pre
 
-abbrev members-below : ℕ → In 3 members-kinds.ps
-members-below t = and 3 members-kinds.ps (falls 3 members-kinds.ps _<_ members-μ t) write-members.Pre
+abbrev members-below : ℕ → In 4 members-kinds.ps
+members-below t = and 4 members-kinds.ps (falls 4 members-kinds.ps _<_ members-μ t) write-members.Pre
 
 abbrev pub elements-claims : ℕ → elements-lts.Claims
 elements-claims t = (
-  meet.Asked,
-  meet.Learnt,
+  is-planned.Asked,
+  is-planned.Learnt,
+  write-planned.Asked,
+  write-planned.Learnt,
   begin.Asked,
   begin.Learnt,
   times.Asked,
@@ -50,6 +55,10 @@ elements-claims t = (
   base-at.Learnt,
   write-run.Asked,
   write-run.Learnt,
+  meet.Asked,
+  meet.Learnt,
+  write-enums.Asked,
+  write-enums.Learnt,
   write-leaf.Asked,
   write-leaf.Learnt,
   members-below t,
@@ -60,6 +69,10 @@ elements-claims t = (
 
 abbrev pub members-claims : ℕ → members-lts.Claims
 members-claims t = (
+  is-planned.Asked,
+  is-planned.Learnt,
+  write-planned.Asked,
+  write-planned.Learnt,
   write-bases.Asked,
   write-bases.Learnt,
   member-at.Asked,

@@ -3,48 +3,62 @@
 use borrow.Author.Needs.{needs}
 use Prim.Native.Nat.{ℕ, _-_}
 use mathlib.Core.Path.{refl}
+use native.Mathlib.Omega.{arith}
 use Rattle.walk.specs.Walk.{Going}
 use Rattle.pack.specs.Writing.{writer, Writing}
 use Rattle.walk.proofs.Trees.{members-smaller, elements-smaller}
-use Rattle.walk.proofs.Returns.{Did, elementStep, elements-stopped}
+use Rattle.walk.proofs.Returns.{Did, elementStep, elements-planned, elements-stopped}
 use Rattle.walk.proofs.Turns.{met-long, begun-here, times-few, of-four, leaf-stepped, members-stepped, elements-stepped, broken-stepped}
 use Rattle.walk.proofs.Turns.{going-start, going-on, going-next, elements-done, elements-stop}
 use Rattle.pack.proofs.WriteReturns.{writer-keeps}
 use Rattle.pack.proofs.WriteBases.{element-writes}
+use Rattle.pack.proofs.AlikeLeaves.{element-leaf}
 use Rattle.pack.proofs.walking.+write_elements+write_members.Proof.Claims.{elements-claims, elements-at}
 use Rattle.pack.proofs.walking.write_elements.Reads as written
 use Rattle.pack.proofs.walking.+write_elements+write_members.Lts-write_elements as lts
 
 abbrev Inv : lts.InvT-loop
-Inv table s i words out₀ child met count code at₀ k₀ out at k =
-    Going (Writing words) (elementStep (writer words) table s i child) count k₀ at₀ out₀ k at out
+Inv table s plans i words out₀ child count code next met at₀ k₀ out at k =
+    Going (Writing words) (elementStep (writer words) plans table s i child) count k₀ at₀ out₀ k at out
 
 abbrev μ : lts.MeasureT-loop
-μ table s i words out₀ child met count code at₀ k₀ out at k = count - k
+μ table s plans i words out₀ child count code next met at₀ k₀ out at k = count - k
 
 module _ (t : ℕ) where
-  -- the places: where the elements begin, what was met, and the start
-  abbrev begun-at : lts.At-loop (elements-claims t) (elements-at t) written.Post Inv μ → lts.After-q (elements-claims t) (elements-at t) written.Post Inv μ
-  begun-at c = c .before .before .before .before .before .before .before .before .before
+  -- the places: where enums are written, where a run is, where they begin, what tells that there is no plan, and the start
+  abbrev enums-at : lts.At-loop (elements-claims t) (elements-at t) written.Post Inv μ
+      → lts.After-write-enums (elements-claims t) (elements-at t) written.Post Inv μ
+  enums-at c = c .before .before .before .before
 
-  abbrev met-at : lts.At-loop (elements-claims t) (elements-at t) written.Post Inv μ → lts.After-meet (elements-claims t) (elements-at t) written.Post Inv μ
-  met-at c = c .before .before .before .before .before .before .before .before .before .before .before .before .before .before .before
+  abbrev run-at : lts.After-write-enums (elements-claims t) (elements-at t) written.Post Inv μ
+      → lts.After-write-run (elements-claims t) (elements-at t) written.Post Inv μ
+  run-at c = c .before .before .before .before .before .before .before
+
+  abbrev begun-at : lts.After-write-run (elements-claims t) (elements-at t) written.Post Inv μ
+      → lts.After-q (elements-claims t) (elements-at t) written.Post Inv μ
+  begun-at c = c .before .before .before .before .before
+
+  abbrev no-plan-at : lts.After-q (elements-claims t) (elements-at t) written.Post Inv μ → lts.Else1 (elements-claims t) (elements-at t) written.Post Inv μ
+  no-plan-at c = c .before .before .before .before .before .before
+
+  abbrev start-at : lts.After-q (elements-claims t) (elements-at t) written.Post Inv μ → lts.Start (elements-claims t) (elements-at t) written.Post Inv μ
+  start-at c = no-plan-at c .before .before .before .before .before .before
 
   -- whatever was met, the step is that of the child
   abbrev Stepped : lts.At-match2-came (elements-claims t) (elements-at t) written.Post Inv μ → Type 0
   Stepped c =
       let loop = c .before .before in
-      let args = met-at loop .before .before .before .before .args in
-      Did (elementStep (writer (args .words .now)) (args .table .now) (args .s) (args .i) (args .e .of) (loop .loop .k) (loop .loop .at) (loop .loop .out))
-      (c .match2 .step) (c .match2 .out)
+      let args = start-at (begun-at (run-at (enums-at loop))) .args in
+      Did (elementStep (writer (args .words .now)) (args .plans .now) (args .table .now) (args .s) (args .i) (args .e .of) (loop .loop .k)
+      (loop .loop .at) (loop .loop .out)) (c .match2 .step) (c .match2 .out)
 
   stepped : (c : lts.At-match2-came (elements-claims t) (elements-at t) written.Post Inv μ) → Stepped c
   stepped c =
-      let m = met-at (c .before .before) .meet .ensures in
-      of-four {X = Stepped c} (λ w. leaf-stepped _ _ _ _ _ _ refl _ _ _ m _ _ _ _ _ (w .1 .given .1) (w .4 .ensures) (w .7) (w .8))
-      (λ w. members-stepped _ _ _ _ _ _ refl _ _ _ m _ _ _ _ _ (w .1 .given .1) (w .4 .ensures) (w .7) (w .8))
-      (λ w. elements-stepped _ _ _ _ _ _ refl _ _ _ m _ _ _ _ _ (w .1 .given .1) (w .4 .ensures) (w .7) (w .8))
-      (λ w. broken-stepped _ _ _ _ _ _ refl _ _ _ m _ _ (w .1 .given .1) (w .2) (w .3))
+      let m = enums-at (c .before .before) .before .before .meet .ensures in
+      of-four {X = Stepped c} (λ w. leaf-stepped _ _ _ _ _ _ _ refl _ _ _ m _ _ _ _ _ (w .1 .given .1) (w .4 .ensures) (w .7) (w .8))
+      (λ w. members-stepped _ _ _ _ _ _ _ refl _ _ _ m _ _ _ _ _ (w .1 .given .1) (w .4 .ensures) (w .7) (w .8))
+      (λ w. elements-stepped _ _ _ _ _ _ _ refl _ _ _ m _ _ _ _ _ (w .1 .given .1) (w .4 .ensures) (w .7) (w .8))
+      (λ w. broken-stepped _ _ _ _ _ _ _ refl _ _ _ m _ _ (w .1 .given .1) (w .2) (w .3))
       (c .match2 .came)
 
   times-requires : lts.Need-times-requires (elements-claims t) (elements-at t) written.Post Inv μ
@@ -53,28 +67,35 @@ module _ (t : ℕ) where
   run-requires : lts.Need-write-run-requires (elements-claims t) (elements-at t) written.Post Inv μ
   run-requires c κs =
       let q = c .before .before .before .before in
-      let begin = q .before .before .before .before in
-      begun-here _ _ _ _ _ _ (writer-keeps _) (begin .before .before .before .before .before .before .pre .1) (begin .begin .ensures) (q .q .given .1)
+      begun-here _ _ _ _ _ _ (writer-keeps _) (start-at q .pre .1) (q .before .before .before .before .begin .ensures) (q .q .given .1)
+
+  enums-requires : lts.Need-write-enums-requires (elements-claims t) (elements-at t) written.Post Inv μ
+  enums-requires c κs =
+      let run = c .before .before .before .before .before .before in
+      let plans = start-at (begun-at run) .args .plans .now in
+      let g = run .write-run .ensures _ (element-writes _ plans _ _ _ _ _ (run .before .before .base-at .ensures)) in
+      (g .here, g .most)
 
   loop-holds : lts.Need-loop-holds (elements-claims t) (elements-at t) written.Post Inv μ
   loop-holds c =
-      let run = c .before .before .before in
-      let g = run .write-run .ensures _ (element-writes _ _ _ _ _ _ (run .before .before .base-at .ensures)) in
+      let enums = c .before .before .before in
+      let plans = start-at (begun-at (run-at enums)) .args .plans .now in
+      let g = enums .write-enums .ensures _ (element-leaf _ plans _ _ _ _ _ (enums .before .before .meet .ensures)) in
       going-start (g .most) (g .here)
 
   members-requires : lts.Need-write-members-requires (elements-claims t) (elements-at t) written.Post Inv μ
   members-requires c κs =
-      let loop = c .before .before .before .before .before in
-      let met = met-at loop in (
-        members-smaller _ _ _ _ _ (met .before .before .before .before .pre .0) _ _ (met .meet .ensures) (c .before .before .here2 .given .1),
+      let loop = c .before .before .before .before .before in (
+        members-smaller _ _ _ _ _ (start-at (begun-at (run-at (enums-at loop))) .pre .0) _ _
+            (enums-at loop .before .before .meet .ensures) (c .before .before .here2 .given .1),
         loop .loop .inv .here,
       )
 
   elements-requires : lts.Need-write-elements-requires (elements-claims t) (elements-at t) written.Post Inv μ
   elements-requires c κs =
-      let loop = c .before .before .before .before .before in
-      let met = met-at loop in (
-        elements-smaller _ _ _ _ _ (met .before .before .before .before .pre .0) _ _ (met .meet .ensures) (c .before .before .here3 .given .1),
+      let loop = c .before .before .before .before .before in (
+        elements-smaller _ _ _ _ _ (start-at (begun-at (run-at (enums-at loop))) .pre .0) _ _
+            (enums-at loop .before .before .meet .ensures) (c .before .before .here3 .given .1),
         loop .loop .inv .here,
       )
 
@@ -86,38 +107,67 @@ module _ (t : ℕ) where
 
   returns : lts.Need-returns (elements-claims t) (elements-at t) written.Post Inv μ
   returns c =
-      let there = c .before .before .before in
-      let loop = there .before .before in
-      let run = loop .before .before .before .before in
-      let q = begun-at loop in
-      elements-stop _ _ _ _ _ _ _ _ (q .before .before .before .before .begin .ensures) (q .q .given .1) (run .before .before .before .times .ensures)
-      (going-on (run .write-run .ensures _ (element-writes _ _ _ _ _ _ (run .before .before .base-at .ensures))) (loop .loop .inv))
-      _ _ _ _ (there .before .loop-test .taken) (stepped there) (c .before .step2 .given .1)
+      let if1 = c .before .before .before .before in
+      elements-planned _ _ _ _ _ _ (if1 .before .is-planned .ensures) (if1 .if1 .taken) _ _ _ _ (c .before .before .write-planned .ensures)
 
+  -- the run did all
   returns-2 : lts.Need-returns-2 (elements-claims t) (elements-at t) written.Post Inv μ
-  returns-2 c = elements-stopped _ _ _ _ _ _ _ _ _ (c .before .before .before .before .before .begin .ensures) _ _ (c .before .n .given .1)
+  returns-2 c =
+      let run = c .before .before .before .before in
+      let q = begun-at run in
+      let no-plan = no-plan-at q in
+      elements-done _ _ _ _ _ _ (no-plan .before .is-planned .ensures) (no-plan .if1 .left)
+      _ _ _ (q .before .before .before .before .begin .ensures) (q .q .given .1) (run .before .before .before .times .ensures)
+      (run .write-run .ensures _ (element-writes _ _ _ _ _ _ _ (run .before .before .base-at .ensures))) (omega (arith, c .if2 .taken))
 
   returns-3 : lts.Need-returns-3 (elements-claims t) (elements-at t) written.Post Inv μ
   returns-3 c =
-      let loop = c .before in
-      let run = loop .before .before .before .before in
-      let q = begun-at loop in
-      elements-done _ _ _ _ _ _ _ _ (q .before .before .before .before .begin .ensures) (q .q .given .1) (run .before .before .before .times .ensures)
-      (going-on (run .write-run .ensures _ (element-writes _ _ _ _ _ _ (run .before .before .base-at .ensures))) (loop .loop .inv)) (c .loop-test .left)
+      let there = c .before .before .before in
+      let loop = there .before .before in
+      let enums = enums-at loop in
+      let run = run-at enums in
+      let q = begun-at run in
+      let no-plan = no-plan-at q in
+      elements-stop _ _ _ _ _ _ (no-plan .before .is-planned .ensures) (no-plan .if1 .left)
+      _ _ _ (q .before .before .before .before .begin .ensures) (q .q .given .1) (run .before .before .before .times .ensures)
+      (going-on (run .write-run .ensures _ (element-writes _ _ _ _ _ _ _ (run .before .before .base-at .ensures)))
+      (going-on (enums .write-enums .ensures _ (element-leaf _ _ _ _ _ _ _ (enums .before .before .meet .ensures))) (loop .loop .inv)))
+      _ _ _ _ (there .before .loop-test .taken) (stepped there) (c .before .step2 .given .1)
 
-  same-length : lts.Need-same-length (elements-claims t) (elements-at t) written.Post Inv μ
-  same-length c =
-      let start = met-at (c .before .before .before .before .before) .before .before .before .before in
-      met-long _ _ _ _ _ _ _ _ (writer-keeps _) (start .pre .1) (returns c)
+  returns-4 : lts.Need-returns-4 (elements-claims t) (elements-at t) written.Post Inv μ
+  returns-4 c =
+      let no-plan = c .before .before .before .before .before .before .before in
+      elements-stopped _ _ _ _ _ _ (no-plan .before .is-planned .ensures) (no-plan .if1 .left)
+      _ _ _ _ (c .before .before .before .before .before .begin .ensures) _ _ (c .before .n .given .1)
+
+  returns-5 : lts.Need-returns-5 (elements-claims t) (elements-at t) written.Post Inv μ
+  returns-5 c =
+      let loop = c .before in
+      let enums = enums-at loop in
+      let run = run-at enums in
+      let q = begun-at run in
+      let no-plan = no-plan-at q in
+      elements-done _ _ _ _ _ _ (no-plan .before .is-planned .ensures) (no-plan .if1 .left)
+      _ _ _ (q .before .before .before .before .begin .ensures) (q .q .given .1) (run .before .before .before .times .ensures)
+      (going-on (run .write-run .ensures _ (element-writes _ _ _ _ _ _ _ (run .before .before .base-at .ensures)))
+      (going-on (enums .write-enums .ensures _ (element-leaf _ _ _ _ _ _ _ (enums .before .before .meet .ensures))) (loop .loop .inv))) (c .loop-test .left)
+
+  same-length-2 : lts.Need-same-length-2 (elements-claims t) (elements-at t) written.Post Inv μ
+  same-length-2 c = met-long _ _ _ _ _ _ _ _ _ (writer-keeps _) (start-at (begun-at (c .before .before .before .before)) .pre .1) (returns-2 c)
 
   same-length-3 : lts.Need-same-length-3 (elements-claims t) (elements-at t) written.Post Inv μ
-  same-length-3 c = met-long _ _ _ _ _ _ _ _ (writer-keeps _) (met-at (c .before) .before .before .before .before .pre .1) (returns-3 c)
+  same-length-3 c =
+      met-long _ _ _ _ _ _ _ _ _ (writer-keeps _) (start-at (begun-at (run-at (enums-at (c .before .before .before .before .before)))) .pre .1) (returns-3 c)
+
+  same-length-5 : lts.Need-same-length-5 (elements-claims t) (elements-at t) written.Post Inv μ
+  same-length-5 c = met-long _ _ _ _ _ _ _ _ _ (writer-keeps _) (start-at (begun-at (run-at (enums-at (c .before)))) .pre .1) (returns-5 c)
 
 pub elements-written : (t : ℕ) {M : Type 1} → lts.Closed (elements-claims t) (elements-at t) written.Post M
 elements-written t =
-    lts.spec (elements-claims t) (elements-at t) written.Post Inv μ (λ c κs. search needs) (λ c κs. c .before .before .before .before .before .pre .1)
-    (λ c. search needs) (λ c. search needs) (times-requires t)
-    (λ c κs. search needs) (run-requires t) (loop-holds t) (λ c. search needs)
+    lts.spec (elements-claims t) (elements-at t) written.Post Inv μ (λ c κs. search needs)
+    (λ c κs. c .before .before .before .before .before .before .before .pre .1) (λ c. search needs) (returns t)
+    (λ c κs. c .before .before .before .before .before .before .before .pre .1) (λ c. search needs) (λ c. search needs) (times-requires t)
+    (λ c κs. search needs) (run-requires t) (same-length-2 t) (returns-2 t) (λ c κs. search needs) (enums-requires t) (loop-holds t) (λ c. search needs)
     (λ c κs. c .before .before .before .before .before .loop .inv .here) (λ c. search needs) (members-requires t) (λ c. search needs) (elements-requires t)
-    (λ c. search needs) (λ c. search needs) (λ c. search needs) (λ c. search needs) (loop-again t) (λ c. search needs) (same-length t) (returns t)
-    (λ c. c .before .before .before .before .before .begin .kept .1 .0) (returns-2 t) (same-length-3 t) (returns-3 t)
+    (λ c. search needs) (λ c. search needs) (λ c. search needs) (λ c. search needs) (loop-again t) (λ c. search needs) (same-length-3 t) (returns-3 t)
+    (λ c. c .before .before .before .before .before .begin .kept .1 .0) (returns-4 t) (same-length-5 t) (returns-5 t)

@@ -13,43 +13,46 @@ use Rattle.unpack.proofs.walking.+read_elements+read_members.Lts-read_m
 use Rattle.unpack.proofs.walking.begin.Reads as begin
 use Rattle.unpack.proofs.walking.times.Reads as times
 use Rattle.unpack.proofs.walking.read_leaf.Reads as read-leaf
-use Rattle.unpack.proofs.walking.read_run.Reads as read-run
-use Rattle.unpack.proofs.walking.read_bases.Reads as read-bases
+use Rattle.unpack.proofs.at_once.read_leaves.Reads as read-leaves
+use Rattle.unpack.proofs.at_once.read_bases.Reads as read-bases
+use Rattle.unpack.proofs.by_plan.read_planned.Reads as read-planned
+use Rattle.walk.proofs.plans.is_planned.Reads as is-planned
 use Rattle.walk.proofs.meet.Reads as meet
-use Rattle.walk.proofs.base_at.Reads as base-at
 use Rattle.table.proofs.entries.member_at.Reads as member-at
 
 -- the measure of both: the type number
-abbrev pub elements-μ : Measures 3 elements-kinds.ps ℕ
-elements-μ κs a = a .1 .1 .0
+abbrev pub elements-μ : Measures 4 elements-kinds.ps ℕ
+elements-μ κs a = a .1 .1 .1 .0
 
-abbrev pub members-μ : Measures 3 members-kinds.ps ℕ
-members-μ κs a = a .1 .1 .0
+abbrev pub members-μ : Measures 4 members-kinds.ps ℕ
+members-μ κs a = a .1 .1 .1 .0
 
-abbrev pub elements-at : ℕ → In 3 elements-kinds.ps
-elements-at t = and 3 elements-kinds.ps (is 3 elements-kinds.ps elements-μ t) read-elements.Pre
+abbrev pub elements-at : ℕ → In 4 elements-kinds.ps
+elements-at t = and 4 elements-kinds.ps (is 4 elements-kinds.ps elements-μ t) read-elements.Pre
 
-abbrev pub members-at : ℕ → In 3 members-kinds.ps
-members-at t = and 3 members-kinds.ps (is 3 members-kinds.ps members-μ t) read-members.Pre
+abbrev pub members-at : ℕ → In 4 members-kinds.ps
+members-at t = and 4 members-kinds.ps (is 4 members-kinds.ps members-μ t) read-members.Pre
 
-abbrev elements-below : ℕ → In 3 elements-kinds.ps
-elements-below t = and 3 elements-kinds.ps (falls 3 elements-kinds.ps _<_ elements-μ t) read-elements.Pre
+abbrev elements-below : ℕ → In 4 elements-kinds.ps
+elements-below t = and 4 elements-kinds.ps (falls 4 elements-kinds.ps _<_ elements-μ t) read-elements.Pre
 
-abbrev members-below : ℕ → In 3 members-kinds.ps
-members-below t = and 3 members-kinds.ps (falls 3 members-kinds.ps _<_ members-μ t) read-members.Pre
+abbrev members-below : ℕ → In 4 members-kinds.ps
+members-below t = and 4 members-kinds.ps (falls 4 members-kinds.ps _<_ members-μ t) read-members.Pre
 
 abbrev pub elements-claims : ℕ → elements-lts.Claims
 elements-claims t = (
-  meet.Asked,
-  meet.Learnt,
+  is-planned.Asked,
+  is-planned.Learnt,
+  read-planned.Asked,
+  read-planned.Learnt,
   begin.Asked,
   begin.Learnt,
   times.Asked,
   times.Learnt,
-  base-at.Asked,
-  base-at.Learnt,
-  read-run.Asked,
-  read-run.Learnt,
+  read-leaves.Asked,
+  read-leaves.Learnt,
+  meet.Asked,
+  meet.Learnt,
   read-leaf.Asked,
   read-leaf.Learnt,
   members-below t,
@@ -60,6 +63,10 @@ elements-claims t = (
 
 abbrev pub members-claims : ℕ → members-lts.Claims
 members-claims t = (
+  is-planned.Asked,
+  is-planned.Learnt,
+  read-planned.Asked,
+  read-planned.Learnt,
   read-bases.Asked,
   read-bases.Learnt,
   member-at.Asked,

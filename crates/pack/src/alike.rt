@@ -1,0 +1,124 @@
+// Elements of an array that are leaves of one base code or of one enum: written as a run where all their words are there and taken,
+// and else none of them: then it is for the walk to say which is refused.
+use table::Entry;
+use table::Sections;
+use walk::Met;
+use walk::Place;
+ghost use mathlib.Core.Path.{_≡_};
+ghost use mathlib.Core.Bool.{true};
+ghost use mathlib.Core.List.{List};
+ghost use Prim.Native.Nat.{ℕ, _+_, _≤_};
+ghost use lib.ListN.{length};
+ghost use Rattle.walk.specs.declared.Place.{Place};
+ghost use Rattle.walk.specs.Walk.{Step, Going};
+ghost use Rattle.pack.specs.Writing.{Writing, Writes};
+ghost use Rattle.pack.specs.Alike.{AllChosen, WritesLeaf, WritesMet};
+use crate::by_plan;
+use crate::limits;
+use crate::runs;
+
+// How far a run of leaves was written: up to which member or element, and where it ends.
+pub struct Reached {
+    pub upto: u32,
+    pub at: Place,
+}
+
+// Of one base code.
+pub(crate) fn write_run(words: &[u64], out: &mut [u8], code: u16, count: u32, p: Place) -> Reached
+    requires { ⌜ Writing (now words) p ⌝ }
+    ensures { λ r. ⌜ ((f : ℕ → Place → List ℕ → Step) → Writes (now (words .entry)) code f
+        → Going (Writing (now (words .entry))) f count 0 p (now (out .entry)) (r .upto) (r .at) (now (out .exit))) ⌝ }
+{
+    let left = words.len() - p.from;
+    let many = count as usize;
+    if left < many {
+        return Reached { upto: 0, at: p };
+    }
+    if limits::judged(words, p.from, code, many) {
+        runs::store_run(words, out, code, many, p);
+        let width = leaf::width(code);
+        Reached {
+            upto: count,
+            at: Place {
+                from: p.from + many,
+                to: p.to + many * width,
+            },
+        }
+    } else {
+        Reached { upto: 0, at: p }
+    }
+}
+
+// The elements from the from-th on, where they are enums.
+pub(crate) fn write_enums(
+    table: &[u8],
+    s: Sections,
+    met: Met,
+    words: &[u64],
+    out: &mut [u8],
+    from: u32,
+    count: u32,
+    p: Place,
+) -> Reached
+    requires { ⌜ Writing (now words) p × (from ≤ count) ⌝ }
+    ensures { λ r. ⌜ ((f : ℕ → Place → List ℕ → Step) → WritesMet (now (words .entry)) (now (table .entry)) s met f
+        → Going (Writing (now (words .entry))) f count from p (now (out .entry)) (r .upto) (r .at) (now (out .exit))) ⌝ }
+{
+    match met {
+        Met::Leaf(e) => write_leaves(table, s, e, words, out, from, count, p),
+        Met::Members(_) => Reached { upto: from, at: p },
+        Met::Elements(_) => Reached { upto: from, at: p },
+        Met::Broken => Reached { upto: from, at: p },
+    }
+}
+
+// Of one entry, a leaf's.
+fn write_leaves(
+    table: &[u8],
+    s: Sections,
+    e: Entry,
+    words: &[u64],
+    out: &mut [u8],
+    from: u32,
+    count: u32,
+    p: Place,
+) -> Reached
+    requires { ⌜ Writing (now words) p × (from ≤ count) ⌝ }
+    ensures { λ r. ⌜ ((f : ℕ → Place → List ℕ → Step) → WritesLeaf (now (words .entry)) (now (table .entry)) s e f
+        → Going (Writing (now (words .entry))) f count from p (now (out .entry)) (r .upto) (r .at) (now (out .exit))) ⌝ }
+{
+    let many = (count - from) as usize;
+    if words.len() - p.from < many {
+        return Reached { upto: from, at: p };
+    }
+    if takes_all(table, s, e, words, p.from, many) {
+        runs::store_run(words, out, e.of, many, p);
+        let width = leaf::width(e.of);
+        Reached {
+            upto: count,
+            at: Place {
+                from: p.from + many,
+                to: p.to + many * width,
+            },
+        }
+    } else {
+        Reached { upto: from, at: p }
+    }
+}
+
+// Whether the entry's leaf takes every word.
+fn takes_all(table: &[u8], s: Sections, e: Entry, words: &[u64], from: usize, many: usize) -> bool
+    requires { ⌜ from + many ≤ length (now words) ⌝ }
+    ensures { λ r. ⌜ (r ≡ true → AllChosen (now (words .entry)) (now (table .entry)) s e from many) ⌝ }
+{
+    if limits::judged(words, from, e.of, many) {
+        if e.kind == table::ENUM {
+            let at = s.values.at as u32 + 8 * (e.first as u32);
+            by_plan::are_among(table, at, e.count, words, from, many)
+        } else {
+            true
+        }
+    } else {
+        false
+    }
+}

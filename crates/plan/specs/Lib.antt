@@ -1,0 +1,4 @@
+pub mod Leaves
+pub mod Layout
+pub mod Members
+pub mod Laying

@@ -1,0 +1,33 @@
+-- `unpack::at_once::read_leaves` meets its contract: by what type c is.
+-- Assumes nothing.
+use borrow.Author.Needs.{needs}
+use Rattle.walk.proofs.Turns.{going-start}
+use Rattle.unpack.proofs.ReadBases.{element-reads}
+use Rattle.unpack.proofs.Entries.{entry-met}
+use Rattle.unpack.proofs.at_once.read_leaves.Statement.{statement}
+use Rattle.unpack.proofs.at_once.read_leaves.Tie as tie
+
+pub read-leaves-spec : {M : Type 1} → statement M
+read-leaves-spec =
+    tie.close
+    (tie.spec
+    (λ c κs. search needs)
+    (λ c κs. search needs)
+    (λ c. search needs)
+    (λ c ps.
+    let at-read-run = c .before .before in
+    at-read-run .read-run .ensures _ (element-reads _ ps _ _ _ _ _ (at-read-run .before .before .before .base-at .ensures)))
+    (λ c κs. search needs)
+    (λ c. search needs)
+    (λ c κs. search needs)
+    (λ c. search needs)
+    (λ c. search needs)
+    (λ c. search needs)
+    (λ c. search needs)
+    (λ c ps.
+    let at-read-enums = c .before .before in
+    let at-e = at-read-enums .before .before .before in
+    entry-met _ ps _ _ _ _ _ _ (at-e .before .before .meet .ensures) (at-e .e .given .1) (at-read-enums .read-enums .ensures))
+    (λ c ps. going-start (search needs) (search needs))
+    (λ c ps. going-start (search needs) (search needs))
+    (λ c ps. going-start (search needs) (search needs)))
