@@ -1,7 +1,7 @@
 //! The names of `include/nyrkovash.h`, without their `NYR_`; what each means stands there.
 
-pub const LIBRARY_VERSION: u32 = 40_000;
-pub const LIBRARY_VERSION_TEXT: &str = "4.0.0";
+pub const LIBRARY_VERSION: u32 = 40_100;
+pub const LIBRARY_VERSION_TEXT: &str = "4.1.0";
 
 // The numbers that refuse.
 pub const OK: u32 = 0;
