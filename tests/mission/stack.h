@@ -6,16 +6,17 @@
 
 enum {
     LARGEST_TABLE = 22536,
-    EVENT_ID = 7,     /* in every table that is made here: an event, */
-    REQUEST_ID = 9,   /* an operation whose requests we send, and others behind it; 8 is in none */
-    OTHER = 2,        /* the platform that messages come from and requests go to */
-    LAST_PENDING = 64 /* the number of the last request that is pending */
+    MOST_PLANS = 131329, /* words of any table's plans */
+    EVENT_ID = 7,        /* in every table that is made here: an event, */
+    REQUEST_ID = 9,      /* an operation whose requests we send, and others behind it; 8 is in none */
+    OTHER = 2,           /* the platform that messages come from and requests go to */
+    LAST_PENDING = 64    /* the number of the last request that is pending */
 };
 
 extern uint8_t table[LARGEST_TABLE], rooms[NYR_CHANNELS * NYR_LARGEST_ROOM], message[70000], output[70000];
-extern size_t table_length, datagram_length, message_length, payload_length, words_length, given;
+extern size_t table_length, datagram_length, message_length, payload_length, words_length, plans_length, given;
 extern uint16_t ids[NYR_CHANNELS], type_number;
-extern uint64_t words[70000];
+extern uint64_t words[70000], plans[MOST_PLANS];
 extern nyr_walked walked;
 extern nyr_joiner joiner;
 extern nyr_sections sections;
@@ -34,6 +35,10 @@ void call_unpack(void);
 void call_unpack_in(void);
 void call_pack(void);
 void call_pack_in(void);
+void call_plans_length(void);
+void call_plans(void);
+void call_unpack_by(void);
+void call_pack_by(void);
 void call_start(void);
 void call_receive(void);
 void call_receive_in(void);
@@ -60,7 +65,7 @@ typedef struct {
     size_t most;
 } Bound;
 
-enum { BOUNDS = 21 };
+enum { BOUNDS = 25 };
 extern const Bound bounds[BOUNDS];
 
 #endif
