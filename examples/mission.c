@@ -1,7 +1,8 @@
 /*
  * mission RECORDING TABLE: plays recorded datagrams as a mission computer would meet them. Each is joined; each message
  * that this completes is read, and answered where its sender is owed replies; and the payload of an operation that the
- * table has is unpacked to its words. For a network, hand `take` what a socket receives; send what `send_reply` prints.
+ * table has is unpacked to its words, by the plans of its types, which are laid out once, when the table is loaded. For
+ * a network, hand `take` what a socket receives; send what `send_reply` prints.
  */
 #include "nyrkovash.h"
 
@@ -15,7 +16,8 @@ enum {
     SENDER_IDS = 6,         /* where they stand in a recording */
     MOST_ROOMS = 65536,     /* a recording's limit for all rooms together */
     MOST_WORDS = 65560,     /* no leaf is shorter than a byte, and no joined message longer than a room */
-    TABLE_BYTES = 22536     /* the largest table */
+    TABLE_BYTES = 22536,    /* the largest table */
+    MOST_PLANS = 131329     /* words of any table's plans; nyr_plans_length says how many one table's need */
 };
 
 static uint8_t recording[1 << 20], table[TABLE_BYTES + 1], rooms[MOST_ROOMS];
@@ -23,7 +25,7 @@ static size_t recorded, table_length, rooms_length;
 static nyr_joiner joiner;
 static nyr_platform platform;
 static nyr_sections sections;
-static uint64_t words[MOST_WORDS];
+static uint64_t words[MOST_WORDS], plans[MOST_PLANS];
 static uint16_t counter;
 
 static size_t number_at(const uint8_t *bytes, int width)
@@ -59,16 +61,12 @@ static void unpack(uint32_t id, const uint8_t *payload, size_t length)
     nyr_walked walked;
     if (nyr_find(table, table_length, &sections, id, &operation) != NYR_OK || !operation.found)
         return;
-    if (operation.carries == NYR_NO_PAYLOAD) {
-        puts("  no payload");
+    if (operation.carries == NYR_NO_PAYLOAD || (length == 0 && operation.kind == NYR_VERSIONED_DATA)) {
+        puts(operation.carries == NYR_NO_PAYLOAD ? "  no payload" : "  not published yet");
         return;
     }
-    if (length == 0 && operation.kind == NYR_VERSIONED_DATA) {
-        puts("  not published yet");
-        return;
-    }
-    uint32_t number = nyr_unpack_in(table, table_length, &sections, (uint16_t)operation.carries, payload, length, words,
-                                    MOST_WORDS, &walked);
+    uint32_t number = nyr_unpack_by(table, table_length, &sections, plans, MOST_PLANS, (uint16_t)operation.carries,
+                                    payload, length, words, MOST_WORDS, &walked);
     if (number == NYR_OK)
         printf("  words");
     else
@@ -187,6 +185,8 @@ int main(int argc, char **argv)
         return 2;
     nyr_start(OWN, &platform);
     number = nyr_check_table(table, table_length, &sections);
+    if (number == NYR_OK)
+        number = nyr_plans(table, table_length, &sections, plans, MOST_PLANS);
     if (number != NYR_OK)
         printf("table refused %" PRIu32 "\n", number);
     else if ((early = play()) != NULL)

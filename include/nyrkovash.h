@@ -308,7 +308,8 @@ uint32_t nyr_plans_length(const uint8_t *table, size_t table_length, const nyr_s
  * Lays a table's plans out from the start of plans on, in as many words as nyr_plans_length says or fewer; the words
  * behind them stay.
  *   30 where the sections do not lie in the table; then 10 where plans_length is less than nyr_plans_length says.
- * Stack 4096; time: for each type with a plan the runs of its members or elements.
+ * Stack 4096; time: each type's members, and of a type with a plan the runs of its members or elements. Of the tables
+ * that were tried the worst, 253 records of the same 512 members, no leaf like the next, took half a millisecond.
  */
 uint32_t nyr_plans(const uint8_t *table, size_t table_length, const nyr_sections *sections, uint64_t *plans,
                    size_t plans_length);
