@@ -16,8 +16,7 @@ enum {
     SENDER_IDS = 6,         /* where they stand in a recording */
     MOST_ROOMS = 65536,     /* a recording's limit for all rooms together */
     MOST_WORDS = 65560,     /* no leaf is shorter than a byte, and no joined message longer than a room */
-    TABLE_BYTES = 22536,    /* the largest table */
-    MOST_PLANS = 131329     /* words of any table's plans; nyr_plans_length says how many one table's need */
+    TABLE_BYTES = 22536     /* the largest table */
 };
 
 static uint8_t recording[1 << 20], table[TABLE_BYTES + 1], rooms[MOST_ROOMS];
@@ -25,7 +24,7 @@ static size_t recorded, table_length, rooms_length;
 static nyr_joiner joiner;
 static nyr_platform platform;
 static nyr_sections sections;
-static uint64_t words[MOST_WORDS], plans[MOST_PLANS];
+static uint64_t words[MOST_WORDS], plans[NYR_PLANS_WORDS];
 static uint16_t counter;
 
 static size_t number_at(const uint8_t *bytes, int width)
@@ -65,7 +64,7 @@ static void unpack(uint32_t id, const uint8_t *payload, size_t length)
         puts(operation.carries == NYR_NO_PAYLOAD ? "  no payload" : "  not published yet");
         return;
     }
-    uint32_t number = nyr_unpack_by(table, table_length, &sections, plans, MOST_PLANS, (uint16_t)operation.carries,
+    uint32_t number = nyr_unpack_by(table, table_length, &sections, plans, NYR_PLANS_WORDS, (uint16_t)operation.carries,
                                     payload, length, words, MOST_WORDS, &walked);
     if (number == NYR_OK)
         printf("  words");
@@ -186,7 +185,7 @@ int main(int argc, char **argv)
     nyr_start(OWN, &platform);
     number = nyr_check_table(table, table_length, &sections);
     if (number == NYR_OK)
-        number = nyr_plans(table, table_length, &sections, plans, MOST_PLANS);
+        number = nyr_plans(table, table_length, &sections, plans, NYR_PLANS_WORDS);
     if (number != NYR_OK)
         printf("table refused %" PRIu32 "\n", number);
     else if ((early = play()) != NULL)

@@ -73,6 +73,7 @@ package Nyrkovash is
    Nyr_Reply_Bytes : constant := 24;
    Nyr_Replies_Bytes : constant := 48;
    Nyr_Most_Pending : constant := 64;
+   Nyr_Plans_Words : constant := 131_329;
 
    --  Joining.
 

@@ -94,7 +94,8 @@ enum {
     NYR_LARGEST_MESSAGE = 65560, /* that is cut */
     NYR_REPLY_BYTES = 24,        /* one reply */
     NYR_REPLIES_BYTES = 48,      /* the most that one message is owed */
-    NYR_MOST_PENDING = 64        /* requests that await their responses */
+    NYR_MOST_PENDING = 64,       /* requests that await their responses */
+    NYR_PLANS_WORDS = 131329     /* enough for the plans of any table */
 };
 
 /* ---- Joining: a channel for each sender ID (platform times 256 plus channel: 0 to 4,095), each with its own room. */
@@ -298,7 +299,7 @@ uint32_t nyr_pack_in(const uint8_t *table, size_t table_length, const nyr_sectio
 
 /*
  * How many words are enough for a table's plans: `words` is 1, and for each type 1 and, where it has a plan, its
- * leaves; at most 131,329, about a megabyte.
+ * leaves; at most NYR_PLANS_WORDS, about a megabyte.
  *   30 where the sections do not lie in the table.
  * Stack 1024; time: each type's members.
  */

@@ -3,10 +3,7 @@
 
 #include <stdio.h>
 
-/* Words for the plans of any table. */
-enum { MOST_PLANS = 131329 };
-
-static uint64_t words[MOST_WORDS], plans[MOST_PLANS];
+static uint64_t words[MOST_WORDS], plans[NYR_PLANS_WORDS];
 static size_t plans_length;
 
 /* Whether the table can be gone by that way; where not, the number is told. Plans are lent no word more than they need. */

@@ -7,8 +7,7 @@
 enum {
     MOST_WORDS = 70000,
     MOST_BYTES = 70000,
-    MOST_PLANS = 131329, /* words of any table's plans */
-    MOST_LEAVES = 512,   /* of a type that has a plan */
+    MOST_LEAVES = 512, /* of a type that has a plan */
     UNWRITTEN = 0xC3
 };
 
@@ -16,7 +15,7 @@ enum {
 
 static Table table;
 static nyr_sections sections;
-static uint64_t words[MOST_WORDS], plans[MOST_PLANS], others[MOST_PLANS];
+static uint64_t words[MOST_WORDS], plans[NYR_PLANS_WORDS], others[NYR_PLANS_WORDS];
 static size_t plans_length, others_length, leaves[256];
 static uint8_t payload[MOST_BYTES];
 static int same; /* whether table and sections are as they were made */
@@ -78,7 +77,7 @@ static size_t ask_length(void)
     for (size_t i = 0; i < table.types; i++)
         needed += leaves[i];
     expect(!same || *answer == needed, "another number of words than the types' leaves need");
-    expect(*answer <= MOST_PLANS, "more words than any table needs");
+    expect(*answer <= NYR_PLANS_WORDS, "more words than any table needs");
     return *answer;
 }
 
@@ -99,7 +98,7 @@ static void lay(void)
     expect((number == NYR_TABLE_LENGTH) == !lie_in(&sections, table.length), "30 at the wrong place");
     expect(number == NYR_TABLE_LENGTH || (number == NYR_NO_ROOM) == (room < needed), "10 at the wrong place");
     plans_met |= N(number == NYR_NO_ROOM ? 0 : 1);
-    plans_length = number == 0 && room <= MOST_PLANS ? room : 0;
+    plans_length = number == 0 && room <= NYR_PLANS_WORDS ? room : 0;
     copy(plans, out, plans_length * sizeof *plans);
 }
 

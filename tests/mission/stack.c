@@ -111,7 +111,7 @@ static void by_plans(void)
     measure(call_plans_length, 0);
     measure(call_plans, 0);
     for (int laid = 0; laid < 2; laid++) {
-        plans_length = laid ? MOST_PLANS : 0;
+        plans_length = laid ? NYR_PLANS_WORDS : 0;
         measure(call_unpack_by, 0);
         measure(call_pack_by, 0);
         confine(call_unpack_by, 0);
@@ -207,6 +207,8 @@ int main(int argc, char **argv)
     nest(0);
     payloads();
     enumerate();
+    payloads();
+    spread();
     payloads();
     messages();
     requests();

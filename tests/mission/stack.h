@@ -6,17 +6,16 @@
 
 enum {
     LARGEST_TABLE = 22536,
-    MOST_PLANS = 131329, /* words of any table's plans */
-    EVENT_ID = 7,        /* in every table that is made here: an event, */
-    REQUEST_ID = 9,      /* an operation whose requests we send, and others behind it; 8 is in none */
-    OTHER = 2,           /* the platform that messages come from and requests go to */
-    LAST_PENDING = 64    /* the number of the last request that is pending */
+    EVENT_ID = 7,     /* in every table that is made here: an event, */
+    REQUEST_ID = 9,   /* an operation whose requests we send, and others behind it; 8 is in none */
+    OTHER = 2,        /* the platform that messages come from and requests go to */
+    LAST_PENDING = 64 /* the number of the last request that is pending */
 };
 
 extern uint8_t table[LARGEST_TABLE], rooms[NYR_CHANNELS * NYR_LARGEST_ROOM], message[70000], output[70000];
 extern size_t table_length, datagram_length, message_length, payload_length, words_length, plans_length, given;
 extern uint16_t ids[NYR_CHANNELS], type_number;
-extern uint64_t words[70000], plans[MOST_PLANS];
+extern uint64_t words[70000], plans[NYR_PLANS_WORDS];
 extern nyr_walked walked;
 extern nyr_joiner joiner;
 extern nyr_sections sections;
@@ -54,6 +53,8 @@ enum { RECORD = 2, FIXED = 3, ARRAY = 4 };
 void nest(int kind);
 /* An enum of as many values as a table can have, that fall, in an array. */
 void enumerate(void);
+/* Records of as many leaves as one with a plan can have, no leaf like the next, as many of them as there can be. */
+void spread(void);
 /* A message of platform OTHER, with number LAST_PENDING. */
 void make_message(uint8_t domain, uint8_t id, const uint8_t *value, uint8_t length);
 /* So many requests pending, in a row from number 1 on, the next own number being the first of them. */

@@ -4,7 +4,7 @@
 uint8_t table[LARGEST_TABLE], rooms[NYR_CHANNELS * NYR_LARGEST_ROOM], message[70000], output[70000];
 size_t table_length, datagram_length, message_length, payload_length, words_length, plans_length, given;
 uint16_t ids[NYR_CHANNELS], type_number;
-uint64_t words[70000], plans[MOST_PLANS];
+uint64_t words[70000], plans[NYR_PLANS_WORDS];
 nyr_walked walked;
 nyr_joiner joiner;
 nyr_sections sections;
@@ -82,7 +82,7 @@ void call_plans_length(void)
 
 void call_plans(void)
 {
-    number = nyr_plans(table, table_length, &sections, plans, MOST_PLANS);
+    number = nyr_plans(table, table_length, &sections, plans, NYR_PLANS_WORDS);
 }
 
 void call_unpack_by(void)

@@ -48,6 +48,7 @@ pub const LARGEST_MESSAGE: usize = 65_560;
 pub const REPLY_BYTES: usize = 24;
 pub const REPLIES_BYTES: usize = 48;
 pub const MOST_PENDING: usize = 64;
+pub const PLANS_WORDS: usize = 131_329;
 
 // `Taken::outcome`.
 pub const REPEATED: u64 = 1;
