@@ -321,8 +321,7 @@ uint32_t nyr_plans(const uint8_t *table, size_t table_length, const nyr_sections
  * it, and the sections are not looked at; any other goes as by nyr_unpack_in, and its parts by their plans.
  *   30 where the sections do not lie in the table, and then 44, for a type without a plan alone; then as nyr_unpack_in.
  * Any other words are plans too: by them the call touches nothing outside what it was lent, and one input has one
- * answer; but that may be another than nyr_unpack_in's, and its time is not bounded by the payload, where the words say
- * runs of no leaves. By none (plans_length 0) all goes as by nyr_unpack_in.
+ * answer, but that may be another than nyr_unpack_in's. By none (plans_length 0) all goes as by nyr_unpack_in.
  * Stack 131072, where types nest as deep as they can; time: the payload's length, and for each enum among the leaves
  * its values; of a type without a plan the length times the nesting of such types.
  */
