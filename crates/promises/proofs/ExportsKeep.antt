@@ -46,6 +46,7 @@ use Rattle.payload.specs.Calls as payload
 use Rattle.payload.specs.ByPlans.{unpackedBy, packedBy}
 use Rattle.plan.specs.declared.Length.{Length}
 use Rattle.plan.specs.declared.Length.the-variants as plan
+use Rattle.plan.specs.Length.{numberGiven as lengthNumber}
 use Rattle.plan.specs.Layout.{lengthIn}
 use Rattle.platform.specs.declared.Noting.{Noting}
 use Rattle.platform.specs.declared.Noting.the-variants as noting
@@ -60,7 +61,7 @@ use Rattle.nyrkovash.specs.PieceCalls.{countLeft, madeLeft}
 use Rattle.nyrkovash.specs.MessageCalls.{readLeft, writeLeft}
 use Rattle.nyrkovash.specs.TableCalls.{sectionsLeft, foundWords}
 use Rattle.nyrkovash.specs.PayloadCalls.{walkedLeft}
-use Rattle.nyrkovash.specs.PlanCalls.{lengthNumber, lengthLeft}
+use Rattle.nyrkovash.specs.PlanCalls.{lengthLeft}
 use Rattle.promises.specs.Checks.{Keeps, Outside}
 use Rattle.promises.specs.Demand1.{ChangesNothing}
 use Rattle.promises.specs.ExportsKeep.{WordsKept, ExportsKeep}

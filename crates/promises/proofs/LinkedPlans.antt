@@ -17,10 +17,11 @@ use Rattle.types.specs.Table.{checked}
 use Rattle.unpack.specs.Reading.{reader}
 use Rattle.pack.specs.Writing.{writer}
 use Rattle.plan.specs.declared.Length.the-variants.{Refused, Words}
+use Rattle.plan.specs.Length.{numberGiven as lengthNumber}
 use Rattle.plan.specs.Layout.{plansLength, lengthIn, laidNumber, laidOut}
 use Rattle.payload.specs.Calls.{wordsIn}
 use Rattle.payload.specs.ByPlans.{wordsBy}
-use Rattle.nyrkovash.specs.PlanCalls.{lengthNumber, lengthLeft}
+use Rattle.nyrkovash.specs.PlanCalls.{lengthLeft}
 use Rattle.promises.specs.LinkedPayloads.{PacksAs, UnpacksAs}
 use Rattle.promises.specs.Plans.{AsTheWalk}
 use Rattle.promises.specs.LinkedPlans.{LoadLent, loadLent, Measures, Lays, WalkLent, walkLent, WalkLeft, UnpacksIn, PacksIn}
