@@ -29,7 +29,7 @@ use Rattle.promises.specs.LinkedPlans.{_with-plans_, UnpacksBy, PacksBy,
 use Rattle.promises.specs.WorkedPlans.{planTable, planSections, forged, inner, innerPayload, innerWords}
 use Rattle.promises.proofs.LinkedCut.{lent}
 use Rattle.promises.proofs.LinkedPayloads.{sections-back, linked-payloads}
-use Rattle.promises.proofs.PlanOutcomes.{outcome, IsIn, IsBy, same, goes, both-parts, names5, start, handedIn, walks-in, walks-by}
+use Rattle.promises.proofs.PlanOutcomes.{outcome, IsIn, IsBy, same, goes, both-parts, lifetimes5, start, handedIn, walks-in, walks-by}
 use Rattle.promises.proofs.Plans.{the-plans}
 use Rattle.promises.proofs.WorkedPlans.{worked-plans}
 
@@ -154,12 +154,12 @@ module _ (l : WalkLent) (ps : List ℕ) (x : LaidFor l ps) where
       unpack-checked : UnpacksBy (l with-plans ps) n r → UnpacksAs (l .table) (l .number) (l .input) (l .output) n (r .walked) (r .output)
       unpack-checked y =
           let e = unpack-is .0 (walks-by reader (l with-plans ps) n r .0 y) in
-          linked-payloads .unpack-in s index names5 (handedIn l (start l)) n (handedIn l r) (e .0, both-parts (e .1)) h f
+          linked-payloads .unpack-in s index lifetimes5 (handedIn l (start l)) n (handedIn l r) (e .0, both-parts (e .1)) h f
 
       pack-checked : PacksBy (l with-plans ps) n r → PacksAs (l .table) (l .number) (l .input) (l .output) n (r .walked) (r .output)
       pack-checked y =
           let e = pack-is .0 (walks-by writer (l with-plans ps) n r .0 y) in
-          linked-payloads .pack-in s index names5 (handedIn l (start l)) n (handedIn l r) (e .0, both-parts (e .1)) h f
+          linked-payloads .pack-in s index lifetimes5 (handedIn l (start l)) n (handedIn l r) (e .0, both-parts (e .1)) h f
 
 -- the table and the plans that are worked out
 module _ (index walked : List ℕ) (n : ℕ) (r : WalkLeft) where

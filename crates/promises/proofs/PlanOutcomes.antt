@@ -72,12 +72,12 @@ module _ (c : List ℕ → Codec) where
       let told = as-told (answerBy m) (l .walked) refl sound (p .0) (ap (λ (y : WalkLeft). y .walked) (p .1)) in
       record { answer = told; output = left; as-long = ap length left ∙ long; fits = λ z. fits _ (sym told ∙ gave-given n (r .walked) z) }
 
--- the contracts allow it, and no other. Each pointer that is handed has a name, which tells nothing
-abbrev pub Names5 : Type 0
-Names5 = List ℕ × (List ℕ × (List ℕ × (List ℕ × (List ℕ × Unit {0}))))
+-- the contracts allow it, and no other. What is lent has a lifetime each, which tells nothing
+abbrev pub Lifetimes5 : Type 0
+Lifetimes5 = List ℕ × (List ℕ × (List ℕ × (List ℕ × (List ℕ × Unit {0}))))
 
-abbrev pub names5 : Names5
-names5 = ([], ([], ([], ([], ([], tt)))))
+abbrev pub lifetimes5 : Lifetimes5
+lifetimes5 = ([], ([], ([], ([], ([], tt)))))
 
 module _ {l r : WalkLeft} (e : l ≡ r) where
   pub both-parts : (l .output ≡ r .output) × (l .walked ≡ r .walked)
@@ -96,7 +96,7 @@ abbrev pub handedBy : PlansLent → WalkLeft → HandedBy
 handedBy m r = (lent (m .lent .table), (lent (m .lent .sections), (lent (m .plans), (m .lent .number, walking (m .lent .input) r))))
 
 module _ (c : List ℕ → Codec) where
-  abbrev pub SaysIn : Names5 → HandedIn → ℕ → HandedIn → Type 0
+  abbrev pub SaysIn : Lifetimes5 → HandedIn → ℕ → HandedIn → Type 0
   SaysIn k a n e =
       (n ≡ numberGiven (answerIn c (lentIn a))) × ((exitIn e .output ≡ endIn c (lentIn a) .output) × (exitIn e .walked ≡ endIn c (lentIn a) .walked))
 
@@ -104,10 +104,10 @@ module _ (c : List ℕ → Codec) where
   walks-in l n r = (
     λ x. let p = x .1 .1 .1 .0 in
         outcome (λ y. numberGiven (answerIn c y)) (endIn c) l r (p .0) (ap₂ walkLeft (p .1 .0) (p .1 .1)) (x .1 .1 .1 .1 .0) (x .1 .1 .1 .1 .1),
-    λ e. (names5, (handedIn l (start l), (handedIn l r, ((e .0, both-parts (e .1)), (refl, refl))))),
+    λ e. (lifetimes5, (handedIn l (start l), (handedIn l r, ((e .0, both-parts (e .1)), (refl, refl))))),
   )
 
-  abbrev pub SaysBy : List ℕ × Names5 → HandedBy → ℕ → HandedBy → Type 0
+  abbrev pub SaysBy : List ℕ × Lifetimes5 → HandedBy → ℕ → HandedBy → Type 0
   SaysBy k a n e =
       (n ≡ numberGiven (answerBy c (lentBy a))) × ((exitBy e .output ≡ endBy c (lentBy a) .output) × (exitBy e .walked ≡ endBy c (lentBy a) .walked))
 
@@ -115,5 +115,5 @@ module _ (c : List ℕ → Codec) where
   walks-by m n r = (
     λ x. let p = x .1 .1 .1 .0 in
         outcome (λ y. numberGiven (answerBy c y)) (endBy c) m r (p .0) (ap₂ walkLeft (p .1 .0) (p .1 .1)) (x .1 .1 .1 .1 .0) (x .1 .1 .1 .1 .1),
-    λ e. (([], names5), (handedBy m (start (m .lent)), (handedBy m r, ((e .0, both-parts (e .1)), (refl, refl))))),
+    λ e. (([], lifetimes5), (handedBy m (start (m .lent)), (handedBy m r, ((e .0, both-parts (e .1)), (refl, refl))))),
   )
