@@ -1,6 +1,6 @@
 // The library as programs in C, C++, Ada and Rust link it (include/nyrkovash.h): a slice is a pointer and a length, and what has a
 // fixed size an array behind a reference. A call answers 0 or 01's number, but for the two that ask states and the one that asks
-// which library this is; where it is refused all that was lent is as it was.
+// which library this is; where it is refused all that was lent is as it was, but for the place that 40 to 43 leave.
 mod asking;
 mod joining;
 mod messages;
