@@ -1,13 +1,13 @@
 -- What looking an operation up shows: look by look, what the index says of an ID, and what that is, held against the bytes.
 -- Assumes nothing.
-use Prim.Native.Nat.{ℕ, zero, suc, min, _+_, _-_, _*_, _/_, _%_, _≤_, _<_}
+use Prim.Native.Nat.{ℕ, zero, suc, _+_, _*_, _/_, _%_, _≤_, _<_}
 use mathlib.Core.Path.{_≡_, refl, sym, ap, _∙_}
 use mathlib.Core.Bool.{Bool, true, false, cond, _&&_, _||_}
 use mathlib.Core.Logic.{_⊎_, inl, inr}
 use mathlib.Core.List.{List}
 use native.Mathlib.Nat.{zero-add}
 use native.Mathlib.Omega.{arith}
-use borrow.Author.Tests.{ltb-true, ltb-false, le-leb, lt-leb, eqb-true, eqb-false, eq-eqb, ne-eqb}
+use borrow.Author.Tests.{ltb-true, ltb-false, lt-leb, eqb-true, eqb-false, eq-eqb, ne-eqb}
 use lib.Dec.{ltb, leb, eqb}
 use lib.ListN.{length, getD, List·getD-eq-default}
 use Rattle.wire.specs.Bytes.{number}
@@ -15,9 +15,9 @@ use Rattle.wire.proofs.Cond.{yes-if, no-if, yes-le, no-le, yes-eq, no-eq}
 use Rattle.wire.proofs.Runs.{failed}
 use Rattle.operations.specs.declared.Sought.{Sought}
 use Rattle.operations.specs.declared.Sought.the-variants.{At, Nowhere}
-use Rattle.operations.specs.Entries.{wide, widthOf, kindAt, opWidth}
+use Rattle.operations.specs.Entries.{widthOf, kindAt, opWidth}
 use Rattle.operations.specs.Search.{half, idIn, placeIn, borne, middle, halved, mostLooks, soughtIn, heldTo, toldBy, Says}
-use Rattle.operations.proofs.Places.{has-eight, width-least}
+use Rattle.operations.proofs.Places.{width-least}
 use Rattle.operations.proofs.Halving.{reach, none-left, bears-it, above-it, below-it, by-look}
 
 -- a word that is not there bears ID 0, and so do all behind it: no larger ID is found
@@ -230,14 +230,6 @@ too-short t id m p b e h =
     let l : length t < p + opWidth t p = omega (arith, failed (p + 8) (length t) e h, width-least t p) in
     rw (lt-leb (p + opWidth t p) (length t) l) refl
 
--- and where they are: whether the rest is, by its kind
-module _ (p k n : ℕ) where
-  pub has-its-width : (w : ℕ) (r : Bool) → w ≡ widthOf k → r ≡ leb (p + w) n → r ≡ leb (p + widthOf k) n
-  has-its-width w r e g = g ∙ ap (λ (v : ℕ). leb (p + v) n) e
-
-  pub has-no-more : (b : Bool) → b ≡ wide k → b ≡ false → p + 8 ≤ n → true ≡ leb (p + widthOf k) n
-  has-no-more b e h g = sym (le-leb (p + 8) n g) ∙ ap (λ (v : ℕ). leb (p + v) n) (has-eight k b e h)
-
 -- whether they bear the ID, its first 8 bytes being read as one number
 module _ (t : List ℕ) (id m p w d : ℕ) (bears : w / half ≡ number 2 t p) (is : d ≡ w / half) where
   pub bears-another : (d ≡ id → ⊥) → Nowhere ≡ borne t id m p
@@ -248,11 +240,11 @@ module _ (t : List ℕ) (id m p w d : ℕ) (bears : w / half ≡ number 2 t p) (
       go true = refl
       go false = refl
 
-  module _ (same : d ≡ id) (k : ℕ) (b : Bool) (kind : w / 65536 % 65536 ≡ kindAt t p) (its : k ≡ w / 65536 % 65536)
-      (room : b ≡ leb (p + widthOf k) (length t)) where
+  module _ (same : d ≡ id) (k v : ℕ) (b : Bool) (kind : w / 65536 % 65536 ≡ kindAt t p) (its : k ≡ w / 65536 % 65536) (wd : v ≡ widthOf k)
+      (room : b ≡ leb (p + v) (length t)) where
     by-room : borne t id m p ≡ cond b (At m p) Nowhere
     unfolding borne opWidth
-    by-room = rw (eq-eqb (number 2 t p) id (sym (is ∙ bears) ∙ same), sym (its ∙ kind), sym room) (go b)
+    by-room = rw (eq-eqb (number 2 t p) id (sym (is ∙ bears) ∙ same), sym (its ∙ kind), sym wd, sym room) (go b)
       where
         go : (b : Bool) → cond (b && true) (At m p) Nowhere ≡ cond b (At m p) Nowhere
         go true = refl

@@ -3,11 +3,9 @@ use crate::Sought;
 use crate::entries;
 ghost use mathlib.Core.Path.{_≡_};
 ghost use mathlib.Core.Bool.{cond};
-ghost use Prim.Native.Nat.{_+_, _≤_, _<_};
-ghost use lib.Dec.{leb};
+ghost use Prim.Native.Nat.{_<_};
 ghost use lib.ListN.{length};
 ghost use Rattle.operations.specs.declared.Sought.the-variants.{At};
-ghost use Rattle.operations.specs.Entries.{widthOf};
 ghost use Rattle.operations.specs.Search.{idIn, placeIn, borne, soughtIn, toldBy, Says};
 
 // An entry that bears the ID, or none; where the IDs rise and the index is the table's, it is the operation of that ID.
@@ -86,29 +84,19 @@ fn there(index: &[u64], number: u16) -> Sought
     Sought::At(number, (index[number as usize] % 4294967296) as usize)
 }
 
-// The index may be anybody's: the entry that it says is found only where all its bytes are there and bear the ID.
+// The index may be anybody's: the entry that it says is found only where all its bytes are there and bear the ID. Whether they are is
+// asked by a width that is chosen, and not by a jump for each kind, which would be foretold badly.
 fn borne(table: &[u8], id: u32, number: u16, place: usize) -> Sought
     ensures { λ r. ⌜ r ≡ borne (now (table .entry)) id number place ⌝ }
 {
     if wire::has_room(table.len(), place, 8) {
         let head = entries::head_at(table, place);
         if entries::id_of(head) == id {
-            if is_whole(table.len(), place, entries::kind_of(head)) {
+            let width = entries::width_of(entries::kind_of(head));
+            if wire::has_room(table.len(), place, width) {
                 return Sought::At(number, place);
             }
         }
     }
     Sought::Nowhere
-}
-
-// An entry whose first 8 bytes are there: only a wide one has more.
-fn is_whole(len: usize, place: usize, kind: u16) -> bool
-    requires { ⌜ place + 8 ≤ len ⌝ }
-    ensures { λ r. ⌜ r ≡ leb (place + widthOf kind) len ⌝ }
-{
-    if entries::is_wide(kind) {
-        wire::has_room(len, place, entries::width_of(kind))
-    } else {
-        true
-    }
 }
