@@ -62,10 +62,8 @@ module _ (t : List ℕ) (p w k : ℕ) (kind : w / 65536 % 65536 ≡ kindAt t p) 
 two-in : (t : List ℕ) (p q k : ℕ) → q ≡ p + 2 → q ≤ length t → k ≡ whole 1 (take (q - p) (drop p t)) 0 → k ≡ number 1 t p
 two-in t p q k e h g = read-in 1 t p k (omega arith) (g ∙ ap (λ (n : ℕ). whole 1 (take (n - p) (drop p t)) 0) e)
 
-module _ (t : List ℕ) (p k : ℕ) where
-  pub behind-whole : {b : Bool} → b ≡ leb (p + 10) (length t) → b ≡ true → k ≡ whole 1 (take (p + 10 - (p + 8)) (drop (p + 8) t)) 0
-      → k ≡ number 1 t (p + 8)
-  behind-whole e h g = two-in t (p + 8) (p + 10) k (omega arith) (held (p + 10) (length t) e h) g
+pub ends-in : (t : List ℕ) (q k : ℕ) → 2 ≤ q → q ≤ length t → k ≡ whole 1 (take (q - (q - 2)) (drop (q - 2) t)) 0 → k ≡ number 1 t (q - 2)
+ends-in t q k l h g = two-in t (q - 2) q k (omega arith) h g
 
 pub behind-past : (t : List ℕ) (p : ℕ) → length t ≤ p → 0 ≡ number 1 t (p + 8)
 behind-past t p h = past 1 t (p + 8) (omega arith)

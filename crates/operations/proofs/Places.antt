@@ -1,6 +1,6 @@
 -- Where the entries stand: what is read of one, how far one is from the next, and what a section is that ends past the bytes.
 -- Assumes nothing.
-use Prim.Native.Nat.{ℕ, zero, suc, _+_, _*_, _≤_, _<_}
+use Prim.Native.Nat.{ℕ, zero, suc, _+_, _-_, _*_, _≤_, _<_}
 use mathlib.Core.Path.{_≡_, refl, sym, ap, _∙_}
 use mathlib.Core.Bool.{Bool, true, false, cond}
 use mathlib.Core.Logic.{⊎-elim}
@@ -37,6 +37,24 @@ module _ (k : ℕ) (b : Bool) (e : b ≡ wide k) where
     pub no-response : b ≡ false → noType ≡ responseAt t p k
     unfolding responseAt
     no-response h = sym (no-if (number 1 t p) noType (sym e ∙ h))
+
+-- the last number of an entry is what it responds with, if it is wide
+module _ (t : List ℕ) (p k v : ℕ) (e : v ≡ widthOf k) where
+  pub ends-behind : 2 ≤ p + v
+  unfolding widthOf
+  ends-behind = go (wide k) e
+    where
+      go : (b : Bool) → v ≡ cond b 10 8 → 2 ≤ p + v
+      go true q = omega arith
+      go false q = omega arith
+
+  pub responds-last : (b : Bool) (n r : ℕ) → b ≡ wide k → n ≡ number 1 t (p + v - 2) → r ≡ cond b n noType → r ≡ responseAt t (p + 8) k
+  unfolding widthOf responseAt
+  responds-last b n r w last is = is ∙ go b w (e ∙ ap (λ (x : Bool). cond x 10 8) (sym w)) ∙ ap (λ (x : Bool). cond x (number 1 t (p + 8)) noType) w
+    where
+      go : (b : Bool) → b ≡ wide k → v ≡ cond b 10 8 → cond b n noType ≡ cond b (number 1 t (p + 8)) noType
+      go true w q = let h : p + v - 2 ≡ p + 8 = omega arith in last ∙ ap (number 1 t) h
+      go false w q = refl
 
 most-wide : (k : ℕ) → widthOf k ≤ 10
 unfolding widthOf

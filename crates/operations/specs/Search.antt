@@ -62,6 +62,10 @@ abbrev pub heldTo : List ℕ → ℕ → Sought → Sought
 heldTo t id (At m p) = borne t id m p
 heldTo t id Nowhere = Nowhere
 
+-- what the m-th word alone says of an ID
+abbrev pub toldBy : List ℕ → ℕ → ℕ → Sought
+toldBy index id m = cond (eqb (idIn index m) id) (At m (placeIn index m)) Nowhere
+
 abbrev pub Says : List ℕ → ℕ → ℕ → Sought → Type 0
 Says index count id r = (t : List ℕ) → heldTo t id r ≡ soughtIn t index count id
 

@@ -3,9 +3,11 @@ use crate::Operation;
 use crate::REQUEST_SENT;
 use crate::REQUEST_SERVED;
 ghost use mathlib.Core.Path.{_≡_};
-ghost use Prim.Native.Nat.{_+_, _/_, _%_};
+ghost use mathlib.Core.Bool.{cond};
+ghost use Prim.Native.Nat.{_+_, _-_, _/_, _%_, _≤_};
+ghost use lib.ListN.{length};
 ghost use Rattle.wire.specs.Bytes.{number};
-ghost use Rattle.operations.specs.Entries.{wide, widthOf, opWidth, opPlace, kindAt, responseAt, operationAt};
+ghost use Rattle.operations.specs.Entries.{noType, wide, widthOf, opWidth, opPlace, kindAt, responseAt, operationAt};
 
 // The type number that stands for none.
 pub const NO_TYPE: u16 = 0xFFFF;
@@ -88,23 +90,39 @@ pub(crate) fn is_wide(kind: u16) -> bool
     (kind == REQUEST_SENT) | (kind == REQUEST_SERVED)
 }
 
+// The last number of the entry is read in either case, and what it stands for is chosen: a jump by the kind would be foretold badly.
 fn response_at(table: &[u8], place: usize, kind: u16) -> u16
     ensures { λ r. ⌜ r ≡ responseAt (now (table .entry)) (place + 8) kind ⌝ }
 {
-    if is_wide(kind) {
-        behind_head(table, place)
+    let width = width_of(kind);
+    if wire::has_room(table.len(), place, width) {
+        type_or_none(is_wide(kind), ending_at(table, place + width))
+    } else if is_wide(kind) {
+        cut_off(table, place)
     } else {
         NO_TYPE
     }
 }
 
-// The number behind the first 8 bytes; past the end its place may be no number of 64 bits.
-fn behind_head(table: &[u8], place: usize) -> u16
+fn type_or_none(is: bool, number: u16) -> u16
+    ensures { λ r. ⌜ r ≡ cond is number noType ⌝ }
+{
+    if is { number } else { NO_TYPE }
+}
+
+fn ending_at(table: &[u8], end: usize) -> u16
+    requires { ⌜ 2 ≤ end ⌝ }
+    requires { ⌜ end ≤ length (now table) ⌝ }
+    ensures { λ r. ⌜ r ≡ number 1 (now (table .entry)) (end - 2) ⌝ }
+{
+    wire::whole_u16(&table[end - 2..end], 0)
+}
+
+// The number behind the first 8 bytes, of which not all is there; past the end its place may be no number of 64 bits.
+fn cut_off(table: &[u8], place: usize) -> u16
     ensures { λ r. ⌜ r ≡ number 1 (now (table .entry)) (place + 8) ⌝ }
 {
-    if wire::has_room(table.len(), place, 10) {
-        wire::whole_u16(&table[place + 8..place + 10], 0)
-    } else if place < table.len() {
+    if place < table.len() {
         wire::u16_at(table, place + 8)
     } else {
         0

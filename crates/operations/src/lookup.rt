@@ -2,12 +2,11 @@
 use crate::Sought;
 use crate::entries;
 ghost use mathlib.Core.Path.{_≡_};
-ghost use Prim.Native.Nat.{min, _+_, _-_, _*_, _≤_, _<_};
-ghost use lib.Dec.{leb};
+ghost use mathlib.Core.Bool.{cond};
+ghost use Prim.Native.Nat.{_<_};
 ghost use lib.ListN.{length};
 ghost use Rattle.operations.specs.declared.Sought.the-variants.{At};
-ghost use Rattle.operations.specs.Entries.{widthOf};
-ghost use Rattle.operations.specs.Search.{idIn, placeIn, borne, soughtIn, Says};
+ghost use Rattle.operations.specs.Search.{idIn, placeIn, borne, soughtIn, toldBy, Says};
 
 // An entry that bears the ID, or none; where the IDs rise and the index is the table's, it is the operation of that ID.
 pub fn find(table: &[u8], index: &[u64], count: u16, id: u32) -> Sought
@@ -19,50 +18,37 @@ pub fn find(table: &[u8], index: &[u64], count: u16, id: u32) -> Sought
     }
 }
 
-// What the index says. The first look is at a word that is there, or else that word bears ID 0, and no other ID is found.
+// What the index says, in as many looks as the count alone asks for: nothing that is jumped by hangs on an ID, so that a processor
+// foretells each jump, and the ends are chosen by moves. At a word that bears the ID both ends move, the lower past the upper, and
+// the middle of the two is that word from then on.
 fn said(index: &[u64], count: u16, id: u32) -> Sought
     ensures { λ r. ⌜ Says (now (index .entry)) count id r ⌝ }
 {
-    let twice = 2 * wire::least(index.len(), count as usize);
-    if (count as usize) < twice {
-        looked(index, count, id, (twice - count as usize) as u32)
-    } else if (0 < id) | (count == 0) {
+    let mut low: usize = 0;
+    let mut high = count as usize;
+    // So many entries are left after the next look, or one fewer.
+    let mut left = high / 2;
+    while 0 < left {
+        let middle = (low + high) / 2;
+        if index.len() <= middle {
+            return told(index, id, middle);
+        }
+        let here = id_in(index, middle);
+        low = chosen(here <= id, middle + 1, low);
+        high = chosen(id <= here, middle, high);
+        left = left / 2;
+    }
+    if low == high {
         Sought::Nowhere
     } else {
-        Sought::At(count / 2, 0)
+        told(index, id, (low + high) / 2)
     }
 }
 
-// The middle's word is there as long as `low` is below `top`; behind a smaller ID, one that is not there ends the search. Each arm
-// has a test of its own: of one behind both the compiler makes moves of both ends at each look. In the loop only a word's ID is
-// read, which is compared where it lies; its place is read by the entry's number once that is found, or else the compiler takes
-// whole words out.
-fn looked(index: &[u64], count: u16, id: u32, ceiling: u32) -> Sought
-    requires { ⌜ 0 < ceiling ⌝ }
-    requires { ⌜ ceiling ≡ 2 * min (length (now index)) count - count ⌝ }
-    ensures { λ r. ⌜ Says (now (index .entry)) count id r ⌝ }
+fn chosen(is: bool, a: usize, b: usize) -> usize
+    ensures { λ r. ⌜ r ≡ cond is a b ⌝ }
 {
-    let mut low: u32 = 0;
-    let mut high: u32 = count as u32;
-    let mut top: u32 = ceiling;
-    loop {
-        let middle = (low + high) / 2;
-        let here = id_in(index, middle as usize);
-        if here < id {
-            low = middle + 1;
-            if top <= low {
-                return Sought::Nowhere;
-            }
-        } else if here == id {
-            return told(index, middle as u16);
-        } else {
-            high = middle;
-            top = middle;
-            if top <= low {
-                return Sought::Nowhere;
-            }
-        }
-    }
+    if is { a } else { b }
 }
 
 fn id_in(index: &[u64], i: usize) -> u32
@@ -72,36 +58,45 @@ fn id_in(index: &[u64], i: usize) -> u32
     (index[i] / 4294967296) as u32
 }
 
-fn told(index: &[u64], number: u16) -> Sought
+// What one word says of an ID; one that is not there bears ID 0, at place 0.
+fn told(index: &[u64], id: u32, number: usize) -> Sought
+    requires { ⌜ number < 65536 ⌝ }
+    ensures { λ r. ⌜ r ≡ toldBy (now (index .entry)) id number ⌝ }
+{
+    if number < index.len() {
+        if id_in(index, number) == id {
+            return there(index, number as u16);
+        }
+        return Sought::Nowhere;
+    }
+    if id == 0 {
+        Sought::At(number as u16, 0)
+    } else {
+        Sought::Nowhere
+    }
+}
+
+// The place is read by a number of 16 bits, or else the compiler takes whole words out where it compares an ID.
+fn there(index: &[u64], number: u16) -> Sought
     requires { ⌜ number < length (now index) ⌝ }
     ensures { λ r. ⌜ r ≡ At number (placeIn (now (index .entry)) number) ⌝ }
 {
     Sought::At(number, (index[number as usize] % 4294967296) as usize)
 }
 
-// The index may be anybody's: the entry that it says is found only where all its bytes are there and bear the ID.
+// The index may be anybody's: the entry that it says is found only where all its bytes are there and bear the ID. Whether they are is
+// asked by a width that is chosen, and not by a jump for each kind, which would be foretold badly.
 fn borne(table: &[u8], id: u32, number: u16, place: usize) -> Sought
     ensures { λ r. ⌜ r ≡ borne (now (table .entry)) id number place ⌝ }
 {
     if wire::has_room(table.len(), place, 8) {
         let head = entries::head_at(table, place);
         if entries::id_of(head) == id {
-            if is_whole(table.len(), place, entries::kind_of(head)) {
+            let width = entries::width_of(entries::kind_of(head));
+            if wire::has_room(table.len(), place, width) {
                 return Sought::At(number, place);
             }
         }
     }
     Sought::Nowhere
-}
-
-// An entry whose first 8 bytes are there: only a wide one has more.
-fn is_whole(len: usize, place: usize, kind: u16) -> bool
-    requires { ⌜ place + 8 ≤ len ⌝ }
-    ensures { λ r. ⌜ r ≡ leb (place + widthOf kind) len ⌝ }
-{
-    if entries::is_wide(kind) {
-        wire::has_room(len, place, entries::width_of(kind))
-    } else {
-        true
-    }
 }
