@@ -1,7 +1,8 @@
 /*
  * mission RECORDING TABLE: plays recorded datagrams as a mission computer would meet them. Each is joined; each message
  * that this completes is read, and answered where its sender is owed replies; and the payload of an operation that the
- * table has is unpacked to its words. For a network, hand `take` what a socket receives; send what `send_reply` prints.
+ * table has is unpacked to its words, by the plans of its types, which are laid out once, when the table is loaded. For
+ * a network, hand `take` what a socket receives; send what `send_reply` prints.
  */
 #include "nyrkovash.h"
 
@@ -23,7 +24,7 @@ static size_t recorded, table_length, rooms_length;
 static nyr_joiner joiner;
 static nyr_platform platform;
 static nyr_sections sections;
-static uint64_t words[MOST_WORDS];
+static uint64_t words[MOST_WORDS], plans[NYR_PLANS_WORDS];
 static uint16_t counter;
 
 static size_t number_at(const uint8_t *bytes, int width)
@@ -59,16 +60,12 @@ static void unpack(uint32_t id, const uint8_t *payload, size_t length)
     nyr_walked walked;
     if (nyr_find(table, table_length, &sections, id, &operation) != NYR_OK || !operation.found)
         return;
-    if (operation.carries == NYR_NO_PAYLOAD) {
-        puts("  no payload");
+    if (operation.carries == NYR_NO_PAYLOAD || (length == 0 && operation.kind == NYR_VERSIONED_DATA)) {
+        puts(operation.carries == NYR_NO_PAYLOAD ? "  no payload" : "  not published yet");
         return;
     }
-    if (length == 0 && operation.kind == NYR_VERSIONED_DATA) {
-        puts("  not published yet");
-        return;
-    }
-    uint32_t number = nyr_unpack_in(table, table_length, &sections, (uint16_t)operation.carries, payload, length, words,
-                                    MOST_WORDS, &walked);
+    uint32_t number = nyr_unpack_by(table, table_length, &sections, plans, NYR_PLANS_WORDS, (uint16_t)operation.carries,
+                                    payload, length, words, MOST_WORDS, &walked);
     if (number == NYR_OK)
         printf("  words");
     else
@@ -187,6 +184,8 @@ int main(int argc, char **argv)
         return 2;
     nyr_start(OWN, &platform);
     number = nyr_check_table(table, table_length, &sections);
+    if (number == NYR_OK)
+        number = nyr_plans(table, table_length, &sections, plans, NYR_PLANS_WORDS);
     if (number != NYR_OK)
         printf("table refused %" PRIu32 "\n", number);
     else if ((early = play()) != NULL)

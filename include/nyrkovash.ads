@@ -20,8 +20,8 @@ package Nyrkovash is
    type Nyr_Ids is array (Nyr_Size range <>) of Unsigned_16 with Convention => C;
    type Nyr_Words is array (Nyr_Size range <>) of Unsigned_64 with Convention => C;
 
-   Nyr_Library_Version : constant := 40_000;
-   Nyr_Library_Version_Text : constant String := "4.0.0";
+   Nyr_Library_Version : constant := 40_100;
+   Nyr_Library_Version_Text : constant String := "4.1.0";
 
    function Nyr_Linked_Version return Unsigned_32
      with Import, Convention => C, External_Name => "nyr_library_version";
@@ -73,6 +73,7 @@ package Nyrkovash is
    Nyr_Reply_Bytes : constant := 24;
    Nyr_Replies_Bytes : constant := 48;
    Nyr_Most_Pending : constant := 64;
+   Nyr_Plans_Words : constant := 131_329;
 
    --  Joining.
 
@@ -270,6 +271,28 @@ package Nyrkovash is
                          Output : in out Nyr_Bytes; Output_Length : Nyr_Size;
                          Walked : in out Nyr_Walked) return Unsigned_32
      with Import, Convention => C, External_Name => "nyr_pack_in";
+
+   --  Plans.
+
+   function Nyr_Plans_Length (Table : Nyr_Bytes; Table_Length : Nyr_Size; Sections : Nyr_Sections;
+                              Words : in out Nyr_Size) return Unsigned_32
+     with Import, Convention => C, External_Name => "nyr_plans_length";
+
+   function Nyr_Plans (Table : Nyr_Bytes; Table_Length : Nyr_Size; Sections : Nyr_Sections; Plans : in out Nyr_Words;
+                       Plans_Length : Nyr_Size) return Unsigned_32
+     with Import, Convention => C, External_Name => "nyr_plans";
+
+   function Nyr_Unpack_By (Table : Nyr_Bytes; Table_Length : Nyr_Size; Sections : Nyr_Sections; Plans : Nyr_Words;
+                           Plans_Length : Nyr_Size; Type_Number : Unsigned_16; Payload : Nyr_Bytes;
+                           Payload_Length : Nyr_Size; Words : in out Nyr_Words; Words_Length : Nyr_Size;
+                           Walked : in out Nyr_Walked) return Unsigned_32
+     with Import, Convention => C, External_Name => "nyr_unpack_by";
+
+   function Nyr_Pack_By (Table : Nyr_Bytes; Table_Length : Nyr_Size; Sections : Nyr_Sections; Plans : Nyr_Words;
+                         Plans_Length : Nyr_Size; Type_Number : Unsigned_16; Words : Nyr_Words;
+                         Words_Length : Nyr_Size; Output : in out Nyr_Bytes; Output_Length : Nyr_Size;
+                         Walked : in out Nyr_Walked) return Unsigned_32
+     with Import, Convention => C, External_Name => "nyr_pack_by";
 
    --  Platforms.
 

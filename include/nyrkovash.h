@@ -1,7 +1,7 @@
 /*
  * nyrkovash: UDP datagrams joined into ECOA ELI messages (Part 6, Issue 6), messages read and written, payloads
- * unpacked and packed by a type table, the replies of platform start-up, and requests that await their responses. Link
- * libnyrkovash.a (x86-64), which needs no library but C's.
+ * unpacked and packed by a type table or by plans of its types, the replies of platform start-up, and requests that
+ * await their responses. Link libnyrkovash.a (x86-64), which needs no library but C's.
  *
  * Every call is total: no length, number, byte or state, right or wrong, makes it read or write outside what it was
  * lent. A call answers 0, or the number that refuses it, and then it has changed nothing; but where 40 to 43 refuse a
@@ -35,8 +35,8 @@ extern "C" {
  * neither is so. So a program asks at its start, and goes on where the archive's first number is that of its header and
  * the whole is not less than its header's.
  */
-#define NYR_LIBRARY_VERSION 40000
-#define NYR_LIBRARY_VERSION_TEXT "4.0.0"
+#define NYR_LIBRARY_VERSION 40100
+#define NYR_LIBRARY_VERSION_TEXT "4.1.0"
 
 /* The version of the archive that was linked.  Stack 256. */
 uint32_t nyr_library_version(void);
@@ -94,7 +94,8 @@ enum {
     NYR_LARGEST_MESSAGE = 65560, /* that is cut */
     NYR_REPLY_BYTES = 24,        /* one reply */
     NYR_REPLIES_BYTES = 48,      /* the most that one message is owed */
-    NYR_MOST_PENDING = 64        /* requests that await their responses */
+    NYR_MOST_PENDING = 64,       /* requests that await their responses */
+    NYR_PLANS_WORDS = 131329     /* enough for the plans of any table */
 };
 
 /* ---- Joining: a channel for each sender ID (platform times 256 plus channel: 0 to 4,095), each with its own room. */
@@ -289,6 +290,52 @@ uint32_t nyr_pack(const uint8_t *table, size_t table_length, uint16_t type_numbe
 uint32_t nyr_pack_in(const uint8_t *table, size_t table_length, const nyr_sections *sections, uint16_t type_number,
                      const uint64_t *words, size_t words_length, uint8_t *output, size_t output_length,
                      nyr_walked *walked);
+
+/* ---- Plans: a type of 1 to 512 leaves, in which no array has a count (kind 4), has a plan: its leaves laid out
+ * flat, as runs of leaves that are alike. Once at load, behind nyr_check_table, ask nyr_plans_length how many words to
+ * lend, and let nyr_plans lay out in them the plans of all types that have one. From then on nyr_unpack_by and
+ * nyr_pack_by go by these words, for every type, with a plan or without. Plans belong to one table's bytes: where these
+ * change, check them and lay the plans out again. What stands in the words is the library's own. */
+
+/*
+ * How many words are enough for a table's plans: `words` is 1, and for each type 1 and, where it has a plan, its
+ * leaves; at most NYR_PLANS_WORDS, about a megabyte.
+ *   30 where the sections do not lie in the table.
+ * Stack 1024; time: each type's members.
+ */
+uint32_t nyr_plans_length(const uint8_t *table, size_t table_length, const nyr_sections *sections, size_t *words);
+
+/*
+ * Lays a table's plans out from the start of plans on, in as many words as nyr_plans_length says or fewer; the words
+ * behind them stay.
+ *   30 where the sections do not lie in the table; then 10 where plans_length is less than nyr_plans_length says.
+ * Stack 4096; time: each type's members, and of a type with a plan the runs of its members or elements. Of the tables
+ * that were tried the worst, 253 records of the same 512 members, no leaf like the next, took half a millisecond.
+ */
+uint32_t nyr_plans(const uint8_t *table, size_t table_length, const nyr_sections *sections, uint64_t *plans,
+                   size_t plans_length);
+
+/*
+ * Unpacks by plans. By those that nyr_plans laid out for this table and these sections it does just what nyr_unpack_in
+ * does, for every type and payload: the same number, the same places, the same words. A type that has a plan goes by
+ * it, and the sections are not looked at; any other goes as by nyr_unpack_in, and its parts by their plans.
+ *   30 where the sections do not lie in the table, and then 44, for a type without a plan alone; then as nyr_unpack_in.
+ * Any other words are plans too: by them the call touches nothing outside what it was lent, and one input has one
+ * answer, but that may be another than nyr_unpack_in's. By none (plans_length 0) all goes as by nyr_unpack_in.
+ * Stack 131072, where types nest as deep as they can; time: the payload's length, and for each enum among the leaves
+ * its values; of a type without a plan the length times the nesting of such types.
+ */
+uint32_t nyr_unpack_by(const uint8_t *table, size_t table_length, const nyr_sections *sections, const uint64_t *plans,
+                       size_t plans_length, uint16_t type_number, const uint8_t *payload, size_t payload_length,
+                       uint64_t *words, size_t words_length, nyr_walked *walked);
+
+/*
+ * Packs by plans, which are to nyr_pack_in what they are to nyr_unpack_in above, with the same numbers.
+ * Stack and time as nyr_unpack_by, with the words in the place of the payload.
+ */
+uint32_t nyr_pack_by(const uint8_t *table, size_t table_length, const nyr_sections *sections, const uint64_t *plans,
+                     size_t plans_length, uint16_t type_number, const uint64_t *words, size_t words_length,
+                     uint8_t *output, size_t output_length, nyr_walked *walked);
 
 /* ---- Platforms: which of the 256 are UP, what they are owed, and which requests they have not answered yet. */
 

@@ -6,7 +6,7 @@
 mod joining;
 mod lookups;
 mod messages;
-mod payloads;
+pub mod payloads;
 mod requests;
 
 use crate::measure::Case;

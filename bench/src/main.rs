@@ -4,11 +4,15 @@
 //!     bench compare COUNT SEED  compare both on so many inputs of each family
 //!     bench list                the cases, a line each
 //!     bench calls CASE SIDE N   N calls of one case (its number in the list) and nothing else measured: for a counter
+//!     bench shapes              the same for shapes of payloads, a table of their own
+//!     bench shapes some PART    only the shapes that have the part in their names
+//!     bench shapes list | shapes calls CASE SIDE N
 
 mod cases;
 mod equal;
 mod measure;
 mod pair;
+mod shapes;
 mod tables;
 
 const COMPARED: usize = 20_000;
@@ -20,6 +24,18 @@ fn main() {
     let number = |word: &str| word.parse::<usize>().unwrap_or_else(|_| usage());
     match words.as_slice() {
         [] => table(),
+        ["shapes"] => {
+            compared();
+            shapes::tables("");
+        }
+        ["shapes", "some", part] => shapes::tables(part),
+        ["shapes", "list"] => shapes::names().iter().for_each(|name| println!("{name}")),
+        ["shapes", "calls", case, side, count] => {
+            let mut sides = shapes::sides(number(case)).unwrap_or_else(|| usage());
+            let at = shapes::SIDES.iter().position(|name| name == side);
+            at.and_then(|at| sides.get_mut(at))
+                .unwrap_or_else(|| usage())(number(count));
+        }
         ["compare", count, seed] => {
             equal::compare(number(count), number(seed) as u64);
             println!(
@@ -45,16 +61,21 @@ fn main() {
 
 fn usage() -> ! {
     eprintln!("usage: bench [compare COUNT SEED | list | calls CASE ours|plain|bare N]");
+    eprintln!("       bench shapes [some PART | list | calls CASE walk|plan|rust|rust-plan N]");
     std::process::exit(2)
 }
 
-fn table() {
+fn compared() {
     equal::compare(COMPARED, SEED);
     println!("Both programs gave the same on {COMPARED} inputs of each family from seed {SEED}.\n");
+}
+
+fn table() {
+    compared();
     println!("| Case | Ours, ns | Rust, ns | Ours / Rust | Copy, ns | Ours / copy |");
     println!("|---|---:|---:|---:|---:|---:|");
     for case in cases::all() {
-        let times = measure::measure(&mut (case.make)());
+        let times = measure::measure((case.make)());
         let bare = times.bare.map_or("– | –".to_string(), |copy| {
             format!("{copy:.1} | {:.2}", times.ours / copy)
         });

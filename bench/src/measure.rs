@@ -79,20 +79,25 @@ fn median(mut rounds: Vec<f64>) -> f64 {
     rounds[rounds.len() / 2]
 }
 
-pub fn measure(case: &mut Case) -> Times {
-    let mut sides = vec![&mut case.ours, &mut case.plain];
-    sides.extend(&mut case.bare);
-    let counts: Vec<usize> = sides.iter_mut().map(|side| round(side)).collect();
+/// Of each the median of its rounds, the programs by turns.
+pub fn medians(sides: &mut [Calls]) -> Vec<f64> {
+    let counts: Vec<usize> = sides.iter_mut().map(round).collect();
     let mut rounds = vec![Vec::new(); sides.len()];
     for _ in 0..ROUNDS {
         for ((side, count), rounds) in sides.iter_mut().zip(&counts).zip(&mut rounds) {
             rounds.push(nanoseconds(side, *count));
         }
     }
-    let mut medians = rounds.into_iter().map(median);
+    rounds.into_iter().map(median).collect()
+}
+
+pub fn measure(case: Case) -> Times {
+    let mut sides = vec![case.ours, case.plain];
+    sides.extend(case.bare);
+    let medians = medians(&mut sides);
     Times {
-        ours: medians.next().unwrap(),
-        plain: medians.next().unwrap(),
-        bare: medians.next(),
+        ours: medians[0],
+        plain: medians[1],
+        bare: medians.get(2).copied(),
     }
 }

@@ -48,6 +48,11 @@ void put_output(uint32_t number, const char *name, size_t length);
 /* What the calls write to. */
 extern uint8_t output[MOST_BYTES];
 
+/* Payloads, by their table, by the sections of its check, or by its plans. */
+typedef enum { OF_TABLE, IN_SECTIONS, BY_PLANS } Way;
+void unpack(const Argument *a, Way way);
+void pack(const Argument *a, Way way);
+
 /* The platform that the calls speak to, at first platform 0; and the calls that do, by their codes: 7 to 10 and 20 to 23. */
 void start_platform(uint8_t number);
 void answer_platform(const Call *call);

@@ -43,16 +43,18 @@ static const struct {
     {4, {BYTES, N16, BYTES, WORD_ROOM}},
     {4, {BYTES, N16, WORDS, ROOM}},
     {2, {BYTES, N32}},
+    {4, {BYTES, N16, BYTES, WORD_ROOM}},
+    {4, {BYTES, N16, WORDS, ROOM}},
     [20] = {5, {BYTES, N32, N32, BYTES, ROOM}},
     {1, {N32}},
     {1, {N32}},
     {3, {N8, N32, LIST}},
 };
 
-/* 16 to 19 are none. */
+/* 18 and 19 are none. */
 static int is_code(unsigned code)
 {
-    return (1 <= code && code <= 15) || (20 <= code && code < CODES);
+    return (1 <= code && code <= 17) || (20 <= code && code < CODES);
 }
 
 uint64_t number_at(const uint8_t *bytes, size_t width)

@@ -7,7 +7,6 @@
 
 uint8_t output[MOST_BYTES];
 static uint8_t rooms[MOST_BYTES];
-static uint64_t words[MOST_WORDS];
 
 void put_number(uint64_t number)
 {
@@ -119,41 +118,6 @@ static void find(const Argument *a)
     put_number(operation.responds);
 }
 
-static void unpack(const Argument *a, int in)
-{
-    uint32_t number;
-    size_t room = (size_t)a[3].number;
-    nyr_walked walked;
-    nyr_sections sections;
-    uint16_t type = (uint16_t)a[1].number;
-    if (in && refused(nyr_check_table(a[0].bytes, a[0].length, &sections)))
-        return;
-    number = in ? nyr_unpack_in(a[0].bytes, a[0].length, &sections, type, a[2].bytes, a[2].length, words, room, &walked)
-                : nyr_unpack(a[0].bytes, a[0].length, type, a[2].bytes, a[2].length, words, room, &walked);
-    if (stopped(number, &walked))
-        return;
-    printf(walked.given == 0 ? "words -" : "words");
-    for (size_t i = 0; i < walked.given; i++)
-        put_number(words[i]);
-}
-
-static void pack(const Argument *a, int in)
-{
-    uint32_t number;
-    size_t count = a[2].length / 8, room = (size_t)a[3].number;
-    nyr_walked walked;
-    nyr_sections sections;
-    uint16_t type = (uint16_t)a[1].number;
-    for (size_t i = 0; i < count; i++)
-        words[i] = number_at(a[2].bytes + 8 * i, 8);
-    if (in && refused(nyr_check_table(a[0].bytes, a[0].length, &sections)))
-        return;
-    number = in ? nyr_pack_in(a[0].bytes, a[0].length, &sections, type, words, count, output, room, &walked)
-                : nyr_pack(a[0].bytes, a[0].length, type, words, count, output, room, &walked);
-    if (!stopped(number, &walked))
-        put_output(number, "bytes", (size_t)walked.given);
-}
-
 /* A joiner of all the records, or where these are too many of the first: its count alone makes it none. */
 static nyr_joiner joiner_of(uint32_t room, const Argument *records)
 {
@@ -218,13 +182,15 @@ void answer(const Call *call)
     case 2: write_message(a); break;
     case 3: cut(a); break;
     case 4: check_table(a); break;
-    case 5: unpack(a, 0); break;
-    case 6: pack(a, 0); break;
+    case 5: unpack(a, OF_TABLE); break;
+    case 6: pack(a, OF_TABLE); break;
     case 11: take(a); break;
     case 12: count_pieces(a); break;
-    case 13: unpack(a, 1); break;
-    case 14: pack(a, 1); break;
+    case 13: unpack(a, IN_SECTIONS); break;
+    case 14: pack(a, IN_SECTIONS); break;
     case 15: find(a); break;
+    case 16: unpack(a, BY_PLANS); break;
+    case 17: pack(a, BY_PLANS); break;
     default: answer_platform(call); break;
     }
 }

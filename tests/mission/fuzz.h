@@ -27,7 +27,7 @@ typedef struct {
     int tells;
 } Lent;
 
-enum { IDS, JOINER, ROOMS, DATAGRAM, ANSWER, MESSAGE, OUT, PAYLOAD, TABLE, SECTIONS, WORDS, PLATFORM, BUFFERS };
+enum { IDS, JOINER, ROOMS, DATAGRAM, ANSWER, MESSAGE, OUT, PAYLOAD, TABLE, SECTIONS, WORDS, PLANS, PLATFORM, BUFFERS };
 
 void lent_start(void);
 /* A buffer of so many elements of that width, with these bytes, or any where they are null. Of no elements: null, or a place
@@ -47,8 +47,9 @@ uint32_t called(uint32_t number, uint64_t numbers);
 void expect(int holds, const char *what);
 #define N(number) (UINT64_C(1) << (number))
 
-/* What was met, a bit each: numbers, outcomes of a take, kinds read, and what was heard. A run that misses one says nothing. */
-extern uint64_t calls, accepted, numbers_met, outcomes_met, kinds_met, heard_met;
+/* What was met, a bit each: numbers, outcomes of a take, kinds read, what was heard, and of plans too few words and enough, 42
+ * and 0 of types without one and with one, unpacked and packed, and forged ones that matter. A run that misses one says nothing. */
+extern uint64_t calls, accepted, numbers_met, outcomes_met, kinds_met, heard_met, plans_met;
 
 /* A table that keeps every rule, made at random, and the words of a value of one of its types. Behind its index the words of its
  * sections are any. */
@@ -97,6 +98,9 @@ nyr_platform cleared(nyr_platform state, size_t place);
 /* A message that mostly is the response to a request that is pending. */
 size_t make_response(const nyr_platform *state, const Table *table);
 
+/* Of a walk's three fields 0 writes the first, 40 to 43 the two others, and any other number none. */
+void check_fields(uint32_t number);
+
 /* One or more calls of each family, with their checks. */
 void fuzz_setup(void);
 void fuzz_take(void);
@@ -111,5 +115,6 @@ void fuzz_pending(void);
 void fuzz_table(void);
 void fuzz_unpack(void);
 void fuzz_pack(void);
+void fuzz_plans(void);
 
 #endif

@@ -129,8 +129,7 @@ static int tells_where(uint32_t number)
     return NYR_INPUT_SHORT <= number && number <= NYR_ARRAY_COUNT;
 }
 
-/* Of a walk's three fields 0 writes the first, 40 to 43 the two others, and any other number none. */
-static void check_fields(uint32_t number)
+void check_fields(uint32_t number)
 {
     if (tells_where(number))
         must_tell(ANSWER, 1, 3, sizeof(uint64_t));

@@ -75,6 +75,9 @@ static size_t make_type(Table *t, size_t i, const size_t *sizes)
             size += sizes[member];
         }
     }
+    /* As many leaves as a type with a plan can have, or one off. */
+    if (kind == FIXED && one_in(6))
+        count = 511 + below(3);
     if (kind >= FIXED) {
         t->of[i] = (uint16_t)below(i);
         t->count[i] = (uint16_t)count;

@@ -105,6 +105,20 @@ static void confine(void (*call)(void), uint32_t expected)
     expect(b, expected);
 }
 
+/* By the plans of the table, and by none. */
+static void by_plans(void)
+{
+    measure(call_plans_length, 0);
+    measure(call_plans, 0);
+    for (int laid = 0; laid < 2; laid++) {
+        plans_length = laid ? NYR_PLANS_WORDS : 0;
+        measure(call_unpack_by, 0);
+        measure(call_pack_by, 0);
+        confine(call_unpack_by, 0);
+        confine(call_pack_by, 0);
+    }
+}
+
 static void payloads(void)
 {
     measure(call_check_table, 0);
@@ -117,6 +131,7 @@ static void payloads(void)
     confine(call_unpack_in, 0);
     confine(call_pack, 0);
     confine(call_pack_in, 0);
+    by_plans();
 }
 
 static void joining(void)
@@ -192,6 +207,8 @@ int main(int argc, char **argv)
     nest(0);
     payloads();
     enumerate();
+    payloads();
+    spread();
     payloads();
     messages();
     requests();

@@ -13,9 +13,9 @@ enum {
 };
 
 extern uint8_t table[LARGEST_TABLE], rooms[NYR_CHANNELS * NYR_LARGEST_ROOM], message[70000], output[70000];
-extern size_t table_length, datagram_length, message_length, payload_length, words_length, given;
+extern size_t table_length, datagram_length, message_length, payload_length, words_length, plans_length, given;
 extern uint16_t ids[NYR_CHANNELS], type_number;
-extern uint64_t words[70000];
+extern uint64_t words[70000], plans[NYR_PLANS_WORDS];
 extern nyr_walked walked;
 extern nyr_joiner joiner;
 extern nyr_sections sections;
@@ -34,6 +34,10 @@ void call_unpack(void);
 void call_unpack_in(void);
 void call_pack(void);
 void call_pack_in(void);
+void call_plans_length(void);
+void call_plans(void);
+void call_unpack_by(void);
+void call_pack_by(void);
 void call_start(void);
 void call_receive(void);
 void call_receive_in(void);
@@ -49,6 +53,8 @@ enum { RECORD = 2, FIXED = 3, ARRAY = 4 };
 void nest(int kind);
 /* An enum of as many values as a table can have, that fall, in an array. */
 void enumerate(void);
+/* Records of as many leaves as one with a plan can have, no leaf like the next, as many of them as there can be. */
+void spread(void);
 /* A message of platform OTHER, with number LAST_PENDING. */
 void make_message(uint8_t domain, uint8_t id, const uint8_t *value, uint8_t length);
 /* So many requests pending, in a row from number 1 on, the next own number being the first of them. */
@@ -60,7 +66,7 @@ typedef struct {
     size_t most;
 } Bound;
 
-enum { BOUNDS = 21 };
+enum { BOUNDS = 25 };
 extern const Bound bounds[BOUNDS];
 
 #endif

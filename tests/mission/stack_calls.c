@@ -2,9 +2,9 @@
 #include "stack.h"
 
 uint8_t table[LARGEST_TABLE], rooms[NYR_CHANNELS * NYR_LARGEST_ROOM], message[70000], output[70000];
-size_t table_length, datagram_length, message_length, payload_length, words_length, given;
+size_t table_length, datagram_length, message_length, payload_length, words_length, plans_length, given;
 uint16_t ids[NYR_CHANNELS], type_number;
-uint64_t words[70000];
+uint64_t words[70000], plans[NYR_PLANS_WORDS];
 nyr_walked walked;
 nyr_joiner joiner;
 nyr_sections sections;
@@ -75,6 +75,28 @@ void call_pack_in(void)
         nyr_pack_in(table, table_length, &sections, type_number, words, words_length, output, sizeof output, &walked);
 }
 
+void call_plans_length(void)
+{
+    number = nyr_plans_length(table, table_length, &sections, &given);
+}
+
+void call_plans(void)
+{
+    number = nyr_plans(table, table_length, &sections, plans, NYR_PLANS_WORDS);
+}
+
+void call_unpack_by(void)
+{
+    number = nyr_unpack_by(table, table_length, &sections, plans, plans_length, type_number, message, payload_length,
+                           words, 70000, &walked);
+}
+
+void call_pack_by(void)
+{
+    number = nyr_pack_by(table, table_length, &sections, plans, plans_length, type_number, words, words_length, output,
+                         sizeof output, &walked);
+}
+
 void call_start(void)
 {
     number = nyr_start(1, &platform);
@@ -139,6 +161,10 @@ const Bound bounds[BOUNDS] = {
     {"nyr_unpack_in", call_unpack_in, 131072},
     {"nyr_pack", call_pack, 131072},
     {"nyr_pack_in", call_pack_in, 131072},
+    {"nyr_plans_length", call_plans_length, 1024},
+    {"nyr_plans", call_plans, 4096},
+    {"nyr_unpack_by", call_unpack_by, 131072},
+    {"nyr_pack_by", call_pack_by, 131072},
     {"nyr_start", call_start, 256},
     {"nyr_receive", call_receive, 16384},
     {"nyr_receive_in", call_receive_in, 4096},

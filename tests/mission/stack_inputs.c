@@ -3,7 +3,7 @@
 
 #include <string.h>
 
-enum { TYPES = 256, OPERATIONS = 1024, UINT8 = 6 };
+enum { TYPES = 256, OPERATIONS = 1024, LEAVES = 512, UINT8 = 6, UINT16 = 8 };
 
 static void put(uint64_t value, int width)
 {
@@ -88,6 +88,26 @@ void enumerate(void)
         words[k] = 1;
         message[3 + 2 * k] = 1;
     }
+}
+
+void spread(void)
+{
+    table_length = 0;
+    put(TYPES, 2);
+    put_type(0, UINT8, 0, 0);
+    put_type(0, UINT16, 0, 0);
+    for (unsigned i = 2; i < TYPES; i++)
+        put_type(RECORD, 0, 0, LEAVES);
+    put(LEAVES, 2);
+    for (unsigned k = 0; k < LEAVES; k++)
+        put(k % 2, 2);
+    put(0, 2);
+    put_operations();
+    type_number = TYPES - 1;
+    words_length = LEAVES;
+    payload_length = LEAVES / 2 * 3;
+    memset(message, 0, payload_length);
+    memset(words, 0, LEAVES * sizeof *words);
 }
 
 void make_message(uint8_t domain, uint8_t id, const uint8_t *value, uint8_t length)

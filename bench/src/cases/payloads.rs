@@ -1,8 +1,10 @@
 //! Payloads unpacked and packed.
 
 use super::lookups::checked;
-use crate::measure::{opaque, shared, Case};
+use crate::measure::{opaque, shared, Calls, Case};
+use crate::shapes::Shape;
 use bench::plain::payload;
+use bench::plain::plans::Plans;
 use bench::plain::types::Sections;
 use nyrkovash as ours;
 use std::rc::Rc;
@@ -77,4 +79,128 @@ pub fn packing((table, number, words): (Vec<u8>, u16, Vec<u64>)) -> Case {
         }),
         bare: None,
     }
+}
+
+type UnpackBy =
+    fn(&Plans, &[u8], &Sections, u16, &[u8], &mut [u64]) -> Result<usize, payload::Refused>;
+type PackBy =
+    fn(&Plans, &[u8], &Sections, u16, &[u64], &mut [u8]) -> Result<usize, payload::Refused>;
+
+/// Both programs' plans of a checked table.
+fn planned(table: &[u8], known: &ours::Sections, sections: &Sections) -> (Vec<u64>, Plans) {
+    let mut length = 0;
+    assert_eq!(ours::plans_length(table, known, &mut length), 0);
+    let mut plans = vec![0; length];
+    assert_eq!(ours::plans(table, known, &mut plans), 0);
+    (plans, Plans::lay(table, sections).unwrap())
+}
+
+/// What the four programs of a shape go by.
+struct Laid {
+    table: Vec<u8>,
+    known: ours::Sections,
+    sections: Sections,
+    plans: Vec<u64>,
+    flat: Plans,
+    number: u16,
+    words: Vec<u64>,
+    bytes: Vec<u8>,
+}
+
+fn laid(shape: &Shape) -> Rc<Laid> {
+    let (table, number, words) = (shape.table(), shape.number(), shape.words.clone());
+    let (known, sections, bytes) = packed(&table, number, &words);
+    let (plans, flat) = planned(&table, &known, &sections);
+    Rc::new(Laid {
+        table,
+        known,
+        sections,
+        plans,
+        flat,
+        number,
+        words,
+        bytes,
+    })
+}
+
+/// A side is the call that it makes, over and over.
+macro_rules! side {
+    ($laid:ident, $out:ident, $call:ident = $function:expr, $made:expr) => {{
+        let ($laid, $out) = (Rc::clone(&$laid), Rc::clone(&$out));
+        Box::new(move |count: usize| {
+            let $call = opaque($function);
+            let mut $out = $out.borrow_mut();
+            for _ in 0..count {
+                assert!($made.is_ok());
+            }
+        }) as Calls
+    }};
+}
+
+pub fn unpackings(shape: &Shape) -> Vec<Calls> {
+    let s = laid(shape);
+    let out = shared(vec![0; s.words.len()]);
+    let mut sides = vec![
+        side!(
+            s,
+            out,
+            _call = (),
+            ours::unpack_in(&s.table, &s.known, s.number, &s.bytes, &mut out)
+        ),
+        side!(
+            s,
+            out,
+            _call = (),
+            ours::unpack_by(&s.table, &s.known, &s.plans, s.number, &s.bytes, &mut out)
+        ),
+        side!(
+            s,
+            out,
+            call = payload::unpack_in as Unpack,
+            call(&s.table, &s.sections, s.number, &s.bytes, &mut out)
+        ),
+    ];
+    if s.flat.has(s.number) {
+        sides.push(side!(
+            s,
+            out,
+            call = Plans::unpack as UnpackBy,
+            call(&s.flat, &s.table, &s.sections, s.number, &s.bytes, &mut out)
+        ));
+    }
+    sides
+}
+
+pub fn packings(shape: &Shape) -> Vec<Calls> {
+    let s = laid(shape);
+    let out = shared(vec![0; s.bytes.len()]);
+    let mut sides = vec![
+        side!(
+            s,
+            out,
+            _call = (),
+            ours::pack_in(&s.table, &s.known, s.number, &s.words, &mut out)
+        ),
+        side!(
+            s,
+            out,
+            _call = (),
+            ours::pack_by(&s.table, &s.known, &s.plans, s.number, &s.words, &mut out)
+        ),
+        side!(
+            s,
+            out,
+            call = payload::pack_in as Pack,
+            call(&s.table, &s.sections, s.number, &s.words, &mut out)
+        ),
+    ];
+    if s.flat.has(s.number) {
+        sides.push(side!(
+            s,
+            out,
+            call = Plans::pack as PackBy,
+            call(&s.flat, &s.table, &s.sections, s.number, &s.words, &mut out)
+        ));
+    }
+    sides
 }

@@ -9,6 +9,7 @@ pub mod operations;
 mod packing;
 pub mod payload;
 pub mod pending;
+pub mod plans;
 pub mod platform;
 pub mod types;
 mod unpacking;

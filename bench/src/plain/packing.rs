@@ -39,6 +39,48 @@ pub fn pack_in(
     Ok(count)
 }
 
+/// Whether words are all values of the base code.
+#[inline(always)]
+pub(super) fn are_good(code: u16, run: &[u64]) -> bool {
+    macro_rules! each {
+        ($code:literal) => {
+            run.iter()
+                .fold(true, |good, word| good & allowed($code, *word))
+        };
+    }
+    match code {
+        0 => each!(0),
+        1 => each!(1),
+        2 => each!(2),
+        3 => each!(3),
+        4 => each!(4),
+        6 | 7 => each!(6),
+        8 => each!(8),
+        9 => each!(9),
+        11 => each!(11),
+        12 => each!(12),
+        _ => true,
+    }
+}
+
+/// Their bytes.
+#[inline(always)]
+pub(super) fn store(code: u16, run: &[u64], out: &mut [u8]) {
+    macro_rules! each {
+        ($width:literal, $number:ty) => {
+            for (out, word) in out.chunks_exact_mut($width).zip(run) {
+                out.copy_from_slice(&(*word as $number).to_be_bytes());
+            }
+        };
+    }
+    match width(code) {
+        1 => each!(1, u8),
+        2 => each!(2, u16),
+        4 => each!(4, u32),
+        _ => each!(8, u64),
+    }
+}
+
 /// The first walk of packing. Where it refuses, it stands before the word that it refuses.
 struct Weigh<'a> {
     table: Table<'a>,
@@ -107,27 +149,11 @@ impl Weigh<'_> {
 
     fn leaves(&mut self, e: &Entry, count: usize) -> Result<(), u32> {
         let (run, rest) = self.rest.split_at(count.min(self.rest.len()));
-        macro_rules! each {
-            ($code:literal) => {
-                run.iter()
-                    .fold(true, |good, word| good & allowed($code, *word))
-            };
-        }
-        let good = match (e.kind, e.of) {
-            (ENUM, code) => run
+        let good = match e.kind {
+            ENUM => run
                 .iter()
-                .all(|word| allowed(code, *word) && self.table.has_value(e, *word)),
-            (_, 0) => each!(0),
-            (_, 1) => each!(1),
-            (_, 2) => each!(2),
-            (_, 3) => each!(3),
-            (_, 4) => each!(4),
-            (_, 6 | 7) => each!(6),
-            (_, 8) => each!(8),
-            (_, 9) => each!(9),
-            (_, 11) => each!(11),
-            (_, 12) => each!(12),
-            _ => true,
+                .all(|word| allowed(e.of, *word) && self.table.has_value(e, *word)),
+            _ => are_good(e.of, run),
         };
         if !good {
             // Which of them it is, one by one.
@@ -211,18 +237,6 @@ impl Lay<'_, '_> {
         self.rest = rest;
         let (out, left) = std::mem::take(&mut self.out).split_at_mut(count * width);
         self.out = left;
-        macro_rules! each {
-            ($width:literal, $number:ty) => {
-                for (out, word) in out.chunks_exact_mut($width).zip(run) {
-                    out.copy_from_slice(&(*word as $number).to_be_bytes());
-                }
-            };
-        }
-        match width {
-            1 => each!(1, u8),
-            2 => each!(2, u16),
-            4 => each!(4, u32),
-            _ => each!(8, u64),
-        }
+        store(code, run, out);
     }
 }

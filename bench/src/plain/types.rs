@@ -140,7 +140,7 @@ impl<'a> Table<'a> {
         &self.members[2 * first..2 * (first + usize::from(e.count))]
     }
 
-    fn values(&self, e: &Entry) -> impl Iterator<Item = u64> + Clone + 'a {
+    pub fn values(&self, e: &Entry) -> impl Iterator<Item = u64> + Clone + 'a {
         let first = usize::from(e.first);
         self.values[8 * first..8 * (first + usize::from(e.count))]
             .chunks_exact(8)

@@ -43,7 +43,7 @@ pub fn unpack_in(
 
 /// The word of a leaf's bytes.
 #[inline(always)]
-fn word(code: u16, bytes: &[u8]) -> u64 {
+pub(super) fn word(code: u16, bytes: &[u8]) -> u64 {
     match code {
         0 => u64::from(bytes[0] != 0),
         1 => bytes[0] as i8 as u64,
@@ -53,6 +53,43 @@ fn word(code: u16, bytes: &[u8]) -> u64 {
         8 => u64::from(be16(bytes, 0)),
         9 | 11 => u64::from(be32(bytes, 0)),
         _ => be64(bytes, 0),
+    }
+}
+
+/// Whether the words of leaves of one base code, all whole, are allowed.
+#[inline(always)]
+pub(super) fn are_good(code: u16, run: &[u8]) -> bool {
+    match code {
+        2 => run.is_ascii(),
+        11 => run.chunks_exact(4).fold(true, |good, leaf| {
+            good & allowed(11, u64::from(be32(leaf, 0)))
+        }),
+        12 => run
+            .chunks_exact(8)
+            .fold(true, |good, leaf| good & allowed(12, be64(leaf, 0))),
+        _ => true,
+    }
+}
+
+/// Their words: a loop for each form, so that each can be vectorised.
+#[inline(always)]
+pub(super) fn store(code: u16, run: &[u8], out: &mut [u64]) {
+    macro_rules! each {
+        ($width:literal, $word:expr) => {
+            for (out, leaf) in out.iter_mut().zip(run.chunks_exact($width)) {
+                *out = $word(leaf);
+            }
+        };
+    }
+    match code {
+        0 => each!(1, |leaf: &[u8]| u64::from(leaf[0] != 0)),
+        1 => each!(1, |leaf: &[u8]| leaf[0] as i8 as u64),
+        2 | 6 | 7 => each!(1, |leaf: &[u8]| u64::from(leaf[0])),
+        3 => each!(2, |leaf: &[u8]| be16(leaf, 0) as i16 as u64),
+        4 => each!(4, |leaf: &[u8]| be32(leaf, 0) as i32 as u64),
+        8 => each!(2, |leaf: &[u8]| u64::from(be16(leaf, 0))),
+        9 | 11 => each!(4, |leaf: &[u8]| u64::from(be32(leaf, 0))),
+        _ => each!(8, |leaf: &[u8]| be64(leaf, 0)),
     }
 }
 
@@ -139,18 +176,11 @@ impl Judge<'_> {
         let width = width(e.of);
         let whole = count.min(self.rest.len() / width);
         let (run, rest) = self.rest.split_at(whole * width);
-        let good = match (e.kind, e.of) {
-            (ENUM, code) => run
+        let good = match e.kind {
+            ENUM => run
                 .chunks_exact(width)
-                .all(|leaf| self.table.has_value(e, word(code, leaf))),
-            (_, 2) => run.is_ascii(),
-            (_, 11) => run.chunks_exact(4).fold(true, |good, leaf| {
-                good & allowed(11, u64::from(be32(leaf, 0)))
-            }),
-            (_, 12) => run
-                .chunks_exact(8)
-                .fold(true, |good, leaf| good & allowed(12, be64(leaf, 0))),
-            _ => true,
+                .all(|leaf| self.table.has_value(e, word(e.of, leaf))),
+            _ => are_good(e.of, run),
         };
         if !good {
             // Which of them it is, one by one.
@@ -231,24 +261,6 @@ impl Store<'_, '_> {
         let width = width(code);
         let (run, rest) = self.rest.split_at(count * width);
         self.rest = rest;
-        let out = self.next(count);
-        // A loop for each form, so that each can be vectorised.
-        macro_rules! each {
-            ($width:literal, $word:expr) => {
-                for (out, leaf) in out.iter_mut().zip(run.chunks_exact($width)) {
-                    *out = $word(leaf);
-                }
-            };
-        }
-        match code {
-            0 => each!(1, |leaf: &[u8]| u64::from(leaf[0] != 0)),
-            1 => each!(1, |leaf: &[u8]| leaf[0] as i8 as u64),
-            2 | 6 | 7 => each!(1, |leaf: &[u8]| u64::from(leaf[0])),
-            3 => each!(2, |leaf: &[u8]| be16(leaf, 0) as i16 as u64),
-            4 => each!(4, |leaf: &[u8]| be32(leaf, 0) as i32 as u64),
-            8 => each!(2, |leaf: &[u8]| u64::from(be16(leaf, 0))),
-            9 | 11 => each!(4, |leaf: &[u8]| u64::from(be32(leaf, 0))),
-            _ => each!(8, |leaf: &[u8]| be64(leaf, 0)),
-        }
+        store(code, run, self.next(count));
     }
 }

@@ -98,6 +98,45 @@ extern "C" {
         output_length: usize,
         walked: *mut Walked,
     ) -> u32;
+    pub fn nyr_plans_length(
+        table: *const u8,
+        table_length: usize,
+        sections: *const Sections,
+        words: *mut usize,
+    ) -> u32;
+    pub fn nyr_plans(
+        table: *const u8,
+        table_length: usize,
+        sections: *const Sections,
+        plans: *mut u64,
+        plans_length: usize,
+    ) -> u32;
+    pub fn nyr_unpack_by(
+        table: *const u8,
+        table_length: usize,
+        sections: *const Sections,
+        plans: *const u64,
+        plans_length: usize,
+        type_number: u16,
+        payload: *const u8,
+        payload_length: usize,
+        words: *mut u64,
+        words_length: usize,
+        walked: *mut Walked,
+    ) -> u32;
+    pub fn nyr_pack_by(
+        table: *const u8,
+        table_length: usize,
+        sections: *const Sections,
+        plans: *const u64,
+        plans_length: usize,
+        type_number: u16,
+        words: *const u64,
+        words_length: usize,
+        output: *mut u8,
+        output_length: usize,
+        walked: *mut Walked,
+    ) -> u32;
     pub fn nyr_start(own: u8, platform: *mut Platform) -> u32;
     pub fn nyr_receive(
         own: u8,

@@ -7,12 +7,16 @@
 pub mod c;
 mod calls;
 mod names;
+mod plans;
+mod platforms;
 mod refused;
 mod requests;
 mod structs;
 
 pub use calls::*;
 pub use names::*;
+pub use plans::*;
+pub use platforms::*;
 pub use refused::*;
 pub use requests::*;
 pub use structs::*;

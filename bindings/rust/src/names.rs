@@ -1,7 +1,7 @@
 //! The names of `include/nyrkovash.h`, without their `NYR_`; what each means stands there.
 
-pub const LIBRARY_VERSION: u32 = 40_000;
-pub const LIBRARY_VERSION_TEXT: &str = "4.0.0";
+pub const LIBRARY_VERSION: u32 = 40_100;
+pub const LIBRARY_VERSION_TEXT: &str = "4.1.0";
 
 // The numbers that refuse.
 pub const OK: u32 = 0;
@@ -48,6 +48,7 @@ pub const LARGEST_MESSAGE: usize = 65_560;
 pub const REPLY_BYTES: usize = 24;
 pub const REPLIES_BYTES: usize = 48;
 pub const MOST_PENDING: usize = 64;
+pub const PLANS_WORDS: usize = 131_329;
 
 // `Taken::outcome`.
 pub const REPEATED: u64 = 1;

@@ -1,3 +1,4 @@
 pub mod Limits
 pub mod Leaves
+pub mod Counted
 pub mod Returns

@@ -6,14 +6,14 @@ use mathlib.Core.Bool.{Bool, true, false, _&&_, not, cond}
 use mathlib.Core.List.{List, [], _∷_}
 use native.Mathlib.Nat.{mod-eq-of-lt}
 use native.Mathlib.Omega.{arith}
-use borrow.Author.Tests.{eq-eqb, ne-eqb, leb-true}
+use borrow.Author.Tests.{eq-eqb, ne-eqb, leb-true, lt-ltb}
 use mir.Syntax.{w64}
 use mir.Val.{Fits}
 use lib.Dec.{ltb, leb, eqb}
 use lib.ListN.{length, take, drop}
 use Rattle.wire.specs.Bytes.{span, number, whole, bytes, written, Octets}
 use Rattle.wire.specs.LowFirst.{swapped}
-use Rattle.wire.proofs.Cond.{yes-lt, no-lt, yes-eq, no-eq}
+use Rattle.wire.proofs.Cond.{yes-lt, no-lt, yes-eq, no-eq, yes-if, no-if}
 use Rattle.wire.proofs.Numbers.{number-lt, read-in}
 use Rattle.wire.proofs.Runs.{over-none}
 use Rattle.wire.proofs.Swaps.{swapped-twice, swapped-eqb}
@@ -83,16 +83,28 @@ module _ (t : List ℕ) (p w : ℕ) where
   unfolding amongAt
   missed n h = ap not h
 
+  -- what a value adds to the number of those that are the word
+  pub no-hit : (k : ℕ) (r : Bool) → r ≡ otherAt t p w k → r ≡ true → _≡_ {A = ℕ} 0 (cond (otherAt t p w k) 0 1)
+  no-hit k r e h = sym (yes-if 0 1 (sym e ∙ h))
+
+  pub one-hit : (k : ℕ) (r : Bool) → r ≡ otherAt t p w k → r ≡ false → _≡_ {A = ℕ} 1 (cond (otherAt t p w k) 0 1)
+  one-hit k r e h = sym (no-if 0 1 (sym e ∙ h))
+
   -- and so of a word that was turned
   module _ {x : ℕ} (e : x ≡ swapped 3 w) (l : w < span 3) where
     back : swapped 3 x ≡ w
     back = ap (swapped 3) e ∙ swapped-twice 3 w l
 
-    pub hit-turned : (n : ℕ) → false ≡ allBelow (otherAt t p (swapped 3 x)) n → true ≡ amongAt t p n w
-    hit-turned n h = hit n (h ∙ ap (λ (v : ℕ). allBelow (otherAt t p v) n) back)
+    -- where one of the values was counted the word is among them
+    pub counted-turned : (n k hits : ℕ) → eqb hits 0 ≡ allBelow (otherAt t p (swapped 3 x)) k → k ≤ n → n ≤ k → ltb 0 hits ≡ amongAt t p n w
+    counted-turned n k hits h a b = go hits h
+      where
+        same : allBelow (otherAt t p (swapped 3 x)) k ≡ allBelow (otherAt t p w) n
+        same = ap (allBelow (otherAt t p (swapped 3 x))) (omega arith) ∙ ap (λ (v : ℕ). allBelow (otherAt t p v) n) back
 
-    pub missed-turned : (n : ℕ) → true ≡ allBelow (otherAt t p (swapped 3 x)) n → false ≡ amongAt t p n w
-    missed-turned n h = missed n (h ∙ ap (λ (v : ℕ). allBelow (otherAt t p v) n) back)
+        go : (m : ℕ) → eqb m 0 ≡ allBelow (otherAt t p (swapped 3 x)) k → ltb 0 m ≡ amongAt t p n w
+        go zero g = missed n (g ∙ same)
+        go (suc m) g = lt-ltb 0 (suc m) (omega arith) ∙ hit n (sym (ne-eqb (suc m) 0 (λ (z : suc m ≡ 0). omega arith)) ∙ g ∙ same)
 
 pub values-there : {r : Bool} (n m : ℕ) → r ≡ leb n m → r ≡ true → n ≤ m
 values-there n m e t = leb-true n m (sym e ∙ t)

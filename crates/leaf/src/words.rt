@@ -3,6 +3,7 @@
 use table::Entry;
 use table::Sections;
 ghost use mathlib.Core.Path.{_≡_};
+ghost use mathlib.Core.Bool.{cond};
 ghost use Prim.Native.Nat.{_+_, _-_, _*_, _^_, _≤_, _<_};
 ghost use lib.ListN.{length};
 ghost use Rattle.wire.specs.Bytes.{written};
@@ -102,21 +103,32 @@ fn among(table: &[u8], s: Sections, e: Entry, word: u64) -> bool
     )
 }
 
-// The word's bytes are turned once, so that no value's are.
+// The word's bytes are turned once, so that no value's are. The values that are the word are counted, and not left at the first, so
+// that the compiler compares several at once.
 fn among_whole(table: &[u8], at: usize, count: usize, word: u64) -> bool
     requires { ⌜ at + 8 * count ≤ length (now table) ⌝ }
     ensures { λ r. ⌜ r ≡ amongAt (now (table .entry)) at count word ⌝ }
 {
     let turned = wire::swap64(word);
+    let mut hits: u64 = 0;
     let mut k: usize = 0;
     while k < count {
-        if other_whole(table, at, turned, k) {
-            k += 1;
-        } else {
-            return true;
-        }
+        hits += hit_whole(table, at, turned, k);
+        k += 1;
     }
-    false
+    0 < hits
+}
+
+// 1 where the word that is turned is the k-th value.
+fn hit_whole(table: &[u8], at: usize, turned: u64, k: usize) -> u64
+    requires { ⌜ at + 8 * k + 8 ≤ length (now table) ⌝ }
+    ensures { λ r. ⌜ (r ≤ 1) × (r ≡ cond (otherAt (now (table .entry)) at (swapped 3 turned) k) 0 1) ⌝ }
+{
+    if other_whole(table, at, turned, k) {
+        0
+    } else {
+        1
+    }
 }
 
 // Whether the word that is turned is not the k-th value. In a part of just its length the compiler sees that it is there.

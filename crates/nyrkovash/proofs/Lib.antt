@@ -1,3 +1,4 @@
 pub mod Words
 mod Calling
 mod Giving
+mod ByPlans

@@ -2,4 +2,5 @@ pub mod PieceCalls
 pub mod MessageCalls
 pub mod TableCalls
 pub mod PayloadCalls
+pub mod PlanCalls
 pub mod Releases

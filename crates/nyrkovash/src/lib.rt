@@ -1,10 +1,11 @@
 // The library as programs in C, C++, Ada and Rust link it (include/nyrkovash.h): a slice is a pointer and a length, and what has a
 // fixed size an array behind a reference. A call answers 0 or 01's number, but for the two that ask states and the one that asks
-// which library this is; where it is refused all that was lent is as it was.
+// which library this is; where it is refused all that was lent is as it was, but for the place that 40 to 43 leave.
 mod asking;
 mod joining;
 mod messages;
 mod payloads;
+mod plans;
 mod platforms;
 mod reading;
 mod tables;
@@ -22,6 +23,10 @@ pub use payloads::nyr_pack;
 pub use payloads::nyr_pack_in;
 pub use payloads::nyr_unpack;
 pub use payloads::nyr_unpack_in;
+pub use plans::nyr_pack_by;
+pub use plans::nyr_plans;
+pub use plans::nyr_plans_length;
+pub use plans::nyr_unpack_by;
 pub use platforms::nyr_how_many_up;
 pub use platforms::nyr_is_up;
 pub use platforms::nyr_receive;

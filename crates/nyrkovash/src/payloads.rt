@@ -87,7 +87,7 @@ pub extern "C" fn nyr_pack_in(
     told(answer, walked)
 }
 
-fn told(answer: Answer, walked: &mut [u64; WALKED_WORDS]) -> u32
+pub(crate) fn told(answer: Answer, walked: &mut [u64; WALKED_WORDS]) -> u32
     ensures { λ r. ⌜ r ≡ numberGiven answer ⌝ }
     ensures { λ _. ⌜ now (walked .exit) ≡ walkedLeft (now (walked .entry)) answer ⌝ }
 {

@@ -19,13 +19,13 @@ use Rattle.plan.proofs.Betweens.{length-between, word-before, over-betw
 use Rattle.plan.proofs.RunCounts.{many-append, many-one, add-alike, add-unlike, add-all-one}
 use Rattle.plan.proofs.RunCounts.{length-add, add-longer, length-add-all, many-add-all}
 
-pub enum-run : (s : Sections) (e : Entry) (r : ℕ) → e .kind ≡ 1 → r ≡ runWord (e .of) 1 (e .count) (s .values .at + 8 * e .first) → r ≡ leafRun s e
+pub enum-run : (s : Sections) (e : Entry) (r : ℕ) → e .kind ≡ 1 → r ≡ runWord (e .of) (e .count) (s .values .at + 8 * e .first) → r ≡ leafRun s e
 unfolding leafRun
-enum-run s e r k h = h ∙ ap (runWord (e .of) 1 (e .count)) (sym (yes-eq _ 0 (e .kind) 1 k))
+enum-run s e r k h = h ∙ ap (runWord (e .of) (e .count)) (sym (yes-eq _ 0 (e .kind) 1 k))
 
-pub base-run : (s : Sections) (e : Entry) (r : ℕ) → (e .kind ≡ 1 → ⊥) → r ≡ runWord (e .of) 1 (e .count) 0 → r ≡ leafRun s e
+pub base-run : (s : Sections) (e : Entry) (r : ℕ) → (e .kind ≡ 1 → ⊥) → r ≡ runWord (e .of) (e .count) 0 → r ≡ leafRun s e
 unfolding leafRun
-base-run s e r k h = h ∙ ap (runWord (e .of) 1 (e .count)) (sym (no-eq _ 0 (e .kind) 1 k))
+base-run s e r k h = h ∙ ap (runWord (e .of) (e .count)) (sym (no-eq _ 0 (e .kind) 1 k))
 
 -- a run behind those from a place on
 module _ (l : List ℕ) (from end run : ℕ) (room : Room l from end 1 (manyIn run)) where

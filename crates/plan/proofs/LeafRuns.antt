@@ -24,20 +24,20 @@ use Rattle.plan.proofs.FlatWalk.{item-equal, inTurn}
 use Rattle.plan.proofs.WhatIsMet.{LeafOk}
 use Rattle.plan.proofs.Spread.{spread, spread-walk}
 
-module _ (code many values place : ℕ) (a : code < 256) (b : many < 65536) (d : values < 65536) where
-  pub code-of : codeIn (runWord code many values place) ≡ code
+module _ (code values place : ℕ) (a : code < 256) (b : values < 65536) where
+  pub code-of : codeIn (runWord code values place) ≡ code
   unfolding runWord
   code-of = omega arith
 
-  pub many-of : manyIn (runWord code many values place) ≡ many
+  pub many-of : manyIn (runWord code values place) ≡ 1
   unfolding runWord
   many-of = omega arith
 
-  pub values-of : valuesIn (runWord code many values place) ≡ values
+  pub values-of : valuesIn (runWord code values place) ≡ values
   unfolding runWord
   values-of = omega arith
 
-  pub place-of : placeIn (runWord code many values place) ≡ place
+  pub place-of : placeIn (runWord code values place) ≡ place
   unfolding runWord
   place-of = omega arith
 
@@ -65,19 +65,19 @@ module _ (t : List ℕ) (s : Sections) (e : Entry) (few : s .values .count < 655
 
   leaf-code : codeIn (leafRun s e) ≡ e .of
   unfolding leafRun
-  leaf-code = code-of (e .of) 1 (e .count) valuesAt (ok .code) (omega arith) values-few
+  leaf-code = code-of (e .of) (e .count) valuesAt (ok .code) values-few
 
   pub leaf-many : manyIn (leafRun s e) ≡ 1
   unfolding leafRun
-  leaf-many = many-of (e .of) 1 (e .count) valuesAt (ok .code) (omega arith) values-few
+  leaf-many = many-of (e .of) (e .count) valuesAt (ok .code) values-few
 
   leaf-values : valuesIn (leafRun s e) ≡ e .count
   unfolding leafRun
-  leaf-values = values-of (e .of) 1 (e .count) valuesAt (ok .code) (omega arith) values-few
+  leaf-values = values-of (e .of) (e .count) valuesAt (ok .code) values-few
 
   leaf-place : placeIn (leafRun s e) ≡ valuesAt
   unfolding leafRun
-  leaf-place = place-of (e .of) 1 (e .count) valuesAt (ok .code) (omega arith) values-few
+  leaf-place = place-of (e .of) (e .count) valuesAt (ok .code) values-few
 
   chosen : (v : ℕ) → cond (eqb (e .count) 0) true (amongAt t valuesAt (e .count) v) ≡ choice t s e v
   unfolding choice

@@ -19,7 +19,7 @@ use Rattle.plan.proofs.FlatWalk.{next-both, through-first, item-equal, 
 
 -- a single leaf of a run, the leaves of a run, and those of runs one behind another
 unfoldable pub single : ℕ → ℕ
-single w = w % 256 + 256 + 16777216 * (w / 16777216)
+single w = w % 256 + 16777216 * (w / 16777216)
 
 abbrev leavesOf : ℕ → List ℕ
 leavesOf w = replicate (manyIn w) (single w)
@@ -34,7 +34,7 @@ single-code w = omega arith
 
 pub single-values : (w : ℕ) → valuesIn (single w) ≡ valuesIn w
 unfolding single
-single-values w = let q : (w % 256 + 256 + 16777216 * (w / 16777216)) / 16777216 ≡ w / 16777216 = omega arith in ap (λ (n : ℕ). n % 65536) q
+single-values w = let q : (w % 256 + 16777216 * (w / 16777216)) / 16777216 ≡ w / 16777216 = omega arith in ap (λ (n : ℕ). n % 65536) q
 
 pub single-place : (w : ℕ) → placeIn (single w) ≡ placeIn w
 unfolding single
@@ -83,8 +83,8 @@ merged-many a b h = omega arith
 merged-single : (a b : ℕ) → manyIn a + manyIn b < 65536 → single (merged a b) ≡ single a
 unfolding merged single
 merged-single a b h =
-    let q : (a + 256 * (b / 256 % 65536)) / 16777216 ≡ a / 16777216 = omega arith in
-    let r : (a + 256 * (b / 256 % 65536)) % 256 ≡ a % 256 = omega arith in
+    let q : (a + 256 * (1 + b / 256 % 65536)) / 16777216 ≡ a / 16777216 = omega arith in
+    let r : (a + 256 * (1 + b / 256 % 65536)) % 256 ≡ a % 256 = omega arith in
     rw (q, r) refl
 
 alike-single : (a b : ℕ) → alike a b ≡ true → single b ≡ single a

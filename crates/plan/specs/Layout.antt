@@ -19,12 +19,12 @@ use Rattle.plan.specs.declared.Length.{Length}
 use Rattle.plan.specs.declared.Length.the-variants.{Refused, Words}
 use Rattle.plan.specs.Leaves.{sumBelow, leaves}
 
--- a run, and that of one leaf by its entry
-unfoldable pub runWord : ℕ → ℕ → ℕ → ℕ → ℕ
-runWord code many values place = code + 256 * many + 16777216 * values + 1099511627776 * place
+-- a run of one leaf, and that of a leaf's entry
+unfoldable pub runWord : ℕ → ℕ → ℕ → ℕ
+runWord code values place = code + 16777216 * values + 1099511627776 * place
 
 unfoldable pub leafRun : Sections → Entry → ℕ
-leafRun s e = runWord (e .of) 1 (e .count) (cond (eqb (e .kind) enumKind) (valuePlace s (e .first)) 0)
+leafRun s e = runWord (e .of) (e .count) (cond (eqb (e .kind) enumKind) (valuePlace s (e .first)) 0)
 
 -- two runs of equal leaves, and both as one
 unfoldable pub alike : ℕ → ℕ → Bool

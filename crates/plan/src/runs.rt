@@ -37,9 +37,9 @@ fn leaf_run(s: Sections, e: Entry) -> u64
 
 fn run_word(code: u16, values: u16, place: u64) -> u64
     requires { ⌜ place < 16777216 ⌝ }
-    ensures { λ r. ⌜ r ≡ runWord code 1 values place ⌝ }
+    ensures { λ r. ⌜ r ≡ runWord code values place ⌝ }
 {
-    code as u64 + BYTE + VALUES * (values as u64) + PLACE * place
+    code as u64 + VALUES * (values as u64) + PLACE * place
 }
 
 fn alike(a: u64, b: u64) -> bool
@@ -52,7 +52,7 @@ fn merged(a: u64, b: u64) -> u64
     requires { ⌜ manyIn a + manyIn b < 65536 ⌝ }
     ensures { λ r. ⌜ r ≡ merged a b ⌝ }
 {
-    a + BYTE * (b / BYTE % HALF)
+    a + BYTE * (1 + b / BYTE % HALF)
 }
 
 // A run behind those from a place on to their end, or as more of the last of these; where they end then.

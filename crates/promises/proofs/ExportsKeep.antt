@@ -31,6 +31,7 @@ use Rattle.message.specs.declared.Reading.the-variants as reading
 use Rattle.message.specs.Writing.{writeOf, numberGiven as writeNumber}
 use Rattle.message.specs.declared.Writing.{Writing}
 use Rattle.message.specs.declared.Writing.the-variants as writing
+use Rattle.table.specs.declared.Sections.{Sections}
 use Rattle.table.specs.Layout.{cutShort, within}
 use Rattle.table.specs.Checked.{numberGiven as checkNumber}
 use Rattle.table.specs.declared.Checked.{Checked}
@@ -43,6 +44,12 @@ use Rattle.payload.specs.declared.Answer.{Answer}
 use Rattle.payload.specs.declared.Answer.the-variants as answer
 use Rattle.payload.specs.Calls.{unpacked, unpackedIn, packed, packedIn}
 use Rattle.payload.specs.Calls as payload
+use Rattle.payload.specs.ByPlans.{answeredBy}
+use Rattle.walk.specs.Walk.{Codec}
+use Rattle.plan.specs.declared.Length.{Length}
+use Rattle.plan.specs.declared.Length.the-variants as plan
+use Rattle.plan.specs.Length.{numberGiven as lengthNumber}
+use Rattle.plan.specs.Layout.{lengthIn}
 use Rattle.platform.specs.declared.Noting.{Noting}
 use Rattle.platform.specs.declared.Noting.the-variants as noting
 use Rattle.platform.specs.Receiving.{receivedOf, sectionsOutcome}
@@ -56,12 +63,14 @@ use Rattle.nyrkovash.specs.PieceCalls.{countLeft, madeLeft}
 use Rattle.nyrkovash.specs.MessageCalls.{readLeft, writeLeft}
 use Rattle.nyrkovash.specs.TableCalls.{sectionsLeft, foundWords}
 use Rattle.nyrkovash.specs.PayloadCalls.{walkedLeft}
+use Rattle.nyrkovash.specs.PlanCalls.{lengthLeft}
 use Rattle.promises.specs.Checks.{Keeps, Outside}
 use Rattle.promises.specs.Demand1.{ChangesNothing}
 use Rattle.promises.specs.ExportsKeep.{WordsKept, ExportsKeep}
 use Rattle.promises.proofs.Checks.{not-outside}
-use Rattle.promises.proofs.Numbered.{Numbered, in-numbered, bytes-numbered}
+use Rattle.promises.proofs.Numbered.{Numbered, in-numbered, by-numbered, bytes-numbered}
 use Rattle.promises.proofs.Demand1.{demand-1}
+use Rattle.promises.proofs.Plans.{the-plans}
 
 -- what was lent for an answer
 count-keeps : (was : ℕ) (x : Counted) → Keeps (countNumber x) was (countLeft was x)
@@ -94,6 +103,11 @@ walked-keeps was (answer.Gave n) h = record { given = λ k. absurd (k refl); spo
 found-keeps : (b : Bool) (was x : List ℕ) → Keeps (cond b 0 cutShort) was (cond b x was)
 found-keeps true was x k = absurd (k refl)
 found-keeps false was x k = refl
+
+-- plans
+length-keeps : (was : ℕ) (x : Length) → Keeps (lengthNumber x) was (lengthLeft was x)
+length-keeps was (plan.Refused n) k = refl
+length-keeps was (plan.Words n) k = absurd (k refl)
 
 -- joining
 accepted-keeps : (was : List ℕ) (x : Verdict) (j : Joiner) → Keeps (verdictNumber x) was (acceptedWords x j was)
@@ -154,6 +168,10 @@ by-walked : {n : ℕ} {was left : List ℕ} (x : Answer) → n ≡ payload.numbe
     → WordsKept n was left
 by-walked {n} {was} {left} x e f h = rw (e, f) (walked-keeps was x h)
 
+by-plans : {n : ℕ} {was left : List ℕ} (c : Codec) (m : ℕ) (ps t : List ℕ) (s : Sections) (i room : ℕ)
+    → n ≡ payload.numberGiven (answeredBy c m ps t s i room) → left ≡ walkedLeft was (answeredBy c m ps t s i room) → WordsKept n was left
+by-plans c m ps t s i room e f = by-walked (answeredBy c m ps t s i room) e f (by-numbered c m t ps s i room)
+
 kept : ChangesNothing
 kept = demand-1 .changes-nothing
 
@@ -207,6 +225,16 @@ exports-keep =
           let ws = now (a .1 .1 .1 .0) in
           let room = length (now (a .1 .1 .1 .1 .0)) in
           by-walked (packedIn t s (a .1 .1 .0) ws room) (p .0) (p .1 .1) (in-numbered (writer ws) (length ws) t s (a .1 .1 .0) room);
+      plans-length = λ k a n e p. by (p .0) (p .1) (length-keeps _ (lengthIn (now (a .0)) (sectionsIn (now (a .1 .0)))));
+      plans = λ k a n e p. by (p .0) (p .1) (the-plans .lays-out (now (a .0)) (sectionsIn (now (a .1 .0))) .stays (now (a .1 .1 .0)));
+      unpack-by-words = λ k a n e p.
+          let any = the-plans .by-any (now (a .1 .1 .0)) (now (a .0)) (sectionsIn (now (a .1 .0))) (a .1 .1 .1 .0) in
+          by (p .0) (p .1 .0) (any .words-stay (now (a .1 .1 .1 .1 .0)) (now (a .1 .1 .1 .1 .1 .0)));
+      unpack-by-walked = λ k a n e p. let b = now (a .1 .1 .1 .1 .0) in by-plans (reader b) (length b) _ _ _ _ _ (p .0) (p .1 .1);
+      pack-by-out = λ k a n e p.
+          let any = the-plans .by-any (now (a .1 .1 .0)) (now (a .0)) (sectionsIn (now (a .1 .0))) (a .1 .1 .1 .0) in
+          by (p .0) (p .1 .0) (any .bytes-stay (now (a .1 .1 .1 .1 .0)) (now (a .1 .1 .1 .1 .1 .0)));
+      pack-by-walked = λ k a n e p. let ws = now (a .1 .1 .1 .1 .0) in by-plans (writer ws) (length ws) _ _ _ _ _ (p .0) (p .1 .1);
       receive-platform = λ k a n e p. by (p .0) (p .1 .0)
           (receive-keeps (a .0) (now (a .1 .0)) (now (a .1 .1 .0)) (now (a .1 .1 .1 .0)) (now (a .1 .1 .1 .1 .0)));
       receive-out = λ k a n e p.

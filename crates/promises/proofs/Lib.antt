@@ -66,6 +66,8 @@ pub mod InNumbers
 pub mod WrongCalls
 mod Numbered
 pub mod LinkedPayloads
+mod PlanOutcomes
+pub mod LinkedPlans
 pub mod LinkedPieces
 pub mod LinkedMessages
 pub mod LinkedReplies

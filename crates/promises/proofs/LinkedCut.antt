@@ -127,7 +127,7 @@ cut-then-taken ids R rooms k msg s first g was n count p cuts r = (count-number 
     )
 
 -- a run of cuts
-abbrev lent : {X : Type 0} → X → RefT X
+abbrev pub lent : {X : Type 0} → X → RefT X
 lent x = record { ptr = (0, 0); name = 0; now = x }
 
 counts : (m s was : ℕ) → Counts (record { total = m; size = s; given = was }) (piecesNumber m s) (piecesGiven m s was)

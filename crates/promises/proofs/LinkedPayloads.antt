@@ -59,7 +59,7 @@ zero-is-given n walked k e = go (eqb n 0) refl (leb 40 n && leb n 43) e
     go false f true g = let z : _≡_ {A = ℕ} 0 1 = cc in absurd (omega arith)
     go false f false g = let z : _≡_ {A = ℕ} 0 1 = cc in absurd (omega arith)
 
-gave-given : (n : ℕ) (walked : List ℕ) → n ≡ 0 → givenBack n walked ≡ Gave (given walked)
+pub gave-given : (n : ℕ) (walked : List ℕ) → n ≡ 0 → givenBack n walked ≡ Gave (given walked)
 gave-given n walked z = ap (λ (x : ℕ). givenBack x walked) z
 
 pack-numbered : (t : List ℕ) (i : ℕ) (ws : List ℕ) (room : ℕ) → Numbered (packed t i ws room)
@@ -91,7 +91,7 @@ sections-back t s ss index e f =
 -- what a contract says of number and words, told
 module _ {n : ℕ} {walked : List ℕ} {b : Answer} (a : Answer) (was : List ℕ) (same : b ≡ a) (sound : Numbered a) (e : n ≡ numberGiven b)
     (f : walked ≡ walkedLeft was b) where
-  as-told : givenBack n walked ≡ a
+  pub as-told : givenBack n walked ≡ a
   as-told = ap₂ givenBack (e ∙ ap numberGiven same) (f ∙ ap (walkedLeft was) same) ∙ told a was sound
 
 check-zero : (was : List ℕ) (x : Checked) → TableNumbered x → checkNumber x ≡ 0 → (s : Sections) × (x ≡ check.Table s)

@@ -19,10 +19,12 @@ use Rattle.table.specs.Leaf.{allowed}
 use Rattle.types.specs.Table.{checked}
 use Rattle.walk.specs.declared.Place.{Place}
 use Rattle.walk.specs.Tree.{Tree, leaf, row, array, broken, tree}
-use Rattle.walk.specs.Walk.{Step, on, stop, answer, next as goOn, through, Codec, item, counted, countCode, walk, typeWalk, start}
+use Rattle.walk.specs.Walk.{Step, on, stop, answer, next as goOn, through, Codec, item, counted, countCode, walk, start}
 use Rattle.payload.specs.declared.Answer.{Answer}
 use Rattle.payload.specs.declared.Answer.the-variants.{Refused, Stopped, Gave}
-use Rattle.payload.specs.Calls.{spot, stoppedAt, wentTo, answered, answeredType, answeredIn, answeredIf}
+use Rattle.walk.specs.Planned.{isPlanned, planTree, typeBy}
+use Rattle.payload.specs.Calls.{spot, stoppedAt, wentTo, answered, answeredTree, answeredType, answeredIn, answeredIf}
+use Rattle.payload.specs.ByPlans.{answeredOn, answeredBy}
 use Rattle.promises.specs.Checks.{Check, Answers, Outside, none, this, next, below, above}
 use Rattle.promises.specs.TableOrder.{tableChecks}
 use Rattle.promises.proofs.TableOrder.{table-in-order}
@@ -112,14 +114,25 @@ module _ (c : Codec) (n : ℕ) (t : List ℕ) where
       go true e = (omega (arith, eqb-true k 32 e), below (omega (arith, eqb-true k 32 e)))
       go false e = h (eqb-false k 32 e)
 
-  pub in-numbered : (s : Sections) (i room : ℕ) → Numbered (answeredIn c n t s i room)
-  unfolding answeredIn answeredType typeWalk
-  in-numbered s i room = go (within t s) (isType s i)
+  on-numbered : (s : Sections) (i : ℕ) (tr : Tree) (room : ℕ) → Numbered (answeredOn c n t s i tr room)
+  on-numbered s i tr room = go (within t s) (isType s i)
     where
-      go : (a b : Bool) → Numbered (cond a (cond b (answeredType c n t s i room) (Refused 44)) (Refused 30))
-      go true true = step-numbered room (walk c (tree t s i) start []) (walk-numbered c (tree t s i) start [])
+      go : (a b : Bool) → Numbered (cond a (cond b (answeredTree c n tr room) (Refused 44)) (Refused 30))
+      go true true = step-numbered room (walk c tr start []) (walk-numbered c tr start [])
       go true false = (omega arith, above (omega arith))
       go false b = (omega arith, below (omega arith))
+
+  pub in-numbered : (s : Sections) (i room : ℕ) → Numbered (answeredIn c n t s i room)
+  unfolding answeredIn answeredType
+  in-numbered s i room = on-numbered s i (tree t s i) room
+
+  pub by-numbered : (ps : List ℕ) (s : Sections) (i room : ℕ) → Numbered (answeredBy c n ps t s i room)
+  unfolding answeredBy
+  by-numbered ps s i room = go (isPlanned ps i)
+    where
+      go : (a : Bool) → Numbered (cond a (answeredTree c n (planTree t ps i) room) (answeredOn c n t s i (typeBy ps t s i) room))
+      go true = step-numbered room (walk c (planTree t ps i) start []) (walk-numbered c (planTree t ps i) start [])
+      go false = on-numbered s i (typeBy ps t s i) room
 
   pub bytes-numbered : (i room : ℕ) → Numbered (answeredIf (checked t) c n t i room)
   unfolding answeredIf

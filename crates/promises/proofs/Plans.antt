@@ -117,9 +117,9 @@ module _ (t : List ℕ) (s : Sections) where
       go true w = (w, let f : words.Words (plansLength t s) ≡ words.Words n = rw w at e in cc)
       go false w = let f : words.Refused 30 ≡ words.Words n = rw w at e in let z : _≡_ {A = ℕ} 0 1 = cc in absurd (omega arith)
 
-  kept : (k : ℕ) (ws : List ℕ) → laidNumber t s (length ws) ≡ suc k → laidOut t s ws ≡ ws
+  stays : (ws : List ℕ) → ¬ (laidNumber t s (length ws) ≡ 0) → laidOut t s ws ≡ ws
   unfolding laidOut
-  kept k ws e = no-eq (over ws 0 (plans t s)) ws (laidNumber t s (length ws)) 0 (λ f. omega (arith, e, f))
+  stays ws k = no-eq (over ws 0 (plans t s)) ws (laidNumber t s (length ws)) 0 k
 
   enough : (n : ℕ) (ws : List ℕ) → lengthIn t s ≡ words.Words n → n ≤ length ws → laidNumber t s (length ws) ≡ 0
   unfolding laidNumber
@@ -130,12 +130,12 @@ module _ (t : List ℕ) (s : Sections) where
   too-short n ws e l =
       let d = said n e in
       let f : laidNumber t s (length ws) ≡ 10 = rw (d .0) (yes-lt 10 0 (length ws) (plansLength t s) (omega (arith, d .1))) in
-      (f, kept 9 ws f)
+      (f, stays ws (λ z. omega (arith, f, z)))
 
   outside : (ws : List ℕ) → within t s ≡ false
       → (lengthIn t s ≡ words.Refused 30) × (laidNumber t s (length ws) ≡ 30) × (laidOut t s ws ≡ ws)
   unfolding lengthIn laidNumber
-  outside ws w = let f : laidNumber t s (length ws) ≡ 30 = rw w refl in (rw w refl, f, kept 29 ws f)
+  outside ws w = let f : laidNumber t s (length ws) ≡ 30 = rw w refl in (rw w refl, f, stays ws (λ z. omega (arith, f, z)))
 
   sum-most : (n : ℕ) → sumBelow (leaves t s) n ≤ 512 * n
   unfolding sumBelow
@@ -161,7 +161,7 @@ module _ (t : List ℕ) (s : Sections) where
     where
       go : (k : ℕ) → laidNumber t s (length ws) ≡ k → length (laidOut t s ws) ≡ length ws
       go zero e = words-long t s ws e
-      go (suc k) e = ap length (kept k ws e)
+      go (suc k) e = ap length (stays ws (λ z. omega (arith, e, z)))
 
   behind : (n : ℕ) (ws : List ℕ) (k : ℕ) → lengthIn t s ≡ words.Words n → n ≤ k → getD (laidOut t s ws) k 0 ≡ getD ws k 0
   behind n ws k e l = go (laidNumber t s (length ws)) refl
@@ -173,10 +173,10 @@ module _ (t : List ℕ) (s : Sections) where
           ap₂ (λ (x : List ℕ) (j : ℕ). getD x j 0) (words-are t s ws f) (sym b)
           ∙ getD-append-add (plans t s) (drop (length (plans t s)) ws) (k - length (plans t s)) 0
           ∙ getD-drop (length (plans t s)) ws (k - length (plans t s)) 0 ∙ ap (λ (j : ℕ). getD ws j 0) b
-      go (suc j) f = ap (λ (x : List ℕ). getD x k 0) (kept j ws f)
+      go (suc j) f = ap (λ (x : List ℕ). getD x k 0) (stays ws (λ z. omega (arith, f, z)))
 
   lays-out : LaysOut t s
-  lays-out = record { enough = enough; too-short = too-short; outside = outside; most = most; as-long = as-long; behind = behind }
+  lays-out = record { enough = enough; too-short = too-short; outside = outside; stays = stays; most = most; as-long = as-long; behind = behind }
 
 -- any words as plans
 walk-long : (c : Codec) (tr : Tree) (p : Place) (x : List ℕ) → length (left (walk c tr p x)) ≡ length x

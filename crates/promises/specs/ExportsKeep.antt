@@ -19,6 +19,10 @@ use Rattle.nyrkovash.proofs.nyr_unpack.Reads.{Post as nyr-unpack}
 use Rattle.nyrkovash.proofs.nyr_unpack_in.Reads.{Post as nyr-unpack-in}
 use Rattle.nyrkovash.proofs.nyr_pack.Reads.{Post as nyr-pack}
 use Rattle.nyrkovash.proofs.nyr_pack_in.Reads.{Post as nyr-pack-in}
+use Rattle.nyrkovash.proofs.nyr_plans_length.Reads.{Post as nyr-plans-length}
+use Rattle.nyrkovash.proofs.nyr_plans.Reads.{Post as nyr-plans}
+use Rattle.nyrkovash.proofs.nyr_unpack_by.Reads.{Post as nyr-unpack-by}
+use Rattle.nyrkovash.proofs.nyr_pack_by.Reads.{Post as nyr-pack-by}
 use Rattle.nyrkovash.proofs.nyr_receive.Reads.{Post as nyr-receive}
 use Rattle.nyrkovash.proofs.nyr_receive_in.Reads.{Post as nyr-receive-in}
 use Rattle.nyrkovash.proofs.nyr_send.Reads.{Post as nyr-send}
@@ -60,6 +64,12 @@ pub record ExportsKeep : Type 0 where
   pub pack-walked : SpotOnly nyr-pack (λ k a. now (a .1 .1 .1 .1 .0)) (λ k e. now (e .1 .1 .1 .1 .0))
   pub pack-in-out : Untouched nyr-pack-in (λ k a. now (a .1 .1 .1 .1 .0)) (λ k e. now (e .1 .1 .1 .1 .0))
   pub pack-in-walked : SpotOnly nyr-pack-in (λ k a. now (a .1 .1 .1 .1 .1 .0)) (λ k e. now (e .1 .1 .1 .1 .1 .0))
+  pub plans-length : Untouched nyr-plans-length (λ k a. now (a .1 .1 .0)) (λ k e. now (e .1 .1 .0))
+  pub plans : Untouched nyr-plans (λ k a. now (a .1 .1 .0)) (λ k e. now (e .1 .1 .0))
+  pub unpack-by-words : Untouched nyr-unpack-by (λ k a. now (a .1 .1 .1 .1 .1 .0)) (λ k e. now (e .1 .1 .1 .1 .1 .0))
+  pub unpack-by-walked : SpotOnly nyr-unpack-by (λ k a. now (a .1 .1 .1 .1 .1 .1 .0)) (λ k e. now (e .1 .1 .1 .1 .1 .1 .0))
+  pub pack-by-out : Untouched nyr-pack-by (λ k a. now (a .1 .1 .1 .1 .1 .0)) (λ k e. now (e .1 .1 .1 .1 .1 .0))
+  pub pack-by-walked : SpotOnly nyr-pack-by (λ k a. now (a .1 .1 .1 .1 .1 .1 .0)) (λ k e. now (e .1 .1 .1 .1 .1 .1 .0))
   pub receive-platform : Untouched nyr-receive (λ k a. now (a .1 .0)) (λ k e. now (e .1 .0))
   pub receive-out : Untouched nyr-receive (λ k a. now (a .1 .1 .1 .1 .0)) (λ k e. now (e .1 .1 .1 .1 .0))
   pub receive-heard : Untouched nyr-receive (λ k a. now (a .1 .1 .1 .1 .1 .0)) (λ k e. now (e .1 .1 .1 .1 .1 .0))

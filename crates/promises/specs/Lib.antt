@@ -46,6 +46,7 @@ pub mod InNumbers
 pub mod Linked
 pub mod WrongCalls
 pub mod LinkedPayloads
+pub mod LinkedPlans
 pub mod LinkedMessages
 pub mod LinkedReplies
 pub mod LinkedResponses

@@ -50,6 +50,8 @@ pub record LaysOut (t : List ℕ) (s : Sections) : Type 0 where
       → (laidNumber t s (length ws) ≡ 10) × (laidOut t s ws ≡ ws)
   -- sections outside the bytes are 30
   pub outside : (ws : List ℕ) → within t s ≡ false → (lengthIn t s ≡ Refused 30) × (laidNumber t s (length ws) ≡ 30) × (laidOut t s ws ≡ ws)
+  -- and any refusal leaves them
+  pub stays : (ws : List ℕ) → ¬ (laidNumber t s (length ws) ≡ 0) → laidOut t s ws ≡ ws
   -- 131,329 words have room for the plans of any table: the count, 256 types, and 512 leaves of each
   pub most : (n : ℕ) → lengthIn t s ≡ Words n → n ≤ 131329
   -- no word behind as many changes

@@ -12,6 +12,10 @@ use Rattle.nyrkovash.proofs.nyr_unpack.Reads.{Post as nyrkovash-nyr-unpack}
 use Rattle.nyrkovash.proofs.nyr_unpack_in.Reads.{Post as nyrkovash-nyr-unpack-in}
 use Rattle.nyrkovash.proofs.nyr_pack.Reads.{Post as nyrkovash-nyr-pack}
 use Rattle.nyrkovash.proofs.nyr_pack_in.Reads.{Post as nyrkovash-nyr-pack-in}
+use Rattle.nyrkovash.proofs.nyr_plans_length.Reads.{Post as nyrkovash-nyr-plans-length}
+use Rattle.nyrkovash.proofs.nyr_plans.Reads.{Post as nyrkovash-nyr-plans}
+use Rattle.nyrkovash.proofs.nyr_unpack_by.Reads.{Post as nyrkovash-nyr-unpack-by}
+use Rattle.nyrkovash.proofs.nyr_pack_by.Reads.{Post as nyrkovash-nyr-pack-by}
 use Rattle.nyrkovash.proofs.nyr_setup.Reads.{Post as nyrkovash-nyr-setup}
 use Rattle.nyrkovash.proofs.nyr_take.Reads.{Post as nyrkovash-nyr-take}
 use Rattle.nyrkovash.proofs.nyr_start.Reads.{Post as nyrkovash-nyr-start}
@@ -51,6 +55,16 @@ pub record UniqueCalls : Type 0 where
   pub nyr-pack-in : Answer nyrkovash-nyr-pack-in
   pub nyr-pack-in-out : Lent nyrkovash-nyr-pack-in (λ k e. now (e .1 .1 .1 .1 .0))
   pub nyr-pack-in-walked : Lent nyrkovash-nyr-pack-in (λ k e. now (e .1 .1 .1 .1 .1 .0))
+  pub nyr-plans-length : Answer nyrkovash-nyr-plans-length
+  pub nyr-plans-length-words : Lent nyrkovash-nyr-plans-length (λ k e. now (e .1 .1 .0))
+  pub nyr-plans : Answer nyrkovash-nyr-plans
+  pub nyr-plans-plans : Lent nyrkovash-nyr-plans (λ k e. now (e .1 .1 .0))
+  pub nyr-unpack-by : Answer nyrkovash-nyr-unpack-by
+  pub nyr-unpack-by-words : Lent nyrkovash-nyr-unpack-by (λ k e. now (e .1 .1 .1 .1 .1 .0))
+  pub nyr-unpack-by-walked : Lent nyrkovash-nyr-unpack-by (λ k e. now (e .1 .1 .1 .1 .1 .1 .0))
+  pub nyr-pack-by : Answer nyrkovash-nyr-pack-by
+  pub nyr-pack-by-out : Lent nyrkovash-nyr-pack-by (λ k e. now (e .1 .1 .1 .1 .1 .0))
+  pub nyr-pack-by-walked : Lent nyrkovash-nyr-pack-by (λ k e. now (e .1 .1 .1 .1 .1 .1 .0))
   pub nyr-setup : Answer nyrkovash-nyr-setup
   pub nyr-setup-state : Lent nyrkovash-nyr-setup (λ k e. now (e .0))
   pub nyr-take : Answer nyrkovash-nyr-take

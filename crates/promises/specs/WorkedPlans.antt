@@ -50,8 +50,8 @@ planSections =
     }
 
 -- how many types; of each the first run's word, in 32 bits, how many runs and how many leaves, in 16 each, all 0 where it has no plan;
--- and the runs: in 24 bits the byte at which an enum's values stand, in 16 each how many values and how many leaves, in 8 the code.
--- The uint16 of the last record and the two behind it are one run
+-- and the runs: in 24 bits the byte at which an enum's values stand, in 16 each how many values and how many leaves behind the first,
+-- in 8 the code. The uint16 of the last record and the two behind it are one run
 abbrev pub planWords : List ℕ
 planWords =
     7
@@ -62,11 +62,11 @@ planWords =
     ∷ 0x0000000C00040006
     ∷ 0x0000001000040007
     ∷ 0x0000000000000000
-    ∷ 0x0000000000000108
-    ∷ 0x00004C0002000106
-    ∷ 0x0000000000000208 ∷ 0x00004C0002000106
-    ∷ 0x0000000000000208 ∷ 0x00004C0002000106 ∷ 0x0000000000000208 ∷ 0x00004C0002000106
-    ∷ 0x0000000000000308 ∷ 0x00004C0002000106 ∷ 0x0000000000000208 ∷ 0x00004C0002000106
+    ∷ 0x0000000000000008
+    ∷ 0x00004C0002000006
+    ∷ 0x0000000000000108 ∷ 0x00004C0002000006
+    ∷ 0x0000000000000108 ∷ 0x00004C0002000006 ∷ 0x0000000000000108 ∷ 0x00004C0002000006
+    ∷ 0x0000000000000208 ∷ 0x00004C0002000006 ∷ 0x0000000000000108 ∷ 0x00004C0002000006
     ∷ []
 
 -- Wrong programs that this rules out: a record's second member at the first's place; an enum's leaves without its values; runs of
@@ -141,12 +141,12 @@ pub record AtTheLimit : Type 0 where
   pub accepted : checked limitTable ≡ Table limitSections
   pub long : lengthIn limitTable limitSections ≡ Words 517
   pub laid : laidOut limitTable limitSections (replicate 517 9)
-      ≡ (3 ∷ 0x0000000400010001 ∷ 0x0000000500010200 ∷ 0x0000000000000000 ∷ 0x0000000000000108 ∷ 0x0000000000020008 ∷ []) ++ replicate 511 9
+      ≡ (3 ∷ 0x0000000400010001 ∷ 0x0000000500010200 ∷ 0x0000000000000000 ∷ 0x0000000000000008 ∷ 0x000000000001FF08 ∷ []) ++ replicate 511 9
 
 -- any words are plans: in these the two uint16 of type 2, a record of two uint16 and the enum, are two int16. Wrong programs that
 -- this rules out: a call that always walks
 abbrev pub forged : List ℕ
-forged = take 10 planWords ++ (0x0000000000000203 ∷ drop 11 planWords)
+forged = take 10 planWords ++ (0x0000000000000103 ∷ drop 11 planWords)
 
 abbrev pub inner : ℕ
 inner = 2

@@ -1,4 +1,4 @@
--- Elements that are one leaf's entry, a base or an enum: judged word by word, and what a run of them comes to.
+-- Elements that are one leaf's entry, a base or an enum: what a run of them comes to.
 -- Assumes nothing.
 use Prim.Native.Nat.{ℕ, _+_, _*_, _^_, _≤_, _<_}
 use mathlib.Core.Path.{_≡_, refl, sym, ap, subst, _∙_}
@@ -11,7 +11,7 @@ use mir.Val.{Fits}
 use lib.Dec.{leb}
 use lib.ListN.{length}
 use Rattle.wire.specs.All.{allBelow}
-use Rattle.wire.proofs.AllBelow.{next-below, at-below, stop-below}
+use Rattle.wire.proofs.AllBelow.{at-below}
 use Rattle.wire.proofs.Cond.{yes-le}
 use Rattle.table.specs.declared.Sections.{Sections}
 use Rattle.table.specs.declared.Entry.{Entry}
@@ -35,18 +35,6 @@ use Rattle.unpack.proofs.OneCode.{leaf-room, steps-on}
 use Rattle.unpack.proofs.WholeRuns.{run-in}
 use Rattle.unpack.proofs.ReadBases.{run-many}
 use Rattle.unpack.proofs.ReadReturns.{reader-keeps}
-
--- judging
-module _ (b t : List ℕ) (s : Sections) (e : Entry) (from k w word : ℕ) (r : Bool) (is : w ≡ width (e .of)) (read : word ≡ wordAt (e .of) b (from + k * w))
-    (taken : r ≡ takes t s e word) where
-  its-test : r ≡ entryTakes b t s e from k
-  its-test = taken ∙ ap (takes t s e) (read ∙ rw is refl)
-
-  pub entry-next : allBelow (entryTakes b t s e from) k ≡ true → r ≡ true → allBelow (entryTakes b t s e from) (k + 1) ≡ true
-  entry-next so-far h = next-below (entryTakes b t s e from) k r so-far its-test h
-
-  pub entry-stop : (n : ℕ) → k < n → r ≡ false → false ≡ allBelow (entryTakes b t s e from) n
-  entry-stop n less h = stop-below (entryTakes b t s e from) n k r its-test h less
 
 -- reading
 module _ (b t : List ℕ) (s : Sections) (e : Entry) (p : Place) (x : List ℕ) (n w : ℕ) (is : w ≡ width (e .of)) (f : Bool)

@@ -1,19 +1,23 @@
 -- A run of a plan that is good: what its tests say, and that it is walked over.
 -- Assumes nothing.
-use Prim.Native.Nat.{ℕ, _+_, _*_, _^_, _≤_, _<_}
+use Prim.Native.Nat.{ℕ, _+_, _-_, _*_, _^_, _≤_, _<_}
 use mathlib.Core.Path.{_≡_, refl, sym, ap, _∙_}
-use mathlib.Core.Bool.{Bool, true, false}
+use mathlib.Core.Bool.{Bool, true, false, _&&_}
 use mathlib.Core.List.{List, [], _∷_}
 use native.Mathlib.Omega.{arith}
+use borrow.Author.Tests.{le-leb, lt-leb, leb-true, leb-false, eqb-true}
 use mir.Syntax.{w64}
 use mir.Val.{Fits}
-use lib.Dec.{leb}
+use lib.Dec.{leb, eqb}
 use lib.ListN.{length, getD}
 use Rattle.wire.proofs.Cond.{yes-eq, no-eq, and-left, and-right, and-true}
+use Rattle.wire.specs.Bytes.{Octets}
 use Rattle.wire.specs.All.{allBelow}
-use Rattle.wire.proofs.AllBelow.{next-below, at-below, all-below, stop-below, done-below}
-use Rattle.table.specs.Leaf.{width, allowed}
+use Rattle.wire.proofs.AllBelow.{at-below, all-below}
+use Rattle.table.specs.Leaf.{base, width, allowed}
 use Rattle.leaf.specs.Choice.{amongAt}
+use Rattle.leaf.specs.declared.codes.Range.{Range}
+use Rattle.leaf.specs.Limits.{rangeOf}
 use Rattle.leaf.specs.Forms.{wordAt}
 use Rattle.walk.specs.declared.Place.{Place}
 use Rattle.walk.specs.declared.Walked.the-variants.{Went}
@@ -24,8 +28,8 @@ use Rattle.walk.proofs.Turns.{going-next}
 use Rattle.unpack.specs.Leaves.{isThere, behind, stored}
 use Rattle.unpack.specs.OneCode.{along, isGood, filled, runThere}
 use Rattle.unpack.specs.Reading.{reader, Reading}
-use Rattle.unpack.specs.RunByRun.{isTaken, runGood, leafRead, runRead}
-use Rattle.unpack.proofs.OneCode.{leaf-room, product-fits, place-fits, good-there, steps-on, same-many}
+use Rattle.unpack.specs.RunByRun.{isTaken, isAny, runGood, leafRead, runRead}
+use Rattle.unpack.proofs.OneCode.{all-good, good-there, steps-on, same-many}
 use Rattle.unpack.proofs.ReadReturns.{reader-keeps}
 use Rattle.unpack.proofs.WholeRuns.{run-room, run-good}
 
@@ -40,20 +44,21 @@ module _ (t : List ℕ) (run n : ℕ) (is : n ≡ valuesIn run) (w : ℕ) where
   taken-among p r h at e =
       e ∙ rw (at, is) (sym (no-eq true (amongAt t (placeIn run) (valuesIn run) w) (valuesIn run) 0 (λ (z : valuesIn run ≡ 0). h (is ∙ z))))
 
--- the leaf that a loop over a run's leaves is at
-module _ (l from run code many w k : ℕ) (code-is : code ≡ codeIn run) (many-is : many ≡ manyIn run) (is : w ≡ width code)
-    (room : from + manyIn run * width (codeIn run) ≤ l) (less : k < many) where
-  room-is : from + many * width code ≤ l
-  room-is = rw (code-is, many-is) room
+-- whether it takes every word
+pub any-is : (run code n : ℕ) (g : Range) → code ≡ codeIn run → g ≡ rangeOf (base code) → n ≡ valuesIn run → (g .every && eqb n 0) ≡ isAny run
+any-is run code n g c e v = rw (e, c, v) refl
 
-  pub its-bytes : from + k * w + width code ≤ l
-  its-bytes = leaf-room l from many w code k is room-is less
+-- so many bytes are left
+room-left : (l from n : ℕ) → from ≤ l → leb n (l - from) ≡ leb (from + n) l
+room-left l from n h = go (leb n (l - from)) refl
+  where
+    go : (v : Bool) → leb n (l - from) ≡ v → leb n (l - from) ≡ leb (from + n) l
+    go true e = e ∙ sym (le-leb (from + n) l (omega (arith, leb-true n (l - from) e)))
+    go false e = e ∙ sym (lt-leb (from + n) l (omega (arith, leb-false n (l - from) e)))
 
-  pub its-product : l * 1 < 2 ^ 63 → Fits w64 (k * w)
-  its-product h = product-fits l from many w code k is room-is less h
-
-  pub its-place : l * 1 < 2 ^ 63 → Fits w64 (from + k * w)
-  its-place h = place-fits l from many w code k is room-is less h
+both-true : (v : Bool) → ((v && true) && true) ≡ v
+both-true true = refl
+both-true false = refl
 
 -- a run's tests
 module _ (t b : List ℕ) (run from : ℕ) where
@@ -72,28 +77,20 @@ module _ (t b : List ℕ) (run from : ℕ) where
     unfolding runGood
     by-values r g e = rw (← as-run, g) e
 
-    pub no-values : (n : ℕ) → h ≡ true → n ≡ valuesIn run → n ≡ 0 → true ≡ runGood t b run from
-    no-values n g is e =
-        by-values true g (sym (all-below (isTaken t b run from) (manyIn run)
-        (λ k l. sym (any-taken t run n is (wordAt (codeIn run) b (from + k * width (codeIn run))) e))))
-
-  -- the test of one leaf of it
-  leaf-taken : (k code w word : ℕ) (r : Bool) → code ≡ codeIn run → w ≡ width code → word ≡ wordAt code b (from + k * w) → r
-      ≡ takenBy t run word → r ≡ isTaken t b run from k
-  leaf-taken k code w word r c is e h = h ∙ ap (takenBy t run) (e ∙ rw (is, c) refl)
-
-  module _ (many k : ℕ) (many-is : many ≡ manyIn run) where
-    module _ (code w word : ℕ) (r : Bool) (code-is : code ≡ codeIn run) (is : w ≡ width code) (e : word ≡ wordAt code b (from + k * w))
-        (h : r ≡ takenBy t run word) where
-      pub one-taken : allBelow (isTaken t b run from) k ≡ true → r ≡ true → allBelow (isTaken t b run from) (k + 1) ≡ true
-      one-taken so-far g = next-below (isTaken t b run from) k r so-far (leaf-taken k code w word r code-is is e h) g
-
-      pub one-refused : k < many → r ≡ false → false ≡ allBelow (isTaken t b run from) (manyIn run)
-      one-refused less g =
-          stop-below (isTaken t b run from) many k r (leaf-taken k code w word r code-is is e h) g less ∙ ap (allBelow (isTaken t b run from)) many-is
-
-    pub all-taken : allBelow (isTaken t b run from) k ≡ true → k ≤ many → many ≤ k → true ≡ allBelow (isTaken t b run from) (manyIn run)
-    all-taken so-far l m = done-below (isTaken t b run from) many k so-far l m ∙ ap (allBelow (isTaken t b run from)) many-is
+  -- a run that takes every word that its bytes can be
+  pub any-good : (code many w : ℕ) → Octets b → (a : Bool) → a ≡ isAny run → a ≡ true → code ≡ codeIn run → many ≡ manyIn run → w ≡ width code
+      → from ≤ length b → leb (many * w) (length b - from) ≡ runGood t b run from
+  unfolding runGood runThere
+  any-good code many w o a test so code-is many-is is h =
+      let n : ℕ = manyIn run in
+      let every : rangeOf (base (codeIn run)) .every ≡ true = and-left (rangeOf (base (codeIn run)) .every) (eqb (valuesIn run) 0) (sym test ∙ so) in
+      let none : valuesIn run ≡ 0 = eqb-true (valuesIn run) 0 (and-right (rangeOf (base (codeIn run)) .every) (eqb (valuesIn run) 0) (sym test ∙ so)) in
+      let taken : allBelow (isTaken t b run from) n ≡ true = all-below (isTaken t b run from) n
+      (λ k l. sym (any-taken t run (valuesIn run) refl (wordAt (codeIn run) b (from + k * width (codeIn run))) none)) in
+      ap (λ (m : ℕ). leb m (length b - from)) (rw (is, code-is, many-is) refl)
+      ∙ room-left (length b) from (n * width (codeIn run)) h
+      ∙ rw (taken, sym (all-good b (codeIn run) from n o (rangeOf (base (codeIn run))) refl every))
+      (sym (both-true (leb (from + n * width (codeIn run)) (length b))))
 
   -- so it is there, and its words are taken
   module _ (h : runGood t b run from ≡ true) where

@@ -11,8 +11,11 @@ mod Pairs
 pub mod WholeRuns
 pub mod Loops
 pub mod GoodRuns
+pub mod Among
+pub mod ByWidth
 pub mod LeafByLeaf
 pub mod Upto
 pub mod StoredRuns
 pub mod PlannedRuns
 pub mod WholePlan
+pub mod EachByPlan

@@ -23,6 +23,7 @@ use Rattle.leaf.specs.declared.codes.Range.{Range}
 use Rattle.leaf.specs.Limits.{rangeOf}
 use Rattle.leaf.specs.Forms.{wordAt}
 use Rattle.leaf.proofs.Limits.{every-word}
+use Rattle.leaf.proofs.Counted.{counted-more}
 use Rattle.walk.specs.declared.Place.{Place}
 use Rattle.walk.specs.Walk.{Step, on, through}
 use Rattle.walk.proofs.Walks.{through-none, through-more}
@@ -57,29 +58,9 @@ taken-one code w a e h = sym (yes-if 0 1 (sym e ∙ h))
 pub refused-one : (code w : ℕ) (a : Bool) → a ≡ allowed code w → a ≡ false → _≡_ {A = ℕ} 1 (cond (allowed code w) 0 1)
 refused-one code w a e h = sym (no-if 0 1 (sym e ∙ h))
 
-counted-more : (f : ℕ → Bool) (k n r : ℕ) → eqb n 0 ≡ allBelow f k → r ≡ cond (f k) 0 1 → eqb (n + r) 0 ≡ allBelow f (k + 1)
-unfolding allBelow
-counted-more f k n r h e = go (f k) refl
-  where
-    none : (b : Bool) → (b && false) ≡ false
-    none true = refl
-    none false = refl
-
-    all : (b : Bool) → (b && true) ≡ b
-    all true = refl
-    all false = refl
-
-    go : (b : Bool) → f k ≡ b → eqb (n + r) 0 ≡ allBelow f (k + 1)
-    go true g = rw (add-one k, g, all (allBelow f k), e, g) (ap (λ (m : ℕ). eqb m 0) (add-zero n) ∙ h)
-    go false g = rw (add-one k, g, none (allBelow f k), e, g) (ne-eqb (n + 1) 0 (λ (z : n + 1 ≡ 0). omega arith))
-
 module _ (b : List ℕ) (code from : ℕ) where
   pub all-good : (n : ℕ) → Octets b → (g : Range) → g ≡ rangeOf (base code) → g .every ≡ true → true ≡ allBelow (isGood b code from) n
   all-good n o g e h = sym (all-below (isGood b code from) n (λ k l. every-word b (from + k * width code) o code g e h))
-
-  pub judged-none : eqb 0 0 ≡ allBelow (isGood b code from) 0
-  unfolding allBelow
-  judged-none = refl
 
   pub judged-more : (k n v r w : ℕ) → w ≡ width code → v ≡ wordAt code b (from + k * w) → r ≡ cond (allowed code v) 0 1 → eqb n 0
       ≡ allBelow (isGood b code from) k → eqb (n + r) 0 ≡ allBelow (isGood b code from) (k + 1)

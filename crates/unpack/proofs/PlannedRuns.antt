@@ -36,7 +36,7 @@ module _ (ps : List ℕ) (i : ℕ) (r : Plan) (is : r ≡ planOf ps i) where
 
   -- so a walk over that part is a walk over the plan's tree
   module _ (w : Codec) (t : List ℕ) where
-    tree-is : runsTree t (take (r .first + r .runs - r .first) (drop (r .first) ps)) ≡ planTree t ps i
+    pub tree-is : runsTree t (take (r .first + r .runs - r .first) (drop (r .first) ps)) ≡ planTree t ps i
     unfolding planTree
     tree-is = ap (runsTree t) runs-are
 

@@ -207,6 +207,9 @@ module _ (b runs : List ℕ) (p : Place) (upto : ℕ) where
       let m : ℕ = min (manyIn (getD runs k 0)) (upto - q .to) in
       ap (filled b c q m) (all-out x h k) ∙ sym (no-room-left b c q x m (omega (arith, to-grows k)))
 
+  pub none-stored : (x : List ℕ) → length x ≤ p .to → x ≡ storedUpto b runs p upto (length runs) x
+  none-stored x h = sym (all-out x h (length runs))
+
 -- so, where the walk over no words came to r
 module _ (b t runs : List ℕ) (p : Place) (r : Walked) (upto : ℕ) (walks : r ≡ answer (walk (reader b) (runsTree t runs) p [])) (is : upto ≡ wordsOf r) where
   over-words : (x : List ℕ) → upto ≡ wordsOf (answer (through (length runs) (runRead b t runs) p x))
@@ -221,11 +224,6 @@ module _ (b t runs : List ℕ) (p : Place) (r : Walked) (upto : ℕ) (walks : r 
   module _ (x : List ℕ) where
     pub upto-left : (y : List ℕ) → y ≡ storedUpto b runs p upto (length runs) x → y ≡ left (walk (reader b) (runsTree t runs) p x)
     upto-left y h = h ∙ all-left b t runs p x (length runs) upto (over-words x) ∙ ap left (sym (runs-are b t runs p x))
-
-pub no-room-walked : (b t runs : List ℕ) (p : Place) (x : List ℕ) → length x ≤ p .to → x ≡ left (walk (reader b) (runsTree t runs) p x)
-no-room-walked b t runs p x h =
-    let r : Walked = answer (walk (reader b) (runsTree t runs) p []) in
-    upto-left b t runs p r (wordsOf r) refl refl x x (sym (all-out b runs p (wordsOf r) x h (length runs)))
 
 pub same-answer : (b t runs : List ℕ) (p : Place) (r : Walked) → r ≡ answer (walk (reader b) (runsTree t runs) p [])
     → (x : List ℕ) → r ≡ answer (walk (reader b) (runsTree t runs) p x)

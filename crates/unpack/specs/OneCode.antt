@@ -6,6 +6,7 @@ use lib.Dec.{leb, eqb}
 use lib.ListN.{length}
 use Rattle.wire.specs.All.{allBelow}
 use Rattle.table.specs.Leaf.{width, allowed}
+use Rattle.leaf.specs.Choice.{amongAt}
 use Rattle.leaf.specs.Forms.{wordAt}
 use Rattle.walk.specs.declared.Place.{Place}
 use Rattle.unpack.specs.Leaves.{stored}
@@ -16,6 +17,10 @@ along code p k = record { from = p .from + k * width code; to = p .to + k }
 
 abbrev pub isGood : List ℕ → ℕ → ℕ → ℕ → Bool
 isGood b code from k = allowed code (wordAt code b (from + k * width code))
+
+-- and whether it is one of the n values that stand at p in a table
+abbrev pub isAmong : List ℕ → ℕ → ℕ → List ℕ → ℕ → ℕ → ℕ → Bool
+isAmong t p n b code from k = amongAt t p n (wordAt code b (from + k * width code))
 
 unfoldable pub filled : List ℕ → ℕ → Place → ℕ → List ℕ → List ℕ
 filled b code p zero x = x

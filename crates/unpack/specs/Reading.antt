@@ -11,7 +11,7 @@ use Rattle.table.specs.Entries.{memberAt}
 use Rattle.leaf.specs.Choice.{choice, takes}
 use Rattle.leaf.specs.Forms.{wordAt}
 use Rattle.walk.specs.declared.Place.{Place}
-use Rattle.walk.specs.Tree.{leaf}
+use Rattle.walk.specs.Tree.{Tree, leaf}
 use Rattle.walk.specs.Walk.{Step, Codec, walk}
 use Rattle.walk.specs.Planned.{childBy}
 
@@ -29,6 +29,10 @@ reader b =
 -- a place that reading can come to: every leaf has a byte at least
 abbrev pub Reading : List ℕ → Place → Type 0
 Reading b p = (p .to ≤ p .from) × (p .from ≤ length b)
+
+-- the step over a tree, whichever it is
+abbrev pub treeRead : List ℕ → Tree → ℕ → Place → List ℕ → Step
+treeRead b tr k q y = walk (reader b) tr q y
 
 -- the step over a record's k-th member
 abbrev pub memberRead : List ℕ → List ℕ → List ℕ → Sections → ℕ → Entry → ℕ → Place → List ℕ → Step

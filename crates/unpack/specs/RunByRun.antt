@@ -2,21 +2,27 @@
 use Prim.Native.Nat.{ℕ, zero, suc, min, _-_, _≤_, _*_, _+_}
 use mathlib.Core.Bool.{Bool, _&&_}
 use mathlib.Core.List.{List}
+use lib.Dec.{eqb}
 use lib.ListN.{length, getD}
 use Rattle.wire.specs.All.{allBelow}
-use Rattle.table.specs.Leaf.{width}
+use Rattle.table.specs.Leaf.{base, width}
+use Rattle.leaf.specs.Limits.{rangeOf}
 use Rattle.leaf.specs.Forms.{wordAt}
 use Rattle.walk.specs.declared.Place.{Place}
 use Rattle.walk.specs.declared.Walked.{Walked}
 use Rattle.walk.specs.declared.Walked.the-variants.{Went, Stopped}
 use Rattle.walk.specs.Walk.{Step, item, notAllowed, walk}
-use Rattle.walk.specs.Runs.{codeIn, manyIn, takenBy, runTree}
+use Rattle.walk.specs.Runs.{codeIn, manyIn, valuesIn, takenBy, runTree, runsTree}
 use Rattle.unpack.specs.OneCode.{along, filled, runThere}
 use Rattle.unpack.specs.Reading.{reader}
 
 -- the word of the k-th leaf of a run that stands at a byte is among those that the run takes
 abbrev pub isTaken : List ℕ → List ℕ → ℕ → ℕ → ℕ → Bool
 isTaken t b run from k = takenBy t run (wordAt (codeIn run) b (from + k * width (codeIn run)))
+
+-- the run takes every word that its bytes can be
+abbrev pub isAny : ℕ → Bool
+isAny run = rangeOf (base (codeIn run)) .every && eqb (valuesIn run) 0
 
 -- its leaves are all there, allowed and taken
 unfoldable pub runGood : List ℕ → List ℕ → ℕ → ℕ → Bool
@@ -28,6 +34,10 @@ leafRead b t run k q y = item (reader b) notAllowed (codeIn run) (takenBy t run)
 
 abbrev pub runRead : List ℕ → List ℕ → List ℕ → ℕ → Place → List ℕ → Step
 runRead b t runs k q y = walk (reader b) (runTree t (getD runs k 0)) q y
+
+-- and over all of them
+abbrev pub runsRead : List ℕ → List ℕ → List ℕ → ℕ → Place → List ℕ → Step
+runsRead b t runs k q y = walk (reader b) (runsTree t runs) q y
 
 -- how many words a walk gave
 unfoldable pub wordsOf : Walked → ℕ

@@ -1,12 +1,12 @@
 // Leaves that are read at once, no entry being met for each: a record's members that are bases, and an array's elements that are
-// bases or enums.
+// bases or enums, or have a plan.
 use table::Entry;
 use table::Sections;
 use walk::Met;
 use walk::Place;
 ghost use mathlib.Core.Path.{_≡_};
 ghost use mathlib.Core.List.{List};
-ghost use Prim.Native.Nat.{ℕ, _+_, _*_, _≤_};
+ghost use Prim.Native.Nat.{ℕ, _+_, _*_, _≤_, _<_};
 ghost use lib.ListN.{length};
 ghost use Rattle.wire.specs.All.{allBelow};
 ghost use Rattle.table.specs.Leaf.{width};
@@ -14,8 +14,9 @@ ghost use Rattle.walk.specs.declared.Place.{Place};
 ghost use Rattle.walk.specs.Walk.{Step, Goes, Going};
 ghost use Rattle.unpack.specs.Steps.{Reads, ReadsCodes};
 ghost use Rattle.unpack.specs.Reading.{Reading, memberRead, elementRead, entryRead, entryTakes};
-use crate::bases;
 use crate::by_codes;
+use crate::each;
+use crate::enums;
 use crate::runs;
 
 // How many base codes of a record's members are read at once.
@@ -67,10 +68,12 @@ fn read_codes(payload: &[u8], words: &mut [u64], codes: &[u8], from: u32, p: Pla
     }
 }
 
-// Reads elements that are bases or enums, type c coming from type i: all of them, or none where one is not there or not allowed.
+// Reads elements that are bases or enums, type c coming from type i: all of them, or none where one is not there or not allowed. Those
+// that have a plan are read by it, up to one that is refused.
 pub(crate) fn read_leaves(
     table: &[u8],
     s: Sections,
+    plans: &[u64],
     i: u16,
     c: u16,
     payload: &[u8],
@@ -79,8 +82,8 @@ pub(crate) fn read_leaves(
     p: Place,
 ) -> Reached
     requires { ⌜ Reading (now payload) p ⌝ }
-    ensures { λ r. ⌜ ((ps : List ℕ) → Going (Reading (now (payload .entry))) (elementRead (now (payload .entry)) ps (now (table .entry)) s i c) count
-        0 p (now (words .entry)) (r .upto) (r .at) (now (words .exit))) ⌝ }
+    ensures { λ r. ⌜ Going (Reading (now (payload .entry))) (elementRead (now (payload .entry)) (now (plans .entry)) (now (table .entry)) s i c) count
+        0 p (now (words .entry)) (r .upto) (r .at) (now (words .exit)) ⌝ }
 {
     let code = walk::base_at(table, s, i, c);
     if code < walk::NO_BASE {
@@ -88,13 +91,13 @@ pub(crate) fn read_leaves(
     }
     match walk::meet(table, s, i, c) {
         Met::Leaf(e) => read_enums(table, s, e, payload, words, count, p),
-        Met::Members(_) => Reached { upto: 0, at: p },
-        Met::Elements(_) => Reached { upto: 0, at: p },
+        Met::Members(_) => each::read_planned(table, plans, c, payload, words, count, p),
+        Met::Elements(_) => each::read_planned(table, plans, c, payload, words, count, p),
         Met::Broken => Reached { upto: 0, at: p },
     }
 }
 
-// The same of a leaf's entry, each word judged by itself.
+// The same of a leaf's entry.
 fn read_enums(
     table: &[u8],
     s: Sections,
@@ -130,20 +133,19 @@ fn read_enums(
 
 // Whether the entry takes the words of so many leaves.
 fn are_taken(table: &[u8], s: Sections, e: Entry, payload: &[u8], from: usize, count: usize) -> bool
-    requires { ⌜ from + count * width (e .of) ≤ length (now payload) ⌝ }
+    requires { ⌜ (from + count * width (e .of) ≤ length (now payload)) × (count < 4294967296) ⌝ }
     ensures { λ r. ⌜ r ≡ allBelow (entryTakes (now (payload .entry)) (now (table .entry)) s e from) count ⌝ }
 {
-    let width = leaf::width(e.of);
-    let mut k: usize = 0;
-    while k < count {
-        let word = bases::word_in(payload, from + k * width, e.of);
-        if leaf::takes(table, s, e, word) {
-            k += 1;
+    if runs::judged(payload, from, e.of, count) {
+        if e.kind == table::ENUM {
+            let at = s.values.at as u32 + 8 * (e.first as u32);
+            enums::are_among(table, at, e.count, payload, from, e.of, count)
         } else {
-            return false;
+            true
         }
+    } else {
+        false
     }
-    true
 }
 
 // Reads elements of one base code: all of them, or none where one is not there or not allowed.

@@ -1,6 +1,7 @@
 // The leaves of a payload by the runs of a plan (02, request 13): judged run by run, with no table but for an enum's values, then
 // stored.
 use crate::bases;
+use crate::enums;
 use crate::runs;
 use walk::Place;
 use walk::Walked;
@@ -15,8 +16,9 @@ ghost use Rattle.walk.specs.Runs.{codeIn, manyIn, takenBy, runTree, runsTree};
 ghost use Rattle.walk.specs.Walk.{on, start, answer, left, through, walk};
 ghost use Rattle.walk.specs.Planned.{planTree};
 ghost use Rattle.walk.specs.Whole.{allOrNothing};
+ghost use Rattle.unpack.specs.OneCode.{filled};
 ghost use Rattle.unpack.specs.Reading.{reader, Reading};
-ghost use Rattle.unpack.specs.RunByRun.{isTaken, runGood, leafRead, runRead, wordsOf, storedUpto, Within};
+ghost use Rattle.unpack.specs.RunByRun.{isTaken, isAny, runGood, leafRead, runRead, wordsOf, storedUpto, Within};
 
 // Judges the leaves of these runs: a run after another, and from one that is not all good leaf by leaf.
 pub(crate) fn judge_runs(table: &[u8], runs: &[u64], payload: &[u8], p: Place) -> Walked
@@ -40,41 +42,43 @@ pub(crate) fn judge_runs(table: &[u8], runs: &[u64], payload: &[u8], p: Place) -
     Walked::Went(Place { from, to })
 }
 
-// Whether the leaves of a run are all there, allowed and taken.
+// Whether the leaves of a run are all there, allowed and taken: of most runs any are.
 fn is_good(table: &[u8], run: u64, payload: &[u8], from: usize) -> bool
+    requires { ⌜ from ≤ length (now payload) ⌝ }
     ensures { λ r. ⌜ r ≡ runGood (now (table .entry)) (now (payload .entry)) run from ⌝ }
 {
     let code = walk::plans::code_in(run);
     let many = walk::plans::many_in(run);
+    if is_any(run) {
+        return (many as usize) * leaf::width(code) <= payload.len() - from;
+    }
     if runs::judge_run(payload, from, code, many) {
-        if walk::plans::values_in(run) == 0 {
-            true
-        } else {
-            are_taken(table, run, payload, from)
-        }
+        are_taken(table, run, payload, from)
     } else {
         false
     }
 }
 
-// Whether the words of a run's leaves are all among its values.
+// Whether a run takes every word that its bytes can be.
+fn is_any(run: u64) -> bool
+    ensures { λ r. ⌜ r ≡ isAny run ⌝ }
+{
+    leaf::range_of(walk::plans::code_in(run)).every & (walk::plans::values_in(run) == 0)
+}
+
+// Whether the words of a run's leaves are all among its values, where it has some.
 fn are_taken(table: &[u8], run: u64, payload: &[u8], from: usize) -> bool
     requires { ⌜ from + manyIn run * width (codeIn run) ≤ length (now payload) ⌝ }
     ensures { λ r. ⌜ r ≡ allBelow (isTaken (now (table .entry)) (now (payload .entry)) run from) (manyIn run) ⌝ }
 {
+    let values = walk::plans::values_in(run);
+    if values == 0 {
+        return true;
+    }
     let code = walk::plans::code_in(run);
     let many = walk::plans::many_in(run) as usize;
-    let width = leaf::width(code);
-    let mut k: usize = 0;
-    while k < many {
-        let word = bases::word_in(payload, from + k * width, code);
-        if is_taken(table, run, word) {
-            k += 1;
-        } else {
-            return false;
-        }
-    }
-    true
+    let at = walk::plans::place_in(run);
+    enums::are_among(table, at, values, payload, from, code, many)
 }
 
 // Whether a run takes the word, of those that its code allows: any, where it has no values.
@@ -150,12 +154,16 @@ fn judge_leaf(table: &[u8], run: u64, payload: &[u8], p: Place) -> Walked
     }
 }
 
-// Stores the words of the leaves that stand before the word `upto`, each where there is room for it.
+// Stores the words of the leaves that stand before the word `upto`, each where there is room for it: where there is room for none, as
+// in a walk that only judges, the runs are not gone over.
 pub(crate) fn store_runs(payload: &[u8], words: &mut [u64], runs: &[u64], p: Place, upto: usize)
     requires { ⌜ (p .to ≤ upto) × Within (now payload) (now runs) p upto ⌝ }
     ensures { λ _. ⌜ now (words .exit)
         ≡ storedUpto (now (payload .entry)) (now (runs .entry)) p upto (length (now (runs .entry))) (now (words .entry)) ⌝ }
 {
+    if words.len() <= p.to {
+        return;
+    }
     let mut from = p.from;
     let mut to = p.to;
     let mut k: usize = 0;
@@ -163,15 +171,36 @@ pub(crate) fn store_runs(payload: &[u8], words: &mut [u64], runs: &[u64], p: Pla
         let run = runs[k];
         let code = walk::plans::code_in(run);
         let many = wire::least(walk::plans::many_in(run) as usize, upto - to);
-        runs::store_run(payload, words, code, many as u32, Place { from, to });
+        store_leaves(payload, words, code, many as u32, Place { from, to });
         from = from + many * leaf::width(code);
         to = to + many;
         k += 1;
     }
 }
 
-// Reads the leaves of these runs, and stores the words of those that were read, where there is room for any: a walk that only
-// judges goes over the runs once.
+// The words of so many leaves of one code, each where there is room for it; of one leaf with no loop.
+fn store_leaves(payload: &[u8], words: &mut [u64], code: u16, count: u32, p: Place)
+    requires { ⌜ p .from + count * width code ≤ length (now payload) ⌝ }
+    ensures { λ _. ⌜ now (words .exit) ≡ filled (now (payload .entry)) code p count (now (words .entry)) ⌝ }
+{
+    if count == 1 {
+        store_leaf(payload, words, code, p);
+    } else {
+        runs::store_run(payload, words, code, count, p);
+    }
+}
+
+fn store_leaf(payload: &[u8], words: &mut [u64], code: u16, p: Place)
+    requires { ⌜ p .from + width code ≤ length (now payload) ⌝ }
+    ensures { λ _. ⌜ now (words .exit) ≡ filled (now (payload .entry)) code p 1 (now (words .entry)) ⌝ }
+{
+    let to = p.to;
+    if to < words.len() {
+        words[to] = bases::leaf_in(payload, p.from, code);
+    }
+}
+
+// Reads the leaves of these runs, and stores the words of those that were read.
 pub(crate) fn read_runs(
     table: &[u8],
     runs: &[u64],
@@ -185,9 +214,6 @@ pub(crate) fn read_runs(
         ≡ left (walk (reader (now (payload .entry))) (runsTree (now (table .entry)) (now (runs .entry))) p (now (words .entry))) ⌝ }
 {
     let walked = judge_runs(table, runs, payload, p);
-    if words.len() <= p.to {
-        return walked;
-    }
     store_runs(payload, words, runs, p, words_of(walked));
     walked
 }

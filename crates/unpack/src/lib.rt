@@ -4,6 +4,8 @@ mod at_once;
 mod bases;
 mod by_codes;
 mod by_plan;
+mod each;
+mod enums;
 pub mod runs;
 mod walking;
 

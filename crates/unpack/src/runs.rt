@@ -46,7 +46,7 @@ fn judge_each(payload: &[u8], from: usize, code: u16, count: u32) -> bool
 }
 
 // Whether the words of so many leaves are allowed: of most codes every word is. The refused are counted, and not left at the first.
-fn judged(payload: &[u8], from: usize, code: u16, count: usize) -> bool
+pub(crate) fn judged(payload: &[u8], from: usize, code: u16, count: usize) -> bool
     requires { ⌜ (from + count * width code ≤ length (now payload)) × (count < 4294967296) ⌝ }
     ensures { λ r. ⌜ r ≡ allBelow (isGood (now (payload .entry)) code from) count ⌝ }
 {

@@ -111,7 +111,7 @@ fn read_elements(
         Walked::Stopped(n, q) => Walked::Stopped(n, q),
         Walked::Went(q) => {
             let count = times(payload, e, p);
-            let run = at_once::read_leaves(table, s, i, child, payload, words, count, q);
+            let run = at_once::read_leaves(table, s, plans, i, child, payload, words, count, q);
             let mut at = run.at;
             let mut k = run.upto;
             if k == count {

@@ -1,6 +1,6 @@
 -- 02, request 13: leaves one behind another as runs of equal ones, a word each. A run is a base code, how many leaves, and of an
 -- enum how many values it has and where in the table's bytes they stand; any word is a run.
-use Prim.Native.Nat.{ℕ, _/_, _%_}
+use Prim.Native.Nat.{ℕ, _+_, _/_, _%_}
 use mathlib.Core.Bool.{Bool, true, cond}
 use mathlib.Core.List.{List}
 use lib.Dec.{eqb}
@@ -8,12 +8,13 @@ use lib.ListN.{length, getD}
 use Rattle.leaf.specs.Choice.{amongAt}
 use Rattle.walk.specs.Tree.{Tree, leaf, row}
 
--- from the lowest bits on: 8 for the code, 16 for how many leaves, 16 for how many values, and 24 for the first value's byte
+-- from the lowest bits on: 8 for the code, 16 for how many leaves there are behind the first, so that no run is without one, 16 for
+-- how many values, and 24 for the first value's byte
 abbrev pub codeIn : ℕ → ℕ
 codeIn w = w % 256
 
 abbrev pub manyIn : ℕ → ℕ
-manyIn w = w / 256 % 65536
+manyIn w = 1 + w / 256 % 65536
 
 abbrev pub valuesIn : ℕ → ℕ
 valuesIn w = w / 16777216 % 65536

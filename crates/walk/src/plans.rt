@@ -68,7 +68,7 @@ pub fn code_in(run: u64) -> u16
 pub fn many_in(run: u64) -> u32
     ensures { λ r. ⌜ r ≡ manyIn run ⌝ }
 {
-    (run / BYTE % HALF) as u32
+    (1 + run / BYTE % HALF) as u32
 }
 
 pub fn values_in(run: u64) -> u16

@@ -90,7 +90,8 @@ fn answer(platform: &mut Platform, code: u64, arguments: &[Argument]) -> Result<
         (5, [Bytes(table), Number(of), Bytes(payload), Number(room)]) => {
             unpack(table, *of as usize, payload, *room as usize).map(|words| words_line(&words))
         }
-        (13, [Bytes(table), Number(of), Bytes(payload), Number(room)]) => {
+        // By plans the answer is the walk's: 02, request 13.
+        (13 | 16, [Bytes(table), Number(of), Bytes(payload), Number(room)]) => {
             unpack_checked(&check(table)?, *of as usize, payload, *room as usize)
                 .map(|words| words_line(&words))
         }
@@ -98,7 +99,7 @@ fn answer(platform: &mut Platform, code: u64, arguments: &[Argument]) -> Result<
             let packed = pack(table, *of as usize, words, *room as usize)?;
             Ok(format!("bytes {}", hex(&packed)))
         }
-        (14, [Bytes(table), Number(of), Words(words), Number(room)]) => {
+        (14 | 17, [Bytes(table), Number(of), Words(words), Number(room)]) => {
             let packed = pack_checked(&check(table)?, *of as usize, words, *room as usize)?;
             Ok(format!("bytes {}", hex(&packed)))
         }

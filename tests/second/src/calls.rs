@@ -2,10 +2,11 @@
 //! a row hold one of each.
 
 use crate::calls_compose::Call;
+use crate::calls_flat::{flat, FLAT};
 use crate::calls_payloads::SHORT;
 use crate::calls_platforms::{everybody, Talk};
 use crate::calls_requests::Asking;
-use crate::calls_tables::{at_the_limits, full, good, Plan, LARGEST};
+use crate::calls_tables::{at_the_limits, full, good, Draft, LARGEST};
 use crate::prng::Prng;
 use crate::{calls_bad, calls_cutting, calls_joiners, calls_messages, calls_payloads};
 
@@ -22,7 +23,7 @@ pub fn file(seed: u64) -> Vec<u8> {
             let steps = some.asking.crowd(rng, CALLS);
             calls.extend(steps.into_iter().map(|(call, _)| call));
         }
-        8 => calls = everybody(rng, &some.plan),
+        8 => calls = everybody(rng, &some.draft),
         9 => large(rng, &mut calls),
         15 => {
             let (few, kind) = (rng.below(30), rng.below(16) as u64);
@@ -41,15 +42,15 @@ pub fn file(seed: u64) -> Vec<u8> {
 /// length in the line that is compared, so these are few.
 fn large(rng: &mut Prng, calls: &mut Vec<Call>) {
     for _ in 0..3 {
-        let plan = at_the_limits(rng);
-        calls.push(calls_payloads::unpack(rng, &plan, LARGEST));
-        calls.push(calls_payloads::pack(rng, &plan, LARGEST));
-        let plan = full(rng);
+        let draft = at_the_limits(rng);
+        calls.push(calls_payloads::unpack(rng, &draft, LARGEST));
+        calls.push(calls_payloads::pack(rng, &draft, LARGEST));
+        let draft = full(rng);
         for _ in 0..3 {
-            calls.push(calls_payloads::check(rng, &plan));
-            calls.push(calls_payloads::look_up(rng, &plan));
-            calls.push(calls_payloads::unpack(rng, &plan, SHORT));
-            calls.push(calls_payloads::pack(rng, &plan, SHORT));
+            calls.push(calls_payloads::check(rng, &draft));
+            calls.push(calls_payloads::look_up(rng, &draft));
+            calls.push(calls_payloads::unpack(rng, &draft, SHORT));
+            calls.push(calls_payloads::pack(rng, &draft, SHORT));
         }
     }
 }
@@ -57,46 +58,55 @@ fn large(rng: &mut Prng, calls: &mut Vec<Call>) {
 /// Where calls come from: a table that lasts for some calls, and two conversations that go on. In
 /// one file both talk to the same platform, and the second does not know of the first.
 struct Source {
-    plan: Plan,
+    draft: Draft,
     talk: Talk,
     asking: Asking,
 }
 
 impl Source {
     fn new(rng: &mut Prng) -> Source {
-        let plan = good(rng);
-        let talk = Talk::new(rng, plan.clone());
+        let draft = good(rng);
+        let talk = Talk::new(rng, draft.clone());
         let asking = Asking::new(rng);
-        Source { plan, talk, asking }
+        Source {
+            draft,
+            talk,
+            asking,
+        }
     }
 
     /// A call of the kind that a seed stands for.
     fn call(&mut self, rng: &mut Prng, kind: u64) -> Call {
         if rng.chance(1, 4) {
-            self.plan = good(rng);
+            self.draft = good(rng);
         }
         let subject = match kind {
             3 => rng.pick(&[9, 9, 9, 10]),
-            4..=6 => rng.pick(&[0, 1]),
+            4..=6 => rng.pick(&[0, 1, 11]),
             7 => rng.pick(&[2, 3]),
             10 => rng.pick(&[4, 5]),
             11 => rng.pick(&[6, 7, 7]),
             12 => 8,
             13 => 9,
             14 => 10,
-            _ => rng.below(11),
+            _ => rng.below(12),
         };
         match subject {
-            0 => calls_payloads::unpack(rng, &self.plan, SHORT),
-            1 => calls_payloads::pack(rng, &self.plan, SHORT),
-            2 => calls_payloads::check(rng, &self.plan),
-            3 => calls_payloads::look_up(rng, &self.plan),
+            0 => calls_payloads::unpack(rng, &self.draft, SHORT),
+            1 => calls_payloads::pack(rng, &self.draft, SHORT),
+            2 => calls_payloads::check(rng, &self.draft),
+            3 => calls_payloads::look_up(rng, &self.draft),
             4 => calls_messages::read(rng),
             5 => calls_messages::write(rng),
             6 => calls_cutting::pieces(rng),
             7 => calls_cutting::piece(rng),
             8 => calls_joiners::take(rng),
             9 => self.talk.call(rng),
+            11 => {
+                let draft = flat(rng);
+                let make = rng.pick(&[calls_payloads::unpack, calls_payloads::pack]);
+                make(rng, &draft, FLAT)
+            }
             _ => self.asking.step(rng).0,
         }
     }
@@ -216,6 +226,8 @@ mod tests {
             ("14 bytes", 400),
             ("15 entry", 400),
             ("15 none", 400),
+            ("16 words", 400),
+            ("17 bytes", 400),
             ("8 response", 150),
             ("20 sent", 800),
             ("21 cancelled", 100),
@@ -230,8 +242,8 @@ mod tests {
         }
         // Every code but these six can be refused.
         let refused = seen.keys().filter(|form| form.ends_with("refused"));
-        assert_eq!(refused.count(), 19 - [7, 9, 10, 21, 22, 23].len());
-        assert_eq!(seen.len(), least.len() + 13, "{seen:?}");
+        assert_eq!(refused.count(), 21 - [7, 9, 10, 21, 22, 23].len());
+        assert_eq!(seen.len(), least.len() + 15, "{seen:?}");
     }
 
     #[test]

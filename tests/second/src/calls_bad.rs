@@ -4,8 +4,8 @@ use crate::calls_compose::Call;
 use crate::prng::Prng;
 
 /// Each code's arguments: a digit pair is a number's bits, `o` and `v` are outputs' lengths in
-/// bytes and in words, `b` is bytes, `w` words, `l` a list's words, `r` records. 16 to 19 are no
-/// codes.
+/// bytes and in words, `b` is bytes, `w` words, `l` a list's words, `r` records. 18 and 19 are
+/// no codes.
 pub const ARGUMENTS: [&str; 24] = [
     "",
     "08 b",
@@ -23,8 +23,8 @@ pub const ARGUMENTS: [&str; 24] = [
     "b 16 b v",
     "b 16 w o",
     "b 32",
-    "",
-    "",
+    "b 16 b v",
+    "b 16 w o",
     "",
     "",
     "b 32 32 b o",
@@ -55,7 +55,7 @@ pub fn bad(rng: &mut Prng, good: &Call) -> Vec<u8> {
 /// A code or a number of arguments that does not exist.
 fn wrong_head(rng: &mut Prng, call: &mut Call) {
     match rng.below(4) {
-        0 => call.code = rng.pick(&[0, 16, 17, 18, 19, 24, 255, 256, 0x1400, 0xFFFF]),
+        0 => call.code = rng.pick(&[0, 18, 19, 24, 255, 256, 0x1400, 0xFFFF]),
         1 => call.code |= 0x0100,
         2 if !call.arguments.is_empty() => {
             call.arguments.pop();

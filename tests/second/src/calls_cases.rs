@@ -4,7 +4,7 @@ use crate::calls_cases_places;
 use crate::compare::Case;
 use crate::program::By;
 use crate::{answers, calls_cases_bad, calls_cases_char8, calls_cases_joining, hex};
-use crate::{calls_cases_lists, calls_cases_payload, calls_cases_platform};
+use crate::{calls_cases_lists, calls_cases_payload, calls_cases_plans, calls_cases_platform};
 use crate::{calls_cases_requests, calls_cases_wide};
 
 /// A file worked out by hand. In its lines, bytes between braces stand for their hex digits.
@@ -22,6 +22,7 @@ pub fn worked() -> impl Iterator<Item = &'static Worked> {
         .chain(calls_cases_platform::CASES)
         .chain(calls_cases_wide::CASES)
         .chain(calls_cases_places::CASES)
+        .chain(calls_cases_plans::CASES)
         .chain(calls_cases_requests::CASES)
         .chain(calls_cases_lists::CASES)
         .chain(calls_cases_bad::CASES)
@@ -92,7 +93,7 @@ mod tests {
         let worked: BTreeSet<u64> = worked()
             .flat_map(|case| answered(&answers::tell(&hex::bytes(case.calls))))
             .collect();
-        assert_eq!(worked, (1..=15).chain(20..=23).collect());
+        assert_eq!(worked, (1..=17).chain(20..=23).collect());
     }
 
     #[test]

@@ -16,7 +16,7 @@ pub const CASES: &[Worked] = &[
     ends("a code alone", "000A", CUT),
     ends("no such code not seen yet", "0063 00", CUT),
     ends("code 0", "0000 0000", BAD),
-    ends("code 16", "0010 0000", BAD),
+    ends("code 18", "0012 0000", BAD),
     ends("code 19", "0013 0001 | 00000001 01", BAD),
     ends("code 24", "0018 0000", BAD),
     ends("a code in the high byte", "0A00 0000", BAD),

@@ -1,11 +1,11 @@
 //! Tables that were good, spoilt so that each of 30 to 33 is met.
 
 use crate::calls_operations::{break_an_operation, misfit};
-use crate::calls_tables::{at_the_limits, ends, Plan, NO_TYPE};
+use crate::calls_tables::{at_the_limits, ends, Draft, NO_TYPE};
 use crate::prng::Prng;
 
 /// A spoilt table's bytes. What it is refused with, if at all, the model says.
-pub fn damaged(rng: &mut Prng, good: &Plan) -> Vec<u8> {
+pub fn damaged(rng: &mut Prng, good: &Draft) -> Vec<u8> {
     match rng.below(22) {
         0..=2 => cut(rng, good.bytes()),
         3 => longer(rng, good.bytes()),
@@ -15,26 +15,26 @@ pub fn damaged(rng: &mut Prng, good: &Plan) -> Vec<u8> {
         20 | 21 => misfit(rng, good),
         9 => {
             // Two at once: which is given is a matter of order.
-            let mut plan = good.clone();
+            let mut draft = good.clone();
             let with = too_large_plan(rng);
-            plan.types = with.types;
-            plan.members = with.members;
-            break_a_rule(rng, &mut plan);
-            plan.bytes()
+            draft.types = with.types;
+            draft.members = with.members;
+            break_a_rule(rng, &mut draft);
+            draft.bytes()
         }
         10 => {
-            let mut plan = good.clone();
-            break_a_rule(rng, &mut plan);
+            let mut draft = good.clone();
+            break_a_rule(rng, &mut draft);
             match rng.below(3) {
-                0 => miscounted(rng, &plan),
-                1 => longer(rng, plan.bytes()),
-                _ => cut(rng, plan.bytes()),
+                0 => miscounted(rng, &draft),
+                1 => longer(rng, draft.bytes()),
+                _ => cut(rng, draft.bytes()),
             }
         }
         _ => {
-            let mut plan = good.clone();
-            break_a_rule(rng, &mut plan);
-            plan.bytes()
+            let mut draft = good.clone();
+            break_a_rule(rng, &mut draft);
+            draft.bytes()
         }
     }
 }
@@ -70,12 +70,12 @@ fn any_byte(rng: &mut Prng, mut bytes: Vec<u8>) -> Vec<u8> {
 }
 
 /// One section's count changed, its entries as they were.
-fn miscounted(rng: &mut Prng, plan: &Plan) -> Vec<u8> {
+fn miscounted(rng: &mut Prng, draft: &Draft) -> Vec<u8> {
     let counts = [
-        plan.types.len(),
-        plan.members.len(),
-        plan.values.len(),
-        plan.operations.len(),
+        draft.types.len(),
+        draft.members.len(),
+        draft.values.len(),
+        draft.operations.len(),
     ];
     let widths = [8, 2, 8, 8];
     let section = rng.below(4);
@@ -89,32 +89,32 @@ fn miscounted(rng: &mut Prng, plan: &Plan) -> Vec<u8> {
         5 => counts[section] + 1,
         _ => counts[section].max(1) - 1,
     };
-    let mut bytes = plan.bytes();
+    let mut bytes = draft.bytes();
     bytes[at..at + 2].copy_from_slice(&(count as u16).to_be_bytes());
     bytes
 }
 
 /// A type one step too large: by product, by sum, by an array's own four bytes, or by far.
-fn too_large_plan(rng: &mut Prng) -> Plan {
-    let mut plan = at_the_limits(rng);
-    let number = plan.types.len() as u16;
+fn too_large_plan(rng: &mut Prng) -> Draft {
+    let mut draft = at_the_limits(rng);
+    let number = draft.types.len() as u16;
     match rng.below(5) {
-        0 => plan.types[1][3] = (65536 / plan.sizes[0] + 1).min(65535) as u16,
-        1 => plan.types[2][3] = ((65536 - 4) / plan.sizes[0] + 1) as u16,
+        0 => draft.types[1][3] = (65536 / draft.sizes[0] + 1).min(65535) as u16,
+        1 => draft.types[2][3] = ((65536 - 4) / draft.sizes[0] + 1) as u16,
         2 => {
-            let first = plan.members.len() as u16;
-            plan.members.extend([0, 1, 0]);
-            plan.types.push([2, 0, first, 3]);
+            let first = draft.members.len() as u16;
+            draft.members.extend([0, 1, 0]);
+            draft.types.push([2, 0, first, 3]);
         }
         // The largest element: 65,535 of it wrap at 32 bits if nothing minds.
-        3 => plan.types.push([rng.pick(&[3, 4]), 1, 0, 65535]),
+        3 => draft.types.push([rng.pick(&[3, 4]), 1, 0, 65535]),
         _ => {
             for of in number - 1..number + 5 {
-                plan.types.push([3, of, 0, rng.pick(&[32768, 65535, 2])]);
+                draft.types.push([3, of, 0, rng.pick(&[32768, 65535, 2])]);
             }
         }
     }
-    plan
+    draft
 }
 
 fn too_large(rng: &mut Prng) -> Vec<u8> {
@@ -122,18 +122,18 @@ fn too_large(rng: &mut Prng) -> Vec<u8> {
 }
 
 /// One field changed so that a rule of number 32 is broken; now and then so that none is.
-fn break_a_rule(rng: &mut Prng, plan: &mut Plan) {
-    if !plan.operations.is_empty() && rng.chance(1, 3) {
-        return break_an_operation(rng, plan);
+fn break_a_rule(rng: &mut Prng, draft: &mut Draft) {
+    if !draft.operations.is_empty() && rng.chance(1, 3) {
+        return break_an_operation(rng, draft);
     }
-    let at = rng.below(plan.types.len());
-    let known = plan.types.len() as u16;
-    let [kind, of, first, count] = plan.types[at];
+    let at = rng.below(draft.types.len());
+    let known = draft.types.len() as u16;
+    let [kind, of, first, count] = draft.types[at];
     let section = match kind {
-        1 => plan.values.len() as u16,
-        _ => plan.members.len() as u16,
+        1 => draft.values.len() as u16,
+        _ => draft.members.len() as u16,
     };
-    let entry = &mut plan.types[at];
+    let entry = &mut draft.types[at];
     match (kind, rng.below(6)) {
         (_, 0) => entry[0] = rng.pick(&[5, 6, 256, 0xFFFF]),
         (1..=4, 1) => entry[3] = 0,
@@ -144,19 +144,19 @@ fn break_a_rule(rng: &mut Prng, plan: &mut Plan) {
             // Nothing is wrong with its values: each base could have them.
             entry[1] = rng.pick(&[0, 2, 11, 12, 13, 0xFFFF]);
             for value in 0..usize::from(count) {
-                plan.values[usize::from(first) + value] = value as u64;
+                draft.values[usize::from(first) + value] = value as u64;
             }
         }
-        (1, 3) => plan.values[usize::from(first)] = beyond(rng, of),
+        (1, 3) => draft.values[usize::from(first)] = beyond(rng, of),
         (1, 4) if count > 1 => {
             let (one, other) = (first, first + count - 1);
-            plan.values[usize::from(other)] = plan.values[usize::from(one)];
+            draft.values[usize::from(other)] = draft.values[usize::from(one)];
         }
         (2, 2) => entry[1] = rng.pick(&[1, 0xFFFF]),
         (2, 3 | 4) => {
             let member = first + rng.below(usize::from(count)) as u16;
             let late = [at as u16, at as u16 + 1, known, NO_TYPE];
-            plan.members[usize::from(member)] = rng.pick(&late);
+            draft.members[usize::from(member)] = rng.pick(&late);
         }
         (3 | 4, 2) => entry[2] = rng.pick(&[1, 0xFFFF]),
         (3 | 4, _) => entry[1] = rng.pick(&[at as u16, at as u16 + 1, known, 0xFFFF]),

@@ -13,7 +13,7 @@ const UINT8: &str = "0001 0000 0006 0000 0000 0000 0000 0000";
 const ASKS: &str = "0001 0000 0006 0000 0000 0000 0000 0001 00000007 0002 FFFF FFFF";
 
 /// Each code's arguments, as short as the call can be answered with.
-const SHORTEST: [(u16, &[&str]); 19] = [
+const SHORTEST: [(u16, &[&str]); 21] = [
     (7, &["02"]),
     (1, &["02", "EC0A0200 00000001 00000002 00000000 00000007"]),
     (2, &["02", "00", "02", "07", "", "14"]),
@@ -39,6 +39,8 @@ const SHORTEST: [(u16, &[&str]); 19] = [
     (13, &[UINT8, "00", "AB", "01"]),
     (14, &[UINT8, "00", "00000000000000AB", "01"]),
     (15, &[UINT8, "09"]),
+    (16, &[UINT8, "00", "AB", "01"]),
+    (17, &[UINT8, "00", "00000000000000AB", "01"]),
     (20, &[ASKS, "07", "01", "", "14"]),
     (22, &["02"]),
     (21, &["02"]),
@@ -202,17 +204,17 @@ mod tests {
         let whole = answers::tell(&in_one_file(&shortest()));
         let answered = whole.calls.iter().filter(|call| call.1.is_none());
         let codes: BTreeSet<u64> = answered.map(|call| call.0).collect();
-        assert_eq!(codes, (1..=15).chain(20..=23).collect(), "{}", whole.lines);
-        assert_eq!(whole.calls.len(), 19);
+        assert_eq!(codes, (1..=17).chain(20..=23).collect(), "{}", whole.lines);
+        assert_eq!(whole.calls.len(), 21);
         // The pair that 1 was owed took 0 and 1, so the request is number 2, and not 1.
-        let requests: Vec<&str> = whole.lines.lines().skip(15).collect();
+        let requests: Vec<&str> = whole.lines.lines().skip(17).collect();
         assert!(
-            requests[0].starts_with("15 sent 2 ec0a0201"),
+            requests[0].starts_with("17 sent 2 ec0a0201"),
             "{requests:?}"
         );
         assert_eq!(
             requests[1..],
-            ["16 pending 7 1", "17 cancelled", "18 platform 2"]
+            ["18 pending 7 1", "19 cancelled", "20 platform 2"]
         );
     }
 
@@ -227,7 +229,7 @@ mod tests {
             assert_eq!(lines.last() == Some(&"cut short"), !ends, "{}", case.name);
             behind += usize::from(ends);
         }
-        assert_eq!(behind, 20);
+        assert_eq!(behind, 22);
     }
 
     #[test]

@@ -1,6 +1,6 @@
 //! The operations of a table from a seed: entries of both widths, good and spoilt.
 
-use crate::calls_tables::{Plan, NO_TYPE};
+use crate::calls_tables::{Draft, NO_TYPE};
 use crate::prng::Prng;
 use std::collections::BTreeSet;
 
@@ -60,7 +60,7 @@ fn rising(rng: &mut Prng, count: usize) -> BTreeSet<u32> {
     ids
 }
 
-impl Plan {
+impl Draft {
     /// So many operations: of any width, all narrow, all wide, or one wide at either end.
     pub fn operate(&mut self, rng: &mut Prng, count: usize) {
         let mixture = rng.below(8);
@@ -81,8 +81,8 @@ impl Plan {
 /// Tables for a conversation with requests: the first has two IDs whose requests we send and one
 /// whose requests we serve; in the second an entry is gone and another changed. Both are small, since
 /// every call has one.
-pub fn two_tables(rng: &mut Prng) -> [Plan; 2] {
-    let mut first = Plan::default();
+pub fn two_tables(rng: &mut Prng) -> [Draft; 2] {
+    let mut first = Draft::default();
     (0..rng.from_to(1, 3)).for_each(|code| first.base(code as u16 + 6));
     let lowest = rng.pick(&[0, 1, 5, 1000, 0xFFFF_FF00]);
     let kinds = [2, 2, 3, rng.below(4) as u16, rng.below(4) as u16];
@@ -106,14 +106,14 @@ pub fn two_tables(rng: &mut Prng) -> [Plan; 2] {
 }
 
 /// One entry changed so that a rule of number 32 is broken; now and then so that none is.
-pub fn break_an_operation(rng: &mut Prng, plan: &mut Plan) {
-    let known = plan.types.len() as u16;
-    let last = plan.operations.len() - 1;
+pub fn break_an_operation(rng: &mut Prng, draft: &mut Draft) {
+    let known = draft.types.len() as u16;
+    let last = draft.operations.len() - 1;
     let at = rng.below(last + 1);
     let none = rng.pick(&[known, NO_TYPE - 1]);
-    let entry = &mut plan.operations[at];
+    let entry = &mut draft.operations[at];
     match rng.below(8) {
-        0 => plan.operations[last].id = 0xFFFF_FFFF,
+        0 => draft.operations[last].id = 0xFFFF_FFFF,
         // A kind that does not exist has 8 bytes: 32, or by 10 of them whatever that comes to.
         1 => entry.kind = rng.pick(&[4, 5, 256, 258, 0x0300, 0xFFFF]),
         2 => {
@@ -123,28 +123,28 @@ pub fn break_an_operation(rng: &mut Prng, plan: &mut Plan) {
         3 => entry.of = none,
         4 if entry.response.is_some() => entry.response = Some(none),
         4 => (entry.kind, entry.of) = (1, NO_TYPE),
-        5 if last > 0 => plan.operations[last].id = plan.operations[last - 1].id,
-        6 if last > 0 => plan.operations.swap(0, last),
+        5 if last > 0 => draft.operations[last].id = draft.operations[last - 1].id,
+        6 if last > 0 => draft.operations.swap(0, last),
         _ => entry.of = none,
     }
 }
 
 /// Bytes whose widths are not those of their kinds: a wide entry at the end cut by 1, 2 or 3, a
 /// kind changed and its bytes left, or two bytes left out or put in.
-pub fn misfit(rng: &mut Prng, good: &Plan) -> Vec<u8> {
-    let mut plan = good.clone();
-    if plan.operations.is_empty() {
-        plan.operate(rng, 2);
+pub fn misfit(rng: &mut Prng, good: &Draft) -> Vec<u8> {
+    let mut draft = good.clone();
+    if draft.operations.is_empty() {
+        draft.operate(rng, 2);
     }
-    let last = plan.operations.len() - 1;
+    let last = draft.operations.len() - 1;
     let anywhere = rng.below(last + 1);
     let at = rng.pick(&[0, last, anywhere]);
-    let entry = &mut plan.operations[at];
+    let entry = &mut draft.operations[at];
     match rng.below(6) {
         0..=2 => {
-            let id = plan.operations[last].id;
-            plan.operations[last] = Entry::good(rng, id, plan.types.len(), true);
-            let mut bytes = plan.bytes();
+            let id = draft.operations[last].id;
+            draft.operations[last] = Entry::good(rng, id, draft.types.len(), true);
+            let mut bytes = draft.bytes();
             bytes.truncate(bytes.len() - rng.from_to(1, 3));
             return bytes;
         }
@@ -152,10 +152,10 @@ pub fn misfit(rng: &mut Prng, good: &Plan) -> Vec<u8> {
         4 => entry.response = entry.response.xor(Some(0)),
         _ => {
             // All as wide as the widest.
-            for entry in &mut plan.operations {
+            for entry in &mut draft.operations {
                 entry.response = entry.response.or(Some(NO_TYPE));
             }
         }
     }
-    plan.bytes()
+    draft.bytes()
 }

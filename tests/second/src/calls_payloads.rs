@@ -1,8 +1,8 @@
-//! Calls on tables: 4 and 15, and payloads to words and back, 5, 6, 13 and 14.
+//! Calls on tables: 4 and 15, and payloads to words and back, 5, 6, 13, 14, 16 and 17.
 
 use crate::calls_compose::{room, Call};
 use crate::calls_damage::damaged;
-use crate::calls_tables::Plan;
+use crate::calls_tables::Draft;
 use crate::calls_values::{outside, outside_wire, payload, value, words, Leaf, Of};
 use crate::prng::Prng;
 
@@ -10,36 +10,36 @@ const MOST_BYTES: usize = 70_000;
 const MOST_WORDS: usize = 65_536;
 
 /// A table's bytes, spoilt once in `seldom`.
-pub fn table(rng: &mut Prng, plan: &Plan, seldom: usize) -> Vec<u8> {
+pub fn table(rng: &mut Prng, draft: &Draft, seldom: usize) -> Vec<u8> {
     if rng.chance(1, seldom) {
-        damaged(rng, plan)
+        damaged(rng, draft)
     } else {
-        plan.bytes()
+        draft.bytes()
     }
 }
 
 /// Code 4 on a good table and on a spoilt one alike.
-pub fn check(rng: &mut Prng, plan: &Plan) -> Call {
+pub fn check(rng: &mut Prng, draft: &Draft) -> Call {
     let bytes = match rng.below(20) {
         0 => {
             let length = rng.below(40);
             rng.bytes(length)
         }
-        _ => table(rng, plan, 2),
+        _ => table(rng, draft, 2),
     };
     Call::new(4).bytes(&bytes)
 }
 
 /// Code 15: IDs that are there, the ones beside them, and the ends.
-pub fn look_up(rng: &mut Prng, plan: &Plan) -> Call {
-    let id = match (rng.below(8), plan.operations.is_empty()) {
+pub fn look_up(rng: &mut Prng, draft: &Draft) -> Call {
+    let id = match (rng.below(8), draft.operations.is_empty()) {
         (0, _) => rng.pick(&[0, 1, 0xFFFF_FFFE, 0xFFFF_FFFF]),
         (1, _) | (_, true) => rng.draw() as u32,
-        (2, _) => rng.pick(&plan.operations).id.wrapping_add(1),
-        (3, _) => rng.pick(&plan.operations).id.wrapping_sub(1),
-        _ => rng.pick(&plan.operations).id,
+        (2, _) => rng.pick(&draft.operations).id.wrapping_add(1),
+        (3, _) => rng.pick(&draft.operations).id.wrapping_sub(1),
+        _ => rng.pick(&draft.operations).id,
     };
-    let bytes = table(rng, plan, 20);
+    let bytes = table(rng, draft, 20);
     Call::new(15).bytes(&bytes).number(rng, u64::from(id))
 }
 
@@ -47,11 +47,11 @@ pub fn look_up(rng: &mut Prng, plan: &Plan) -> Call {
 pub const SHORT: u64 = 300;
 
 /// A type's number, of one no larger than `largest`, a composite one where there is any.
-fn some_type(rng: &mut Prng, plan: &Plan, largest: u64) -> u16 {
+fn some_type(rng: &mut Prng, draft: &Draft, largest: u64) -> u16 {
     for _ in 0..6 {
-        let known = plan.types.len();
+        let known = draft.types.len();
         let of = rng.below(known).max(rng.below(known));
-        if plan.sizes[of] <= largest {
+        if draft.sizes[of] <= largest {
             return of as u16;
         }
     }
@@ -59,8 +59,8 @@ fn some_type(rng: &mut Prng, plan: &Plan, largest: u64) -> u16 {
 }
 
 /// Which type number the call is given: now and then one that does not exist.
-fn asked(rng: &mut Prng, plan: &Plan, of: u16) -> u64 {
-    let known = plan.types.len() as u64;
+fn asked(rng: &mut Prng, draft: &Draft, of: u16) -> u64 {
+    let known = draft.types.len() as u64;
     match rng.below(40) {
         0 => known,
         1 => rng.pick(&[0xFFFF, 256, known + 1, 0x100 + u64::from(of)]),
@@ -69,9 +69,9 @@ fn asked(rng: &mut Prng, plan: &Plan, of: u16) -> u64 {
     }
 }
 
-pub fn unpack(rng: &mut Prng, plan: &Plan, largest: u64) -> Call {
-    let of = some_type(rng, plan, largest);
-    let mut leaves = value(rng, plan, of);
+pub fn unpack(rng: &mut Prng, draft: &Draft, largest: u64) -> Call {
+    let of = some_type(rng, draft, largest);
+    let mut leaves = value(rng, draft, of);
     let needed = leaves.len();
     if rng.chance(2, 5) {
         spoil(rng, &mut leaves);
@@ -84,18 +84,18 @@ pub fn unpack(rng: &mut Prng, plan: &Plan, largest: u64) -> Call {
         _ => {}
     }
     bytes.truncate(MOST_BYTES);
-    let (table, of) = (table(rng, plan, 40), asked(rng, plan, of));
+    let (table, of) = (table(rng, draft, 40), asked(rng, draft, of));
     let room = room(rng, needed, MOST_WORDS);
-    Call::new(rng.pick(&[5, 13]))
+    Call::new(rng.pick(&[5, 13, 16]))
         .bytes(&table)
         .number(rng, of)
         .bytes(&bytes)
         .number(rng, room)
 }
 
-pub fn pack(rng: &mut Prng, plan: &Plan, largest: u64) -> Call {
-    let of = some_type(rng, plan, largest);
-    let mut leaves = value(rng, plan, of);
+pub fn pack(rng: &mut Prng, draft: &Draft, largest: u64) -> Call {
+    let of = some_type(rng, draft, largest);
+    let mut leaves = value(rng, draft, of);
     let needed = payload(&leaves).len();
     if rng.chance(2, 5) {
         spoil(rng, &mut leaves);
@@ -107,9 +107,9 @@ pub fn pack(rng: &mut Prng, plan: &Plan, largest: u64) -> Call {
         _ => {}
     }
     words.truncate(MOST_WORDS);
-    let (table, of) = (table(rng, plan, 40), asked(rng, plan, of));
+    let (table, of) = (table(rng, draft, 40), asked(rng, draft, of));
     let room = room(rng, needed, MOST_BYTES);
-    Call::new(rng.pick(&[6, 14]))
+    Call::new(rng.pick(&[6, 14, 17]))
         .bytes(&table)
         .number(rng, of)
         .words(&words)
@@ -172,13 +172,13 @@ mod tests {
     fn good_tables_are_good() {
         let mut rng = Prng::new(11);
         for _ in 0..600 {
-            let plan = good(&mut rng);
-            let table = types::check(&plan.bytes()).expect("a good table");
-            assert_eq!(table.types.len(), plan.types.len());
-            assert_eq!(table.members, plan.members.len());
-            assert_eq!(table.values, plan.values.len());
-            assert_eq!(table.operations.len(), plan.operations.len());
-            assert!(plan.sizes.iter().all(|size| *size <= 65536));
+            let draft = good(&mut rng);
+            let table = types::check(&draft.bytes()).expect("a good table");
+            assert_eq!(table.types.len(), draft.types.len());
+            assert_eq!(table.members, draft.members.len());
+            assert_eq!(table.values, draft.values.len());
+            assert_eq!(table.operations.len(), draft.operations.len());
+            assert!(draft.sizes.iter().all(|size| *size <= 65536));
         }
     }
 
@@ -189,10 +189,10 @@ mod tests {
         let mut rng = Prng::new(12);
         let (mut codes, mut enums, mut counts) = ([0; 13], [0; 13], 0);
         for _ in 0..1500 {
-            let plan = good(&mut rng);
-            let of = some_type(&mut rng, &plan, SHORT);
-            let leaves = value(&mut rng, &plan, of);
-            let (table, of) = (plan.bytes(), usize::from(of));
+            let draft = good(&mut rng);
+            let of = some_type(&mut rng, &draft, SHORT);
+            let leaves = value(&mut rng, &draft, of);
+            let (table, of) = (draft.bytes(), usize::from(of));
             let given = model::unpack(&table, of, &payload(&leaves), MOST_WORDS);
             assert_eq!(given, Ok(words(&leaves)));
             let mut as_one = leaves.clone();
@@ -219,9 +219,9 @@ mod tests {
         let mut rng = Prng::new(13);
         let mut places = 0;
         for _ in 0..1500 {
-            let plan = good(&mut rng);
-            let of = some_type(&mut rng, &plan, SHORT);
-            let mut leaves = value(&mut rng, &plan, of);
+            let draft = good(&mut rng);
+            let of = some_type(&mut rng, &draft, SHORT);
+            let mut leaves = value(&mut rng, &draft, of);
             let at = |leaf: &Leaf| leaf.of == Of::Base(CHAR8);
             let texts: Vec<usize> = (0..leaves.len()).filter(|i| at(&leaves[*i])).collect();
             if texts.is_empty() {
@@ -231,7 +231,7 @@ mod tests {
             let wrong = rng.pick(&texts);
             let leaf = &mut leaves[wrong];
             (leaf.word, leaf.wire) = (outside(&mut rng, leaf), outside_wire(&mut rng, leaf));
-            let (table, of) = (plan.bytes(), usize::from(of));
+            let (table, of) = (draft.bytes(), usize::from(of));
             let refused = |at| model::Refused {
                 number: 42,
                 place: Some(Place { at, leaves: wrong }),

@@ -3,7 +3,7 @@
 use crate::calls_compose::Call;
 use crate::calls_messages::{good, spoilt, Fields};
 use crate::calls_payloads::table;
-use crate::calls_tables::Plan;
+use crate::calls_tables::Draft;
 use crate::prng::Prng;
 
 /// Who talks to whom, about what.
@@ -11,26 +11,26 @@ pub struct Talk {
     own: u8,
     others: Vec<u32>,
     ids: Vec<u32>,
-    plan: Plan,
+    draft: Draft,
 }
 
 impl Talk {
     /// Before a 7 the platform is number 0.
-    pub fn new(rng: &mut Prng, mut plan: Plan) -> Talk {
-        if plan.operations.is_empty() {
-            plan.operate(rng, 3);
+    pub fn new(rng: &mut Prng, mut draft: Draft) -> Talk {
+        if draft.operations.is_empty() {
+            draft.operate(rng, 3);
         }
         if rng.chance(1, 4) {
             // Nothing to pull: all of it is then unknown (R7).
-            plan.operations.retain(|entry| entry.kind != 1);
-        } else if plan.operations.iter().all(|entry| entry.kind != 1) {
-            let first = &mut plan.operations[0];
+            draft.operations.retain(|entry| entry.kind != 1);
+        } else if draft.operations.iter().all(|entry| entry.kind != 1) {
+            let first = &mut draft.operations[0];
             (first.kind, first.of, first.response) = (1, 0, None);
         }
-        let mut ids: Vec<u32> = plan.operations.iter().map(|entry| entry.id).collect();
+        let mut ids: Vec<u32> = draft.operations.iter().map(|entry| entry.id).collect();
         ids.truncate(6);
         // What can be pulled is named once more, or it is pulled too seldom.
-        let pulled = plan.operations.iter().find(|entry| entry.kind == 1);
+        let pulled = draft.operations.iter().find(|entry| entry.kind == 1);
         ids.extend(pulled.map(|entry| entry.id));
         ids.push(rng.below(40) as u32);
         let count = rng.pick(&[1, 2, 4, 10]);
@@ -38,7 +38,7 @@ impl Talk {
             own: 0,
             others: Vec::new(),
             ids,
-            plan,
+            draft,
         };
         talk.meet(rng, count);
         talk
@@ -97,7 +97,7 @@ impl Talk {
         } else {
             fields.bytes()
         };
-        let table = table(rng, &self.plan, 40);
+        let table = table(rng, &self.draft, 40);
         let room = rng.pick(&[0, 23, 24, 24, 25, 47, 48, 48, 48, 48, 48, 100, 70_000]);
         Call::new(8).bytes(&table).bytes(&bytes).number(rng, room)
     }
@@ -111,9 +111,9 @@ fn status(from: u32, up: u32) -> Fields {
 /// All 256 announce themselves, this one's own message refused among them, and the count goes on
 /// to 256; those above change nothing (R4). Then some go down, and up again with the own numbers
 /// that follow.
-pub fn everybody(rng: &mut Prng, plan: &Plan) -> Vec<Call> {
+pub fn everybody(rng: &mut Prng, draft: &Draft) -> Vec<Call> {
     let own: u8 = rng.pick(&[0, 100, 255]);
-    let table = plan.bytes();
+    let table = draft.bytes();
     let mut out = vec![Call::new(7).number(rng, u64::from(own))];
     let say = |rng: &mut Prng, from: u32, up: u32| {
         let message = status(from, up).bytes();

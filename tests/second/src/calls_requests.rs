@@ -7,7 +7,7 @@ use crate::calls_ledger::Ledger;
 use crate::calls_lists;
 use crate::calls_messages::{spoilt, Fields};
 use crate::calls_operations::two_tables;
-use crate::calls_tables::Plan;
+use crate::calls_tables::Draft;
 use crate::prng::Prng;
 
 /// A call, and its answer where the map tells it.
@@ -18,7 +18,7 @@ const NOBODY: u32 = 0x0055_AA55;
 
 pub struct Asking {
     /// Two of them: some IDs of the first have another kind in the second, or none.
-    tables: [Plan; 2],
+    tables: [Draft; 2],
     /// IDs of the first, most often those whose requests we send.
     ids: Vec<u32>,
     others: Vec<u32>,
@@ -27,8 +27,8 @@ pub struct Asking {
     forged: bool,
 }
 
-fn kind(plan: &Plan, id: u32) -> Option<u16> {
-    let mut entries = plan.operations.iter();
+fn kind(draft: &Draft, id: u32) -> Option<u16> {
+    let mut entries = draft.operations.iter();
     entries.find(|entry| entry.id == id).map(|entry| entry.kind)
 }
 
@@ -117,7 +117,7 @@ impl Asking {
         (calls_lists::hand_in(rng, &self.ledger, &words), None)
     }
 
-    fn table(&self, rng: &mut Prng) -> &Plan {
+    fn table(&self, rng: &mut Prng) -> &Draft {
         &self.tables[usize::from(rng.chance(1, 8))]
     }
 
@@ -127,10 +127,10 @@ impl Asking {
     }
 
     fn send(&mut self, rng: &mut Prng) -> Step {
-        let plan = self.table(rng).clone();
+        let draft = self.table(rng).clone();
         let id = match rng.below(16) {
             0 => rng.pick(&[0, 6, 0xFFFF_FFFE, 0xFFFF_FFFF]),
-            1 => rng.pick(&plan.operations).id,
+            1 => rng.pick(&draft.operations).id,
             _ => rng.pick(&self.ids),
         };
         let target = match rng.below(10) {
@@ -144,13 +144,13 @@ impl Asking {
         }
         let room = room(rng, 20 + payload.len(), 70_000);
         let call = Call::new(20)
-            .bytes(&plan.bytes())
+            .bytes(&draft.bytes())
             .number(rng, u64::from(id))
             .number(rng, u64::from(target))
             .bytes(&payload)
             .number(rng, room);
         let request = Fields::new(1, u32::from(self.ledger.own), id, 0, payload);
-        let told = self.ledger.send(kind(&plan, id), request, target, room);
+        let told = self.ledger.send(kind(&draft, id), request, target, room);
         (call, Some(told))
     }
 
@@ -185,12 +185,12 @@ impl Asking {
             3 => from ^= rng.pick(&[1, 1 << 8, 1 << 31]),
             _ => {}
         }
-        let plan = self.table(rng).clone();
+        let draft = self.table(rng).clone();
         let message = Fields::new(1, from, id, number, self.payload(rng));
         let room = rng.pick(&[0, 0, 23, 24, 48]);
-        let told = self.ledger.hear(kind(&plan, id), &message, room);
+        let told = self.ledger.hear(kind(&draft, id), &message, room);
         (
-            heard(rng, &plan.bytes(), &message.bytes(), room),
+            heard(rng, &draft.bytes(), &message.bytes(), room),
             Some(told),
         )
     }

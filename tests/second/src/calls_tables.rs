@@ -3,9 +3,9 @@
 use crate::calls_operations::Entry;
 use crate::prng::Prng;
 
-/// Names a table's parts as its bytes have them, so that any of them can be spoilt.
+/// A table's parts as its bytes have them, so that any of them can be spoilt.
 #[derive(Clone, Debug, Default)]
-pub struct Plan {
+pub struct Draft {
     /// kind, of, first, count.
     pub types: Vec<[u16; 4]>,
     pub members: Vec<u16>,
@@ -51,7 +51,7 @@ pub fn integer(rng: &mut Prng, code: u16) -> i128 {
     }
 }
 
-impl Plan {
+impl Draft {
     pub fn bytes(&self) -> Vec<u8> {
         let mut out = Vec::new();
         let count = |out: &mut Vec<u8>, n: usize| out.extend((n as u16).to_be_bytes());
@@ -185,92 +185,92 @@ fn late(rng: &mut Prng, known: usize) -> u16 {
 }
 
 /// A good table of any kind.
-pub fn good(rng: &mut Prng) -> Plan {
-    let mut plan = Plan::default();
+pub fn good(rng: &mut Prng) -> Draft {
+    let mut draft = Draft::default();
     match rng.below(28) {
-        0..=9 => (0..rng.from_to(1, 6)).for_each(|_| plan.grow(rng)),
-        10..=14 => (0..rng.from_to(7, 30)).for_each(|_| plan.grow(rng)),
+        0..=9 => (0..rng.from_to(1, 6)).for_each(|_| draft.grow(rng)),
+        10..=14 => (0..rng.from_to(7, 30)).for_each(|_| draft.grow(rng)),
         15 => return every_base(rng),
         16 => return at_the_limits(rng),
         17 => return deep(rng),
         18 => return full(rng),
-        19..=22 => texts(rng, &mut plan),
+        19..=22 => texts(rng, &mut draft),
         _ => {
             // One base or enum and what is made of it, each leaf easy to reach.
-            plan.base(rng.below(13) as u16);
+            draft.base(rng.below(13) as u16);
             let (code, count) = (rng.pick(&ENUM_BASES), rng.from_to(1, 4));
-            plan.enumeration(rng, code, count);
+            draft.enumeration(rng, code, count);
             let of = rng.below(2) as u16;
-            plan.array(rng.pick(&[3, 4]), of, rng.from_to(1, 3) as u64);
-            plan.record(&[0, 2, 1]);
+            draft.array(rng.pick(&[3, 4]), of, rng.from_to(1, 3) as u64);
+            draft.record(&[0, 2, 1]);
         }
     }
     let count = rng.pick(&[0, 1, 2, 3, 8]);
-    plan.operate(rng, count);
-    plan
+    draft.operate(rng, count);
+    draft
 }
 
 /// Each base code, its number its type's, and a record of all.
-pub fn every_base(rng: &mut Prng) -> Plan {
-    let mut plan = Plan::default();
-    (0..13).for_each(|code| plan.base(code));
-    plan.record(&(0..13).collect::<Vec<u16>>());
-    plan.operate(rng, 2);
-    plan
+pub fn every_base(rng: &mut Prng) -> Draft {
+    let mut draft = Draft::default();
+    (0..13).for_each(|code| draft.base(code));
+    draft.record(&(0..13).collect::<Vec<u16>>());
+    draft.operate(rng, 2);
+    draft
 }
 
 /// Texts in every way: single char8, many in a record, in arrays long and short, beside those of a
 /// base that has the same bytes and all 256 of them.
-fn texts(rng: &mut Prng, plan: &mut Plan) {
-    plan.base(CHAR8);
-    plan.base(rng.pick(&[6, 7]));
+fn texts(rng: &mut Prng, draft: &mut Draft) {
+    draft.base(CHAR8);
+    draft.base(rng.pick(&[6, 7]));
     for of in [0, 0, 1] {
-        plan.array(rng.pick(&[3, 4]), of, rng.pick(&[1, 3, 16, 17, 64, 90]));
+        draft.array(rng.pick(&[3, 4]), of, rng.pick(&[1, 3, 16, 17, 64, 90]));
     }
-    plan.record(&vec![0; rng.from_to(2, 40)]);
-    plan.record(&[0, 2, 1, 4, 3, 0]);
+    draft.record(&vec![0; rng.from_to(2, 40)]);
+    draft.record(&[0, 2, 1, 4, 3, 0]);
 }
 
 /// Types of 65,536 bytes, or as near as their kind comes.
-pub fn at_the_limits(rng: &mut Prng) -> Plan {
-    let mut plan = Plan::default();
-    plan.base(rng.pick(&[CHAR8, 6, 8, 9, 10]));
-    plan.array(3, 0, 65535);
-    plan.array(4, 0, 65535);
-    plan.array(3, 0, rng.from_to(1, 5) as u64);
-    plan.record(&[3, 0]);
-    plan.array(rng.pick(&[3, 4]), 4, 65535);
-    plan.operate(rng, 1);
-    plan
+pub fn at_the_limits(rng: &mut Prng) -> Draft {
+    let mut draft = Draft::default();
+    draft.base(rng.pick(&[CHAR8, 6, 8, 9, 10]));
+    draft.array(3, 0, 65535);
+    draft.array(4, 0, 65535);
+    draft.array(3, 0, rng.from_to(1, 5) as u64);
+    draft.record(&[3, 0]);
+    draft.array(rng.pick(&[3, 4]), 4, 65535);
+    draft.operate(rng, 1);
+    draft
 }
 
 /// A long chain, each type made of the one before it.
-fn deep(rng: &mut Prng) -> Plan {
-    let mut plan = Plan::default();
-    plan.base(rng.below(13) as u16);
+fn deep(rng: &mut Prng) -> Draft {
+    let mut draft = Draft::default();
+    draft.base(rng.below(13) as u16);
     let length = rng.pick(&[10, 60, 255]);
     for of in 0..length {
         match rng.below(6) {
-            0 => plan.array(3, of, 1),
-            1 => plan.array(4, of, rng.pick(&[1, 1, 2])),
-            2 if of % 64 == 0 => plan.record(&[of, of]),
-            _ => plan.record(&[of]),
+            0 => draft.array(3, of, 1),
+            1 => draft.array(4, of, rng.pick(&[1, 1, 2])),
+            2 if of % 64 == 0 => draft.record(&[of, of]),
+            _ => draft.record(&[of]),
         }
     }
-    plan.operate(rng, 1);
-    plan
+    draft.operate(rng, 1);
+    draft
 }
 
 /// Every section at its greatest count.
-pub fn full(rng: &mut Prng) -> Plan {
-    let mut plan = Plan::default();
-    plan.base(rng.pick(&[8, 9, 10]));
-    plan.enumeration(rng, 10, 400);
-    while plan.types.len() < 256 {
-        plan.grow(rng);
+pub fn full(rng: &mut Prng) -> Draft {
+    let mut draft = Draft::default();
+    draft.base(rng.pick(&[8, 9, 10]));
+    draft.enumeration(rng, 10, 400);
+    while draft.types.len() < 256 {
+        draft.grow(rng);
     }
-    plan.members.resize(1024, NO_TYPE);
-    plan.values.resize(1024, 7);
-    plan.operate(rng, 1024);
-    plan
+    draft.members.resize(1024, NO_TYPE);
+    draft.values.resize(1024, 7);
+    draft.operate(rng, 1024);
+    draft
 }

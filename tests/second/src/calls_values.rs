@@ -1,7 +1,7 @@
 //! Values of a type as lists of leaves, each with its word and its bytes on the wire, made
 //! without the model; and the same lists spoilt.
 
-use crate::calls_tables::{ends, integer, width, Plan, CHAR8};
+use crate::calls_tables::{ends, integer, width, Draft, CHAR8};
 use crate::prng::Prng;
 
 #[derive(Clone, Debug, PartialEq, Eq)]
@@ -34,19 +34,19 @@ fn low(value: i128, width: usize) -> Vec<u8> {
 }
 
 /// A value of an accepted table's type.
-pub fn value(rng: &mut Prng, plan: &Plan, of: u16) -> Vec<Leaf> {
+pub fn value(rng: &mut Prng, draft: &Draft, of: u16) -> Vec<Leaf> {
     let mut out = Vec::new();
-    fill(rng, plan, of, &mut out);
+    fill(rng, draft, of, &mut out);
     out
 }
 
-fn fill(rng: &mut Prng, plan: &Plan, of: u16, out: &mut Vec<Leaf>) {
-    let [kind, inner, first, count] = plan.types[usize::from(of)];
+fn fill(rng: &mut Prng, draft: &Draft, of: u16, out: &mut Vec<Leaf>) {
+    let [kind, inner, first, count] = draft.types[usize::from(of)];
     let (from, to) = (usize::from(first), usize::from(first) + usize::from(count));
     match kind {
         0 => out.push(base(rng, inner)),
         1 => {
-            let own = plan.values[from..to].to_vec();
+            let own = draft.values[from..to].to_vec();
             let word = rng.pick(&own);
             let wire = low(i128::from(word), width(inner));
             out.push(Leaf {
@@ -55,8 +55,8 @@ fn fill(rng: &mut Prng, plan: &Plan, of: u16, out: &mut Vec<Leaf>) {
                 wire,
             });
         }
-        2 => (from..to).for_each(|m| fill(rng, plan, plan.members[m], out)),
-        3 => (0..count).for_each(|_| fill(rng, plan, inner, out)),
+        2 => (from..to).for_each(|m| fill(rng, draft, draft.members[m], out)),
+        3 => (0..count).for_each(|_| fill(rng, draft, inner, out)),
         _ => {
             let most = u64::from(count);
             let count = match rng.below(8) {
@@ -66,7 +66,7 @@ fn fill(rng: &mut Prng, plan: &Plan, of: u16, out: &mut Vec<Leaf>) {
             };
             let count = count.min(most);
             out.push(counted(count, most));
-            (0..count).for_each(|_| fill(rng, plan, inner, out));
+            (0..count).for_each(|_| fill(rng, draft, inner, out));
         }
     }
 }

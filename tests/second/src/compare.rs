@@ -12,10 +12,10 @@ use std::sync::Mutex;
 
 /// What the gate's run must hold, or a comparison shows too little.
 const LEAST_CALLS: usize = 20_000;
-const CODES: [Range<u64>; 2] = [1..16, 20..24];
+const CODES: [Range<u64>; 2] = [1..18, 20..24];
 const REFUSALS: [Range<u8>; 6] = [1..11, 20..24, 30..34, 40..46, 50..53, 60..63];
 /// Unpacking and packing, and the numbers with which each tells where.
-const WALKS: [u64; 4] = [5, 6, 13, 14];
+const WALKS: [u64; 6] = [5, 6, 13, 14, 16, 17];
 const PLACED: Range<u8> = 40..44;
 
 /// Programs under test run side by side: on an emulator most of the time goes into starting them.

@@ -1,7 +1,7 @@
 //! Where a walk stops (02, request 3): against values made without the model, and what a place
 //! means apart from any walk.
 
-use crate::calls_tables::{good, Plan};
+use crate::calls_tables::{good, Draft};
 use crate::calls_values::{outside, outside_wire, payload, value, words, Leaf};
 use crate::payload::{pack, unpack, Place, Refused};
 use crate::prng::Prng;
@@ -17,13 +17,13 @@ fn refused(number: u8, at: usize, leaves: usize) -> Refused {
 }
 
 /// A table, one of its types and a value of it, of some leaves.
-fn made(rng: &mut Prng) -> (Plan, u16, Vec<Leaf>) {
+fn made(rng: &mut Prng) -> (Draft, u16, Vec<Leaf>) {
     loop {
-        let plan = good(rng);
-        let of = rng.below(plan.types.len());
-        if plan.sizes[of] <= SHORT {
-            let leaves = value(rng, &plan, of as u16);
-            return (plan, of as u16, leaves);
+        let draft = good(rng);
+        let of = rng.below(draft.types.len());
+        if draft.sizes[of] <= SHORT {
+            let leaves = value(rng, &draft, of as u16);
+            return (draft, of as u16, leaves);
         }
     }
 }
@@ -43,8 +43,8 @@ fn a_wrong_leaf_is_found() {
     let mut rng = Prng::new(21);
     let (mut in_bytes, mut in_words) = ([0; 2], [0; 2]);
     for _ in 0..3000 {
-        let (plan, of, mut leaves) = made(&mut rng);
-        let (table, of, at) = (plan.bytes(), usize::from(of), rng.below(leaves.len()));
+        let (draft, of, mut leaves) = made(&mut rng);
+        let (table, of, at) = (draft.bytes(), usize::from(of), rng.below(leaves.len()));
         let leaf = &mut leaves[at];
         (leaf.word, leaf.wire) = (outside(&mut rng, leaf), outside_wire(&mut rng, leaf));
         // Of some leaves every byte is allowed.
@@ -66,8 +66,8 @@ fn a_wrong_leaf_is_found() {
 fn ends_are_found() {
     let mut rng = Prng::new(22);
     for _ in 0..400 {
-        let (plan, of, leaves) = made(&mut rng);
-        let (table, of) = (plan.bytes(), usize::from(of));
+        let (draft, of, leaves) = made(&mut rng);
+        let (table, of) = (draft.bytes(), usize::from(of));
         let (begins, mut bytes, mut given) = (begins(&leaves), payload(&leaves), words(&leaves));
         for length in 0..bytes.len() {
             let cut = begins.iter().rposition(|begin| *begin <= length);
@@ -96,8 +96,8 @@ fn what_a_place_means() {
     let mut rng = Prng::new(23);
     let mut met = [[0; 4]; 2];
     for round in 0..6000 {
-        let (plan, of, leaves) = made(&mut rng);
-        let (table, of, by_words) = (plan.bytes(), usize::from(of), round % 2);
+        let (draft, of, leaves) = made(&mut rng);
+        let (table, of, by_words) = (draft.bytes(), usize::from(of), round % 2);
         let (mut bytes, mut given) = (payload(&leaves), words(&leaves));
         for _ in 0..rng.below(3) {
             let (at, item) = (rng.below(bytes.len()), rng.below(given.len()));

@@ -7,4 +7,4 @@ use Rattle.plan.proofs.runs.merged.Tie as tie
 
 pub merged-spec : {M : Type 1} → statement M
 unfolding merged
-merged-spec = tie.close (tie.spec (λ c. search needs) (λ c. search needs) (λ c. search needs))
+merged-spec = tie.close (tie.spec (λ c. search needs) (λ c. search needs) (λ c. search needs) (λ c. search needs))

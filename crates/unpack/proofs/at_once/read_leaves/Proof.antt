@@ -4,6 +4,7 @@ use borrow.Author.Needs.{needs}
 use Rattle.walk.proofs.Turns.{going-start}
 use Rattle.unpack.proofs.ReadBases.{element-reads}
 use Rattle.unpack.proofs.Entries.{entry-met}
+use Rattle.unpack.proofs.EachByPlan.{members-by, elements-by}
 use Rattle.unpack.proofs.at_once.read_leaves.Statement.{statement}
 use Rattle.unpack.proofs.at_once.read_leaves.Tie as tie
 
@@ -14,20 +15,30 @@ read-leaves-spec =
     (λ c κs. search needs)
     (λ c κs. search needs)
     (λ c. search needs)
-    (λ c ps.
+    (λ c.
     let at-read-run = c .before .before in
-    at-read-run .read-run .ensures _ (element-reads _ ps _ _ _ _ _ (at-read-run .before .before .before .base-at .ensures)))
+    at-read-run .read-run .ensures _ (element-reads _ _ _ _ _ _ _ (at-read-run .before .before .before .base-at .ensures)))
+    (λ c κs. search needs)
+    (λ c. search needs)
+    (λ c κs. search needs)
+    (λ c. search needs)
     (λ c κs. search needs)
     (λ c. search needs)
     (λ c κs. search needs)
     (λ c. search needs)
     (λ c. search needs)
-    (λ c. search needs)
-    (λ c. search needs)
-    (λ c ps.
+    (λ c.
     let at-read-enums = c .before .before in
     let at-e = at-read-enums .before .before .before in
-    entry-met _ ps _ _ _ _ _ _ (at-e .before .before .meet .ensures) (at-e .e .given .1) (at-read-enums .read-enums .ensures))
-    (λ c ps. going-start (search needs) (search needs))
-    (λ c ps. going-start (search needs) (search needs))
-    (λ c ps. going-start (search needs) (search needs)))
+    entry-met _ _ _ _ _ _ _ _ (at-e .before .before .meet .ensures) (at-e .e .given .1) (at-read-enums .read-enums .ensures))
+    (λ c. search needs)
+    (λ c.
+    let at-read-planned = c .before .before in
+    let told = at-read-planned .before .before in
+    at-read-planned .read-planned .ensures _ (members-by _ _ _ _ _ _ _ (told .before .before .meet .ensures) (told .enum-told .given .1)))
+    (λ c. search needs)
+    (λ c.
+    let at-read-planned = c .before .before in
+    let told = at-read-planned .before .before in
+    at-read-planned .read-planned2 .ensures _ (elements-by _ _ _ _ _ _ _ (told .before .before .meet .ensures) (told .enum-told2 .given .1)))
+    (λ c. going-start (search needs) (search needs)))

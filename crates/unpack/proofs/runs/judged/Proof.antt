@@ -7,8 +7,9 @@ use native.Mathlib.Omega.{arith}
 use lib.Dec.{eqb}
 use Rattle.wire.specs.All.{allBelow}
 use Rattle.unpack.specs.OneCode.{isGood}
+use Rattle.leaf.proofs.Counted.{counted-none}
 use Rattle.unpack.proofs.Ascii.{chars-in, chars-judged}
-use Rattle.unpack.proofs.OneCode.{leaf-room, product-fits, place-fits, all-good, judged-none, judged-more, judged-all}
+use Rattle.unpack.proofs.OneCode.{leaf-room, product-fits, place-fits, all-good, judged-more, judged-all}
 use Rattle.unpack.proofs.runs.judged.Statement.{statement}
 use Rattle.unpack.proofs.runs.judged.Tie as tie
 
@@ -29,7 +30,7 @@ judged-spec =
     (λ c κs. search chars-in)
     (λ c. search chars-judged)
     (λ c κs. search needs)
-    (λ c. (search judged-none, search needs, search needs))
+    (λ c. (search counted-none, search needs, search needs))
     (λ c. search product-fits)
     (λ c. search place-fits)
     (λ c κs. search leaf-room)

@@ -73,12 +73,10 @@ module _ (t : ℕ) where
       let run = c .read-leaves in
       Going (Reading (args .payload .now)) (elementStep (reader (args .payload .now)) (args .plans .now) (args .table .now) (args .s) (args .i) (args .e .of))
       (c .before .before .times .result) 0 (q-at c .q .given .0 .0) (begin .begin .last .1 .0)
-      (run .result .upto) (run .result .at) (run .last .1 .1 .1 .1 .1 .0)
+      (run .result .upto) (run .result .at) (run .last .1 .1 .1 .1 .1 .1 .0)
 
   abbrev run-read : (c : lts.After-read-leaves (elements-claims t) (elements-at t) reads.Post Inv μ) → Run c
-  run-read c =
-      let args = start-at (begun-at (q-at c)) .args in
-      c .read-leaves .ensures (args .plans .now)
+  run-read c = c .read-leaves .ensures
 
   loop-holds : lts.Need-loop-holds (elements-claims t) (elements-at t) reads.Post Inv μ
   loop-holds c =
