@@ -57,14 +57,14 @@ mostLooks = 16
 unfoldable pub soughtIn : List ℕ → List ℕ → ℕ → ℕ → Sought
 soughtIn t index count id = halved t index id mostLooks 0 count
 
+-- what the m-th word by itself says of an ID
+abbrev pub toldBy : List ℕ → ℕ → ℕ → Sought
+toldBy index id m = cond (eqb (idIn index m) id) (At m (placeIn index m)) Nowhere
+
 -- what an index says of an ID, an entry or none: held against the bytes of any table, it is what is sought there
 abbrev pub heldTo : List ℕ → ℕ → Sought → Sought
 heldTo t id (At m p) = borne t id m p
 heldTo t id Nowhere = Nowhere
-
--- what the m-th word alone says of an ID
-abbrev pub toldBy : List ℕ → ℕ → ℕ → Sought
-toldBy index id m = cond (eqb (idIn index m) id) (At m (placeIn index m)) Nowhere
 
 abbrev pub Says : List ℕ → ℕ → ℕ → Sought → Type 0
 Says index count id r = (t : List ℕ) → heldTo t id r ≡ soughtIn t index count id

@@ -18,9 +18,9 @@ pub fn find(table: &[u8], index: &[u64], count: u16, id: u32) -> Sought
     }
 }
 
-// What the index says, in as many looks as the count alone asks for: nothing that is jumped by hangs on an ID, so that a processor
-// foretells each jump, and the ends are chosen by moves. At a word that bears the ID both ends move, the lower past the upper, and
-// the middle of the two is that word from then on.
+// What the index says, in as many looks as the count alone asks for: no jump from one to the next hangs on the ID, so that a
+// processor foretells each, and the ends are chosen by moves. At a word that bears the ID both ends move, the lower past the
+// upper, and the middle of the two is that word from then on.
 fn said(index: &[u64], count: u16, id: u32) -> Sought
     ensures { λ r. ⌜ Says (now (index .entry)) count id r ⌝ }
 {
@@ -76,7 +76,7 @@ fn told(index: &[u64], id: u32, number: usize) -> Sought
     }
 }
 
-// The place is read by a number of 16 bits, or else the compiler takes whole words out where it compares an ID.
+// What a word says that bears the ID.
 fn there(index: &[u64], number: u16) -> Sought
     requires { ⌜ number < length (now index) ⌝ }
     ensures { λ r. ⌜ r ≡ At number (placeIn (now (index .entry)) number) ⌝ }
