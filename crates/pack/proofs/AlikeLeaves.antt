@@ -16,17 +16,17 @@ use Rattle.leaf.specs.Choice.{amongAt, among, choice}
 use Rattle.leaf.proofs.Returns.{by-place}
 use Rattle.walk.specs.declared.Met.{Met}
 use Rattle.walk.specs.declared.Place.{Place}
-use Rattle.walk.specs.Tree.{treeOf, meet}
+use Rattle.walk.specs.Tree.{Tree, leaf, treeOf, meet}
 use Rattle.walk.specs.Walk.{Step, on, through, walk, leafWalk, Going}
 use Rattle.walk.specs.Planned.{treeBy, treesBy, childBy}
-use Rattle.walk.proofs.Trees.{child-met}
+use Rattle.walk.proofs.Trees.{child-met, members-by, elements-by}
 use Rattle.walk.proofs.Returns.{item-on}
 use Rattle.pack.specs.Stored.{isThere, behind, stored}
 use Rattle.pack.specs.StoredRuns.{behindAll, storedAll}
 use Rattle.pack.specs.JudgedRuns.{AllThere}
-use Rattle.pack.specs.Writing.{writer, Writing}
+use Rattle.pack.specs.Writing.{writer, Writing, treeWritten}
 use Rattle.pack.specs.ByPlan.{AllAmong}
-use Rattle.pack.specs.Alike.{AllChosen, WritesLeaf, WritesMet}
+use Rattle.pack.specs.Alike.{AllChosen, WritesLeaf, MetTree}
 use Rattle.pack.proofs.JudgedRuns.{rest-on, all-stored, run-long, writing-run}
 
 -- the words
@@ -71,9 +71,17 @@ module _ (ws t : List ℕ) (s : Sections) (e : Entry) (p : Place) (x y : List �
             ∙ rw (is, all-stored ws (e .of) p x n y inside put) refl;
       }
 
--- an element, where a leaf was met
-pub element-leaf : (ws ps t : List ℕ) (s : Sections) (i c : ℕ) (m : Met) → m ≡ meet t s i c
-    → WritesMet ws t s m (λ k q y. walk (writer ws) (childBy ps t s i c) q y)
-unfolding treeBy treeOf walk leafWalk
-element-leaf ws ps t s i c m meets e h k q y =
-    ap (λ u. walk (writer ws) u q y) (child-met ps t s i c m meets ∙ ap (treeBy ps t s c (treesBy ps t s c)) h)
+-- the steps over a leaf
+pub leaf-written : (ws t : List ℕ) (s : Sections) (e : Entry) (tr : Tree) → tr ≡ leaf (e .of) (choice t s e) → WritesLeaf ws t s e (treeWritten ws tr)
+unfolding walk leafWalk
+leaf-written ws t s e tr h k q y = ap (λ (u : Tree). walk (writer ws) u q y) h
+
+-- an element, by what was met
+pub element-met : (ps t : List ℕ) (s : Sections) (i c : ℕ) (m : Met) → m ≡ meet t s i c → MetTree ps t s c m (childBy ps t s i c)
+unfolding treeBy treeOf
+element-met ps t s i c m meets =
+    record {
+      of-leaf = λ e h. child-met ps t s i c m meets ∙ ap (treeBy ps t s c (treesBy ps t s c)) h;
+      of-members = λ e h. members-by ps t s i c m e meets h;
+      of-elements = λ e h. elements-by ps t s i c m e meets h;
+    }

@@ -7,6 +7,7 @@ mod PlanWalks
 mod PlanLeaves
 mod PlanStores
 mod PlanReturns
+mod PlanEach
 mod Laid
 pub mod There
 pub mod Behind

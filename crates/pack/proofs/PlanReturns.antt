@@ -18,7 +18,7 @@ module _ (t ps : List ℕ) (i : ℕ) (r : Plan) (is : r ≡ planOf ps i) where
   abbrev part : List ℕ
   part = take (r .first + r .runs - r .first) (drop (r .first) ps)
 
-  part-tree : runsTree t part ≡ planTree t ps i
+  pub part-tree : runsTree t part ≡ planTree t ps i
   unfolding planTree runsOf
   part-tree =
       ap (runsTree t) (ap (λ (n : ℕ). take n (drop (r .first) ps)) (add-sub-cancel-left (r .first) (r .runs))

@@ -6,9 +6,11 @@ use mathlib.Core.List.{List, [], _∷_}
 use lib.ListN.{length, getD}
 use Rattle.leaf.specs.Choice.{amongAt}
 use Rattle.walk.specs.declared.Place.{Place}
-use Rattle.walk.specs.Runs.{codeIn, manyIn, takenBy}
+use Rattle.walk.specs.Runs.{codeIn, manyIn, takenBy, runsTree}
+use Rattle.walk.specs.Walk.{Step, walk}
 use Rattle.pack.specs.JudgedRuns.{AllThere}
 use Rattle.pack.specs.StoredRuns.{behindAll, storedAll}
+use Rattle.pack.specs.Writing.{writer}
 
 -- so many words from the from-th on are among the n values that stand at p, and are taken by a run, of those that its code allows
 abbrev pub AllAmong : List ℕ → List ℕ → ℕ → ℕ → ℕ → ℕ → Type 0
@@ -22,6 +24,10 @@ pub record RunTaken (ws t : List ℕ) (w from : ℕ) : Type 0 where
   pub inside : from + manyIn w ≤ length ws
   pub there : AllThere ws (codeIn w) from (manyIn w)
   pub taken : AllTaken ws t w from (manyIn w)
+
+-- the step over all of several runs
+abbrev pub runsWritten : List ℕ → List ℕ → List ℕ → ℕ → Place → List ℕ → Step
+runsWritten ws t rs k q y = walk (writer ws) (runsTree t rs) q y
 
 -- what is left of the bytes where the leaves of runs, from p on, are stored up to a word
 unfoldable pub storedRuns : List ℕ → List ℕ → Place → ℕ → List ℕ → List ℕ

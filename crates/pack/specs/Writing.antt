@@ -11,6 +11,7 @@ use Rattle.table.specs.Leaf.{width}
 use Rattle.table.specs.Entries.{memberAt}
 use Rattle.leaf.specs.Forms.{formOf}
 use Rattle.walk.specs.declared.Place.{Place}
+use Rattle.walk.specs.Tree.{Tree}
 use Rattle.walk.specs.Planned.{childBy}
 use Rattle.walk.specs.Walk.{Step, on, Codec, walk}
 use Rattle.pack.specs.Stored.{isThere, behind, stored}
@@ -33,6 +34,10 @@ Writing ws p = (p .to ≤ 8 * p .from) × (p .from ≤ length ws)
 -- each step of a walk writes a leaf of that code, where its word is there
 abbrev pub Writes : List ℕ → ℕ → (ℕ → Place → List ℕ → Step) → Type 0
 Writes ws code f = (k : ℕ) (q : Place) (y : List ℕ) → isThere ws code (q .from) ≡ true → f k q y ≡ on (behind code q) (stored ws code q y)
+
+-- the step over a tree, whichever it is
+abbrev pub treeWritten : List ℕ → Tree → ℕ → Place → List ℕ → Step
+treeWritten ws tr k q y = walk (writer ws) tr q y
 
 -- the step over a record's k-th member
 abbrev pub memberWritten : List ℕ → List ℕ → List ℕ → Sections → ℕ → Entry → ℕ → Place → List ℕ → Step

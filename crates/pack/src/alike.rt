@@ -1,5 +1,5 @@
 // Elements of an array that are leaves of one base code or of one enum: written as a run where all their words are there and taken,
-// and else none of them: then it is for the walk to say which is refused.
+// and else none of them: then it is for the walk to say which is refused. Those that have a plan are written by it.
 use table::Entry;
 use table::Sections;
 use walk::Met;
@@ -11,9 +11,11 @@ ghost use Prim.Native.Nat.{ℕ, _+_, _≤_};
 ghost use lib.ListN.{length};
 ghost use Rattle.walk.specs.declared.Place.{Place};
 ghost use Rattle.walk.specs.Walk.{Step, Going};
-ghost use Rattle.pack.specs.Writing.{Writing, Writes};
-ghost use Rattle.pack.specs.Alike.{AllChosen, WritesLeaf, WritesMet};
+ghost use Rattle.walk.specs.Tree.{Tree};
+ghost use Rattle.pack.specs.Writing.{Writing, Writes, treeWritten};
+ghost use Rattle.pack.specs.Alike.{AllChosen, WritesLeaf, MetTree};
 use crate::by_plan;
+use crate::each;
 use crate::limits;
 use crate::runs;
 
@@ -49,10 +51,12 @@ pub(crate) fn write_run(words: &[u64], out: &mut [u8], code: u16, count: u32, p:
     }
 }
 
-// The elements from the from-th on, where they are enums.
-pub(crate) fn write_enums(
+// The elements from the from-th on, by what was met at type c: enums, and those that have a plan.
+pub(crate) fn write_met(
     table: &[u8],
     s: Sections,
+    plans: &[u64],
+    c: u16,
     met: Met,
     words: &[u64],
     out: &mut [u8],
@@ -61,13 +65,13 @@ pub(crate) fn write_enums(
     p: Place,
 ) -> Reached
     requires { ⌜ Writing (now words) p × (from ≤ count) ⌝ }
-    ensures { λ r. ⌜ ((f : ℕ → Place → List ℕ → Step) → WritesMet (now (words .entry)) (now (table .entry)) s met f
-        → Going (Writing (now (words .entry))) f count from p (now (out .entry)) (r .upto) (r .at) (now (out .exit))) ⌝ }
+    ensures { λ r. ⌜ ((tr : Tree) → MetTree (now (plans .entry)) (now (table .entry)) s c met tr
+        → Going (Writing (now (words .entry))) (treeWritten (now (words .entry)) tr) count from p (now (out .entry)) (r .upto) (r .at) (now (out .exit))) ⌝ }
 {
     match met {
         Met::Leaf(e) => write_leaves(table, s, e, words, out, from, count, p),
-        Met::Members(_) => Reached { upto: from, at: p },
-        Met::Elements(_) => Reached { upto: from, at: p },
+        Met::Members(_) => each::write_planned(table, plans, c, words, out, from, count, p),
+        Met::Elements(_) => each::write_planned(table, plans, c, words, out, from, count, p),
         Met::Broken => Reached { upto: from, at: p },
     }
 }

@@ -81,7 +81,7 @@ pub(crate) fn write_whole(table: &[u8], runs: &[u64], words: &[u64], out: &mut [
 
 // Judges the words from p on, and stores nothing. Run by run, as long as all words of a run are taken; and from one on that is
 // not, leaf by leaf.
-fn judge_runs(table: &[u8], runs: &[u64], words: &[u64], p: Place) -> Walked
+pub(crate) fn judge_runs(table: &[u8], runs: &[u64], words: &[u64], p: Place) -> Walked
     requires { ⌜ Writing (now words) p ⌝ }
     ensures { λ r. ⌜ r ≡ answer (walk (writer (now (words .entry))) (runsTree (now (table .entry)) (now (runs .entry))) p []) ⌝ }
 {
@@ -222,7 +222,7 @@ fn is_chosen(table: &[u8], run: u64, word: u64) -> bool
 }
 
 // Stores the bytes of the leaves whose words stand before the upto-th, each where there is room for it.
-fn store_runs(words: &[u64], out: &mut [u8], runs: &[u64], p: Place, upto: usize)
+pub(crate) fn store_runs(words: &[u64], out: &mut [u8], runs: &[u64], p: Place, upto: usize)
     requires { ⌜ Writing (now words) p × (p .from ≤ upto) × (upto ≤ length (now words)) ⌝ }
     ensures { λ _. ⌜ now (out .exit) ≡ storedRuns (now (words .entry)) (now (runs .entry)) p upto (now (out .entry)) ⌝ }
 {

@@ -4,6 +4,7 @@ mod alike;
 mod bases;
 mod by_codes;
 mod by_plan;
+mod each;
 mod limits;
 pub mod runs;
 mod walking;

@@ -124,7 +124,7 @@ fn write_elements(
                 return Walked::Went(end);
             }
             let met = walk::meet(table, s, i, child);
-            let rest = alike::write_enums(table, s, met, words, out, next, count, end);
+            let rest = alike::write_met(table, s, plans, child, met, words, out, next, count, end);
             let mut at = rest.at;
             let mut k = rest.upto;
             while k < count {

@@ -1,23 +1,15 @@
--- Elements that are read by their type's plan: one of them, and that they are what was met there.
+-- Elements that are read by their type's plan, one of them behind another.
 -- Assumes nothing.
 use Prim.Native.Nat.{ℕ, _+_, _≤_, _<_}
-use mathlib.Core.Path.{_≡_, refl, sym, ap, subst, _∙_}
-use mathlib.Core.Bool.{Bool, true}
+use mathlib.Core.Path.{_≡_, refl, sym, subst}
 use mathlib.Core.List.{List, []}
 use lib.ListN.{length}
-use Rattle.wire.proofs.Cond.{yes-if}
-use Rattle.table.specs.declared.Sections.{Sections}
-use Rattle.table.specs.declared.Entry.{Entry}
 use Rattle.walk.specs.declared.Place.{Place}
-use Rattle.walk.specs.declared.Met.{Met}
-use Rattle.walk.specs.declared.Met.the-variants.{Members, Elements}
 use Rattle.walk.specs.declared.Walked.{Walked}
 use Rattle.walk.specs.declared.Walked.the-variants.{Went}
-use Rattle.walk.specs.Tree.{Tree, meet, treeOf}
+use Rattle.walk.specs.Tree.{Tree}
 use Rattle.walk.specs.Runs.{runsTree}
-use Rattle.walk.specs.Planned.{isPlanned, planTree, treeBy, treesBy, childBy}
 use Rattle.walk.specs.Walk.{answer, walk, Going}
-use Rattle.walk.proofs.Trees.{child-met}
 use Rattle.walk.proofs.Turns.{going-next}
 use Rattle.unpack.specs.Reading.{reader, Reading, treeRead}
 use Rattle.unpack.specs.RunByRun.{runsRead, wordsOf, storedUpto, Within}
@@ -42,21 +34,7 @@ module _ (b t runs : List ℕ) (p q : Place) (r : Walked) (walks : r ≡ answer 
       going-next g r z q (reader-keeps b .walks (runsTree t runs) p y (g .here)) less
       (same-answer b t runs p r walks y, upto-left b t runs p r (q .to) walks its-words y z h) went
 
--- a part of the plans that are a type's runs, and a tree that is its plan
+-- over a tree that is another
 pub going-as : {P : Place → Type 0} (b : List ℕ) (tr u : Tree) → u ≡ tr → {n k : ℕ} {p : Place} {x : List ℕ} {j : ℕ} {q : Place} {y : List ℕ}
     → Going P (treeRead b tr) n k p x j q y → Going P (treeRead b u) n k p x j q y
 going-as {P} b tr u e {n} {k} {p} {x} {j} {q} {y} g = subst (λ (v : Tree). Going P (treeRead b v) n k p x j q y) (sym e) g
-
--- what was met at type c: a record or an array goes by its plan, where it has one
-module _ (ps t : List ℕ) (s : Sections) (i c : ℕ) (m : Met) (e : Entry) (meets : m ≡ meet t s i c) where
-  pub members-by : m ≡ Members e → isPlanned ps c ≡ true → childBy ps t s i c ≡ planTree t ps c
-  unfolding treeBy
-  members-by h so =
-      child-met ps t s i c m meets ∙ ap (treeBy ps t s c (treesBy ps t s c)) h
-      ∙ yes-if (planTree t ps c) (treeOf t s (treesBy ps t s c) (Members e)) so
-
-  pub elements-by : m ≡ Elements e → isPlanned ps c ≡ true → childBy ps t s i c ≡ planTree t ps c
-  unfolding treeBy
-  elements-by h so =
-      child-met ps t s i c m meets ∙ ap (treeBy ps t s c (treesBy ps t s c)) h
-      ∙ yes-if (planTree t ps c) (treeOf t s (treesBy ps t s c) (Elements e)) so

@@ -21,8 +21,8 @@ use Rattle.table.specs.Entries.{typeAt}
 use Rattle.table.specs.Fields.{fieldsOk}
 use Rattle.walk.specs.declared.Met.{Met}
 use Rattle.walk.specs.declared.Met.the-variants.{Leaf, Members, Elements, Broken}
-use Rattle.walk.specs.Tree.{Tree, broken, byKind, entryIn, metIn, look, meet, trees, tree}
-use Rattle.walk.specs.Planned.{treeBy, treesBy, typeBy, childBy}
+use Rattle.walk.specs.Tree.{Tree, broken, byKind, entryIn, metIn, look, meet, trees, tree, treeOf}
+use Rattle.walk.specs.Planned.{isPlanned, planTree, treeBy, treesBy, typeBy, childBy}
 use Rattle.walk.proofs.ByPlans.{trees-same, type-same}
 
 -- by the kind
@@ -175,3 +175,17 @@ child-met ps t s i c m h = go (ltb c i) refl ∙ ap (treeBy ps t s c (treesBy ps
     go false e =
         List·getD-eq-default (treesBy ps t s i) broken (omega (arith, length-trees t s ps i, ltb-false c i e))
         ∙ ap (treeBy ps t s c (treesBy ps t s c)) (sym (no-if (look t s c) Broken e))
+
+-- a record or an array goes by its plan, where it has one
+module _ (ps t : List ℕ) (s : Sections) (i c : ℕ) (m : Met) (e : Entry) (meets : m ≡ meet t s i c) where
+  pub members-by : m ≡ Members e → isPlanned ps c ≡ true → childBy ps t s i c ≡ planTree t ps c
+  unfolding treeBy
+  members-by h so =
+      child-met ps t s i c m meets ∙ ap (treeBy ps t s c (treesBy ps t s c)) h
+      ∙ yes-if (planTree t ps c) (treeOf t s (treesBy ps t s c) (Members e)) so
+
+  pub elements-by : m ≡ Elements e → isPlanned ps c ≡ true → childBy ps t s i c ≡ planTree t ps c
+  unfolding treeBy
+  elements-by h so =
+      child-met ps t s i c m meets ∙ ap (treeBy ps t s c (treesBy ps t s c)) h
+      ∙ yes-if (planTree t ps c) (treeOf t s (treesBy ps t s c) (Elements e)) so

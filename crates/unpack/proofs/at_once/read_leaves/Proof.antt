@@ -1,10 +1,10 @@
 -- `unpack::at_once::read_leaves` meets its contract: by what type c is.
 -- Assumes nothing.
 use borrow.Author.Needs.{needs}
+use Rattle.walk.proofs.Trees.{members-by, elements-by}
 use Rattle.walk.proofs.Turns.{going-start}
 use Rattle.unpack.proofs.ReadBases.{element-reads}
 use Rattle.unpack.proofs.Entries.{entry-met}
-use Rattle.unpack.proofs.EachByPlan.{members-by, elements-by}
 use Rattle.unpack.proofs.at_once.read_leaves.Statement.{statement}
 use Rattle.unpack.proofs.at_once.read_leaves.Tie as tie
 

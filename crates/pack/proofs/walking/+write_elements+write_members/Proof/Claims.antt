@@ -14,7 +14,7 @@ use Rattle.pack.proofs.walking.begin.Reads as begin
 use Rattle.pack.proofs.walking.times.Reads as times
 use Rattle.pack.proofs.walking.write_leaf.Reads as write-leaf
 use Rattle.pack.proofs.alike.write_run.Reads as write-run
-use Rattle.pack.proofs.alike.write_enums.Reads as write-enums
+use Rattle.pack.proofs.alike.write_met.Reads as write-met
 use Rattle.pack.proofs.walking.write_bases.Reads as write-bases
 use Rattle.pack.proofs.by_plan.write_planned.Reads as write-planned
 use Rattle.walk.proofs.plans.is_planned.Reads as is-planned
@@ -57,8 +57,8 @@ elements-claims t = (
   write-run.Learnt,
   meet.Asked,
   meet.Learnt,
-  write-enums.Asked,
-  write-enums.Learnt,
+  write-met.Asked,
+  write-met.Learnt,
   write-leaf.Asked,
   write-leaf.Learnt,
   members-below t,

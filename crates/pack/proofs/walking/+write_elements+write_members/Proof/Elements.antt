@@ -12,7 +12,7 @@ use Rattle.walk.proofs.Turns.{met-long, begun-here, times-few, of-four, leaf-st
 use Rattle.walk.proofs.Turns.{going-start, going-on, going-next, elements-done, elements-stop}
 use Rattle.pack.proofs.WriteReturns.{writer-keeps}
 use Rattle.pack.proofs.WriteBases.{element-writes}
-use Rattle.pack.proofs.AlikeLeaves.{element-leaf}
+use Rattle.pack.proofs.AlikeLeaves.{element-met}
 use Rattle.pack.proofs.walking.+write_elements+write_members.Proof.Claims.{elements-claims, elements-at}
 use Rattle.pack.proofs.walking.write_elements.Reads as written
 use Rattle.pack.proofs.walking.+write_elements+write_members.Lts-write_elements as lts
@@ -25,12 +25,12 @@ abbrev μ : lts.MeasureT-loop
 μ table s plans i words out₀ child count code next met at₀ k₀ out at k = count - k
 
 module _ (t : ℕ) where
-  -- the places: where enums are written, where a run is, where they begin, what tells that there is no plan, and the start
-  abbrev enums-at : lts.At-loop (elements-claims t) (elements-at t) written.Post Inv μ
-      → lts.After-write-enums (elements-claims t) (elements-at t) written.Post Inv μ
-  enums-at c = c .before .before .before .before
+  -- the places: where what was met is written, where a run is, where they begin, what tells that there is no plan, and the start
+  abbrev met-at : lts.At-loop (elements-claims t) (elements-at t) written.Post Inv μ
+      → lts.After-write-met (elements-claims t) (elements-at t) written.Post Inv μ
+  met-at c = c .before .before .before .before
 
-  abbrev run-at : lts.After-write-enums (elements-claims t) (elements-at t) written.Post Inv μ
+  abbrev run-at : lts.After-write-met (elements-claims t) (elements-at t) written.Post Inv μ
       → lts.After-write-run (elements-claims t) (elements-at t) written.Post Inv μ
   run-at c = c .before .before .before .before .before .before .before
 
@@ -48,13 +48,13 @@ module _ (t : ℕ) where
   abbrev Stepped : lts.At-match2-came (elements-claims t) (elements-at t) written.Post Inv μ → Type 0
   Stepped c =
       let loop = c .before .before in
-      let args = start-at (begun-at (run-at (enums-at loop))) .args in
+      let args = start-at (begun-at (run-at (met-at loop))) .args in
       Did (elementStep (writer (args .words .now)) (args .plans .now) (args .table .now) (args .s) (args .i) (args .e .of) (loop .loop .k)
       (loop .loop .at) (loop .loop .out)) (c .match2 .step) (c .match2 .out)
 
   stepped : (c : lts.At-match2-came (elements-claims t) (elements-at t) written.Post Inv μ) → Stepped c
   stepped c =
-      let m = enums-at (c .before .before) .before .before .meet .ensures in
+      let m = met-at (c .before .before) .before .before .meet .ensures in
       of-four {X = Stepped c} (λ w. leaf-stepped _ _ _ _ _ _ _ refl _ _ _ m _ _ _ _ _ (w .1 .given .1) (w .4 .ensures) (w .7) (w .8))
       (λ w. members-stepped _ _ _ _ _ _ _ refl _ _ _ m _ _ _ _ _ (w .1 .given .1) (w .4 .ensures) (w .7) (w .8))
       (λ w. elements-stepped _ _ _ _ _ _ _ refl _ _ _ m _ _ _ _ _ (w .1 .given .1) (w .4 .ensures) (w .7) (w .8))
@@ -69,8 +69,8 @@ module _ (t : ℕ) where
       let q = c .before .before .before .before in
       begun-here _ _ _ _ _ _ (writer-keeps _) (start-at q .pre .1) (q .before .before .before .before .begin .ensures) (q .q .given .1)
 
-  enums-requires : lts.Need-write-enums-requires (elements-claims t) (elements-at t) written.Post Inv μ
-  enums-requires c κs =
+  met-requires : lts.Need-write-met-requires (elements-claims t) (elements-at t) written.Post Inv μ
+  met-requires c κs =
       let run = c .before .before .before .before .before .before in
       let plans = start-at (begun-at run) .args .plans .now in
       let g = run .write-run .ensures _ (element-writes _ plans _ _ _ _ _ (run .before .before .base-at .ensures)) in
@@ -78,24 +78,23 @@ module _ (t : ℕ) where
 
   loop-holds : lts.Need-loop-holds (elements-claims t) (elements-at t) written.Post Inv μ
   loop-holds c =
-      let enums = c .before .before .before in
-      let plans = start-at (begun-at (run-at enums)) .args .plans .now in
-      let g = enums .write-enums .ensures _ (element-leaf _ plans _ _ _ _ _ (enums .before .before .meet .ensures)) in
+      let met = c .before .before .before in
+      let g = met .write-met .ensures _ (element-met _ _ _ _ _ _ (met .before .before .meet .ensures)) in
       going-start (g .most) (g .here)
 
   members-requires : lts.Need-write-members-requires (elements-claims t) (elements-at t) written.Post Inv μ
   members-requires c κs =
       let loop = c .before .before .before .before .before in (
-        members-smaller _ _ _ _ _ (start-at (begun-at (run-at (enums-at loop))) .pre .0) _ _
-            (enums-at loop .before .before .meet .ensures) (c .before .before .here2 .given .1),
+        members-smaller _ _ _ _ _ (start-at (begun-at (run-at (met-at loop))) .pre .0) _ _
+            (met-at loop .before .before .meet .ensures) (c .before .before .here2 .given .1),
         loop .loop .inv .here,
       )
 
   elements-requires : lts.Need-write-elements-requires (elements-claims t) (elements-at t) written.Post Inv μ
   elements-requires c κs =
       let loop = c .before .before .before .before .before in (
-        elements-smaller _ _ _ _ _ (start-at (begun-at (run-at (enums-at loop))) .pre .0) _ _
-            (enums-at loop .before .before .meet .ensures) (c .before .before .here3 .given .1),
+        elements-smaller _ _ _ _ _ (start-at (begun-at (run-at (met-at loop))) .pre .0) _ _
+            (met-at loop .before .before .meet .ensures) (c .before .before .here3 .given .1),
         loop .loop .inv .here,
       )
 
@@ -124,14 +123,14 @@ module _ (t : ℕ) where
   returns-3 c =
       let there = c .before .before .before in
       let loop = there .before .before in
-      let enums = enums-at loop in
-      let run = run-at enums in
+      let met = met-at loop in
+      let run = run-at met in
       let q = begun-at run in
       let no-plan = no-plan-at q in
       elements-stop _ _ _ _ _ _ (no-plan .before .is-planned .ensures) (no-plan .if1 .left)
       _ _ _ (q .before .before .before .before .begin .ensures) (q .q .given .1) (run .before .before .before .times .ensures)
       (going-on (run .write-run .ensures _ (element-writes _ _ _ _ _ _ _ (run .before .before .base-at .ensures)))
-      (going-on (enums .write-enums .ensures _ (element-leaf _ _ _ _ _ _ _ (enums .before .before .meet .ensures))) (loop .loop .inv)))
+      (going-on (met .write-met .ensures _ (element-met _ _ _ _ _ _ (met .before .before .meet .ensures))) (loop .loop .inv)))
       _ _ _ _ (there .before .loop-test .taken) (stepped there) (c .before .step2 .given .1)
 
   returns-4 : lts.Need-returns-4 (elements-claims t) (elements-at t) written.Post Inv μ
@@ -143,31 +142,31 @@ module _ (t : ℕ) where
   returns-5 : lts.Need-returns-5 (elements-claims t) (elements-at t) written.Post Inv μ
   returns-5 c =
       let loop = c .before in
-      let enums = enums-at loop in
-      let run = run-at enums in
+      let met = met-at loop in
+      let run = run-at met in
       let q = begun-at run in
       let no-plan = no-plan-at q in
       elements-done _ _ _ _ _ _ (no-plan .before .is-planned .ensures) (no-plan .if1 .left)
       _ _ _ (q .before .before .before .before .begin .ensures) (q .q .given .1) (run .before .before .before .times .ensures)
       (going-on (run .write-run .ensures _ (element-writes _ _ _ _ _ _ _ (run .before .before .base-at .ensures)))
-      (going-on (enums .write-enums .ensures _ (element-leaf _ _ _ _ _ _ _ (enums .before .before .meet .ensures))) (loop .loop .inv))) (c .loop-test .left)
+      (going-on (met .write-met .ensures _ (element-met _ _ _ _ _ _ (met .before .before .meet .ensures))) (loop .loop .inv))) (c .loop-test .left)
 
   same-length-2 : lts.Need-same-length-2 (elements-claims t) (elements-at t) written.Post Inv μ
   same-length-2 c = met-long _ _ _ _ _ _ _ _ _ (writer-keeps _) (start-at (begun-at (c .before .before .before .before)) .pre .1) (returns-2 c)
 
   same-length-3 : lts.Need-same-length-3 (elements-claims t) (elements-at t) written.Post Inv μ
   same-length-3 c =
-      met-long _ _ _ _ _ _ _ _ _ (writer-keeps _) (start-at (begun-at (run-at (enums-at (c .before .before .before .before .before)))) .pre .1) (returns-3 c)
+      met-long _ _ _ _ _ _ _ _ _ (writer-keeps _) (start-at (begun-at (run-at (met-at (c .before .before .before .before .before)))) .pre .1) (returns-3 c)
 
   same-length-5 : lts.Need-same-length-5 (elements-claims t) (elements-at t) written.Post Inv μ
-  same-length-5 c = met-long _ _ _ _ _ _ _ _ _ (writer-keeps _) (start-at (begun-at (run-at (enums-at (c .before)))) .pre .1) (returns-5 c)
+  same-length-5 c = met-long _ _ _ _ _ _ _ _ _ (writer-keeps _) (start-at (begun-at (run-at (met-at (c .before)))) .pre .1) (returns-5 c)
 
 pub elements-written : (t : ℕ) {M : Type 1} → lts.Closed (elements-claims t) (elements-at t) written.Post M
 elements-written t =
     lts.spec (elements-claims t) (elements-at t) written.Post Inv μ (λ c κs. search needs)
     (λ c κs. c .before .before .before .before .before .before .before .pre .1) (λ c. search needs) (returns t)
     (λ c κs. c .before .before .before .before .before .before .before .pre .1) (λ c. search needs) (λ c. search needs) (times-requires t)
-    (λ c κs. search needs) (run-requires t) (same-length-2 t) (returns-2 t) (λ c κs. search needs) (enums-requires t) (loop-holds t) (λ c. search needs)
+    (λ c κs. search needs) (run-requires t) (same-length-2 t) (returns-2 t) (λ c κs. search needs) (met-requires t) (loop-holds t) (λ c. search needs)
     (λ c κs. c .before .before .before .before .before .loop .inv .here) (λ c. search needs) (members-requires t) (λ c. search needs) (elements-requires t)
     (λ c. search needs) (λ c. search needs) (λ c. search needs) (λ c. search needs) (loop-again t) (λ c. search needs) (same-length-3 t) (returns-3 t)
     (λ c. c .before .before .before .before .before .begin .kept .1 .0) (returns-4 t) (same-length-5 t) (returns-5 t)
