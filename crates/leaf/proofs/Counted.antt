@@ -1,6 +1,6 @@
 -- Entries of which those that fail are counted, and none of which is left at: none is counted where all pass.
 -- Assumes nothing.
-use Prim.Native.Nat.{ℕ, zero, suc, _+_}
+use Prim.Native.Nat.{ℕ, zero, suc, _+_, _≤_}
 use mathlib.Core.Path.{_≡_, refl, ap, _∙_}
 use mathlib.Core.Bool.{Bool, true, false, _&&_, cond}
 use native.Mathlib.Numerals.{add-one}
@@ -30,3 +30,7 @@ module _ (f : ℕ → Bool) where
       go : (b : Bool) → f k ≡ b → eqb (n + r) 0 ≡ allBelow f (k + 1)
       go true g = rw (add-one k, g, all (allBelow f k), e, g) (ap (λ (m : ℕ). eqb m 0) (add-zero n) ∙ h)
       go false g = rw (add-one k, g, none (allBelow f k), e, g) (ne-eqb (n + 1) 0 (λ (z : n + 1 ≡ 0). omega arith))
+
+  -- at the end every entry was looked at
+  pub counted-all : (n k hits : ℕ) → eqb hits 0 ≡ allBelow f k → k ≤ n → n ≤ k → eqb hits 0 ≡ allBelow f n
+  counted-all n k hits h a b = h ∙ ap (allBelow f) (omega arith)

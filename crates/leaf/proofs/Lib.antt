@@ -1,4 +1,5 @@
 pub mod Limits
 pub mod Leaves
 pub mod Counted
+mod Stretches
 pub mod Returns

@@ -90,22 +90,6 @@ module _ (t : List ℕ) (p w : ℕ) where
   pub one-hit : (k : ℕ) (r : Bool) → r ≡ otherAt t p w k → r ≡ false → _≡_ {A = ℕ} 1 (cond (otherAt t p w k) 0 1)
   one-hit k r e h = sym (no-if 0 1 (sym e ∙ h))
 
-  -- and so of a word that was turned
-  module _ {x : ℕ} (e : x ≡ swapped 3 w) (l : w < span 3) where
-    back : swapped 3 x ≡ w
-    back = ap (swapped 3) e ∙ swapped-twice 3 w l
-
-    -- where one of the values was counted the word is among them
-    pub counted-turned : (n k hits : ℕ) → eqb hits 0 ≡ allBelow (otherAt t p (swapped 3 x)) k → k ≤ n → n ≤ k → ltb 0 hits ≡ amongAt t p n w
-    counted-turned n k hits h a b = go hits h
-      where
-        same : allBelow (otherAt t p (swapped 3 x)) k ≡ allBelow (otherAt t p w) n
-        same = ap (allBelow (otherAt t p (swapped 3 x))) (omega arith) ∙ ap (λ (v : ℕ). allBelow (otherAt t p v) n) back
-
-        go : (m : ℕ) → eqb m 0 ≡ allBelow (otherAt t p (swapped 3 x)) k → ltb 0 m ≡ amongAt t p n w
-        go zero g = missed n (g ∙ same)
-        go (suc m) g = lt-ltb 0 (suc m) (omega arith) ∙ hit n (sym (ne-eqb (suc m) 0 (λ (z : suc m ≡ 0). omega arith)) ∙ g ∙ same)
-
 pub values-there : {r : Bool} (n m : ℕ) → r ≡ leb n m → r ≡ true → n ≤ m
 values-there n m e t = leb-true n m (sym e ∙ t)
 

@@ -5,7 +5,9 @@ use table::Sections;
 ghost use mathlib.Core.Path.{_≡_};
 ghost use mathlib.Core.Bool.{cond};
 ghost use Prim.Native.Nat.{_+_, _-_, _*_, _^_, _≤_, _<_};
+ghost use lib.Dec.{eqb};
 ghost use lib.ListN.{length};
+ghost use Rattle.wire.specs.All.{allBelow};
 ghost use Rattle.wire.specs.Bytes.{written};
 ghost use Rattle.wire.specs.LowFirst.{swapped};
 ghost use Rattle.leaf.specs.Forms.{truth, extended, formOf};
@@ -103,20 +105,38 @@ fn among(table: &[u8], s: Sections, e: Entry, word: u64) -> bool
     )
 }
 
-// The word's bytes are turned once, so that no value's are. The values that are the word are counted, and not left at the first, so
-// that the compiler compares several at once.
+// The word's bytes are turned once, so that no value's are. The values are compared in stretches, and left at the first that has the
+// word; each is as long as all before it and four, so that what is compared in vain is no more than what had to be.
 fn among_whole(table: &[u8], at: usize, count: usize, word: u64) -> bool
     requires { ⌜ at + 8 * count ≤ length (now table) ⌝ }
     ensures { λ r. ⌜ r ≡ amongAt (now (table .entry)) at count word ⌝ }
 {
     let turned = wire::swap64(word);
+    let mut k: usize = 0;
+    while k < count {
+        let many = wire::least(k + 4, count - k);
+        if hits_whole(table, at + 8 * k, turned, many) == 0 {
+            k += many;
+        } else {
+            return true;
+        }
+    }
+    false
+}
+
+// How many of the values that stand at `at` are the word that is turned: counted, and not left at the first, so that the compiler
+// compares several at once.
+fn hits_whole(table: &[u8], at: usize, turned: u64, count: usize) -> u64
+    requires { ⌜ at + 8 * count ≤ length (now table) ⌝ }
+    ensures { λ r. ⌜ eqb r 0 ≡ allBelow (otherAt (now (table .entry)) at (swapped 3 turned)) count ⌝ }
+{
     let mut hits: u64 = 0;
     let mut k: usize = 0;
     while k < count {
         hits += hit_whole(table, at, turned, k);
         k += 1;
     }
-    0 < hits
+    hits
 }
 
 // 1 where the word that is turned is the k-th value.
