@@ -1,6 +1,7 @@
 //! What is done to one short call of each code comes to what it must.
 
 use crate::answers::{self, Ending};
+use crate::call::AWAITED;
 use crate::calls_every::*;
 use std::collections::BTreeSet;
 
@@ -40,6 +41,16 @@ fn the_shortest_of_issue_3_are_answered() {
         "5 known 77 a",
     ];
     assert_eq!(lines(SHORTEST_3), expected);
+}
+
+/// While they are awaited the library's codes are without them, and this program's are not.
+#[test]
+fn awaited_codes() {
+    for call in calls(SHORTEST_3) {
+        let (library, all) = (answers::tell(&call.file()), answers::tell_all(&call.file()));
+        assert_eq!(library.lines == "0 bad call\n", AWAITED, "{}", call.code);
+        assert_eq!(all.calls[0].0, u64::from(call.code));
+    }
 }
 
 /// A file cut behind a call has that many lines; cut anywhere else, one more.

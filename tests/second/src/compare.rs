@@ -284,3 +284,7 @@ pub fn run_issue_3(count: u64, command: &[&str]) -> Result<bool> {
 pub fn run_again(seeds: Range<u64>, command: &[&str]) -> Result<bool> {
     Ok(compare(seeds.map(Case::from_seed), command)?.1)
 }
+
+pub fn run_issue_3_again(seeds: Range<u64>, command: &[&str]) -> Result<bool> {
+    Ok(compare(seeds.map(Case::issue_3), command)?.1)
+}

@@ -27,6 +27,7 @@ usage: second make SEED FILE         write a recording of any kind
        second calls-issue-3 SEED FILE
                                      write a file of calls among partners of Issue 3
        second run-issue-3 COUNT CMD...
+       second run-issue-3 FROM..TO CMD...
                                      as run-answers, on these files alone";
 
 type Outcome = Result<bool, String>;
@@ -82,8 +83,13 @@ fn command(words: &[&str]) -> Outcome {
             };
             same.map_err(|error| error.to_string())
         }
-        ["run-issue-3", count, program @ ..] if !program.is_empty() => {
-            compare::run_issue_3(number(count)?, program).map_err(|error| error.to_string())
+        ["run-issue-3", seeds, program @ ..] if !program.is_empty() => {
+            let same = if seeds.contains("..") {
+                compare::run_issue_3_again(range(seeds)?, program)
+            } else {
+                compare::run_issue_3(number(seeds)?, program)
+            };
+            same.map_err(|error| error.to_string())
         }
         _ => Err(USAGE.to_string()),
     }

@@ -151,7 +151,7 @@ fn issue_3_beside_itself_and_damaged() {
     for (name, damage) in damages {
         let scratch = Scratch::new(name);
         let script = format!("\"$0\" answers \"$1\" | {damage}");
-        let (content, said) = scratch.run("run-issue-3", &["8", "sh", "-c", &script, SECOND]);
+        let (content, said) = scratch.run("run-issue-3", &["0..8", "sh", "-c", &script, SECOND]);
         assert!(
             !content && said.contains("first difference"),
             "{name}: {said}"
