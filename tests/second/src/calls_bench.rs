@@ -79,6 +79,8 @@ impl Bench {
             0 | 1 => self.start(rng),
             2 if rng.chance(1, 2) => self.handed_in(rng),
             2 => {
+                // The set-up stays, and may have the new number in it.
+                self.own = rng.pick(&[0, 1, 63, 64, 128, 255, self.own]);
                 self.asked.clear();
                 Call::new(7).number(rng, u64::from(self.own))
             }

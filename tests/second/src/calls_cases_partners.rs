@@ -102,6 +102,8 @@ pub const CASES: &[Worked] = &[
             service!("00000002", "0000004F"),
             service!("00000102", "0000004D"),
             service!("00000003", "0000004D"),
+            // DOWN already, and then UP: nothing is marked.
+            hear_3!(down_of_2!(), "00"),
             hear_3!(up_of_2!(), "58"),
             known!("00000002"),
             hear_3!(down_of_2!(), "00"),
@@ -117,13 +119,13 @@ pub const CASES: &[Worked] = &[
         lines: "0 platform 1 threes 2\n\
                 1 three services 3 {0000004E 00000001 0000004D 00000001 0000004E 00000000} from 2 owed -\n\
                 2 three services 1 {0000004D 00000001} from 4 owed -\n3 known 78 u 77 a\n4 available\n5 unavailable\n6 unheard\n\
-                7 unheard\n8 unheard\n9 three status up 287454020 from 2 owed \
+                7 unheard\n8 unheard\n9 three status down 287454020 from 2 owed -\n10 three status up 287454020 from 2 owed \
                 {EC0A1001 00000001 00000002 00000002 00000008 00000000 00000001 00000063 \
                 EC0A1001 00000004 00000002 00000002 00000004 00000001 FFFFFFFF \
                 EC0A1001 00000007 00000002 00000002 00000004 00000002 FFFFFFFF}\n\
-                10 known 78 u 77 a\n11 three status down 287454020 from 2 owed -\n12 known 78 u 77 u\n13 known 77 a\n14 known -\n\
-                15 three services 0 - from 2 owed -\n16 three services 1 {FFFFFFFF 00000001} from 2 owed -\n\
-                17 known 78 u 77 u 4294967295 a\n18 platform 1 threes 2\n19 known -\n",
+                11 known 78 u 77 a\n12 three status down 287454020 from 2 owed -\n13 known 78 u 77 u\n14 known 77 a\n15 known -\n\
+                16 three services 0 - from 2 owed -\n17 three services 1 {FFFFFFFF 00000001} from 2 owed -\n\
+                18 known 78 u 77 u 4294967295 a\n19 platform 1 threes 2\n20 known -\n",
     },
     Worked {
         name: "our services asked for",
