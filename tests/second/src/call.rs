@@ -17,10 +17,11 @@ const LIST_WORDS: u64 = 128;
 /// sender 2, seen 1, last 4, held 4.
 const RECORD: usize = 11;
 
-/// Codes 81 to 86, partners of Issue 3 (02, request 8), are awaited: this program answers them, and
-/// `./answers` has no calls for them yet. So `run-answers` sends none of them, and takes them for
-/// no codes. When the library has them this becomes `false`, and the gate compares them: the files
-/// worked out by hand, each code cut and bad at every place, files from seeds, and 63.
+/// Codes 83 to 86, the platform call among partners of Issue 3 (02, request 8), are awaited: this
+/// program answers them, and `./answers` has no calls for them yet. So `run-answers` sends none of
+/// them, and takes them for no codes. When the library has them this becomes `false`, and the gate
+/// compares them: the files worked out by hand, each code cut and bad at every place, files from
+/// seeds, and 63.
 pub const AWAITED: bool = true;
 
 /// Which codes are codes.
@@ -34,7 +35,7 @@ pub enum Codes {
 
 impl Codes {
     fn has(self, code: u64) -> bool {
-        let awaited = AWAITED && (81..87).contains(&code);
+        let awaited = AWAITED && (83..87).contains(&code);
         self == Codes::All || !awaited
     }
 }

@@ -47,11 +47,6 @@ pub(crate) const SHORTEST: &[Short] = &[
     (22, &["02"]),
     (21, &["02"]),
     (23, &["02", "05", "0000000500000007"]),
-];
-
-/// The codes among partners of Issue 3.
-pub(crate) const SHORTEST_3: &[Short] = &[
-    (83, &["02", "01"]),
     (
         81,
         &[
@@ -61,6 +56,11 @@ pub(crate) const SHORTEST_3: &[Short] = &[
         ],
     ),
     (82, &["02", "05", "06", "00", "02", "07", "", "18"]),
+];
+
+/// The codes of a platform among partners of Issue 3.
+pub(crate) const SHORTEST_3: &[Short] = &[
+    (83, &["02", "01"]),
     (
         84,
         &[
@@ -226,7 +226,7 @@ pub fn all() -> impl Iterator<Item = Case> + Send {
     each_of(SHORTEST)
 }
 
-/// The same of the codes among partners of Issue 3.
+/// The same of the codes of a platform among partners of Issue 3.
 pub fn issue_3() -> impl Iterator<Item = Case> + Send {
     each_of(SHORTEST_3).map(|case| Case {
         name: format!("issue-3-{}", case.name),

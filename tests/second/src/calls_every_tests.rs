@@ -15,7 +15,7 @@ fn lines(shortest: &[Short]) -> Vec<String> {
 #[test]
 fn the_shortest_are_answered() {
     let codes: BTreeSet<u16> = SHORTEST.iter().map(|short| short.0).collect();
-    assert_eq!(codes, (1..=17).chain(20..=23).collect());
+    assert_eq!(codes, (1..=17).chain(20..=23).chain(81..=82).collect());
     // The pair that 1 was owed took 0 and 1, so the request is number 2, and not 1.
     let requests = &lines(SHORTEST)[17..];
     assert!(
@@ -24,21 +24,25 @@ fn the_shortest_are_answered() {
     );
     assert_eq!(
         requests[1..],
-        ["18 pending 7 1", "19 cancelled", "20 platform 2"]
+        [
+            "18 pending 7 1",
+            "19 cancelled",
+            "20 platform 2",
+            "21 three 5 6 request from 1 seq 7",
+            "22 written ec0a10020000000200000005000000060000000000000007",
+        ]
     );
 }
 
 #[test]
 fn the_shortest_of_issue_3_are_answered() {
     let codes: BTreeSet<u16> = SHORTEST_3.iter().map(|short| short.0).collect();
-    assert_eq!(codes, (81..=86).collect());
+    assert_eq!(codes, (83..=86).collect());
     let expected = [
         "0 platform 2 threes 1",
-        "1 three 5 6 request from 1 seq 7",
-        "2 written ec0a10020000000200000005000000060000000000000007",
-        "3 three services 1 0000004d00000001 from 1 owed -",
-        "4 available",
-        "5 known 77 a",
+        "1 three services 1 0000004d00000001 from 1 owed -",
+        "2 available",
+        "3 known 77 a",
     ];
     assert_eq!(lines(SHORTEST_3), expected);
 }
@@ -71,7 +75,7 @@ fn each_cut_is_told() {
 
 #[test]
 fn each_bad_one_is_bad_and_each_long_one_is_taken() {
-    assert!(bad(SHORTEST).count() > 100 && bad(SHORTEST_3).count() > 60);
+    assert!(bad(SHORTEST).count() > 100 && bad(SHORTEST_3).count() > 30);
     for shortest in [SHORTEST, SHORTEST_3] {
         for case in bad(shortest) {
             assert_eq!(case.told.lines, "0 bad call\n", "{}", case.name);

@@ -26,7 +26,7 @@ const PLACED: Range<u8> = 40..44;
 const WHOLE: Least = Least {
     calls: 20_000,
     codes: if AWAITED {
-        &[1..18, 20..24]
+        &[1..18, 20..24, 81..83]
     } else {
         &[1..18, 20..24, 81..87]
     },
@@ -241,8 +241,8 @@ fn compare(cases: impl Iterator<Item = Case> + Send, command: &[&str]) -> Result
     Ok((found.tally, found.differ == 0))
 }
 
-/// The files among partners of Issue 3: worked out by hand, one call of each of their codes cut and
-/// bad at every place, and the seeds below `count`.
+/// The files that a platform among partners of Issue 3 hears: worked out by hand, one call of each
+/// of their codes cut and bad at every place, and the seeds below `count`.
 fn cases_of_issue_3(count: u64) -> impl Iterator<Item = Case> + Send {
     let fixed = calls_cases::issue_3().chain(calls_every::issue_3());
     fixed.chain((0..count).map(Case::issue_3))
