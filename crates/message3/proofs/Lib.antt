@@ -1,0 +1,8 @@
+pub mod Accepted
+mod Answers
+mod Refusals
+mod Pairs
+mod Readings
+mod Messages
+mod Written
+mod WriteRefusals
