@@ -6,3 +6,5 @@ mod Readings
 mod Messages
 mod Written
 mod WriteRefusals
+pub mod RoundTrip
+pub mod Told

@@ -5,6 +5,7 @@ use mathlib.Core.List.{List, _++_}
 use lib.ListN.{drop}
 use Rattle.wire.specs.Bytes.{number, bytes}
 use Rattle.message.specs.Header.{theMark}
+use Rattle.message3.specs.declared.Stamp.{Stamp}
 use Rattle.message3.specs.declared.Header3.{Header3}
 
 -- 001, Tables 1 and 2: a 24 byte header, then the payload
@@ -44,6 +45,9 @@ secondsIn s = number 2 s 8
 abbrev pub nanosecondsIn : List ℕ → ℕ
 nanosecondsIn s = number 2 s 12
 
+abbrev pub stampIn : List ℕ → Stamp
+stampIn s = record { seconds = secondsIn s; nanoseconds = nanosecondsIn s }
+
 -- Payload size in bytes, 32 bits
 abbrev pub payloadSizeIn3 : List ℕ → ℕ
 payloadSizeIn3 s = number 2 s 16
@@ -56,18 +60,22 @@ sequenceIn3 s = number 2 s 20
 abbrev pub payloadIn3 : List ℕ → List ℕ
 payloadIn3 s = drop headerLength3 s
 
+-- the header with these fields
+abbrev pub headerOf3 : ℕ → ℕ → ℕ → Stamp → ℕ → ℕ → Header3
+headerOf3 domain platform id t size seq =
+    record {
+      domain = domain;
+      platform = platform;
+      id = id;
+      seconds = t .seconds;
+      nanoseconds = t .nanoseconds;
+      «payload_size» = size;
+      sequence = seq;
+    }
+
 -- the fields that differ from message to message
 abbrev pub headerIn3 : List ℕ → Header3
-headerIn3 s =
-    record {
-      domain = domainIn3 s;
-      platform = senderIn3 s;
-      id = idIn3 s;
-      seconds = secondsIn s;
-      nanoseconds = nanosecondsIn s;
-      «payload_size» = payloadSizeIn3 s;
-      sequence = sequenceIn3 s;
-    }
+headerIn3 s = headerOf3 (domainIn3 s) (senderIn3 s) (idIn3 s) (stampIn s) (payloadSizeIn3 s) (sequenceIn3 s)
 
 -- the header's 24 bytes, in Table 2's order
 abbrev pub headerBytes3 : Header3 → List ℕ

@@ -1,9 +1,10 @@
 -- Issue 3's platform-level messages: 001, Tables 3 and 4. The states of a platform are those of Issue 6 (`message/specs/Platform`).
 use Prim.Native.Nat.{ℕ, _+_, _*_}
 use mathlib.Core.Bool.{Bool, cond, not, _&&_, _||_}
-use mathlib.Core.List.{List}
+use mathlib.Core.List.{List, [], _∷_, _++_}
 use lib.Dec.{eqb, leb, ltb}
-use Rattle.wire.specs.Bytes.{number}
+use lib.ListN.{length}
+use Rattle.wire.specs.Bytes.{number, bytes}
 use Rattle.wire.specs.All.{allBelow}
 use Rattle.message.specs.Header.{platformDomain}
 use Rattle.message.specs.Platform.{statusOf, statusValue, reservedStates}
@@ -63,6 +64,14 @@ stateAt payload i = number 2 payload (8 + 8 * i)
 -- and how long it is, a number without end
 abbrev pub servicesLength : ℕ → ℕ
 servicesLength n = 4 + 8 * n
+
+-- the payload of such a status: these services, each with its state
+abbrev pub pairBytes : List (ℕ × ℕ) → List ℕ
+pairBytes [] = []
+pairBytes (p ∷ ps) = bytes 2 (p .0) ++ (bytes 2 (p .1) ++ pairBytes ps)
+
+abbrev pub servicesBytes : List (ℕ × ℕ) → List ℕ
+servicesBytes ps = bytes 2 (length ps) ++ pairBytes ps
 
 -- 001, Table 4: a status has two fields, a request none, every other message but a status of services one
 abbrev pub payloadLength3 : ℕ → List ℕ → ℕ

@@ -7,21 +7,12 @@ use Rattle.message.specs.declared.Writing.{Writing}
 use Rattle.message.specs.Writing.{answered, leftBy}
 use Rattle.message3.specs.declared.Header3.{Header3}
 use Rattle.message3.specs.declared.Stamp.{Stamp}
-use Rattle.message3.specs.Header.{headerLength3, headerBytes3}
+use Rattle.message3.specs.Header.{headerLength3, headerOf3, headerBytes3}
 use Rattle.message3.specs.Refusal.{writeRefusal3}
 
 -- the header of a message that this platform writes
 abbrev pub headerFor3 : ℕ → Stamp → ℕ → ℕ → ℕ → List ℕ → Header3
-headerFor3 own t domain id seq payload =
-    record {
-      domain = domain;
-      platform = own;
-      id = id;
-      seconds = t .seconds;
-      nanoseconds = t .nanoseconds;
-      «payload_size» = length payload;
-      sequence = seq;
-    }
+headerFor3 own t domain id seq payload = headerOf3 domain own id t (length payload) seq
 
 -- 001, Table 1: the header, then the payload
 abbrev pub messageBytes3 : ℕ → Stamp → ℕ → ℕ → ℕ → List ℕ → List ℕ

@@ -12,7 +12,7 @@ pub use reader::payload;
 pub use reader::read;
 pub use writer::write;
 ghost use mathlib.Core.Path.{_≡_};
-ghost use Rattle.message3.specs.Header.{headerIn3};
+ghost use Rattle.message3.specs.Header.{headerOf3, headerIn3};
 
 // When a message is sent: 001, Table 2. Any two numbers are a timestamp.
 pub struct Stamp {
@@ -117,7 +117,7 @@ impl Header3 {
         payload_size: u32,
         sequence: u32,
     ) -> Self
-        ensures { λ r. ⌜ r ≡ record { domain = domain; platform = platform; id = id; seconds = stamp .seconds; nanoseconds = stamp .nanoseconds; «payload_size» = «payload_size»; sequence = sequence } ⌝ }
+        ensures { λ r. ⌜ r ≡ headerOf3 domain platform id stamp «payload_size» sequence ⌝ }
     {
         Header3 {
             domain,
