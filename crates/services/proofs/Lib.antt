@@ -4,3 +4,6 @@ mod Noting
 mod Marking
 pub mod Noted
 pub mod Exactly
+pub mod Afterwards
+pub mod WentDown
+pub mod EachOnce

@@ -1,7 +1,7 @@
 -- 02, request 8: "up to 256 services per Issue 3 platform": a block of words, and what is noted in it. Any words are a block: what
 -- stands behind the first free word is not looked at.
 use Prim.Native.Nat.{ℕ, zero, suc, _+_, _-_, _*_, _/_}
-use mathlib.Core.Bool.{Bool, cond, not, _&&_}
+use mathlib.Core.Bool.{Bool, cond, _&&_}
 use mathlib.Core.List.{List, [], _∷_}
 use lib.Dec.{eqb, ltb}
 use lib.ListN.{length, getD, set}

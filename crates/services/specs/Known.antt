@@ -34,6 +34,11 @@ isIn x (y ∷ ys) = eqb y x || isIn x ys
 unfoldable pub with : List ℕ → ℕ → List ℕ
 with ks x = cond (isIn x ks) ks (ks ++ (x ∷ []))
 
+-- no ID twice
+unfoldable pub Once : List ℕ → Type 0
+Once [] = Unit {0}
+Once (y ∷ ys) = (isIn y ys ≡ false) × Once ys
+
 -- the services that are known with those that the first i pairs name, each once
 unfoldable pub knownWith : List ℕ → List ℕ → ℕ → List ℕ
 knownWith ks s zero = ks
@@ -43,6 +48,11 @@ knownWith ks s (suc i) = with (knownWith ks s i) (idAt s i)
 unfoldable pub lastTold : Availability → List ℕ → ℕ → ℕ → Availability
 lastTold before s zero x = before
 lastTold before s (suc i) x = cond (eqb (idAt s i) x) (toldState (stateAt s i)) (lastTold before s i x)
+
+abbrev pub isHeard : Availability → Bool
+isHeard Unheard = false
+isHeard Unavailable = true
+isHeard Available = true
 
 -- what is known of a service after its platform went DOWN
 abbrev pub whenDown : Availability → Availability
