@@ -14,35 +14,36 @@ use Rattle.wire.specs.Bytes.{Octets}
 use Rattle.wire.proofs.Numbers.{number-lt}
 use Rattle.wire.proofs.Cond.{and-left, and-right}
 use Rattle.wire.specs.All.{allBelow}
-use Rattle.services.specs.Word.{idOf, isFree, bears}
-use Rattle.services.specs.Block.{services, placeIn, idAt, stateAt, pairsIn, pairTold, pairHasPlace, pairsTold, hasPlace, allHavePlaces, fits}
+use Rattle.services.specs.Word.{serviceId, isFree, isOf}
+use Rattle.services.specs.Block.{services, servicePlace, pairId, pairState, pairsIn}
+use Rattle.services.specs.Block.{pairTold, pairHasPlace, pairsTold, hasPlace, allHavePlaces, statusFits}
 use Rattle.services.specs.Known.{known, Packed, isIn, with, knownWith}
 use Rattle.services.proofs.Telling.{told-long}
-use Rattle.services.proofs.Noted.{told-known}
+use Rattle.services.proofs.OnePair.{told-known}
 
 -- a service has a place where it is known, or where there is a free word
 abbrev RoomIs : List ℕ → ℕ → Type 0
-RoomIs b x = ltb (placeIn b x) (length b) ≡ (isIn x (known b) || ltb (length (known b)) (length b))
+RoomIs b x = ltb (servicePlace b x) (length b) ≡ (isIn x (known b) || ltb (length (known b)) (length b))
 
 room-is : (b : List ℕ) (x : ℕ) → RoomIs b x
 unfolding known isIn
 room-is [] x = refl
-room-is (w ∷ ws) x = go (isFree w) (bears w x) refl refl (room-is ws x)
+room-is (w ∷ ws) x = go (isFree w) (isOf w x) refl refl (room-is ws x)
   where
-    go : (f e : Bool) → isFree w ≡ f → bears w x ≡ e → RoomIs ws x → RoomIs (w ∷ ws) x
+    go : (f e : Bool) → isFree w ≡ f → isOf w x ≡ e → RoomIs ws x → RoomIs (w ∷ ws) x
     go true e p q r = rw p refl
     go false true p q r = rw (p, q) (lt-ltb 0 (suc (length ws)) (omega arith))
     go false false p q r =
         let one-less : ltb (suc (length (known ws))) (suc (length ws)) ≡ ltb (length (known ws)) (length ws) =
         leb·suc-suc (suc (length (known ws))) (length ws) in
-        rw (p, q) (leb·suc-suc (suc (placeIn ws x)) (length ws) ∙ r ∙ ap (λ (z : Bool). isIn x (known ws) || z) (sym one-less))
+        rw (p, q) (leb·suc-suc (suc (servicePlace ws x)) (length ws) ∙ r ∙ ap (λ (z : Bool). isIn x (known ws) || z) (sym one-less))
 
 known-le : (b : List ℕ) → length (known b) ≤ length b
 unfolding known
 known-le [] = omega arith
 known-le (w ∷ ws) = go (isFree w) (known-le ws)
   where
-    go : (f : Bool) → length (known ws) ≤ length ws → length (cond f [] (idOf w ∷ known ws)) ≤ suc (length ws)
+    go : (f : Bool) → length (known ws) ≤ length ws → length (cond f [] (serviceId w ∷ known ws)) ≤ suc (length ws)
     go true h = omega arith
     go false h = omega arith
 
@@ -67,40 +68,40 @@ module _ (b s : List ℕ) (o : Octets s) (k : Packed b) where
   so-far zero a = (refl, k)
   so-far (suc i) a =
       let r = so-far i (and-left (AllPlaced i) (hasPlace b s i) a) in
-      let h : placeIn (pairsTold b s i) (idAt s i) < length (pairsTold b s i) = ltb-true _ _ (and-right (AllPlaced i) (hasPlace b s i) a) in
-      let t = told-known (idAt s i) (stateAt s i) (number-lt 2 s (8 * i + 4) o) (pairsTold b s i) (r .1) h in
-      (t .0 ∙ ap (λ (ks : List ℕ). with ks (idAt s i)) (r .0), t .1)
+      let h : servicePlace (pairsTold b s i) (pairId s i) < length (pairsTold b s i) = ltb-true _ _ (and-right (AllPlaced i) (hasPlace b s i) a) in
+      let t = told-known (pairId s i) (pairState s i) (number-lt 2 s (8 * i + 4) o) (pairsTold b s i) (r .1) h in
+      (t .0 ∙ ap (λ (ks : List ℕ). with ks (pairId s i)) (r .0), t .1)
 
   -- the next pair has its place where its service is known, or one more may be
   abbrev MayBe : ℕ → Bool
-  MayBe i = isIn (idAt s i) (K i) || ltb (length (K i)) (length b)
+  MayBe i = isIn (pairId s i) (K i) || ltb (length (K i)) (length b)
 
   next-place : (i : ℕ) → AllPlaced i ≡ true → hasPlace b s i ≡ MayBe i
   unfolding hasPlace pairHasPlace
   next-place i a =
       let r = so-far i a in
-      room-is (pairsTold b s i) (idAt s i)
-      ∙ ap₂ (λ (ks : List ℕ) (n : ℕ). isIn (idAt s i) ks || ltb (length ks) n) (r .0) (told-long b s i)
+      room-is (pairsTold b s i) (pairId s i)
+      ∙ ap₂ (λ (ks : List ℕ) (n : ℕ). isIn (pairId s i) ks || ltb (length ks) n) (r .0) (told-long b s i)
 
   exactly : (i : ℕ) → AllPlaced i ≡ leb (length (K i)) (length b)
   unfolding allBelow knownWith
   exactly zero = sym (le-leb (length (known b)) (length b) (known-le b))
-  exactly (suc i) = go (AllPlaced i) (isIn (idAt s i) (K i)) refl refl (exactly i) (next-place i)
+  exactly (suc i) = go (AllPlaced i) (isIn (pairId s i) (K i)) refl refl (exactly i) (next-place i)
     where
       n : ℕ
       n = length (K i)
 
       m : ℕ
-      m = length (with (K i) (idAt s i))
+      m = length (with (K i) (pairId s i))
 
-      longer : (t : Bool) → isIn (idAt s i) (K i) ≡ t → m ≡ cond t n (n + 1)
-      longer t q = length-with (K i) (idAt s i) ∙ ap (λ (z : Bool). cond z n (n + 1)) q
+      longer : (t : Bool) → isIn (pairId s i) (K i) ≡ t → m ≡ cond t n (n + 1)
+      longer t q = length-with (K i) (pairId s i) ∙ ap (λ (z : Bool). cond z n (n + 1)) q
 
       at-least : (t : Bool) → m ≡ cond t n (n + 1) → n ≤ m
       at-least true z = omega arith
       at-least false z = omega arith
 
-      go : (a e : Bool) → AllPlaced i ≡ a → isIn (idAt s i) (K i) ≡ e → AllPlaced i ≡ leb n (length b) → (AllPlaced i ≡ true → hasPlace b s i ≡ MayBe i)
+      go : (a e : Bool) → AllPlaced i ≡ a → isIn (pairId s i) (K i) ≡ e → AllPlaced i ≡ leb n (length b) → (AllPlaced i ≡ true → hasPlace b s i ≡ MayBe i)
           → (AllPlaced i && hasPlace b s i) ≡ leb m (length b)
       go true true p q r l = rw (p, l p, longer true q, q) (sym (sym r ∙ p))
       go true false p q r l = rw (p, l p, longer false q, q) (ap (λ (z : ℕ). leb z (length b)) (sym (add-one n)))
@@ -110,6 +111,6 @@ module _ (b s : List ℕ) (o : Octets s) (k : Packed b) where
           rw p (sym (lt-leb m (length b) (omega arith)))
 
   -- 02: "a status that would need a 257th is refused"
-  pub fits-exactly : length b ≡ services → fits b s ≡ leb (length (knownWith (known b) s (pairsIn s))) services
-  unfolding fits allHavePlaces
+  pub fits-exactly : length b ≡ services → statusFits b s ≡ leb (length (knownWith (known b) s (pairsIn s))) services
+  unfolding statusFits allHavePlaces
   fits-exactly h = rw (eq-eqb (length b) services h) (exactly (pairsIn s) ∙ ap (leb (length (K (pairsIn s)))) h)

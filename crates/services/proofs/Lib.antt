@@ -2,7 +2,7 @@ pub mod Places
 pub mod Telling
 mod Noting
 mod Marking
-pub mod Noted
+pub mod OnePair
 pub mod Exactly
 pub mod Afterwards
 pub mod WentDown

@@ -12,7 +12,7 @@ use lib.Seq.{take-all, take-suc-set, drop-set-lt, drop-cons, append-snoc}
 use Rattle.services.specs.declared.Availability.{Availability}
 use Rattle.services.specs.declared.Availability.the-variants.{Unheard, Unavailable, Available}
 use Rattle.services.specs.Word.{isFree, says, wordFor, unavailableOf}
-use Rattle.services.specs.Block.{placeIn, stateIn, marked}
+use Rattle.services.specs.Block.{servicePlace, availabilityIn, marked}
 
 -- `mark`: the first i words are marked, and what is left to mark stands behind them
 module _ (was b : List ℕ) (i : ℕ) (e : marked was ≡ take i b ++ marked (drop i b)) where
@@ -43,7 +43,7 @@ module _ (was b : List ℕ) (i : ℕ) (e : marked was ≡ take i b ++ marked (dr
       sym (e ∙ ap₂ (λ (x y : List ℕ). x ++ marked y) (take-all i b h) (drop-of-length-le b h) ∙ append-nil b)
 
 -- `state`
-pub state-is : (b : List ℕ) (x : ℕ) {at w : ℕ} {r : Availability} → at ≡ placeIn b x → w ≡ getD b at 0 → r ≡ says w → r ≡ stateIn b x
+pub state-is : (b : List ℕ) (x : ℕ) {at w : ℕ} {r : Availability} → at ≡ servicePlace b x → w ≡ getD b at 0 → r ≡ says w → r ≡ availabilityIn b x
 state-is b x p q f = f ∙ ap says (q ∙ ap (λ (k : ℕ). getD b k 0) p)
 
 -- `said`

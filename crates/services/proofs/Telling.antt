@@ -12,7 +12,7 @@ use lib.Seq.{set-out}
 use Rattle.wire.specs.All.{allBelow}
 use Rattle.wire.proofs.AllBelow.{none-below, next-below, stop-below, done-below}
 use Rattle.services.specs.Word.{wordFor}
-use Rattle.services.specs.Block.{placeIn, idAt, stateAt, pairsIn, pairTold, pairHasPlace, pairsTold, hasPlace, allHavePlaces}
+use Rattle.services.specs.Block.{servicePlace, pairId, pairState, pairsIn, pairTold, pairHasPlace, pairsTold, hasPlace, allHavePlaces}
 
 pub told-long : (b s : List ℕ) (i : ℕ) → length (pairsTold b s i) ≡ length b
 unfolding pairsTold pairTold
@@ -20,25 +20,25 @@ told-long b s zero = refl
 told-long b s (suc i) = length-set (pairsTold b s i) _ _ ∙ told-long b s i
 
 -- `tell`
-module _ (b s : List ℕ) (i : ℕ) {id at : ℕ} (d : id ≡ idAt s i) (p : at ≡ placeIn b id) where
-  its-place : at ≡ placeIn b (idAt s i)
-  its-place = p ∙ ap (placeIn b) d
+module _ (b s : List ℕ) (i : ℕ) {id at : ℕ} (d : id ≡ pairId s i) (p : at ≡ servicePlace b id) where
+  its-place : at ≡ servicePlace b (pairId s i)
+  its-place = p ∙ ap (servicePlace b) d
 
   pub has-place : at < length b → true ≡ pairHasPlace b s i
   unfolding pairHasPlace
-  has-place h = sym (lt-ltb (placeIn b (idAt s i)) (length b) (omega (arith, its-place)))
+  has-place h = sym (lt-ltb (servicePlace b (pairId s i)) (length b) (omega (arith, its-place)))
 
   pub no-place : length b ≤ at → false ≡ pairHasPlace b s i
   unfolding pairHasPlace
-  no-place h = sym (le-ltb (placeIn b (idAt s i)) (length b) (omega (arith, its-place)))
+  no-place h = sym (le-ltb (servicePlace b (pairId s i)) (length b) (omega (arith, its-place)))
 
-  pub is-told : {w state : ℕ} → state ≡ stateAt s i → w ≡ wordFor id state → set b at w ≡ pairTold b s i
+  pub is-told : {w state : ℕ} → state ≡ pairState s i → w ≡ wordFor id state → set b at w ≡ pairTold b s i
   unfolding pairTold
   is-told t q = ap₂ (set b) its-place (q ∙ ap₂ wordFor d t)
 
   pub not-told : length b ≤ at → b ≡ pairTold b s i
   unfolding pairTold
-  not-told h = sym (set-out b (placeIn b (idAt s i)) (wordFor (idAt s i) (stateAt s i)) (omega (arith, its-place)))
+  not-told h = sym (set-out b (servicePlace b (pairId s i)) (wordFor (pairId s i) (pairState s i)) (omega (arith, its-place)))
 
 -- `tell_all`
 module _ (b s : List ℕ) where

@@ -11,17 +11,17 @@ use lib.Dec.{eqb}
 use lib.Pow.{high, low}
 use lib.ListN.{length}
 use Rattle.services.specs.declared.Availability.the-variants.{Unheard, Unavailable, Available}
-use Rattle.services.specs.Word.{idOf, isFree, bears, isPlaceFor, says, unavailableOf}
-use Rattle.services.specs.Block.{stateIn, marked}
+use Rattle.services.specs.Word.{serviceId, isFree, isOf, isPlaceFor, says, unavailableOf}
+use Rattle.services.specs.Block.{availabilityIn, marked}
 use Rattle.services.specs.Known.{known, Packed, isIn, isHeard, whenDown}
-use Rattle.services.proofs.Noted.{state-here, state-later, state-free, known-more}
+use Rattle.services.proofs.OnePair.{state-here, state-later, state-free, known-more}
 
 -- a word of UNAVAILABLE
 module _ (w : ℕ) where
-  narrow : idOf w < 2 ^ 32
+  narrow : serviceId w < 2 ^ 32
   narrow = mod-lt w (omega arith)
 
-  its-id : idOf (unavailableOf w) ≡ idOf w
+  its-id : serviceId (unavailableOf w) ≡ serviceId w
   its-id = low 1 32 narrow
 
   its-state : unavailableOf w / 2 ^ 32 ≡ 1
@@ -70,7 +70,7 @@ marked-known (w ∷ ws) = go (isFree w) refl (marked-known ws)
     go true e r = ap known (marked-free w ws e)
     go false e r =
         ap known (marked-more w ws e) ∙ known-more (unavailableOf w) (marked ws) (not-free w) ∙ ap (λ (n : ℕ). n ∷ known (marked ws)) (its-id w)
-        ∙ ap (λ (ks : List ℕ). idOf w ∷ ks) r ∙ sym (known-more w ws e)
+        ∙ ap (λ (ks : List ℕ). serviceId w ∷ ks) r ∙ sym (known-more w ws e)
 
 pub marked-packed : (b : List ℕ) → Packed b → Packed (marked b)
 unfolding Packed marked
@@ -81,33 +81,33 @@ marked-packed (w ∷ ws) k = go (isFree w) refl (marked-packed ws (k .1))
     go true e r = rw (marked-free w ws e) k
     go false e r = rw (marked-more w ws e) (λ n. absurd (true≢false (sym n ∙ not-free w)), r)
 
-pub marked-state : (b : List ℕ) (x : ℕ) → stateIn (marked b) x ≡ whenDown (stateIn b x)
+pub marked-state : (b : List ℕ) (x : ℕ) → availabilityIn (marked b) x ≡ whenDown (availabilityIn b x)
 unfolding marked says
 marked-state [] x = refl
-marked-state (w ∷ ws) x = go (isFree w) (bears w x) refl refl (marked-state ws x)
+marked-state (w ∷ ws) x = go (isFree w) (isOf w x) refl refl (marked-state ws x)
   where
-    go : (f e : Bool) → isFree w ≡ f → bears w x ≡ e → stateIn (marked ws) x ≡ whenDown (stateIn ws x)
-        → stateIn (marked (w ∷ ws)) x ≡ whenDown (stateIn (w ∷ ws) x)
-    go true e p q r = ap (λ (c : List ℕ). stateIn c x) (marked-free w ws p) ∙ state-free w ws x p ∙ ap whenDown (sym (state-free w ws x p))
+    go : (f e : Bool) → isFree w ≡ f → isOf w x ≡ e → availabilityIn (marked ws) x ≡ whenDown (availabilityIn ws x)
+        → availabilityIn (marked (w ∷ ws)) x ≡ whenDown (availabilityIn (w ∷ ws) x)
+    go true e p q r = ap (λ (c : List ℕ). availabilityIn c x) (marked-free w ws p) ∙ state-free w ws x p ∙ ap whenDown (sym (state-free w ws x p))
     go false true p q r =
         let here : isPlaceFor w x ≡ true = rw (p, q) refl in
         let there : isPlaceFor (unavailableOf w) x ≡ true = rw (not-free w, its-id w, q) refl in
-        ap (λ (c : List ℕ). stateIn c x) (marked-more w ws p) ∙ state-here (unavailableOf w) (marked ws) x there ∙ says-unavailable w
+        ap (λ (c : List ℕ). availabilityIn c x) (marked-more w ws p) ∙ state-here (unavailableOf w) (marked ws) x there ∙ says-unavailable w
         ∙ sym (ap whenDown (state-here w ws x here) ∙ says-one w p .1)
     go false false p q r =
         let later : isPlaceFor w x ≡ false = rw (p, q) refl in
         let there : isPlaceFor (unavailableOf w) x ≡ false = rw (not-free w, its-id w, q) refl in
-        ap (λ (c : List ℕ). stateIn c x) (marked-more w ws p) ∙ state-later (unavailableOf w) (marked ws) x there ∙ r
+        ap (λ (c : List ℕ). availabilityIn c x) (marked-more w ws p) ∙ state-later (unavailableOf w) (marked ws) x there ∙ r
         ∙ ap whenDown (sym (state-later w ws x later))
 
 -- a service is known exactly where something was heard of it
-pub known-heard : (b : List ℕ) (x : ℕ) → isIn x (known b) ≡ isHeard (stateIn b x)
+pub known-heard : (b : List ℕ) (x : ℕ) → isIn x (known b) ≡ isHeard (availabilityIn b x)
 unfolding known isIn says
 known-heard [] x = refl
-known-heard (w ∷ ws) x = go (isFree w) (bears w x) refl refl (known-heard ws x)
+known-heard (w ∷ ws) x = go (isFree w) (isOf w x) refl refl (known-heard ws x)
   where
-    go : (f e : Bool) → isFree w ≡ f → bears w x ≡ e → isIn x (known ws) ≡ isHeard (stateIn ws x)
-        → isIn x (known (w ∷ ws)) ≡ isHeard (stateIn (w ∷ ws) x)
+    go : (f e : Bool) → isFree w ≡ f → isOf w x ≡ e → isIn x (known ws) ≡ isHeard (availabilityIn ws x)
+        → isIn x (known (w ∷ ws)) ≡ isHeard (availabilityIn (w ∷ ws) x)
     go true e p q r = rw p refl ∙ ap isHeard (sym (state-free w ws x p))
     go false true p q r =
         let here : isPlaceFor w x ≡ true = rw (p, q) refl in

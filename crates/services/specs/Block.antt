@@ -18,30 +18,39 @@ abbrev pub servicesFull : ℕ
 servicesFull = 63
 
 -- the first word that bears the ID or is free, and as many as there are where there is none
-abbrev pub placeIn : List ℕ → ℕ → ℕ
-placeIn [] id = 0
-placeIn (w ∷ ws) id = cond (isPlaceFor w id) 0 (suc (placeIn ws id))
+abbrev pub servicePlace : List ℕ → ℕ → ℕ
+servicePlace [] id = 0
+servicePlace (w ∷ ws) id = cond (isPlaceFor w id) 0 (suc (servicePlace ws id))
 
 -- what is known of a service: as `getD` has it, a word that is not there counts as 0, which is free
-abbrev pub stateIn : List ℕ → ℕ → Availability
-stateIn b id = says (getD b (placeIn b id) 0)
+abbrev pub availabilityIn : List ℕ → ℕ → Availability
+availabilityIn b id = says (getD b (servicePlace b id) 0)
 
 -- 001, Table 4, AVAILABILITY_STATUS: behind the count pairs of 8 bytes, a service's ID and its state
+abbrev pub firstId : ℕ
+firstId = 4
+
+abbrev pub firstState : ℕ
+firstState = 8
+
+abbrev pub pairBytes : ℕ
+pairBytes = 8
+
 abbrev pub pairsIn : List ℕ → ℕ
-pairsIn s = (length s - 4) / 8
+pairsIn s = (length s - firstId) / pairBytes
 
-abbrev pub idAt : List ℕ → ℕ → ℕ
-idAt s i = number 2 s (8 * i + 4)
+abbrev pub pairId : List ℕ → ℕ → ℕ
+pairId s i = number 2 s (pairBytes * i + firstId)
 
-abbrev pub stateAt : List ℕ → ℕ → ℕ
-stateAt s i = number 2 s (8 * i + 8)
+abbrev pub pairState : List ℕ → ℕ → ℕ
+pairState s i = number 2 s (pairBytes * i + firstState)
 
 -- pair i told: its word at its place, where it has one
 unfoldable pub pairHasPlace : List ℕ → List ℕ → ℕ → Bool
-pairHasPlace b s i = ltb (placeIn b (idAt s i)) (length b)
+pairHasPlace b s i = ltb (servicePlace b (pairId s i)) (length b)
 
 unfoldable pub pairTold : List ℕ → List ℕ → ℕ → List ℕ
-pairTold b s i = set b (placeIn b (idAt s i)) (wordFor (idAt s i) (stateAt s i))
+pairTold b s i = set b (servicePlace b (pairId s i)) (wordFor (pairId s i) (pairState s i))
 
 -- the first i pairs told, from the left: so the last of two pairs of one service counts
 unfoldable pub pairsTold : List ℕ → List ℕ → ℕ → List ℕ
@@ -56,15 +65,15 @@ unfoldable pub allHavePlaces : List ℕ → List ℕ → Bool
 allHavePlaces b s = allBelow (hasPlace b s) (pairsIn s)
 
 -- a block of another length takes nothing
-unfoldable pub fits : List ℕ → List ℕ → Bool
-fits b s = eqb (length b) services && allHavePlaces b s
+unfoldable pub statusFits : List ℕ → List ℕ → Bool
+statusFits b s = eqb (length b) services && allHavePlaces b s
 
 unfoldable pub noteRefusal : List ℕ → List ℕ → ℕ
-noteRefusal b s = cond (fits b s) 0 servicesFull
+noteRefusal b s = cond (statusFits b s) 0 servicesFull
 
 -- all or nothing
-unfoldable pub noted : List ℕ → List ℕ → List ℕ
-noted b s = cond (fits b s) (pairsTold b s (pairsIn s)) b
+unfoldable pub statusNoted : List ℕ → List ℕ → List ℕ
+statusNoted b s = cond (statusFits b s) (pairsTold b s (pairsIn s)) b
 
 -- 001, 6.3: UP to DOWN marks all services of the sender UNAVAILABLE: those before the first free word
 unfoldable pub marked : List ℕ → List ℕ

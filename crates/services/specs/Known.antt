@@ -9,8 +9,8 @@ use lib.Dec.{eqb}
 use lib.ListN.{replicate}
 use Rattle.services.specs.declared.Availability.{Availability}
 use Rattle.services.specs.declared.Availability.the-variants.{Unheard, Unavailable, Available}
-use Rattle.services.specs.Word.{idOf, isFree, toldState}
-use Rattle.services.specs.Block.{services, idAt, stateAt}
+use Rattle.services.specs.Word.{serviceId, isFree, toldState}
+use Rattle.services.specs.Block.{services, pairId, pairState}
 
 -- nothing was heard yet
 abbrev pub freshBlock : List ℕ
@@ -19,7 +19,7 @@ freshBlock = replicate services 0
 -- the services that are known: the IDs before the first free word
 unfoldable pub known : List ℕ → List ℕ
 known [] = []
-known (w ∷ ws) = cond (isFree w) [] (idOf w ∷ known ws)
+known (w ∷ ws) = cond (isFree w) [] (serviceId w ∷ known ws)
 
 -- behind the first free word there is no service: so it is at the start, and so it stays
 unfoldable pub Packed : List ℕ → Type 0
@@ -35,19 +35,19 @@ unfoldable pub with : List ℕ → ℕ → List ℕ
 with ks x = cond (isIn x ks) ks (ks ++ (x ∷ []))
 
 -- no ID twice
-unfoldable pub Once : List ℕ → Type 0
-Once [] = Unit {0}
-Once (y ∷ ys) = (isIn y ys ≡ false) × Once ys
+unfoldable pub NoneTwice : List ℕ → Type 0
+NoneTwice [] = Unit {0}
+NoneTwice (y ∷ ys) = (isIn y ys ≡ false) × NoneTwice ys
 
 -- the services that are known with those that the first i pairs name, each once
 unfoldable pub knownWith : List ℕ → List ℕ → ℕ → List ℕ
 knownWith ks s zero = ks
-knownWith ks s (suc i) = with (knownWith ks s i) (idAt s i)
+knownWith ks s (suc i) = with (knownWith ks s i) (pairId s i)
 
 -- what is known of a service after the first i pairs: what the last pair that names it says, and as before where none does
 unfoldable pub lastTold : Availability → List ℕ → ℕ → ℕ → Availability
 lastTold before s zero x = before
-lastTold before s (suc i) x = cond (eqb (idAt s i) x) (toldState (stateAt s i)) (lastTold before s i x)
+lastTold before s (suc i) x = cond (eqb (pairId s i) x) (toldState (pairState s i)) (lastTold before s i x)
 
 abbrev pub isHeard : Availability → Bool
 isHeard Unheard = false

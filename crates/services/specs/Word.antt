@@ -6,18 +6,18 @@ use lib.Dec.{eqb}
 use Rattle.services.specs.declared.Availability.{Availability}
 use Rattle.services.specs.declared.Availability.the-variants.{Unheard, Unavailable, Available}
 
-abbrev pub idOf : ℕ → ℕ
-idOf w = w % 2 ^ 32
+abbrev pub serviceId : ℕ → ℕ
+serviceId w = w % 2 ^ 32
 
 abbrev pub isFree : ℕ → Bool
 isFree w = eqb (w / 2 ^ 32) 0
 
-abbrev pub bears : ℕ → ℕ → Bool
-bears w id = eqb (idOf w) id
+abbrev pub isOf : ℕ → ℕ → Bool
+isOf w id = eqb (serviceId w) id
 
 -- a service is noted where its ID stands, or in a word that is free
 abbrev pub isPlaceFor : ℕ → ℕ → Bool
-isPlaceFor w id = isFree w || bears w id
+isPlaceFor w id = isFree w || isOf w id
 
 -- what a word says of its service
 unfoldable pub says : ℕ → Availability
@@ -32,4 +32,4 @@ wordFor id state = cond (eqb state 1) 2 1 * 2 ^ 32 + id
 
 -- 001, 6.3: a service of a platform that went DOWN
 abbrev pub unavailableOf : ℕ → ℕ
-unavailableOf w = 1 * 2 ^ 32 + idOf w
+unavailableOf w = 1 * 2 ^ 32 + serviceId w

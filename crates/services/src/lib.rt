@@ -3,10 +3,11 @@
 // what stands behind the first free one is not looked at.
 ghost use mathlib.Core.Path.{_≡_};
 ghost use mathlib.Core.Bool.{true};
-ghost use Prim.Native.Nat.{_+_, _*_, _≤_};
+ghost use Prim.Native.Nat.{_<_};
 ghost use lib.ListN.{length};
 ghost use Rattle.services.specs.Word.{isFree, isPlaceFor, says, wordFor, unavailableOf};
-ghost use Rattle.services.specs.Block.{pairsIn, placeIn, stateIn, pairHasPlace, pairTold, pairsTold, allHavePlaces, noteRefusal, noted, marked};
+ghost use Rattle.services.specs.Block.{servicePlace, availabilityIn, pairsIn, pairHasPlace, pairTold, pairsTold, allHavePlaces};
+ghost use Rattle.services.specs.Block.{noteRefusal, statusNoted, marked};
 
 // What is known of a service.
 pub enum Availability {
@@ -30,8 +31,10 @@ const AVAILABLE: u64 = 2;
 // In an AVAILABILITY_STATUS 1 says AVAILABLE.
 const TOLD_AVAILABLE: u32 = 1;
 
-// The pairs of a service's ID and state stand behind their count.
-const COUNT_BYTES: usize = 4;
+// A payload is a count, and behind it pairs of a service's ID and state.
+const FIRST_ID: usize = 4;
+
+const FIRST_STATE: usize = 8;
 
 const PAIR_BYTES: usize = 8;
 
@@ -39,7 +42,7 @@ const PAIR_BYTES: usize = 8;
 // another length than 256 takes nothing.
 pub fn note(block: &mut [u64], payload: &[u8]) -> u32
     ensures answer { λ r. ⌜ r ≡ noteRefusal (now (block .entry)) (now (payload .entry)) ⌝ }
-    ensures block { λ _. ⌜ now (block .exit) ≡ noted (now (block .entry)) (now (payload .entry)) ⌝ }
+    ensures block { λ _. ⌜ now (block .exit) ≡ statusNoted (now (block .entry)) (now (payload .entry)) ⌝ }
 {
     if block.len() != SERVICES {
         return SERVICES_FULL;
@@ -56,7 +59,7 @@ pub fn note(block: &mut [u64], payload: &[u8]) -> u32
 
 // What is known of one service.
 pub fn state(block: &[u64], id: u32) -> Availability
-    ensures { λ r. ⌜ r ≡ stateIn (now (block .entry)) id ⌝ }
+    ensures { λ r. ⌜ r ≡ availabilityIn (now (block .entry)) id ⌝ }
 {
     said(wire::word_at(block, place(block, id)))
 }
@@ -95,12 +98,12 @@ fn tell_all(block: &mut [u64], payload: &[u8]) -> bool
 
 // Tells a block one pair; whether it had a place.
 fn tell(block: &mut [u64], payload: &[u8], i: usize) -> bool
-    requires { ⌜ 8 * i + 12 ≤ length (now payload) ⌝ }
+    requires { ⌜ i < pairsIn (now payload) ⌝ }
     ensures answer { λ r. ⌜ r ≡ pairHasPlace (now (block .entry)) (now (payload .entry)) i ⌝ }
     ensures block { λ _. ⌜ now (block .exit) ≡ pairTold (now (block .entry)) (now (payload .entry)) i ⌝ }
 {
-    let id = wire::u32_at(payload, PAIR_BYTES * i + COUNT_BYTES);
-    let state = wire::u32_at(payload, PAIR_BYTES * i + 8);
+    let id = wire::u32_at(payload, PAIR_BYTES * i + FIRST_ID);
+    let state = wire::u32_at(payload, PAIR_BYTES * i + FIRST_STATE);
     let at = place(block, id);
     if at < block.len() {
         block[at] = word_for(id, state);
@@ -113,8 +116,8 @@ fn tell(block: &mut [u64], payload: &[u8], i: usize) -> bool
 fn pairs(payload: &[u8]) -> usize
     ensures { λ r. ⌜ r ≡ pairsIn (now (payload .entry)) ⌝ }
 {
-    if COUNT_BYTES <= payload.len() {
-        (payload.len() - COUNT_BYTES) / PAIR_BYTES
+    if FIRST_ID <= payload.len() {
+        (payload.len() - FIRST_ID) / PAIR_BYTES
     } else {
         0
     }
@@ -122,7 +125,7 @@ fn pairs(payload: &[u8]) -> usize
 
 // The first word that bears the ID or is free; past the last where there is none.
 fn place(block: &[u64], id: u32) -> usize
-    ensures { λ r. ⌜ r ≡ placeIn (now (block .entry)) id ⌝ }
+    ensures { λ r. ⌜ r ≡ servicePlace (now (block .entry)) id ⌝ }
 {
     let mut i = 0;
     while i < block.len() {

@@ -10,8 +10,8 @@ use lib.Dec.{eqb}
 use lib.Pow.{high, low}
 use lib.ListN.{length, set}
 use Rattle.services.specs.declared.Availability.the-variants.{Unheard, Unavailable, Available}
-use Rattle.services.specs.Word.{idOf, isFree, bears, isPlaceFor, says, toldState, wordFor}
-use Rattle.services.specs.Block.{placeIn, stateIn}
+use Rattle.services.specs.Word.{serviceId, isFree, isOf, isPlaceFor, says, toldState, wordFor}
+use Rattle.services.specs.Block.{servicePlace, availabilityIn}
 use Rattle.services.specs.Known.{known, Packed, isIn, with}
 
 -- the word of a pair
@@ -20,7 +20,7 @@ module _ (x st : ℕ) (hx : x < 2 ^ 32) where
   unfolding wordFor
   its-state = high (cond (eqb st 1) 2 1) 32 hx
 
-  pub its-id : idOf (wordFor x st) ≡ x
+  pub its-id : serviceId (wordFor x st) ≡ x
   unfolding wordFor
   its-id = low (cond (eqb st 1) 2 1) 32 hx
 
@@ -40,36 +40,36 @@ module _ (x st : ℕ) (hx : x < 2 ^ 32) where
       go false = refl
 
   -- it bears its own ID, and no other
-  bears-it : bears (wordFor x st) x ≡ true
-  bears-it = eq-eqb (idOf (wordFor x st)) x its-id
+  bears-it : isOf (wordFor x st) x ≡ true
+  bears-it = eq-eqb (serviceId (wordFor x st)) x its-id
 
   bears-no-other : (y : ℕ) → (x ≡ y → ⊥) → isPlaceFor (wordFor x st) y ≡ false
   bears-no-other y h = rw (not-free, its-id) (ne-eqb x y h)
 
 -- known services: one more word that is not free
-pub known-more : (w : ℕ) (ws : List ℕ) → isFree w ≡ false → known (w ∷ ws) ≡ idOf w ∷ known ws
+pub known-more : (w : ℕ) (ws : List ℕ) → isFree w ≡ false → known (w ∷ ws) ≡ serviceId w ∷ known ws
 unfolding known
 known-more w ws e = rw e refl
 
 -- what is known of a service, by the first word
 module _ (w : ℕ) (ws : List ℕ) (y : ℕ) where
-  pub state-here : isPlaceFor w y ≡ true → stateIn (w ∷ ws) y ≡ says w
+  pub state-here : isPlaceFor w y ≡ true → availabilityIn (w ∷ ws) y ≡ says w
   state-here e = rw e refl
 
-  pub state-later : isPlaceFor w y ≡ false → stateIn (w ∷ ws) y ≡ stateIn ws y
+  pub state-later : isPlaceFor w y ≡ false → availabilityIn (w ∷ ws) y ≡ availabilityIn ws y
   state-later e = rw e refl
 
-  pub state-free : isFree w ≡ true → stateIn (w ∷ ws) y ≡ Unheard
+  pub state-free : isFree w ≡ true → availabilityIn (w ∷ ws) y ≡ Unheard
   unfolding says
   state-free p = rw p (rw p refl)
 
 -- where nothing is known, nothing was heard of any
-none-heard : (b : List ℕ) (y : ℕ) → known b ≡ [] → stateIn b y ≡ Unheard
+none-heard : (b : List ℕ) (y : ℕ) → known b ≡ [] → availabilityIn b y ≡ Unheard
 unfolding known says
 none-heard [] y e = refl
 none-heard (w ∷ ws) y e = go (isFree w) refl e
   where
-    go : (f : Bool) → isFree w ≡ f → cond f [] (idOf w ∷ known ws) ≡ [] → stateIn (w ∷ ws) y ≡ Unheard
+    go : (f : Bool) → isFree w ≡ f → cond f [] (serviceId w ∷ known ws) ≡ [] → availabilityIn (w ∷ ws) y ≡ Unheard
     go true p k = state-free w ws y p
     go false p k = absurd (no-cons k)
       where
@@ -81,71 +81,71 @@ none-heard (w ∷ ws) y e = go (isFree w) refl e
 -- the pair's word at its place
 module _ (x st : ℕ) (hx : x < 2 ^ 32) where
   abbrev after : List ℕ → List ℕ
-  after b = set b (placeIn b x) (wordFor x st)
+  after b = set b (servicePlace b x) (wordFor x st)
 
   -- the place is one step further on where the first word is neither free nor this service's
-  later : (w : ℕ) (ws : List ℕ) → isFree w ≡ false → bears w x ≡ false → after (w ∷ ws) ≡ w ∷ after ws
+  later : (w : ℕ) (ws : List ℕ) → isFree w ≡ false → isOf w x ≡ false → after (w ∷ ws) ≡ w ∷ after ws
   later w ws p q = rw (p, q) refl
 
   abbrev Told : List ℕ → Type 0
   Told b = (known (after b) ≡ with (known b) x) × Packed (after b)
 
-  pub told-known : (b : List ℕ) → Packed b → placeIn b x < length b → Told b
+  pub told-known : (b : List ℕ) → Packed b → servicePlace b x < length b → Told b
   unfolding known isIn with Packed
   told-known [] k h = absurd (omega arith)
-  told-known (w ∷ ws) k h = go (isFree w) (bears w x) refl refl (told-known ws (k .1)) h
+  told-known (w ∷ ws) k h = go (isFree w) (isOf w x) refl refl (told-known ws (k .1)) h
     where
       busy : isFree (wordFor x st) ≡ true → known ws ≡ []
       busy n = absurd (true≢false (sym n ∙ not-free x st hx))
 
-      more : (b : Bool) → (idOf w ∷ cond b (known ws) (known ws ++ (x ∷ []))) ≡ cond b (idOf w ∷ known ws) ((idOf w ∷ known ws) ++ (x ∷ []))
+      more : (b : Bool) → (serviceId w ∷ cond b (known ws) (known ws ++ (x ∷ []))) ≡ cond b (serviceId w ∷ known ws) ((serviceId w ∷ known ws) ++ (x ∷ []))
       more true = refl
       more false = refl
 
-      go : (f e : Bool) → isFree w ≡ f → bears w x ≡ e → (placeIn ws x < length ws → Told ws) → placeIn (w ∷ ws) x < length (w ∷ ws) → Told (w ∷ ws)
+      go : (f e : Bool) → isFree w ≡ f → isOf w x ≡ e → (servicePlace ws x < length ws → Told ws) → servicePlace (w ∷ ws) x < length (w ∷ ws) → Told (w ∷ ws)
       go true e p q r l = rw p (rw (not-free x st hx, its-id x st hx, k .0 p) refl, (busy, k .1))
       go false true p q r l =
-          let same : x ∷ known ws ≡ idOf w ∷ known ws = ap (λ (n : ℕ). n ∷ known ws) (sym (eqb-true (idOf w) x q)) in
+          let same : x ∷ known ws ≡ serviceId w ∷ known ws = ap (λ (n : ℕ). n ∷ known ws) (sym (eqb-true (serviceId w) x q)) in
           rw (p, q) (rw (not-free x st hx, its-id x st hx) same, (busy, k .1))
       go false false p q r l =
-          let one-on : placeIn (w ∷ ws) x ≡ suc (placeIn ws x) = rw (p, q) refl in
+          let one-on : servicePlace (w ∷ ws) x ≡ suc (servicePlace ws x) = rw (p, q) refl in
           let t : Told ws = r (omega (arith, l, one-on)) in
-          let longer : known (w ∷ after ws) ≡ idOf w ∷ with (known ws) x = known-more w (after ws) p ∙ ap (λ (ks : List ℕ). idOf w ∷ ks) (t .0) in
+          let longer : known (w ∷ after ws) ≡ serviceId w ∷ with (known ws) x = known-more w (after ws) p ∙ ap (λ (ks : List ℕ). serviceId w ∷ ks) (t .0) in
           rw (p, q) (longer ∙ more (isIn x (known ws)), (λ n. absurd (true≢false (sym n ∙ p)), t .1))
 
   -- of this service, the state told
-  pub told-there : (b : List ℕ) → placeIn b x < length b → stateIn (after b) x ≡ toldState st
+  pub told-there : (b : List ℕ) → servicePlace b x < length b → availabilityIn (after b) x ≡ toldState st
   told-there [] h = absurd (omega arith)
-  told-there (w ∷ ws) h = go (isFree w) (bears w x) refl refl (told-there ws) h
+  told-there (w ∷ ws) h = go (isFree w) (isOf w x) refl refl (told-there ws) h
     where
-      here : stateIn (wordFor x st ∷ ws) x ≡ toldState st
+      here : availabilityIn (wordFor x st ∷ ws) x ≡ toldState st
       here = rw (not-free x st hx, bears-it x st hx) (says-told x st hx)
 
-      go : (f e : Bool) → isFree w ≡ f → bears w x ≡ e → (placeIn ws x < length ws → stateIn (after ws) x ≡ toldState st)
-          → placeIn (w ∷ ws) x < length (w ∷ ws) → stateIn (after (w ∷ ws)) x ≡ toldState st
+      go : (f e : Bool) → isFree w ≡ f → isOf w x ≡ e → (servicePlace ws x < length ws → availabilityIn (after ws) x ≡ toldState st)
+          → servicePlace (w ∷ ws) x < length (w ∷ ws) → availabilityIn (after (w ∷ ws)) x ≡ toldState st
       go true e p q r l = rw p here
       go false true p q r l = rw (p, q) here
       go false false p q r l =
-          let one-on : placeIn (w ∷ ws) x ≡ suc (placeIn ws x) = rw (p, q) refl in
+          let one-on : servicePlace (w ∷ ws) x ≡ suc (servicePlace ws x) = rw (p, q) refl in
           let not-its : isPlaceFor w x ≡ false = rw (p, q) refl in
-          ap (λ (c : List ℕ). stateIn c x) (later w ws p q) ∙ state-later w (after ws) x not-its ∙ r (omega (arith, l, one-on))
+          ap (λ (c : List ℕ). availabilityIn c x) (later w ws p q) ∙ state-later w (after ws) x not-its ∙ r (omega (arith, l, one-on))
 
   -- of any other, what was known
-  pub told-elsewhere : (b : List ℕ) (y : ℕ) → Packed b → (x ≡ y → ⊥) → stateIn (after b) y ≡ stateIn b y
+  pub told-elsewhere : (b : List ℕ) (y : ℕ) → Packed b → (x ≡ y → ⊥) → availabilityIn (after b) y ≡ availabilityIn b y
   unfolding Packed
   told-elsewhere [] y k h = refl
-  told-elsewhere (w ∷ ws) y k h = go (isFree w) (bears w x) (isPlaceFor w y) refl refl refl (told-elsewhere ws y (k .1) h)
+  told-elsewhere (w ∷ ws) y k h = go (isFree w) (isOf w x) (isPlaceFor w y) refl refl refl (told-elsewhere ws y (k .1) h)
     where
-      passed : stateIn (wordFor x st ∷ ws) y ≡ stateIn ws y
+      passed : availabilityIn (wordFor x st ∷ ws) y ≡ availabilityIn ws y
       passed = rw (bears-no-other x st hx y h) refl
 
-      go : (f e g : Bool) → isFree w ≡ f → bears w x ≡ e → isPlaceFor w y ≡ g → stateIn (after ws) y ≡ stateIn ws y
-          → stateIn (after (w ∷ ws)) y ≡ stateIn (w ∷ ws) y
+      go : (f e g : Bool) → isFree w ≡ f → isOf w x ≡ e → isPlaceFor w y ≡ g → availabilityIn (after ws) y ≡ availabilityIn ws y
+          → availabilityIn (after (w ∷ ws)) y ≡ availabilityIn (w ∷ ws) y
       go true e g p q u r = rw p (passed ∙ none-heard ws y (k .0 p)) ∙ sym (state-free w ws y p)
       go false true g p q u r =
-          let other : isPlaceFor w y ≡ false = rw p (ne-eqb (idOf w) y (λ z. h (sym (eqb-true (idOf w) x q) ∙ z))) in
+          let other : isPlaceFor w y ≡ false = rw p (ne-eqb (serviceId w) y (λ z. h (sym (eqb-true (serviceId w) x q) ∙ z))) in
           rw (p, q) passed ∙ sym (state-later w ws y other)
       go false false true p q u r =
-          ap (λ (c : List ℕ). stateIn c y) (later w ws p q) ∙ state-here w (after ws) y u ∙ sym (state-here w ws y u)
+          ap (λ (c : List ℕ). availabilityIn c y) (later w ws p q) ∙ state-here w (after ws) y u ∙ sym (state-here w ws y u)
       go false false false p q u r =
-          ap (λ (c : List ℕ). stateIn c y) (later w ws p q) ∙ state-later w (after ws) y u ∙ r ∙ sym (state-later w ws y u)
+          ap (λ (c : List ℕ). availabilityIn c y) (later w ws p q) ∙ state-later w (after ws) y u ∙ r ∙ sym (state-later w ws y u)
