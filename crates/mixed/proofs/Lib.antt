@@ -1,0 +1,3 @@
+mod Readings
+mod Issues
+pub mod NoCrossing
