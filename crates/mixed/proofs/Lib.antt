@@ -1,3 +1,4 @@
 mod Readings
-mod Issues
+pub mod Issues
 pub mod NoCrossing
+pub mod ByByteTwo

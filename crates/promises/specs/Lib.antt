@@ -59,3 +59,7 @@ pub mod WrongChecks
 pub mod Sizes33
 pub mod LinkedCut
 pub mod Missed
+pub mod NoCrossReading
+pub mod WrongReaders
+pub mod AnyOrder
+pub mod UniqueMixed
