@@ -82,3 +82,5 @@ pub mod WrongChecks
 pub mod Sizes33
 pub mod LinkedCut
 pub mod Missed
+pub mod UniqueIssue3
+pub mod Issue3Messages
