@@ -26,7 +26,7 @@ use Rattle.message3.specs.declared.Message3.the-variants.{CompositeChangeReques
 use Rattle.message3.specs.declared.Reading3.{Reading3}
 use Rattle.message3.specs.declared.Reading3.the-variants as reading
 use Rattle.message3.specs.Header.{headerLength3, domainIn3, senderIn3, idIn3, stampIn, sequenceIn3, payloadIn3, headerIn3}
-use Rattle.message3.specs.Platform.{agreementValue, messageOf3, servicesBytes}
+use Rattle.message3.specs.Platform.{agreementValue, messageOf3, servicesBytes, kindIn3}
 use Rattle.message3.specs.Refusal.{contentsRefusal3, readRefusal3, writeRefusal3}
 use Rattle.message3.specs.Reading.{answered3, readOut3, readOf3, payloadOf3}
 use Rattle.message3.specs.Writing.{headerFor3, messageBytes3, writeOf3, outputAfter3}
@@ -150,6 +150,20 @@ each-message =
       operation = λ id payload h. sent-as 1 id payload Operation (omega arith) h refl refl;
     }
 
+-- by the nine IDs
+by-id : (id field second : ℕ) → 1 ≤ id → id ≤ 9 → kindIn3 (messageOf3 0 id field second) ≡ id
+by-id zero field second l h = absurd (omega arith)
+by-id (suc zero) field second l h = refl
+by-id (suc (suc zero)) field second l h = refl
+by-id (suc (suc (suc zero))) field second l h = refl
+by-id (suc (suc (suc (suc zero)))) field second l h = refl
+by-id (suc (suc (suc (suc (suc zero))))) field second l h = refl
+by-id (suc (suc (suc (suc (suc (suc zero)))))) field second l h = refl
+by-id (suc (suc (suc (suc (suc (suc (suc zero))))))) field second l h = refl
+by-id (suc (suc (suc (suc (suc (suc (suc (suc zero)))))))) field second l h = refl
+by-id (suc (suc (suc (suc (suc (suc (suc (suc (suc zero))))))))) field second l h = refl
+by-id (suc (suc (suc (suc (suc (suc (suc (suc (suc (suc n)))))))))) field second l h = absurd (omega arith)
+
 never-both : NeverBoth
 never-both own reader s h m start len h₃ m₃ start₃ len₃ e f =
     apart.never-both own reader s (was-read (readRefusal own s) (readOut s) h m start len e .0)
@@ -176,6 +190,7 @@ issue3-messages =
       written-then-read = written-then-read;
       read-then-written = read-then-written;
       each-message = each-message;
+      kinds = record { of-platform = by-id; of-operation = λ id field second. refl };
       never-both = never-both;
       worked = worked;
     }

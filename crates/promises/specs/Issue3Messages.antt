@@ -22,7 +22,7 @@ use Rattle.message3.specs.declared.Message3.the-variants.{PlatformStatus, Platf
 use Rattle.message3.specs.declared.Message3.the-variants.{UnknownOperation, ServiceNotAvailable, VersionedDataPull, CompositeChangeRequest}
 use Rattle.message3.specs.declared.Message3.the-variants.{CompositeChangeRequestAck, Operation}
 use Rattle.message3.specs.declared.Reading3.the-variants.{Refused, Read}
-use Rattle.message3.specs.Platform.{agreementValue, messageOf3, servicesBytes}
+use Rattle.message3.specs.Platform.{agreementValue, messageOf3, servicesBytes, kindIn3}
 use Rattle.message3.specs.Reading.{readOf3, payloadOf3}
 use Rattle.message3.specs.Writing.{headerFor3, messageBytes3, writeOf3, outputAfter3}
 use Rattle.message3.specs.Worked.{workedStatus}
@@ -90,6 +90,11 @@ pub record EachMessage3 : Type 0 where
   pub composite-ack : (a : Agreement) → IsSentAs3 0 9 (bytes 2 (agreementValue a)) (CompositeChangeRequestAck a)
   pub operation : (id : ℕ) (payload : List ℕ) → length payload < 2 ^ 32 → IsSentAs3 1 id payload Operation
 
+-- what a message is told as: its kind is its ID in Table 3, and 10 of an operation
+pub record Kinds3 : Type 0 where
+  pub of-platform : (id field second : ℕ) → 1 ≤ id → id ≤ 9 → kindIn3 (messageOf3 0 id field second) ≡ id
+  pub of-operation : (id field second : ℕ) → kindIn3 (messageOf3 1 id field second) ≡ 10
+
 -- "No message may be read under the other issue's meaning": no bytes are read as both
 abbrev pub NeverBoth : Type 0
 NeverBoth =
@@ -120,5 +125,6 @@ pub record Issue3Messages : Type 0 where
   pub written-then-read : WrittenThenRead3
   pub read-then-written : ReadThenWritten3
   pub each-message : EachMessage3
+  pub kinds : Kinds3
   pub never-both : NeverBoth
   pub worked : WorkedMessages3
