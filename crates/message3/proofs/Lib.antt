@@ -8,3 +8,5 @@ mod Written
 mod WriteRefusals
 pub mod RoundTrip
 pub mod Told
+pub mod NeverBoth
+pub mod Worked

@@ -3,14 +3,15 @@
 -- Assumes nothing.
 use Prim.Native.Nat.{ℕ, _+_, _-_, _^_, _/_, _%_, _≤_, _<_}
 use mathlib.Core.Path.{_≡_, refl, sym, ap, _∙_}
-use mathlib.Core.List.{List, _∷_, _++_}
+use mathlib.Core.List.{List, [], _++_}
 use native.Mathlib.Omega.{arith}
-use lib.ListN.{length, drop, length-drop}
-use lib.Seq.{take-length, take-all}
-use Rattle.wire.specs.Bytes.{Octets, span, number, bytes, part}
+use lib.ListN.{length, take, drop, length-drop}
+use lib.Seq.{take-length, take-all, take-at}
+use Rattle.wire.specs.Bytes.{Octets, span, number, bytes, over}
 use Rattle.wire.proofs.Numbers.{number-lt, number-bytes}
 use Rattle.wire.proofs.Runs.{part-in}
 use Rattle.message.specs.Header.{theMark}
+use Rattle.message.specs.Writing.{answered, leftBy}
 use Rattle.message.proofs.RoundTrip.{field}
 use Rattle.message3.specs.declared.Header3.{Header3}
 use Rattle.message3.specs.declared.Stamp.{Stamp}
@@ -20,7 +21,7 @@ use Rattle.message3.specs.Header.{nanosecondsIn, stampIn, payloadSizeIn3
 use Rattle.message3.specs.Platform.{firstIn, secondIn, messageOf3}
 use Rattle.message3.specs.Refusal.{contentsRefusal3, readRefusal3, writeRefusal3}
 use Rattle.message3.specs.Reading.{answered3, readOut3, readOf3, payloadOf3}
-use Rattle.message3.specs.Writing.{headerFor3, messageBytes3}
+use Rattle.message3.specs.Writing.{headerFor3, messageBytes3, outputAfter3}
 use Rattle.message3.proofs.Accepted.{Readable, readable, Writable, writable, accepts, admits}
 
 -- the numbers of a message are as wide as their fields, and the reader is not its sender
@@ -37,12 +38,6 @@ module _ (own : ℕ) (t : Stamp) (domain id seq : ℕ) (payload : List ℕ) (roo
   abbrev message : List ℕ
   message = messageBytes3 own t domain id seq payload
 
-  abbrev from-16 : List ℕ
-  from-16 = bytes 2 (length payload) ++ (bytes 2 seq ++ payload)
-
-  abbrev from-12 : List ℕ
-  from-12 = bytes 2 (t .nanoseconds) ++ from-16
-
   ok : Writable domain id payload room
   ok = writable domain id payload room w
 
@@ -52,20 +47,21 @@ module _ (own : ℕ) (t : Stamp) (domain id seq : ℕ) (payload : List ℕ) (roo
   its-domain : domainIn3 message ≡ domain
   its-domain = omega (arith, ok .domain)
 
+  -- a field is the four bytes that were laid there, whatever stands behind them
   its-id : idIn3 message ≡ id
-  its-id = number-bytes 2 id (bytes 2 (t .seconds) ++ from-12) (f .id-fits)
+  its-id = number-bytes 2 id [] (f .id-fits)
 
   its-seconds : secondsIn message ≡ t .seconds
-  its-seconds = number-bytes 2 (t .seconds) from-12 (f .seconds-fit)
+  its-seconds = number-bytes 2 (t .seconds) [] (f .seconds-fit)
 
   its-nanoseconds : nanosecondsIn message ≡ t .nanoseconds
-  its-nanoseconds = number-bytes 2 (t .nanoseconds) from-16 (f .nanoseconds-fit)
+  its-nanoseconds = number-bytes 2 (t .nanoseconds) [] (f .nanoseconds-fit)
 
   its-size : payloadSizeIn3 message ≡ length payload
-  its-size = number-bytes 2 (length payload) (bytes 2 seq ++ payload) (ok .size)
+  its-size = number-bytes 2 (length payload) [] (ok .size)
 
   its-sequence : sequenceIn3 message ≡ seq
-  its-sequence = number-bytes 2 seq payload (f .sequence-fits)
+  its-sequence = number-bytes 2 seq [] (f .sequence-fits)
 
   -- nothing refuses it at the reader
   pub not-refused : readRefusal3 reader message ≡ 0
@@ -95,6 +91,17 @@ module _ (own : ℕ) (t : Stamp) (domain id seq : ℕ) (payload : List ℕ) (roo
   pub payload-back : payloadOf3 message (readOf3 reader message) ≡ payload
   payload-back = ap (payloadOf3 message) reads-back ∙ part-in message headerLength3 (length payload) (omega arith) ∙ take-length payload
 
+-- the output where nothing refuses, and its front
+module _ (own : ℕ) (t : Stamp) (domain id seq : ℕ) (payload out : List ℕ) (w : writeRefusal3 domain id payload (length out) ≡ 0) where
+  pub written-out : outputAfter3 own t domain id seq payload out ≡ over out 0 (messageBytes3 own t domain id seq payload)
+  written-out =
+      ap (λ (r : ℕ). leftBy (answered r (headerLength3 + length payload)) out (over out 0 (messageBytes3 own t domain id seq payload))) w
+
+  pub front : take (headerLength3 + length payload) (outputAfter3 own t domain id seq payload out) ≡ messageBytes3 own t domain id seq payload
+  front =
+      let b : List ℕ = messageBytes3 own t domain id seq payload in
+      ap (take (headerLength3 + length payload)) written-out ∙ take-at b (drop (0 + length b) out) (headerLength3 + length payload) (omega arith)
+
 -- what is read, written again
 module _ (own : ℕ) (s : List ℕ) (o : Octets s) (e : readRefusal3 own s ≡ 0) where
   seen : Readable own s
@@ -112,8 +119,8 @@ module _ (own : ℕ) (s : List ℕ) (o : Octets s) (e : readRefusal3 own s ≡ 0
       let a = seen .long in
       let r20 : List ℕ = bytes 2 (sequenceIn3 s) ++ payloadIn3 s in
       let r16 : List ℕ = bytes 2 (length (payloadIn3 s)) ++ r20 in
-      let r12 : List ℕ = bytes 2 (nanosecondsIn s) ++ r16 in
-      let r8 : List ℕ = bytes 2 (secondsIn s) ++ r12 in
+      let r12 : List ℕ = bytes 2 (number 2 s 12) ++ r16 in
+      let r8 : List ℕ = bytes 2 (number 2 s 8) ++ r12 in
       let r4 : List ℕ = bytes 2 (idIn3 s) ++ r8 in
       let r3 : List ℕ = bytes 0 (senderIn3 s) ++ r4 in
       let r2 : List ℕ = bytes 0 (versionAndDomain (domainIn3 s)) ++ r3 in

@@ -55,13 +55,7 @@ services-pass payload l h =
     no-ne 8 _ (length payload) (payloadLength3 availabilityStatus payload) l
     ∙ no-if 9 0 (ap not (all-below (knownState payload) (firstIn payload) (λ i k. lt-ltb (stateAt payload i) reservedStates (h i k))))
 
-module _ (ps : List (ℕ × ℕ)) (g : Good ps) (few : length ps < 2 ^ 29) where
-  pub how-many : firstIn (servicesBytes ps) ≡ length ps
-  how-many = number-bytes 2 (length ps) (pairBytes ps) (omega arith)
-
-  pub length-services : length (servicesBytes ps) ≡ servicesLength (length ps)
-  length-services = let n = length-pairs ps in omega arith
-
+module _ (ps : List (ℕ × ℕ)) (g : Good ps) where
   pub service-told : (i : ℕ) → i < length ps → serviceAt (servicesBytes ps) i ≡ pairAt ps i .0
   service-told i h = number-append 2 (bytes 2 (length ps)) (pairBytes ps) (8 * i) ∙ id-at ps i g h
 
@@ -70,8 +64,15 @@ module _ (ps : List (ℕ × ℕ)) (g : Good ps) (few : length ps < 2 ^ 29) where
       let place : 8 + 8 * i ≡ 4 + (4 + 8 * i) = omega arith in
       ap (number 2 (servicesBytes ps)) place ∙ number-append 2 (bytes 2 (length ps)) (pairBytes ps) (4 + 8 * i) ∙ state-at ps i g h
 
-  pub services-written : contentsRefusal3 platformDomain availabilityStatus (servicesBytes ps) ≡ 0
-  services-written =
-      let n = how-many in
-      services-pass (servicesBytes ps) (omega (arith, length-services))
-      (λ i h. omega (arith, state-told i (omega arith), g i .1))
+  pub length-services : length (servicesBytes ps) ≡ servicesLength (length ps)
+  length-services = let n = length-pairs ps in omega arith
+
+  module _ (few : length ps < 2 ^ 29) where
+    pub how-many : firstIn (servicesBytes ps) ≡ length ps
+    how-many = number-bytes 2 (length ps) (pairBytes ps) (omega arith)
+
+    pub services-written : contentsRefusal3 platformDomain availabilityStatus (servicesBytes ps) ≡ 0
+    services-written =
+        let n = how-many in
+        services-pass (servicesBytes ps) (omega (arith, length-services))
+        (λ i h. omega (arith, state-told i (omega arith), g i .1))

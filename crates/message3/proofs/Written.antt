@@ -15,31 +15,32 @@ use Rattle.message.specs.Writing.{answered, leftBy}
 use Rattle.message.proofs.Written.{writing-refused, left-as-it-was}
 use Rattle.message3.specs.declared.Header3.{Header3}
 use Rattle.message3.specs.declared.Stamp.{Stamp}
-use Rattle.message3.specs.Header.{headerLength3, versionAndDomain, headerBytes3}
+use Rattle.message3.specs.Header.{headerLength3, headerBytes3}
 use Rattle.message3.specs.Refusal.{writeRefusal3}
 use Rattle.message3.specs.Writing.{headerFor3, messageBytes3, writeOf3, outputAfter3}
 use Rattle.message3.proofs.Accepted.{Writable, writable}
 
-pub header-laid : {a b c d e f g k : List ℕ} (s : List ℕ) (h : Header3) → headerLength3 ≤ length s → a ≡ written s 0 (bytes 1 theMark) → b
-    ≡ written a 2 (bytes 0 (versionAndDomain (h .domain))) → c ≡ written b 3 (bytes 0 (h .platform)) → d ≡ written c 4 (bytes 2 (h .id)) → e
-    ≡ written d 8 (bytes 2 (h .seconds)) → f ≡ written e 12 (bytes 2 (h .nanoseconds)) → g ≡ written f 16 (bytes 2 (h .«payload_size»)) → k
-    ≡ written g 20 (bytes 2 (h .sequence)) → k ≡ over s 0 (headerBytes3 h)
-header-laid s h long a b c d e f g k =
+-- eight fields, one behind the other: what stands in byte 2, and the fields' numbers
+pub header-laid : {a b c d e f g k : List ℕ} (s : List ℕ) (x p i t u z q : ℕ) → headerLength3 ≤ length s → a ≡ written s 0 (bytes 1 theMark) → b
+    ≡ written a 2 (bytes 0 x) → c ≡ written b 3 (bytes 0 p) → d ≡ written c 4 (bytes 2 i) → e ≡ written d 8 (bytes 2 t) → f
+    ≡ written e 12 (bytes 2 u) → g ≡ written f 16 (bytes 2 z) → k ≡ written g 20 (bytes 2 q) → k
+    ≡ over s 0 (bytes 1 theMark ++ (bytes 0 x ++ (bytes 0 p ++ (bytes 2 i ++ (bytes 2 t ++ (bytes 2 u ++ (bytes 2 z ++ bytes 2 q)))))))
+header-laid s x p i t u z q long a b c d e f g k =
     let A : List ℕ = bytes 1 theMark in
-    let B : List ℕ = A ++ bytes 0 (versionAndDomain (h .domain)) in
-    let C : List ℕ = B ++ bytes 0 (h .platform) in
-    let D : List ℕ = C ++ bytes 2 (h .id) in
-    let E : List ℕ = D ++ bytes 2 (h .seconds) in
-    let F : List ℕ = E ++ bytes 2 (h .nanoseconds) in
-    let G : List ℕ = F ++ bytes 2 (h .«payload_size») in
+    let B : List ℕ = A ++ bytes 0 x in
+    let C : List ℕ = B ++ bytes 0 p in
+    let D : List ℕ = C ++ bytes 2 i in
+    let E : List ℕ = D ++ bytes 2 t in
+    let F : List ℕ = E ++ bytes 2 u in
+    let G : List ℕ = F ++ bytes 2 z in
     let a′ = a ∙ written-in s 0 A (omega arith) in
-    let b′ = written-behind s A (bytes 0 (versionAndDomain (h .domain))) 2 a′ refl (omega arith) b in
-    let c′ = written-behind s B (bytes 0 (h .platform)) 3 b′ refl (omega arith) c in
-    let d′ = written-behind s C (bytes 2 (h .id)) 4 c′ refl (omega arith) d in
-    let e′ = written-behind s D (bytes 2 (h .seconds)) 8 d′ refl (omega arith) e in
-    let f′ = written-behind s E (bytes 2 (h .nanoseconds)) 12 e′ refl (omega arith) f in
-    let g′ = written-behind s F (bytes 2 (h .«payload_size»)) 16 f′ refl (omega arith) g in
-    written-behind s G (bytes 2 (h .sequence)) 20 g′ refl (omega arith) k
+    let b′ = written-behind s A (bytes 0 x) 2 a′ refl (omega arith) b in
+    let c′ = written-behind s B (bytes 0 p) 3 b′ refl (omega arith) c in
+    let d′ = written-behind s C (bytes 2 i) 4 c′ refl (omega arith) d in
+    let e′ = written-behind s D (bytes 2 t) 8 d′ refl (omega arith) e in
+    let f′ = written-behind s E (bytes 2 u) 12 e′ refl (omega arith) f in
+    let g′ = written-behind s F (bytes 2 z) 16 f′ refl (omega arith) g in
+    written-behind s G (bytes 2 q) 20 g′ refl (omega arith) k
 
 -- what is known where nothing refuses: the payload's length fits the size field, the output has room for the header, and the domain
 -- is not reserved

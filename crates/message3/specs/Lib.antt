@@ -3,3 +3,4 @@ pub mod Platform
 pub mod Refusal
 pub mod Reading
 pub mod Writing
+pub mod Worked

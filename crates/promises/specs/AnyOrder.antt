@@ -1,11 +1,10 @@
 -- Demand 1, "a fixed order of checks", for messages of partners of both issues: 01's numbers 1 to 9, of which 3 and 7 to 9 read "of the
 -- sender's issue" (02, request 8). The theorems are in proofs/AnyOrder.antt.
-use Prim.Native.Nat.{ℕ, _+_, _-_, _*_, _/_, _%_, _<_}
+use Prim.Native.Nat.{ℕ, _-_, _/_, _%_, _<_}
 use mathlib.Core.Path.{_≡_}
 use mathlib.Core.Bool.{true, cond}
 use mathlib.Core.Logic.{_⊎_}
 use mathlib.Core.List.{List, [], _∷_}
-use lib.Dec.{eqb}
 use lib.ListN.{length, drop}
 use Rattle.wire.specs.Bytes.{number}
 use Rattle.message.specs.Reading.{readOut}
@@ -17,6 +16,7 @@ use Rattle.mixed.specs.Form.{threeForm}
 use Rattle.mixed.specs.Reading.{fromSix, fromThree, anyOf, numberGiven}
 use Rattle.promises.specs.Checks.{Check, _when_, Answers, Gives, Outside}
 use Rattle.promises.specs.Order.{lengthInTable4}
+use Rattle.promises.specs.Issue3Order.{HasReserved, lengthInTable4 as lengthInTable4Of3}
 
 -- Issue 3's form: byte 2 is not Issue 6's version, and platform byte 3 speaks Issue 3. Each check asks one thing of this form, and one of
 -- the other
@@ -25,16 +25,6 @@ ThreeForm i s = ¬ (number 0 s 2 ≡ 2) × (isThree i (number 0 s 3) ≡ true)
 
 abbrev pub byForm : List ℕ → List ℕ → Type 0 → Type 0 → Type 0
 byForm i s A B = (ThreeForm i s × A) ⊎ (¬ (ThreeForm i s) × B)
-
--- 001, Table 4: a status has 64 bits, a request none, a status of n services 32 bits and 64 for each, all others 32
-abbrev pub lengthInTable4Of3 : ℕ → List ℕ → ℕ
-lengthInTable4Of3 id payload = cond (eqb id 1) 8 (cond (eqb id 2) 0 (cond (eqb id 3) (4 + 8 * number 2 payload 0) 4))
-
--- 001, Table 4: "a field has a reserved value": the state of a status, the answer to a change of composite, and the state of any service
-pub data ReservedOf3 (id : ℕ) (payload : List ℕ) : Type 0 where
-  of-status : id ≡ 1 → 1 < number 2 payload 0 → ReservedOf3 id payload
-  of-ack : id ≡ 9 → 1 < number 2 payload 0 → ReservedOf3 id payload
-  of-service : id ≡ 3 → (k : ℕ) → k < number 2 payload 0 → 1 < number 2 payload (8 + 8 * k) → ReservedOf3 id payload
 
 -- a message read at the platform `own`, where i says who speaks Issue 3. The fields of either form by their bytes: of Issue 3's the domain
 -- is the lower half of byte 2, the sender byte 3, the ID bytes 4 to 7, the size bytes 16 to 19; of Issue 6's bytes 3, 4 to 7, 8 to 11 and
@@ -50,7 +40,7 @@ anyChecks i own s =
     ∷ 7 when byForm i s ((number 0 s 2 % 16 ≡ 0) × Outside 1 9 (number 2 s 4)) ((number 0 s 3 ≡ 0) × Outside 1 4 (number 2 s 8))
     ∷ 8 when byForm i s ((number 0 s 2 % 16 ≡ 0) × ¬ (length (drop 24 s) ≡ lengthInTable4Of3 (number 2 s 4) (drop 24 s)))
     ((number 0 s 3 ≡ 0) × ¬ (length (drop 20 s) ≡ lengthInTable4 (number 2 s 8)))
-    ∷ 9 when byForm i s ((number 0 s 2 % 16 ≡ 0) × ReservedOf3 (number 2 s 4) (drop 24 s))
+    ∷ 9 when byForm i s ((number 0 s 2 % 16 ≡ 0) × HasReserved (number 2 s 4) (drop 24 s))
     ((number 0 s 3 ≡ 0) × ((number 2 s 8 ≡ 1) × (1 < number 2 (drop 20 s) 0)))
     ∷ []
 

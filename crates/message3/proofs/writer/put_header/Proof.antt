@@ -30,6 +30,6 @@ put-header-spec =
     let b = k .before .before .before .before in
     let a = b .before .before .before .before in
     let start = a .before .before .before .before in
-    header-laid (now (start .args .out)) (start .args .header) (start .pre .0) (a .put-u16 .ensures) (b .put-u8 .ensures)
+    header-laid (now (start .args .out)) _ _ _ _ _ _ _ (start .pre .0) (a .put-u16 .ensures) (b .put-u8 .ensures)
     (k .put-u82 .ensures) (d .put-u32 .ensures) (e .put-u322 .ensures) (f .put-u323 .ensures) (g .put-u324 .ensures)
     (h .put-u325 .ensures)))
