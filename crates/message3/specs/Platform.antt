@@ -7,7 +7,9 @@ use lib.ListN.{length}
 use Rattle.wire.specs.Bytes.{number, bytes}
 use Rattle.wire.specs.All.{allBelow}
 use Rattle.message.specs.Header.{platformDomain}
-use Rattle.message.specs.Platform.{statusOf, statusValue, reservedStates}
+use Rattle.message.specs.Platform.{platformStatus, platformStatusRequest, unknownOperation, versionedDataPull}
+use Rattle.message.specs.Platform.{statusOf, statusValue, reservedStates, kindIn}
+use Rattle.message.specs.declared.Message.the-variants as six
 use Rattle.message3.specs.declared.Agreement.{Agreement}
 use Rattle.message3.specs.declared.Agreement.the-variants.{Disagree, Agree}
 use Rattle.message3.specs.declared.Message3.{Message3}
@@ -116,18 +118,18 @@ platformMessage3 id field second =
 abbrev pub messageOf3 : ℕ → ℕ → ℕ → ℕ → Message3
 messageOf3 domain id field second = cond (eqb domain platformDomain) (platformMessage3 id field second) Operation
 
--- by cases: its kind, which is its ID in Table 3, and 10 for an operation
+-- by cases: its kind. What Issue 6 has too is of Issue 6's kind (`kindIn` of `message/specs/Platform`), and the others go on behind these
 abbrev pub kindIn3 : Message3 → ℕ
-kindIn3 (PlatformStatus x c) = platformStatus3
-kindIn3 PlatformStatusRequest = platformStatusRequest3
-kindIn3 (AvailabilityStatus n) = availabilityStatus
-kindIn3 (AvailabilityStatusRequest i) = availabilityStatusRequest
-kindIn3 (UnknownOperation i) = unknownOperation3
-kindIn3 (ServiceNotAvailable i) = serviceNotAvailable
-kindIn3 (VersionedDataPull i) = versionedDataPull3
-kindIn3 (CompositeChangeRequest c) = compositeChangeRequest
-kindIn3 (CompositeChangeRequestAck a) = compositeChangeRequestAck
-kindIn3 Operation = 10
+kindIn3 (PlatformStatus x c) = platformStatus
+kindIn3 PlatformStatusRequest = platformStatusRequest
+kindIn3 (AvailabilityStatus n) = 6
+kindIn3 (AvailabilityStatusRequest i) = 7
+kindIn3 (UnknownOperation i) = unknownOperation
+kindIn3 (ServiceNotAvailable i) = 8
+kindIn3 (VersionedDataPull i) = versionedDataPull
+kindIn3 (CompositeChangeRequest c) = 9
+kindIn3 (CompositeChangeRequestAck a) = 10
+kindIn3 Operation = kindIn six.Operation
 
 -- its value: the state or the agreement that it tells; how many services; the ID in its payload; an operation's ID, which is its
 -- header's
@@ -142,3 +144,16 @@ valueIn3 id (VersionedDataPull i) = i
 valueIn3 id (CompositeChangeRequest c) = c
 valueIn3 id (CompositeChangeRequestAck a) = agreementValue a
 valueIn3 id Operation = id
+
+-- the composite ID that a status tells beside its state; of any other message 0
+abbrev pub compositeIn : Message3 → ℕ
+compositeIn (PlatformStatus x c) = c
+compositeIn PlatformStatusRequest = 0
+compositeIn (AvailabilityStatus n) = 0
+compositeIn (AvailabilityStatusRequest i) = 0
+compositeIn (UnknownOperation i) = 0
+compositeIn (ServiceNotAvailable i) = 0
+compositeIn (VersionedDataPull i) = 0
+compositeIn (CompositeChangeRequest c) = 0
+compositeIn (CompositeChangeRequestAck a) = 0
+compositeIn Operation = 0

@@ -1,10 +1,10 @@
 -- Messages of Issue 3, written and read.
 -- Assumes nothing.
-use Prim.Native.Nat.{ℕ, zero, suc, _+_, _^_, _≤_, _<_}
+use Prim.Native.Nat.{ℕ, zero, suc, _+_, _-_, _^_, _≤_, _<_}
 use mathlib.Core.Path.{_≡_, refl, sym, ap, subst, _∙_}
 use mathlib.Core.List.{List, [], _++_}
 use native.Mathlib.Omega.{arith}
-use lib.ListN.{length, take, length-drop}
+use lib.ListN.{length, getD, take, length-drop}
 use Rattle.wire.specs.Bytes.{Octets, number, bytes, over}
 use Rattle.wire.specs.All.{allBelow}
 use Rattle.wire.proofs.Numbers.{number-bytes}
@@ -36,7 +36,7 @@ use Rattle.message3.proofs.Told.{how-many, length-services, services-written, s
 use Rattle.message3.proofs.NeverBoth as apart
 use Rattle.message3.proofs.Worked.{worked-bytes, worked-read}
 use Rattle.promises.specs.Issue3Messages.{ReadsAs3, FromAnother3, WrittenThenRead3, ReadThenWritten3, stampOf, IsSentAs3, AreServices, EachMessage3}
-use Rattle.promises.specs.Issue3Messages.{NeverBoth, WorkedMessages3, Issue3Messages}
+use Rattle.promises.specs.Issue3Messages.{toldAs, NeverBoth, WorkedMessages3, Issue3Messages}
 use Rattle.promises.proofs.Headers.{not-refused, was-read}
 
 -- what an answer says of the refusal behind it
@@ -151,7 +151,7 @@ each-message =
     }
 
 -- by the nine IDs
-by-id : (id field second : ℕ) → 1 ≤ id → id ≤ 9 → kindIn3 (messageOf3 0 id field second) ≡ id
+by-id : (id field second : ℕ) → 1 ≤ id → id ≤ 9 → kindIn3 (messageOf3 0 id field second) ≡ getD toldAs (id - 1) 0
 by-id zero field second l h = absurd (omega arith)
 by-id (suc zero) field second l h = refl
 by-id (suc (suc zero)) field second l h = refl

@@ -1,7 +1,7 @@
 -- 02, request 8, prepared: "01's rule that a written message reads back the same", said of Issue 3, by reading and writing alone. Which
 -- sender speaks which issue is no part of it yet. The layouts are Tables 2 to 4 of 001 (message3/specs/Header and Platform). The theorem
 -- is in proofs/Issue3Messages.antt.
-use Prim.Native.Nat.{ℕ, _+_, _*_, _^_, _≤_, _<_}
+use Prim.Native.Nat.{ℕ, _+_, _-_, _*_, _^_, _≤_, _<_}
 use mathlib.Core.Path.{_≡_}
 use mathlib.Core.List.{List, [], _∷_, _++_}
 use lib.ListN.{length, getD, take, replicate}
@@ -90,10 +90,13 @@ pub record EachMessage3 : Type 0 where
   pub composite-ack : (a : Agreement) → IsSentAs3 0 9 (bytes 2 (agreementValue a)) (CompositeChangeRequestAck a)
   pub operation : (id : ℕ) (payload : List ℕ) → length payload < 2 ^ 32 → IsSentAs3 1 id payload Operation
 
--- what a message is told as: its kind is its ID in Table 3, and 10 of an operation
+-- what the messages of IDs 1 to 9 are told as, and an operation: what Issue 6 has too by its kind there, 1 to 5, the others behind these
+abbrev pub toldAs : List ℕ
+toldAs = 1 ∷ 2 ∷ 6 ∷ 7 ∷ 3 ∷ 8 ∷ 4 ∷ 9 ∷ 10 ∷ []
+
 pub record Kinds3 : Type 0 where
-  pub of-platform : (id field second : ℕ) → 1 ≤ id → id ≤ 9 → kindIn3 (messageOf3 0 id field second) ≡ id
-  pub of-operation : (id field second : ℕ) → kindIn3 (messageOf3 1 id field second) ≡ 10
+  pub of-platform : (id field second : ℕ) → 1 ≤ id → id ≤ 9 → kindIn3 (messageOf3 0 id field second) ≡ getD toldAs (id - 1) 0
+  pub of-operation : (id field second : ℕ) → kindIn3 (messageOf3 1 id field second) ≡ 5
 
 -- "No message may be read under the other issue's meaning": no bytes are read as both
 abbrev pub NeverBoth : Type 0
