@@ -10,13 +10,14 @@ use Rattle.table.specs.declared.Sections.{Sections}
 use Rattle.walk.specs.Walk.{Codec, start, left, walk}
 use Rattle.walk.specs.Planned.{isPlanned, planTree}
 use Rattle.plan.specs.declared.Length.{Length}
+use Rattle.plan.specs.Length.{numberGiven as lengthNumber}
 use Rattle.plan.specs.Layout.{lengthIn, laidNumber, laidOut}
 use Rattle.payload.specs.declared.Answer.{Answer}
 use Rattle.payload.specs.Calls.{numberGiven, answeredTree, leftBy}
 use Rattle.payload.specs.ByPlans.{answeredBy, leftFor}
 use Rattle.payload.proofs.ByPlans.{by-plan}
 use Rattle.nyrkovash.specs.PayloadCalls.{walkedLeft}
-use Rattle.nyrkovash.specs.PlanCalls.{lengthNumber, lengthLeft}
+use Rattle.nyrkovash.specs.PlanCalls.{lengthLeft}
 use Rattle.nyrkovash.proofs.Giving.{given-number, given-words}
 
 -- on the sections that words hold

@@ -1,4 +1,5 @@
 pub mod Leaves
 pub mod Layout
+pub mod Length
 pub mod Members
 pub mod Laying

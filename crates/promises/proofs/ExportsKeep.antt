@@ -31,6 +31,7 @@ use Rattle.message.specs.declared.Reading.the-variants as reading
 use Rattle.message.specs.Writing.{writeOf, numberGiven as writeNumber}
 use Rattle.message.specs.declared.Writing.{Writing}
 use Rattle.message.specs.declared.Writing.the-variants as writing
+use Rattle.table.specs.declared.Sections.{Sections}
 use Rattle.table.specs.Layout.{cutShort, within}
 use Rattle.table.specs.Checked.{numberGiven as checkNumber}
 use Rattle.table.specs.declared.Checked.{Checked}
@@ -43,9 +44,11 @@ use Rattle.payload.specs.declared.Answer.{Answer}
 use Rattle.payload.specs.declared.Answer.the-variants as answer
 use Rattle.payload.specs.Calls.{unpacked, unpackedIn, packed, packedIn}
 use Rattle.payload.specs.Calls as payload
-use Rattle.payload.specs.ByPlans.{unpackedBy, packedBy}
+use Rattle.payload.specs.ByPlans.{answeredBy}
+use Rattle.walk.specs.Walk.{Codec}
 use Rattle.plan.specs.declared.Length.{Length}
 use Rattle.plan.specs.declared.Length.the-variants as plan
+use Rattle.plan.specs.Length.{numberGiven as lengthNumber}
 use Rattle.plan.specs.Layout.{lengthIn}
 use Rattle.platform.specs.declared.Noting.{Noting}
 use Rattle.platform.specs.declared.Noting.the-variants as noting
@@ -60,7 +63,7 @@ use Rattle.nyrkovash.specs.PieceCalls.{countLeft, madeLeft}
 use Rattle.nyrkovash.specs.MessageCalls.{readLeft, writeLeft}
 use Rattle.nyrkovash.specs.TableCalls.{sectionsLeft, foundWords}
 use Rattle.nyrkovash.specs.PayloadCalls.{walkedLeft}
-use Rattle.nyrkovash.specs.PlanCalls.{lengthNumber, lengthLeft}
+use Rattle.nyrkovash.specs.PlanCalls.{lengthLeft}
 use Rattle.promises.specs.Checks.{Keeps, Outside}
 use Rattle.promises.specs.Demand1.{ChangesNothing}
 use Rattle.promises.specs.ExportsKeep.{WordsKept, ExportsKeep}
@@ -165,6 +168,10 @@ by-walked : {n : ℕ} {was left : List ℕ} (x : Answer) → n ≡ payload.numbe
     → WordsKept n was left
 by-walked {n} {was} {left} x e f h = rw (e, f) (walked-keeps was x h)
 
+by-plans : {n : ℕ} {was left : List ℕ} (c : Codec) (m : ℕ) (ps t : List ℕ) (s : Sections) (i room : ℕ)
+    → n ≡ payload.numberGiven (answeredBy c m ps t s i room) → left ≡ walkedLeft was (answeredBy c m ps t s i room) → WordsKept n was left
+by-plans c m ps t s i room e f = by-walked (answeredBy c m ps t s i room) e f (by-numbered c m t ps s i room)
+
 kept : ChangesNothing
 kept = demand-1 .changes-nothing
 
@@ -223,25 +230,11 @@ exports-keep =
       unpack-by-words = λ k a n e p.
           let any = the-plans .by-any (now (a .1 .1 .0)) (now (a .0)) (sectionsIn (now (a .1 .0))) (a .1 .1 .1 .0) in
           by (p .0) (p .1 .0) (any .words-stay (now (a .1 .1 .1 .1 .0)) (now (a .1 .1 .1 .1 .1 .0)));
-      unpack-by-walked = λ k a n e p.
-          let t = now (a .0) in
-          let s = sectionsIn (now (a .1 .0)) in
-          let ps = now (a .1 .1 .0) in
-          let i = a .1 .1 .1 .0 in
-          let b = now (a .1 .1 .1 .1 .0) in
-          let room = length (now (a .1 .1 .1 .1 .1 .0)) in
-          by-walked (unpackedBy ps t s i b room) (p .0) (p .1 .1) (by-numbered (reader b) (length b) t ps s i room);
+      unpack-by-walked = λ k a n e p. let b = now (a .1 .1 .1 .1 .0) in by-plans (reader b) (length b) _ _ _ _ _ (p .0) (p .1 .1);
       pack-by-out = λ k a n e p.
           let any = the-plans .by-any (now (a .1 .1 .0)) (now (a .0)) (sectionsIn (now (a .1 .0))) (a .1 .1 .1 .0) in
           by (p .0) (p .1 .0) (any .bytes-stay (now (a .1 .1 .1 .1 .0)) (now (a .1 .1 .1 .1 .1 .0)));
-      pack-by-walked = λ k a n e p.
-          let t = now (a .0) in
-          let s = sectionsIn (now (a .1 .0)) in
-          let ps = now (a .1 .1 .0) in
-          let i = a .1 .1 .1 .0 in
-          let ws = now (a .1 .1 .1 .1 .0) in
-          let room = length (now (a .1 .1 .1 .1 .1 .0)) in
-          by-walked (packedBy ps t s i ws room) (p .0) (p .1 .1) (by-numbered (writer ws) (length ws) t ps s i room);
+      pack-by-walked = λ k a n e p. let ws = now (a .1 .1 .1 .1 .0) in by-plans (writer ws) (length ws) _ _ _ _ _ (p .0) (p .1 .1);
       receive-platform = λ k a n e p. by (p .0) (p .1 .0)
           (receive-keeps (a .0) (now (a .1 .0)) (now (a .1 .1 .0)) (now (a .1 .1 .1 .0)) (now (a .1 .1 .1 .1 .0)));
       receive-out = λ k a n e p.

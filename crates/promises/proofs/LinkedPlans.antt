@@ -17,10 +17,11 @@ use Rattle.types.specs.Table.{checked}
 use Rattle.unpack.specs.Reading.{reader}
 use Rattle.pack.specs.Writing.{writer}
 use Rattle.plan.specs.declared.Length.the-variants.{Refused, Words}
+use Rattle.plan.specs.Length.{numberGiven as lengthNumber}
 use Rattle.plan.specs.Layout.{plansLength, lengthIn, laidNumber, laidOut}
 use Rattle.payload.specs.Calls.{wordsIn}
 use Rattle.payload.specs.ByPlans.{wordsBy}
-use Rattle.nyrkovash.specs.PlanCalls.{lengthNumber, lengthLeft}
+use Rattle.nyrkovash.specs.PlanCalls.{lengthLeft}
 use Rattle.promises.specs.LinkedPayloads.{PacksAs, UnpacksAs}
 use Rattle.promises.specs.Plans.{AsTheWalk}
 use Rattle.promises.specs.LinkedPlans.{LoadLent, loadLent, Measures, Lays, WalkLent, walkLent, WalkLeft, UnpacksIn, PacksIn}
@@ -28,7 +29,7 @@ use Rattle.promises.specs.LinkedPlans.{_with-plans_, UnpacksBy, PacksBy,
 use Rattle.promises.specs.WorkedPlans.{planTable, planSections, forged, inner, innerPayload, innerWords}
 use Rattle.promises.proofs.LinkedCut.{lent}
 use Rattle.promises.proofs.LinkedPayloads.{sections-back, linked-payloads}
-use Rattle.promises.proofs.PlanOutcomes.{outcome, IsIn, IsBy, same, goes, leaves-both, names5, start, handedIn, walks-in, walks-by}
+use Rattle.promises.proofs.PlanOutcomes.{outcome, IsIn, IsBy, same, goes, both-parts, lifetimes5, start, handedIn, walks-in, walks-by}
 use Rattle.promises.proofs.Plans.{the-plans}
 use Rattle.promises.proofs.WorkedPlans.{worked-plans}
 
@@ -153,12 +154,12 @@ module _ (l : WalkLent) (ps : List ℕ) (x : LaidFor l ps) where
       unpack-checked : UnpacksBy (l with-plans ps) n r → UnpacksAs (l .table) (l .number) (l .input) (l .output) n (r .walked) (r .output)
       unpack-checked y =
           let e = unpack-is .0 (walks-by reader (l with-plans ps) n r .0 y) in
-          linked-payloads .unpack-in s index names5 (handedIn l (start l)) n (handedIn l r) (e .0, leaves-both (e .1)) h f
+          linked-payloads .unpack-in s index lifetimes5 (handedIn l (start l)) n (handedIn l r) (e .0, both-parts (e .1)) h f
 
       pack-checked : PacksBy (l with-plans ps) n r → PacksAs (l .table) (l .number) (l .input) (l .output) n (r .walked) (r .output)
       pack-checked y =
           let e = pack-is .0 (walks-by writer (l with-plans ps) n r .0 y) in
-          linked-payloads .pack-in s index names5 (handedIn l (start l)) n (handedIn l r) (e .0, leaves-both (e .1)) h f
+          linked-payloads .pack-in s index lifetimes5 (handedIn l (start l)) n (handedIn l r) (e .0, both-parts (e .1)) h f
 
 -- the table and the plans that are worked out
 module _ (index walked : List ℕ) (n : ℕ) (r : WalkLeft) where
@@ -173,13 +174,13 @@ module _ (index walked : List ℕ) (n : ℕ) (r : WalkLeft) where
 
   unpack-walked : UnpacksIn innerLent n r → r .output ≡ innerWords
   unpack-walked x =
-      leaves-both (walks-in reader innerLent n r .0 x .1) .0
+      both-parts (walks-in reader innerLent n r .0 x .1) .0
       ∙ ap (λ (y : Sections). wordsIn planTable y inner innerPayload (9 ∷ 9 ∷ 9 ∷ [])) sections-are
       ∙ worked-plans .forged-plan .walk-words
 
   unpack-forged : UnpacksBy (innerLent with-plans forged) n r → r .output ≡ 0xFFFFFFFFFFFFFFFE ∷ 1 ∷ 5 ∷ []
   unpack-forged x =
-      leaves-both (walks-by reader (innerLent with-plans forged) n r .0 x .1) .0
+      both-parts (walks-by reader (innerLent with-plans forged) n r .0 x .1) .0
       ∙ ap (λ (y : Sections). wordsBy forged planTable y inner innerPayload (9 ∷ 9 ∷ 9 ∷ [])) sections-are
       ∙ worked-plans .forged-plan .forged-words
 

@@ -30,8 +30,8 @@ module _ (c : List ℕ → Codec) where
   abbrev pub answerIn : WalkLent → Answer
   answerIn l = answeredIn (c (l .input)) (length (l .input)) (l .table) (sectionsIn (l .sections)) (l .number) (length (l .output))
 
-  abbrev pub leavesIn : WalkLent → WalkLeft
-  leavesIn l =
+  abbrev pub endIn : WalkLent → WalkLeft
+  endIn l =
       walkLeft (leftIn (c (l .input)) (length (l .input)) (l .table) (sectionsIn (l .sections)) (l .number) (l .output)) (walkedLeft (l .walked) (answerIn l))
 
   abbrev pub answerBy : PlansLent → Answer
@@ -44,17 +44,17 @@ module _ (c : List ℕ → Codec) where
       let l : WalkLent = m .lent in
       leftFor (c (l .input)) (length (l .input)) (m .plans) (l .table) (sectionsIn (l .sections)) (l .number) (l .output)
 
-  abbrev pub leavesBy : PlansLent → WalkLeft
-  leavesBy m = walkLeft (outputBy m) (walkedLeft (m .lent .walked) (answerBy m))
+  abbrev pub endBy : PlansLent → WalkLeft
+  endBy m = walkLeft (outputBy m) (walkedLeft (m .lent .walked) (answerBy m))
 
   abbrev pub IsIn : WalkLent → ℕ → WalkLeft → Type 0
-  IsIn l n r = (n ≡ numberGiven (answerIn l)) × (r ≡ leavesIn l)
+  IsIn l n r = (n ≡ numberGiven (answerIn l)) × (r ≡ endIn l)
 
   abbrev pub IsBy : PlansLent → ℕ → WalkLeft → Type 0
-  IsBy m n r = (n ≡ numberGiven (answerBy m)) × (r ≡ leavesBy m)
+  IsBy m n r = (n ≡ numberGiven (answerBy m)) × (r ≡ endBy m)
 
   -- by plans that go as the walk they are one
-  pub same : (l : WalkLent) (ps : List ℕ) (n : ℕ) (r : WalkLeft) → answerBy (l with-plans ps) ≡ answerIn l → outputBy (l with-plans ps) ≡ leavesIn l .output
+  pub same : (l : WalkLent) (ps : List ℕ) (n : ℕ) (r : WalkLeft) → answerBy (l with-plans ps) ≡ answerIn l → outputBy (l with-plans ps) ≡ endIn l .output
       → IsBy (l with-plans ps) n r ↔ IsIn l n r
   same l ps n r e f =
       let number = ap numberGiven e in
@@ -72,16 +72,16 @@ module _ (c : List ℕ → Codec) where
       let told = as-told (answerBy m) (l .walked) refl sound (p .0) (ap (λ (y : WalkLeft). y .walked) (p .1)) in
       record { answer = told; output = left; as-long = ap length left ∙ long; fits = λ z. fits _ (sym told ∙ gave-given n (r .walked) z) }
 
--- the contracts allow it, and no other. Each pointer that is handed has a name, which tells nothing
-abbrev pub Names5 : Type 0
-Names5 = List ℕ × (List ℕ × (List ℕ × (List ℕ × (List ℕ × Unit {0}))))
+-- the contracts allow it, and no other. What is lent has a lifetime each, which tells nothing
+abbrev pub Lifetimes5 : Type 0
+Lifetimes5 = List ℕ × (List ℕ × (List ℕ × (List ℕ × (List ℕ × Unit {0}))))
 
-abbrev pub names5 : Names5
-names5 = ([], ([], ([], ([], ([], tt)))))
+abbrev pub lifetimes5 : Lifetimes5
+lifetimes5 = ([], ([], ([], ([], ([], tt)))))
 
 module _ {l r : WalkLeft} (e : l ≡ r) where
-  pub leaves-both : (l .output ≡ r .output) × (l .walked ≡ r .walked)
-  leaves-both = (ap (λ (y : WalkLeft). y .output) e, ap (λ (y : WalkLeft). y .walked) e)
+  pub both-parts : (l .output ≡ r .output) × (l .walked ≡ r .walked)
+  both-parts = (ap (λ (y : WalkLeft). y .output) e, ap (λ (y : WalkLeft). y .walked) e)
 
 abbrev pub walking : List ℕ → WalkLeft → Walking
 walking x r = (lent x, (lent (r .output), (lent (r .walked), tt)))
@@ -96,24 +96,24 @@ abbrev pub handedBy : PlansLent → WalkLeft → HandedBy
 handedBy m r = (lent (m .lent .table), (lent (m .lent .sections), (lent (m .plans), (m .lent .number, walking (m .lent .input) r))))
 
 module _ (c : List ℕ → Codec) where
-  abbrev pub SaysIn : Names5 → HandedIn → ℕ → HandedIn → Type 0
+  abbrev pub SaysIn : Lifetimes5 → HandedIn → ℕ → HandedIn → Type 0
   SaysIn k a n e =
-      (n ≡ numberGiven (answerIn c (lentIn a))) × ((exitIn e .output ≡ leavesIn c (lentIn a) .output) × (exitIn e .walked ≡ leavesIn c (lentIn a) .walked))
+      (n ≡ numberGiven (answerIn c (lentIn a))) × ((exitIn e .output ≡ endIn c (lentIn a) .output) × (exitIn e .walked ≡ endIn c (lentIn a) .walked))
 
   pub walks-in : (l : WalkLent) (n : ℕ) (r : WalkLeft) → Allows SaysIn (λ k a. lentIn a) (λ k e. exitIn e) l n r ↔ IsIn c l n r
   walks-in l n r = (
     λ x. let p = x .1 .1 .1 .0 in
-        outcome (λ y. numberGiven (answerIn c y)) (leavesIn c) l r (p .0) (ap₂ walkLeft (p .1 .0) (p .1 .1)) (x .1 .1 .1 .1 .0) (x .1 .1 .1 .1 .1),
-    λ e. (names5, (handedIn l (start l), (handedIn l r, ((e .0, leaves-both (e .1)), (refl, refl))))),
+        outcome (λ y. numberGiven (answerIn c y)) (endIn c) l r (p .0) (ap₂ walkLeft (p .1 .0) (p .1 .1)) (x .1 .1 .1 .1 .0) (x .1 .1 .1 .1 .1),
+    λ e. (lifetimes5, (handedIn l (start l), (handedIn l r, ((e .0, both-parts (e .1)), (refl, refl))))),
   )
 
-  abbrev pub SaysBy : List ℕ × Names5 → HandedBy → ℕ → HandedBy → Type 0
+  abbrev pub SaysBy : List ℕ × Lifetimes5 → HandedBy → ℕ → HandedBy → Type 0
   SaysBy k a n e =
-      (n ≡ numberGiven (answerBy c (lentBy a))) × ((exitBy e .output ≡ leavesBy c (lentBy a) .output) × (exitBy e .walked ≡ leavesBy c (lentBy a) .walked))
+      (n ≡ numberGiven (answerBy c (lentBy a))) × ((exitBy e .output ≡ endBy c (lentBy a) .output) × (exitBy e .walked ≡ endBy c (lentBy a) .walked))
 
   pub walks-by : (m : PlansLent) (n : ℕ) (r : WalkLeft) → Allows SaysBy (λ k a. lentBy a) (λ k e. exitBy e) m n r ↔ IsBy c m n r
   walks-by m n r = (
     λ x. let p = x .1 .1 .1 .0 in
-        outcome (λ y. numberGiven (answerBy c y)) (leavesBy c) m r (p .0) (ap₂ walkLeft (p .1 .0) (p .1 .1)) (x .1 .1 .1 .1 .0) (x .1 .1 .1 .1 .1),
-    λ e. (([], names5), (handedBy m (start (m .lent)), (handedBy m r, ((e .0, leaves-both (e .1)), (refl, refl))))),
+        outcome (λ y. numberGiven (answerBy c y)) (endBy c) m r (p .0) (ap₂ walkLeft (p .1 .0) (p .1 .1)) (x .1 .1 .1 .1 .0) (x .1 .1 .1 .1 .1),
+    λ e. (([], lifetimes5), (handedBy m (start (m .lent)), (handedBy m r, ((e .0, both-parts (e .1)), (refl, refl))))),
   )

@@ -60,3 +60,10 @@ pub mod WrongChecks
 pub mod Sizes33
 pub mod LinkedCut
 pub mod Missed
+pub mod UniqueIssue3
+pub mod Issue3Order
+pub mod Issue3Messages
+pub mod NoCrossReading
+pub mod WrongReaders
+pub mod AnyOrder
+pub mod UniqueMixed

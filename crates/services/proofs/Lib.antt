@@ -1,0 +1,9 @@
+pub mod Places
+pub mod Telling
+mod Noting
+mod Marking
+pub mod OnePair
+pub mod Exactly
+pub mod Afterwards
+pub mod WentDown
+pub mod EachOnce
