@@ -507,7 +507,7 @@ uint32_t nyr_partners_set(nyr_partners *partners, uint32_t platform, uint32_t is
  *      says for services, 4 for any other; else as above;
  *   9  in Issue 3's form a status, a service's state or an acknowledgement that is neither 0 nor 1; else as above.
  * With words of 0 it gives the number of nyr_read, and its six fields.
- * Stack 256; time: the services that a message tells of.
+ * Stack 512; time: the services that a message tells of.
  */
 uint32_t nyr_read_mixed(uint8_t own, const nyr_partners *partners, const uint8_t *message, size_t message_length,
                         nyr_any_message *answer);
