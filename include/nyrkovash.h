@@ -499,13 +499,13 @@ uint32_t nyr_partners_set(nyr_partners *partners, uint32_t platform, uint32_t is
  * Reads a message by its sender's issue. The sender is bytes 4 to 7 where byte 2 is 2, Issue 6's version, else byte 3.
  * In Issue 3's form is a message whose byte 2 is not 2 and whose sender is set up as Issue 3; every other one is in
  * Issue 6's.
- *   1 to 9, of which by the form
- *   1  shorter than its header: of 24 bytes in Issue 3's form, else of 20;
- *   3  not version 1 in Issue 3's form, else not version 2; or Issue 6's form, and the sender is set up as Issue 3;
- *   7  the ID is not 1 to 9 in Issue 3's form, else not 1 to 4;
- *   8  in Issue 3's form the payload is not of 8 bytes for a status, 0 for a request, 4 and 8 for each service that it
- *      says for services, 4 for any other; else as above;
- *   9  in Issue 3's form a status, a service's state or an acknowledgement that is neither 0 nor 1; else as above.
+ *   1 to 9: in Issue 6's form as of nyr_read, and 3 also where the sender is set up as Issue 3; in Issue 3's form
+ *   1  shorter than its header of 24 bytes;
+ *   3  not version 1;
+ *   7  domain 0, and the ID is not 1 to 9;
+ *   8  domain 0, and the payload is not 8 bytes long for a status, 0 for a request, 4 and 8 for each service told for
+ *      services, 4 for any other;
+ *   9  a status, a service's state or an acknowledgement that is neither 0 nor 1.
  * With words of 0 it gives the number of nyr_read, and its six fields.
  * Stack 512; time: the services that a message tells of.
  */
