@@ -91,3 +91,8 @@ pub mod NoCrossReading
 pub mod WrongReaders
 pub mod AnyOrder
 pub mod UniqueMixed
+mod Issue3Words
+mod IssueContracts
+mod WrittenByIssue
+mod ReadByIssue
+pub mod LinkedIssue3

@@ -67,3 +67,4 @@ pub mod NoCrossReading
 pub mod WrongReaders
 pub mod AnyOrder
 pub mod UniqueMixed
+pub mod LinkedIssue3
