@@ -8,10 +8,11 @@ use native.Mathlib.Omega.{arith}
 use Rattle.wire.specs.Bytes.{Octets}
 use Rattle.services.specs.declared.Availability.{Availability}
 use Rattle.services.specs.declared.Availability.the-variants.{Unheard, Unavailable, Available}
+use Rattle.services.specs.Word.{toldState}
 use Rattle.services.specs.Block.{availabilityIn, statusNoted, marked, statusFits}
 use Rattle.services.specs.Known.{known, isHeard, NoneTwice, whenDown}
 use Rattle.services.proofs.Exactly.{fits-exactly}
-use Rattle.services.proofs.Afterwards.{fresh-packed, never-named, last-named, by-fitting, no-refusal, refusal-keeps, not-noted}
+use Rattle.services.proofs.Afterwards.{fresh-packed, fresh-unheard, never-named, last-named, by-fitting, no-refusal, refusal-keeps, not-noted}
 use Rattle.services.proofs.Afterwards.{noted-state, noted-known, noted-packed, noted-long}
 use Rattle.services.proofs.WentDown.{marked-long, marked-known, marked-packed, marked-state, known-heard}
 use Rattle.services.proofs.EachOnce.{once-named, once-fresh}
@@ -53,6 +54,7 @@ is-marked Unavailable h = refl
 is-marked Available h = refl
 
 kept : ServicesBy ourKeeping
+unfolding toldState
 kept =
     record {
       block = block;
@@ -83,6 +85,7 @@ pub services : Services
 services =
     record {
       kept = kept;
+      at-start = fresh-unheard 256;
       unheard = λ b x e. is-unheard (availabilityIn b x) (sym (known-heard b x) ∙ e);
       heard = λ b x e q. true≢false (sym e ∙ known-heard b x ∙ ap isHeard q);
       set-up = set-up;

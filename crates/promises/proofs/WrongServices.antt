@@ -17,19 +17,16 @@ use Rattle.services.specs.Block.{availabilityIn, pairHasPlace, pairTold, pairsT
 use Rattle.services.specs.Known.{known, Packed, isIn, with, NoneTwice, knownWith}
 use Rattle.services.proofs.OnePair.{its-id, not-free, known-more}
 use Rattle.promises.specs.Services.{KemptBlock, namedBy, start, status, ServicesBy}
+use Rattle.promises.specs.WorkedServices.{full, pair}
 use Rattle.promises.specs.WrongServices.{dropping, notingSome, toldFromRight, firstWins, replacing, forgetting, leaving, NoWrongKeeping}
 use Rattle.promises.proofs.SmallTraffic.{octets-are}
 use Rattle.promises.proofs.Services.{services}
 
 -- two states differ
-abbrev number : Availability → ℕ
-number Unheard = 0
-number Unavailable = 1
-number Available = 2
-
--- a status's payload
-abbrev pair : ℕ → ℕ → List ℕ
-pair id state = bytes 2 id ++ bytes 2 state
+abbrev numbered : Availability → ℕ
+numbered Unheard = 0
+numbered Unavailable = 1
+numbered Available = 2
 
 -- service 5 told AVAILABLE; UNAVAILABLE and then AVAILABLE; service 6 told; services 257 and 258 told
 abbrev five : List ℕ
@@ -44,11 +41,7 @@ six = bytes 2 1 ++ pair 6 1
 abbrev more : List ℕ
 more = bytes 2 2 ++ (pair 257 1 ++ pair 258 1)
 
--- n services that are known, all AVAILABLE: n, and so down to 1
-abbrev full : ℕ → List ℕ
-full zero = []
-full (suc n) = wordFor (suc n) 1 ∷ full n
-
+-- a block that is full
 module _ (n : ℕ) (h : suc n ≤ 256) where
   full-known : known (full (suc n)) ≡ suc n ∷ known (full n)
   full-known =
@@ -91,7 +84,7 @@ refused = refl
 no-notes-some : ¬ (ServicesBy notingSome)
 unfolding pairTold pairsTold says wordFor
 no-notes-some h =
-    let z : _≡_ {A = ℕ} 2 0 = ap (λ (b : List ℕ). number (availabilityIn b 257)) (h .keeps almost more (λ e. omega (arith, refused))) in
+    let z : _≡_ {A = ℕ} 2 0 = ap (λ (b : List ℕ). numbered (availabilityIn b 257)) (h .keeps almost more (λ e. omega (arith, refused))) in
     omega arith
 
 -- a service told twice: the state of the first
@@ -100,7 +93,7 @@ unfolding allBelow pairHasPlace pairTold pairsTold hasPlace allHavePlaces status
 no-first-wins h =
     let b : KemptBlock (replicate 256 0) = services .kept .block (replicate 256 0) start in
     let e = h .last-pair (replicate 256 0) twice b (octets-are twice refl) refl 1 (omega arith) (λ k l m. absurd (omega arith)) in
-    let z : _≡_ {A = ℕ} 1 2 = ap number e in
+    let z : _≡_ {A = ℕ} 1 2 = ap numbered e in
     omega arith
 
 -- service 5 and then a status of service 6
@@ -112,7 +105,7 @@ unfolding allBelow pairHasPlace pairTold pairsTold hasPlace allHavePlaces status
 no-replaces h =
     let b : KemptBlock known-five = services .kept .block known-five (status five (octets-are five refl) start) in
     let e = h .others known-five six b (octets-are six refl) refl 5 other in
-    let z : _≡_ {A = ℕ} 0 2 = ap number e in
+    let z : _≡_ {A = ℕ} 0 2 = ap numbered e in
     omega arith
   where
     other : (k : ℕ) → k < 1 → ¬ (namedBy six k ≡ 5)
@@ -123,19 +116,19 @@ no-replaces h =
 heard-five : availabilityIn (wordFor 5 1 ∷ []) 5 ≡ Unheard → ⊥
 unfolding says wordFor
 heard-five e =
-    let z : _≡_ {A = ℕ} 2 0 = ap number e in
+    let z : _≡_ {A = ℕ} 2 0 = ap numbered e in
     omega arith
 
 no-forgets : ¬ (ServicesBy forgetting)
 unfolding says wordFor
 no-forgets h =
-    let z : _≡_ {A = ℕ} 0 1 = ap number (h .down-known (wordFor 5 1 ∷ []) 5 heard-five) in
+    let z : _≡_ {A = ℕ} 0 1 = ap numbered (h .down-known (wordFor 5 1 ∷ []) 5 heard-five) in
     omega arith
 
 no-leaves : ¬ (ServicesBy leaving)
 unfolding says wordFor
 no-leaves h =
-    let z : _≡_ {A = ℕ} 2 1 = ap number (h .down-known (wordFor 5 1 ∷ []) 5 heard-five) in
+    let z : _≡_ {A = ℕ} 2 1 = ap numbered (h .down-known (wordFor 5 1 ∷ []) 5 heard-five) in
     omega arith
 
 pub no-wrong-keeping : NoWrongKeeping

@@ -4,11 +4,10 @@ use Prim.Native.Nat.{ℕ, _+_, _-_, _*_, _/_, _≤_, _<_}
 use mathlib.Core.Path.{_≡_}
 use mathlib.Core.Bool.{Bool, true, false, cond}
 use mathlib.Core.List.{List, []}
-use lib.Dec.{leb}
+use lib.Dec.{eqb, leb}
 use lib.ListN.{length, replicate}
 use Rattle.wire.specs.Bytes.{Octets, number}
-use Rattle.services.specs.declared.Availability.the-variants.{Unheard, Unavailable}
-use Rattle.services.specs.Word.{toldState}
+use Rattle.services.specs.declared.Availability.the-variants.{Unheard, Unavailable, Available}
 use Rattle.services.specs.Block.{availabilityIn, noteRefusal, statusNoted, marked}
 use Rattle.services.specs.Known.{known, Packed, isIn, NoneTwice, knownWith}
 use Rattle.partners.specs.Threes.{isThree, threeSet, listed, threesBefore, blockStart}
@@ -52,9 +51,10 @@ pub record ServicesBy (K : Keeping) : Type 0 where
   pub exactly : (b s : List ℕ) → KemptBlock b → Octets s → K .answer b s ≡ cond (leb (length (knownWith (known b) s (pairCount s))) 256) 0 63
   -- 01: a refusal changes nothing. Ruled out: 63 with the first pairs noted
   pub keeps : (b s : List ℕ) → ¬ (K .answer b s ≡ 0) → K .after b s ≡ b
-  -- a service that is named has the state of the last pair that names it. Ruled out: the first of two pairs wins
+  -- a service that is named has the state of the last pair that names it, 1 for AVAILABLE. Ruled out: the first of two pairs wins
   pub last-pair : (b s : List ℕ) → KemptBlock b → Octets s → K .answer b s ≡ 0 → (i : ℕ) → i < pairCount s
-      → ((k : ℕ) → i < k → k < pairCount s → ¬ (namedBy s k ≡ namedBy s i)) → availabilityIn (K .after b s) (namedBy s i) ≡ toldState (saidBy s i)
+      → ((k : ℕ) → i < k → k < pairCount s → ¬ (namedBy s k ≡ namedBy s i))
+      → availabilityIn (K .after b s) (namedBy s i) ≡ cond (eqb (saidBy s i) 1) Available Unavailable
   -- and any other what it had. Ruled out: a status that takes the place of what was known
   pub others : (b s : List ℕ) → KemptBlock b → Octets s → K .answer b s ≡ 0 → (x : ℕ) → ((k : ℕ) → k < pairCount s → ¬ (namedBy s k ≡ x))
       → availabilityIn (K .after b s) x ≡ availabilityIn b x
@@ -78,6 +78,7 @@ pub record SetUp : Type 0 where
 
 pub record Services : Type 0 where
   pub kept : ServicesBy ourKeeping
+  pub at-start : (x : ℕ) → availabilityIn (replicate 256 0) x ≡ Unheard
   -- the services that are known, which 63 counts, are those of which something was heard
   pub unheard : (b : List ℕ) (x : ℕ) → isIn x (known b) ≡ false → availabilityIn b x ≡ Unheard
   pub heard : (b : List ℕ) (x : ℕ) → isIn x (known b) ≡ true → ¬ (availabilityIn b x ≡ Unheard)
