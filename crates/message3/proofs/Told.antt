@@ -1,15 +1,14 @@
 -- A status of services tells what was laid into it: each service at its place with its state, however many they are. And nothing
 -- refuses its contents.
 -- Assumes nothing.
-use Prim.Native.Nat.{ℕ, zero, suc, _+_, _*_, _^_, _≤_, _<_}
-use mathlib.Core.Path.{_≡_, refl, sym, ap, _∙_}
+use Prim.Native.Nat.{ℕ, zero, suc, _+_, _*_, _^_, _<_}
+use mathlib.Core.Path.{_≡_, refl, ap, _∙_}
 use mathlib.Core.Bool.{not}
 use mathlib.Core.List.{List, [], _∷_, _++_}
 use native.Mathlib.Omega.{arith}
 use borrow.Author.Tests.{lt-ltb}
-use lib.ListN.{length, getD, length-append}
+use lib.ListN.{length, getD}
 use Rattle.wire.specs.Bytes.{span, number, bytes}
-use Rattle.wire.specs.All.{allBelow}
 use Rattle.wire.proofs.AllBelow.{all-below}
 use Rattle.wire.proofs.Cond.{no-ne, no-if}
 use Rattle.wire.proofs.Numbers.{number-bytes, number-append}

@@ -29,7 +29,7 @@ use Rattle.message3.specs.Header.{headerLength3, domainIn3, senderIn3, idIn3, s
 use Rattle.message3.specs.Platform.{agreementValue, messageOf3, servicesBytes, kindIn3}
 use Rattle.message3.specs.Refusal.{contentsRefusal3, readRefusal3, writeRefusal3}
 use Rattle.message3.specs.Reading.{answered3, readOut3, readOf3, payloadOf3}
-use Rattle.message3.specs.Writing.{headerFor3, messageBytes3, writeOf3, outputAfter3}
+use Rattle.message3.specs.Writing.{headerFor3, writeOf3, outputAfter3}
 use Rattle.message3.proofs.Accepted.{readable, admits}
 use Rattle.message3.proofs.RoundTrip.{Fields, reads-back, payload-back, written-out, front, same-bytes, writes-again, payload-stands}
 use Rattle.message3.proofs.Told.{how-many, length-services, services-written, service-told, state-told}
