@@ -30,6 +30,9 @@ pub length-pairs : (ps : List (ℕ × ℕ)) → length (pairBytes ps) ≡ 8 * le
 length-pairs [] = refl
 length-pairs (p ∷ ps) = let n = length-pairs ps in omega arith
 
+pub length-services : (ps : List (ℕ × ℕ)) → length (servicesBytes ps) ≡ servicesLength (length ps)
+length-services ps = let n = length-pairs ps in omega arith
+
 -- each pair stands at its place
 pub id-at : (ps : List (ℕ × ℕ)) (i : ℕ) → Good ps → i < length ps → number 2 (pairBytes ps) (8 * i) ≡ pairAt ps i .0
 id-at [] i g h = absurd (omega arith)
@@ -63,9 +66,6 @@ module _ (ps : List (ℕ × ℕ)) (g : Good ps) where
       let place : 8 + 8 * i ≡ 4 + (4 + 8 * i) = omega arith in
       ap (number 2 (servicesBytes ps)) place ∙ number-append 2 (bytes 2 (length ps)) (pairBytes ps) (4 + 8 * i) ∙ state-at ps i g h
 
-  pub length-services : length (servicesBytes ps) ≡ servicesLength (length ps)
-  length-services = let n = length-pairs ps in omega arith
-
   module _ (few : length ps < 2 ^ 29) where
     pub how-many : firstIn (servicesBytes ps) ≡ length ps
     how-many = number-bytes 2 (length ps) (pairBytes ps) (omega arith)
@@ -73,5 +73,5 @@ module _ (ps : List (ℕ × ℕ)) (g : Good ps) where
     pub services-written : contentsRefusal3 platformDomain availabilityStatus (servicesBytes ps) ≡ 0
     services-written =
         let n = how-many in
-        services-pass (servicesBytes ps) (omega (arith, length-services))
+        services-pass (servicesBytes ps) (omega (arith, length-services ps))
         (λ i h. omega (arith, state-told i (omega arith), g i .1))

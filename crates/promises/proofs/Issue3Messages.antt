@@ -7,12 +7,13 @@ use native.Mathlib.Omega.{arith}
 use lib.ListN.{length, take, length-drop}
 use Rattle.wire.specs.Bytes.{Octets, number, bytes, over}
 use Rattle.wire.specs.All.{allBelow}
+use Rattle.wire.proofs.Cond.{yes-le}
 use Rattle.wire.proofs.Numbers.{number-bytes}
 use Rattle.message.specs.declared.Status.{Status}
 use Rattle.message.specs.declared.Status.the-variants.{Down, Up}
 use Rattle.message.specs.declared.Writing.the-variants as writing
 use Rattle.message.specs.Platform.{statusValue}
-use Rattle.message.specs.Refusal.{readRefusal}
+use Rattle.message.specs.Refusal.{readRefusal, sizeLimit}
 use Rattle.message.specs.Reading.{readOut}
 use Rattle.message.specs.Writing.{answered}
 use Rattle.message3.specs.declared.Stamp.{Stamp}
@@ -131,8 +132,13 @@ composite-ack Agree = sent-as 0 9 (bytes 2 1) (CompositeChangeRequestAck Agree) 
 
 services : (ps : List (ℕ × ℕ)) → AreServices ps → length ps < 2 ^ 29 → IsSentAs3 0 3 (servicesBytes ps) (AvailabilityStatus (length ps))
 services ps g few =
-    sent-as 0 3 (servicesBytes ps) (AvailabilityStatus (length ps)) (omega arith) (omega (arith, length-services ps g))
+    sent-as 0 3 (servicesBytes ps) (AvailabilityStatus (length ps)) (omega arith) (omega (arith, length-services ps))
     (services-written ps g few) (ap AvailabilityStatus (how-many ps g few))
+
+services-too-many : (ps : List (ℕ × ℕ)) (room : ℕ) → 2 ^ 29 ≤ length ps → writeOf3 0 3 (servicesBytes ps) room ≡ writing.Refused 5
+services-too-many ps room h =
+    ap (λ (r : ℕ). answered r (headerLength3 + length (servicesBytes ps)))
+    (yes-le 5 _ sizeLimit (length (servicesBytes ps)) (omega (arith, length-services ps)))
 
 each-message : EachMessage3
 each-message =
@@ -140,6 +146,7 @@ each-message =
       status = status;
       request = sent-as 0 2 [] PlatformStatusRequest (omega arith) (omega arith) refl refl;
       services = services;
+      services-too-many = services-too-many;
       services-told = λ ps g i h. (service-told ps g i h, state-told ps g i h);
       services-request = one-id 4 AvailabilityStatusRequest (λ x. refl) (λ x y. refl);
       unknown = one-id 5 UnknownOperation (λ x. refl) (λ x y. refl);

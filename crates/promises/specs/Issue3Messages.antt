@@ -12,6 +12,7 @@ use Rattle.message.specs.declared.Status.the-variants.{Up}
 use Rattle.message.specs.declared.Message.{Message}
 use Rattle.message.specs.declared.Reading.the-variants as six
 use Rattle.message.specs.declared.Writing.the-variants.{Written}
+use Rattle.message.specs.declared.Writing.the-variants as writing
 use Rattle.message.specs.Platform.{statusValue}
 use Rattle.message.specs.Reading.{readOf}
 use Rattle.message3.specs.declared.Stamp.{Stamp}
@@ -75,12 +76,13 @@ abbrev pub Tells : List ℕ → List (ℕ × ℕ) → Type 0
 Tells payload ps =
     (i : ℕ) → i < length ps → (number 2 payload (4 + 8 * i) ≡ getD ps i (0, 0) .0) × (number 2 payload (8 + 8 * i) ≡ getD ps i (0, 0) .1)
 
--- 001, Tables 3 and 4: each platform message, by its ID; a status of any services, as many as the size field can say; and an
--- operation, whose payload is any
+-- 001, Tables 3 and 4: each platform message, by its ID; a status of any services, up to as many as the size field can say,
+-- and 5 above; and an operation, whose payload is any
 pub record EachMessage3 : Type 0 where
   pub status : (x : Status) (composite : ℕ) → composite < 2 ^ 32 → IsSentAs3 0 1 (bytes 2 (statusValue x) ++ bytes 2 composite) (PlatformStatus x composite)
   pub request : IsSentAs3 0 2 [] PlatformStatusRequest
   pub services : (ps : List (ℕ × ℕ)) → AreServices ps → length ps < 2 ^ 29 → IsSentAs3 0 3 (servicesBytes ps) (AvailabilityStatus (length ps))
+  pub services-too-many : (ps : List (ℕ × ℕ)) (room : ℕ) → 2 ^ 29 ≤ length ps → writeOf3 0 3 (servicesBytes ps) room ≡ writing.Refused 5
   pub services-told : (ps : List (ℕ × ℕ)) → AreServices ps → Tells (servicesBytes ps) ps
   pub services-request : (id : ℕ) → id < 2 ^ 32 → IsSentAs3 0 4 (bytes 2 id) (AvailabilityStatusRequest id)
   pub unknown : (id : ℕ) → id < 2 ^ 32 → IsSentAs3 0 5 (bytes 2 id) (UnknownOperation id)
