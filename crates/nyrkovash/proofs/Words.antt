@@ -23,7 +23,7 @@ use Rattle.message.proofs.Accepted.{readable}
 use Rattle.nyrkovash.specs.MessageCalls.{readLeft, readNumber, readAnswer}
 
 -- a state that is not reserved is 0 or 1
-pub state-is : (f : ℕ) → f < 2 → statusValue (statusOf f) ≡ f
+state-is : (f : ℕ) → f < 2 → statusValue (statusOf f) ≡ f
 state-is f h = go (eqb f 0) refl
   where
     go : (b : Bool) → eqb f 0 ≡ b → statusValue (statusOf f) ≡ f

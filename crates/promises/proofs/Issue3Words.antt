@@ -2,29 +2,20 @@
 -- Assumes nothing.
 use Prim.Native.Nat.{ℕ, zero, suc, _≤_, _<_}
 use mathlib.Core.Path.{_≡_, refl, sym, ap, ap₂, _∙_}
-use mathlib.Core.Bool.{Bool, true, false, not, cond}
+use mathlib.Core.Bool.{not, cond}
 use mathlib.Core.List.{List, [], _∷_}
 use native.Mathlib.Omega.{arith}
-use native.Mathlib.Nat.{suc-ne-zero}
 use borrow.Author.Tests.{eqb-true, eqb-false, ltb-false, leb-false, not-false}
 use lib.Dec.{eqb, leb, ltb}
 use lib.ListN.{length}
 use Rattle.wire.specs.Bytes.{number}
 use Rattle.wire.proofs.Cond.{passed, neither}
 use Rattle.wire.proofs.Numbers.{past-end}
-use Rattle.message3.specs.Platform.{reservedID3, agreementOf, agreementValue, messageOf3, kindIn3, valueIn3, compositeIn}
+use Rattle.message3.specs.Platform.{reservedID3, messageOf3, kindIn3, valueIn3, compositeIn}
 use Rattle.message3.specs.Refusal.{contentsRefusal3}
-use Rattle.nyrkovash.proofs.Words.{state-is}
 use Rattle.promises.specs.LinkedMessages.{valueSent}
 use Rattle.promises.specs.LinkedIssue3.{kindSent3, compositeSent}
-use Rattle.promises.proofs.Issue3Messages.{issue3-messages}
-
-agreement-is : (f : ℕ) → f < 2 → agreementValue (agreementOf f) ≡ f
-agreement-is f h = go (eqb f 0) refl
-  where
-    go : (b : Bool) → eqb f 0 ≡ b → agreementValue (agreementOf f) ≡ f
-    go true e = rw e (sym (eqb-true f 0 e))
-    go false e = rw e (omega (arith, eqb-false f 0 e))
+use Rattle.promises.proofs.Issue3Messages.{nine, issue3-messages}
 
 -- what the tests of a message's length, and of its first field, say where they refuse nothing
 length-known : (p : List ℕ) (l m : ℕ) → cond (not (eqb (length p) l)) 8 m ≡ 0 → length p ≡ l
@@ -43,31 +34,26 @@ id-known i p e =
 
 -- a platform message, by the nine IDs: its value is the first field of its payload, and of a status the second is its composite ID
 value-told : (i : ℕ) (p : List ℕ) → contentsRefusal3 0 i p ≡ 0 → valueIn3 i (messageOf3 0 i (number 2 p 0) (number 2 p 4)) ≡ number 2 p 0
-value-told zero p e = absurd (suc-ne-zero 6 e)
-value-told (suc zero) p e = state-is (number 2 p 0) (field-known p 8 e)
-value-told (suc (suc zero)) p e = let l = length-known p 0 0 e in sym (past-end 2 p 0 (omega (arith, l)))
-value-told (suc (suc (suc zero))) p e = refl
-value-told (suc (suc (suc (suc zero)))) p e = refl
-value-told (suc (suc (suc (suc (suc zero))))) p e = refl
-value-told (suc (suc (suc (suc (suc (suc zero)))))) p e = refl
-value-told (suc (suc (suc (suc (suc (suc (suc zero))))))) p e = refl
-value-told (suc (suc (suc (suc (suc (suc (suc (suc zero)))))))) p e = refl
-value-told (suc (suc (suc (suc (suc (suc (suc (suc (suc zero))))))))) p e = agreement-is (number 2 p 0) (field-known p 4 e)
-value-told (suc (suc (suc (suc (suc (suc (suc (suc (suc (suc n)))))))))) p e =
-    let k = id-known (suc (suc (suc (suc (suc (suc (suc (suc (suc (suc n)))))))))) p e .1 in absurd (omega (arith, k))
+value-told i p e =
+    let k = id-known i p e in
+    let f = number 2 p 0 in
+    let s = number 2 p 4 in
+    let all = issue3-messages .kinds in
+    nine (λ n. contentsRefusal3 0 n p ≡ 0 → valueIn3 n (messageOf3 0 n (number 2 p 0) (number 2 p 4)) ≡ number 2 p 0) (
+      λ r. all .status-value f s (field-known p 8 r),
+      λ r. let l = length-known p 0 0 r in sym (past-end 2 p 0 (omega (arith, l))),
+      λ r. refl,
+      λ r. refl,
+      λ r. refl,
+      λ r. refl,
+      λ r. refl,
+      λ r. refl,
+      λ r. all .ack-value f s (field-known p 4 r),
+    ) i (k .0) (k .1) e
 
-composite-told : (i field second : ℕ) → i ≤ 9 → compositeIn (messageOf3 0 i field second) ≡ cond (eqb i 1) second 0
-composite-told zero field second h = refl
-composite-told (suc zero) field second h = refl
-composite-told (suc (suc zero)) field second h = refl
-composite-told (suc (suc (suc zero))) field second h = refl
-composite-told (suc (suc (suc (suc zero)))) field second h = refl
-composite-told (suc (suc (suc (suc (suc zero))))) field second h = refl
-composite-told (suc (suc (suc (suc (suc (suc zero)))))) field second h = refl
-composite-told (suc (suc (suc (suc (suc (suc (suc zero))))))) field second h = refl
-composite-told (suc (suc (suc (suc (suc (suc (suc (suc zero)))))))) field second h = refl
-composite-told (suc (suc (suc (suc (suc (suc (suc (suc (suc zero))))))))) field second h = refl
-composite-told (suc (suc (suc (suc (suc (suc (suc (suc (suc (suc n)))))))))) field second h = absurd (omega arith)
+composite-told : (i field second : ℕ) → 1 ≤ i → i ≤ 9 → compositeIn (messageOf3 0 i field second) ≡ cond (eqb i 1) second 0
+composite-told i field second =
+    nine (λ n. compositeIn (messageOf3 0 n field second) ≡ cond (eqb n 1) second 0) (refl, refl, refl, refl, refl, refl, refl, refl, refl) i
 
 -- the words that tell a message of either domain
 pub record Told3 (d i : ℕ) (p : List ℕ) : Type 0 where
@@ -81,7 +67,7 @@ told-words3 zero i p h e =
     record {
       kind = issue3-messages .kinds .of-platform i (number 2 p 0) (number 2 p 4) (k .0) (k .1);
       value = value-told i p e;
-      composite = composite-told i (number 2 p 0) (number 2 p 4) (k .1);
+      composite = composite-told i (number 2 p 0) (number 2 p 4) (k .0) (k .1);
     }
 told-words3 (suc zero) i p h e = record { kind = refl; value = refl; composite = refl }
 told-words3 (suc (suc d)) i p h e = absurd (omega arith)

@@ -7,7 +7,7 @@ use native.Mathlib.Omega.{arith}
 use lib.Dec.{eqb}
 use lib.ListN.{length}
 use Rattle.partners.specs.Threes.{isThree}
-use Rattle.partners.proofs.SettingUp.{above-sets-nothing, is-set, others-stay, none-is}
+use Rattle.partners.proofs.SettingUp.{above-sets-nothing, is-set, others-stay, none-in}
 use Rattle.mixed.proofs.NoCrossing.{as-before}
 use Rattle.promises.specs.Checks.{Gives}
 use Rattle.promises.specs.Issue3Order.{writeChecks3}
@@ -34,7 +34,7 @@ sets-up l n left s =
 pub linked-issue-3 : LinkedIssue3
 linked-issue-3 =
     record {
-      nobody = none-is;
+      nobody = none-in 4;
       sets-up = sets-up;
       write-3 = write-3;
       write-six = write-six;

@@ -169,7 +169,7 @@ each-is-written =
     record {
       status = status;
       request = is-written 0 2 [] (omega arith) (omega arith) refl;
-      services = λ ps g few. is-written 0 3 (servicesBytes ps) (omega arith) (omega (arith, length-services ps g)) (services-written ps g few);
+      services = λ ps g few. is-written 0 3 (servicesBytes ps) (omega arith) (omega (arith, length-services ps)) (services-written ps g few);
       services-request = λ id h. is-written 0 4 (bytes 2 id) (omega arith) (omega arith) refl;
       unknown = λ id h. is-written 0 5 (bytes 2 id) (omega arith) (omega arith) refl;
       not-available = λ id h. is-written 0 6 (bytes 2 id) (omega arith) (omega arith) refl;
