@@ -85,7 +85,7 @@ module _ (i : List ℕ) (own : ℕ) (s : List ℕ) where
       alike (keep 1 (keep 2 (more 3 inl (λ o. ⊎-elim (λ v. v) (λ y. absurd (clash f y)) o) (keep 4 (keep 5 (keep 6 (keep 7 (keep 8 (keep 9 ends)))))))))
       (then reading.Refused (readOut s) Refused (fromSix (readOut s)) fromSix (λ n. refl) (read-in-order own s) (λ e. none))
 
-  form-decides : Decides (threeForm i s) (ThreeForm i s)
+  pub form-decides : Decides (threeForm i s) (ThreeForm i s)
   unfolding threeForm
   form-decides =
       and-decides (not (eqb (versionIn s) theVersion)) (isThree i (senderIn3 s))
