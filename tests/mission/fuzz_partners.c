@@ -39,8 +39,10 @@ static size_t make_services(uint8_t *to)
         put32(to + 4 + 8 * i, (uint32_t)any());
         put32(to + 8 + 8 * i, (uint32_t)below(2));
     }
-    if (count > 0 && one_in(6))
-        put32(to + 8 * (1 + below(count)), (uint32_t)narrow());
+    if (count > 0 && one_in(6)) {
+        size_t one = below(count);
+        put32(to + 8 + 8 * one, (uint32_t)narrow());
+    }
     put32(to, one_in(12) ? count ^ (one_in(2) ? 1U : UINT32_C(1) << 29) : count);
     return 4 + 8 * (size_t)count;
 }
