@@ -1,0 +1,4 @@
+mod Readings
+pub mod Issues
+pub mod NoCrossing
+pub mod ByByteTwo

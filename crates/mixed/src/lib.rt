@@ -1,0 +1,28 @@
+// Partners of both issues (02, request 8): a message is read by its sender's issue, version number included. Who speaks Issue 3 is
+// told by `partners`; a message of Issue 6 is what `message` reads, one of Issue 3 what `message3` reads, and nothing is both.
+mod reader;
+
+use message::Header;
+use message::Message;
+use message3::Header3;
+use message3::Message3;
+pub use reader::payload;
+pub use reader::read;
+
+// What a message is, by its sender's issue.
+pub enum AnyReading {
+    Refused(u32),
+    // The payload is the `length` bytes from `start` on: `payload` hands them back.
+    Six {
+        header: Header,
+        message: Message,
+        start: usize,
+        length: usize,
+    },
+    Three {
+        header: Header3,
+        message: Message3,
+        start: usize,
+        length: usize,
+    },
+}
