@@ -17,6 +17,7 @@ use Rattle.promises.proofs.Issue3Order.{issue3-order}
 use Rattle.promises.proofs.AnyOrder.{any-order}
 use Rattle.promises.proofs.IssueContracts.{set-by, mixed-by, write3-by}
 use Rattle.promises.proofs.WrittenByIssue.{write-3, write-six, each-is-written}
+use Rattle.promises.proofs.ReadAgain.{read-then-write}
 use Rattle.promises.proofs.ReadByIssue.{by-issue, as-read, six-as-before}
 
 -- the set-up
@@ -39,6 +40,7 @@ linked-issue-3 =
       write-3 = write-3;
       write-six = write-six;
       each-is-written = each-is-written;
+      read-then-write = read-then-write;
       by-issue = by-issue;
       six-as-before = six-as-before;
       all-as-before = λ l n left s none. as-read l n left s (as-before (l .partners) (l .own) (l .message) none);

@@ -5,8 +5,9 @@ use mathlib.Core.Path.{_≡_, refl, sym, ap, ap₂, _∙_}
 use mathlib.Core.Bool.{Bool, true, false}
 use mathlib.Core.Logic.{_⊎_, inl, inr}
 use mathlib.Core.List.{List, [], _∷_, _++_}
+use native.Mathlib.Omega.{arith}
 use native.Mathlib.Nat.{suc-ne-zero}
-use lib.ListN.{drop}
+use lib.ListN.{getD, drop}
 use Rattle.wire.specs.Bytes.{number}
 use Rattle.message.specs.declared.Reading.{Reading}
 use Rattle.message.specs.declared.Reading.the-variants as six
@@ -58,10 +59,15 @@ module _ (l : MixedLent) (n : ℕ) (left : List ℕ) (s : ReadsMixed l n left) (
   abbrev m : List ℕ
   m = l .message
 
-  as-three : threeForm i m ≡ true → AsThree l left
+  pub three-none : threeForm i m ≡ true → readRefusal3 (l .own) m ≡ 0
+  three-none e =
+      let a = told-as l n left s m refl (fromThree (readOf3 (l .own) m)) (if-three i (l .own) m e) in
+      three-zero (readRefusal3 (l .own) m) (readOut3 m) (sym (a .0) ∙ z)
+
+  pub as-three : threeForm i m ≡ true → AsThree l left
   as-three e =
       let a = told-as l n left s m refl (fromThree (readOf3 (l .own) m)) (if-three i (l .own) m e) in
-      let none : readRefusal3 (l .own) m ≡ 0 = three-zero (readRefusal3 (l .own) m) (readOut3 m) (sym (a .0) ∙ z) in
+      let none = three-none e in
       let g = accepted3.readable (l .own) m none in
       let words = told-words3 (domainIn3 m) (idIn3 m) (payloadIn3 m) (g .domain) (g .contents) in
       record {
@@ -97,6 +103,19 @@ module _ (l : MixedLent) (n : ℕ) (left : List ℕ) (s : ReadsMixed l n left) (
           let a = told-as l n left s m refl (Refused (otherIssue (frameRefusal m))) (if-other i (l .own) m e q) in
           absurd (other-zero (frameRefusal m) (sym (a .0) ∙ z))
       go false e false q = inr (as-six e q)
+
+  -- the seventh word says which form it was
+  pub is-three-form : getD left 6 0 ≡ 3 → threeForm i m ≡ true
+  is-three-form t = go (threeForm i m) refl (isThree i (senderIn m)) refl
+    where
+      go : (a : Bool) → threeForm i m ≡ a → (b : Bool) → isThree i (senderIn m) ≡ b → a ≡ true
+      go true e b q = refl
+      go false e true q =
+          let a = told-as l n left s m refl (Refused (otherIssue (frameRefusal m))) (if-other i (l .own) m e q) in
+          absurd (other-zero (frameRefusal m) (sym (a .0) ∙ z))
+      go false e false q =
+          let six-told : getD left 6 0 ≡ 6 = ap (λ (ws : List ℕ). getD ws 6 0) (as-six e q .words) in
+          absurd (omega (arith, t, six-told))
 
 -- as `nyr_read`
 six-number : (x : Reading) → numberGiven (fromSix x) ≡ reads.numberGiven x
