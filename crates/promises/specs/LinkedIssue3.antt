@@ -238,6 +238,12 @@ AsRead l n left =
     (was : List ℕ) (n6 : ℕ) (left6 : List ℕ) → Reads (record { own = l .own; message = l .message; answer = was }) n6 left6
     → (n ≡ n6) × (n ≡ 0 → left ≡ left6 ++ (6 ∷ 0 ∷ 0 ∷ 0 ∷ []))
 
+-- what `nyr_read_mixed` gives of bytes of which `nyr_read` told these six words, by the sender that they name
+pub record BySender (l : MixedLent) (n : ℕ) (left left6 : List ℕ) : Type 0 where
+  pub six-given : isThree (l .partners) (getD left6 2 0) ≡ false → n ≡ 0
+  pub six-words : isThree (l .partners) (getD left6 2 0) ≡ false → left ≡ left6 ++ (6 ∷ 0 ∷ 0 ∷ 0 ∷ [])
+  pub three-given : isThree (l .partners) (getD left6 2 0) ≡ true → n ≡ 3
+
 pub record LinkedIssue3 : Type 1 where
   -- the set-up: words of 0 are Issue 6 for all, and each call sets one platform up
   pub nobody : (k : ℕ) → isThree (0 ∷ 0 ∷ 0 ∷ 0 ∷ []) k ≡ false
@@ -252,6 +258,9 @@ pub record LinkedIssue3 : Type 1 where
       → (w : Write3Lent) (k : ℕ) (r : WriteLeft) → Writes3 w k r → SaysAgain left (l .message) w → SameBytes (l .message) (w .lent .out) k r
   -- no cross reading, of any bytes
   pub by-issue : (l : MixedLent) (n : ℕ) (left : List ℕ) → ReadsMixed l n left → n ≡ 0 → AsThree l left ⊎ AsSix l left
+  -- every message that `nyr_read` reads is read as Issue 6's where its sender does not speak Issue 3, and is 3 where it does
+  pub all-of-six : (l : MixedLent) (n : ℕ) (left : List ℕ) → ReadsMixed l n left
+      → (was left6 : List ℕ) → Reads (record { own = l .own; message = l .message; answer = was }) 0 left6 → BySender l n left left6
   -- as before, refusals too: a message of Issue 6's form from a sender that does not speak Issue 3, whatever the others speak; and every
   -- message where nobody does
   pub six-as-before : (l : MixedLent) (n : ℕ) (left : List ℕ) → ReadsMixed l n left
