@@ -26,7 +26,7 @@ field-known p l e =
     let r = passed (not (eqb (length p) l)) 7 (cond (leb 2 (number 2 p 0)) 9 0) e .1 in
     leb-false 2 (number 2 p 0) (passed (leb 2 (number 2 p 0)) 8 0 r .0)
 
-id-known : (i : ℕ) (p : List ℕ) → contentsRefusal3 0 i p ≡ 0 → (1 ≤ i) × (i ≤ 9)
+pub id-known : (i : ℕ) (p : List ℕ) → contentsRefusal3 0 i p ≡ 0 → (1 ≤ i) × (i ≤ 9)
 id-known i p e =
     let n = neither (eqb i 0) (ltb 9 i) (passed (reservedID3 i) 6 _ e .0) in
     let some = eqb-false i 0 (n .0) in

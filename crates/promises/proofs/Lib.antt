@@ -99,4 +99,5 @@ mod Issue3Words
 mod IssueContracts
 mod WrittenByIssue
 mod ReadByIssue
+mod ReadAgain
 pub mod LinkedIssue3

@@ -17,7 +17,8 @@ use Rattle.promises.proofs.Issue3Order.{issue3-order}
 use Rattle.promises.proofs.AnyOrder.{any-order}
 use Rattle.promises.proofs.IssueContracts.{set-by, mixed-by, write3-by}
 use Rattle.promises.proofs.WrittenByIssue.{write-3, write-six, each-is-written}
-use Rattle.promises.proofs.ReadByIssue.{by-issue, as-read, six-as-before}
+use Rattle.promises.proofs.ReadAgain.{read-then-write}
+use Rattle.promises.proofs.ReadByIssue.{by-issue, as-read, every-six, six-as-before}
 
 -- the set-up
 sets-up : (l : SetLent) (n : ℕ) (left : List ℕ) → Sets l n left → IsSetUp l n left
@@ -39,7 +40,9 @@ linked-issue-3 =
       write-3 = write-3;
       write-six = write-six;
       each-is-written = each-is-written;
+      read-then-write = read-then-write;
       by-issue = by-issue;
+      all-of-six = every-six;
       six-as-before = six-as-before;
       all-as-before = λ l n left s none. as-read l n left s (as-before (l .partners) (l .own) (l .message) none);
       read-order = λ l n left s. subst (Gives (anyChecks (l .partners) (l .own) (l .message))) (sym (mixed-by l n left s .0))

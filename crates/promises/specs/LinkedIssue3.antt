@@ -10,7 +10,7 @@ use mathlib.Core.List.{List, [], _∷_, _++_}
 use lib.Dec.{eqb}
 use lib.ListN.{length, getD, take, drop}
 use denote.Ref.{now}
-use Rattle.wire.specs.Bytes.{number, bytes}
+use Rattle.wire.specs.Bytes.{Octets, number, bytes, over}
 use Rattle.message3.specs.Platform.{servicesBytes}
 use Rattle.partners.specs.Threes.{isThree}
 use Rattle.nyrkovash.proofs.nyr_read.Reads.{Post as nyr-read}
@@ -188,31 +188,61 @@ pub record EachIsWritten3 : Type 0 where
   pub composite-ack : (x : ℕ) → x < 2 → IsWritten3 0 9 (bytes 2 x)
   pub operation : (id : ℕ) (payload : List ℕ) → length payload < 2 ^ 32 → IsWritten3 1 id payload
 
--- bytes that were read as one issue's: their sender is set up so, they have that issue's version, and the ten words are those of its
--- fields, by their bytes (001 and 000, Table 2)
+-- the ten words of bytes that are a message of Issue 3, and of Issue 6, each by the bytes where its field stands (001 and 000, Table 2)
+abbrev pub threeWords : List ℕ → List ℕ
+threeWords m =
+    kindSent3 (number 0 m 2 % 16) (number 2 m 4) ∷ valueSent (number 0 m 2 % 16) (number 2 m 4) (drop 24 m)
+    ∷ number 0 m 3 ∷ number 2 m 20 ∷ 24 ∷ (length m - 24)
+    ∷ 3 ∷ number 2 m 8 ∷ number 2 m 12 ∷ compositeSent (number 0 m 2 % 16) (number 2 m 4) (drop 24 m) ∷ []
+
+abbrev pub sixWords : List ℕ → List ℕ
+sixWords m =
+    kindSent (number 0 m 3) (number 2 m 8) ∷ valueSent (number 0 m 3) (number 2 m 8) (drop 20 m)
+    ∷ number 2 m 4 ∷ number 2 m 16 ∷ 20 ∷ (length m - 20) ∷ 6 ∷ 0 ∷ 0 ∷ 0 ∷ []
+
+-- bytes that were read as one issue's: their sender is set up so, they have that issue's version, and the words are theirs
 pub record AsThree (l : MixedLent) (left : List ℕ) : Type 0 where
   pub sender : isThree (l .partners) (number 0 (l .message) 3) ≡ true
   pub version : number 0 (l .message) 2 / 16 ≡ 1
-  pub words : left
-      ≡ kindSent3 (number 0 (l .message) 2 % 16) (number 2 (l .message) 4)
-      ∷ valueSent (number 0 (l .message) 2 % 16) (number 2 (l .message) 4) (drop 24 (l .message))
-      ∷ number 0 (l .message) 3 ∷ number 2 (l .message) 20 ∷ 24 ∷ (length (l .message) - 24)
-      ∷ 3 ∷ number 2 (l .message) 8 ∷ number 2 (l .message) 12
-      ∷ compositeSent (number 0 (l .message) 2 % 16) (number 2 (l .message) 4) (drop 24 (l .message)) ∷ []
+  pub words : left ≡ threeWords (l .message)
 
 pub record AsSix (l : MixedLent) (left : List ℕ) : Type 0 where
   pub sender : isThree (l .partners) (number 2 (l .message) 4) ≡ false
   pub version : number 0 (l .message) 2 ≡ 2
-  pub words : left
-      ≡ kindSent (number 0 (l .message) 3) (number 2 (l .message) 8)
-      ∷ valueSent (number 0 (l .message) 3) (number 2 (l .message) 8) (drop 20 (l .message))
-      ∷ number 2 (l .message) 4 ∷ number 2 (l .message) 16 ∷ 20 ∷ (length (l .message) - 20) ∷ 6 ∷ 0 ∷ 0 ∷ 0 ∷ []
+  pub words : left ≡ sixWords (l .message)
+
+-- a call that is to write again what the words of a message of Issue 3 tell of it: kind 5 is domain 1, with the value for its ID, and any
+-- other is domain 0, with its ID in Table 3
+abbrev pub idTold : ℕ → ℕ → ℕ
+idTold kind value = cond (eqb kind 5) value (getD (0 ∷ 1 ∷ 2 ∷ 5 ∷ 7 ∷ 0 ∷ 3 ∷ 4 ∷ 6 ∷ 8 ∷ 9 ∷ []) kind 0)
+
+pub record SaysAgain (words m : List ℕ) (l : Write3Lent) : Type 0 where
+  pub sender : l .lent .own ≡ getD words 2 0
+  pub seconds-told : l .seconds ≡ getD words 7 0
+  pub nanoseconds-told : l .nanoseconds ≡ getD words 8 0
+  pub domain-told : l .lent .domain ≡ cond (eqb (getD words 0 0) 5) 1 0
+  pub id-told : l .lent .id ≡ idTold (getD words 0 0) (getD words 1 0)
+  pub sequence-told : l .lent .sequence ≡ getD words 3 0
+  pub payload-told : l .lent .payload ≡ drop 24 m
+  pub room : length m ≤ length (l .lent .out)
+
+-- the same bytes, at the output's start
+pub record SameBytes (m out : List ℕ) (n : ℕ) (r : WriteLeft) : Type 0 where
+  pub number-given : n ≡ 0
+  pub count : r .written ≡ length m
+  pub bytes-left : r .out ≡ over out 0 m
 
 -- what `nyr_read` gives of the same bytes at the same platform: the same number, and the same six words where it is 0
 abbrev pub AsRead : MixedLent → ℕ → List ℕ → Type 0
 AsRead l n left =
     (was : List ℕ) (n6 : ℕ) (left6 : List ℕ) → Reads (record { own = l .own; message = l .message; answer = was }) n6 left6
     → (n ≡ n6) × (n ≡ 0 → left ≡ left6 ++ (6 ∷ 0 ∷ 0 ∷ 0 ∷ []))
+
+-- what `nyr_read_mixed` gives of bytes of which `nyr_read` told these six words, by the sender that they name
+pub record BySender (l : MixedLent) (n : ℕ) (left left6 : List ℕ) : Type 0 where
+  pub six-given : isThree (l .partners) (getD left6 2 0) ≡ false → n ≡ 0
+  pub six-words : isThree (l .partners) (getD left6 2 0) ≡ false → left ≡ left6 ++ (6 ∷ 0 ∷ 0 ∷ 0 ∷ [])
+  pub three-given : isThree (l .partners) (getD left6 2 0) ≡ true → n ≡ 3
 
 pub record LinkedIssue3 : Type 1 where
   -- the set-up: words of 0 are Issue 6 for all, and each call sets one platform up
@@ -223,8 +253,14 @@ pub record LinkedIssue3 : Type 1 where
       → n ≡ 0 → Wrote3 l r
   pub write-six : (l : WriteLent) (n : ℕ) (r : WriteLeft) → Writes l n r → Fits l → n ≡ 0 → WroteSix l r
   pub each-is-written : EachIsWritten3
+  -- and what was read as Issue 3's, written again, is the same bytes, timestamp and composite ID too
+  pub read-then-write : (l : MixedLent) (n : ℕ) (left : List ℕ) → ReadsMixed l n left → Octets (l .message) → n ≡ 0 → getD left 6 0 ≡ 3
+      → (w : Write3Lent) (k : ℕ) (r : WriteLeft) → Writes3 w k r → SaysAgain left (l .message) w → SameBytes (l .message) (w .lent .out) k r
   -- no cross reading, of any bytes
   pub by-issue : (l : MixedLent) (n : ℕ) (left : List ℕ) → ReadsMixed l n left → n ≡ 0 → AsThree l left ⊎ AsSix l left
+  -- every message that `nyr_read` reads is read as Issue 6's where its sender does not speak Issue 3, and is 3 where it does
+  pub all-of-six : (l : MixedLent) (n : ℕ) (left : List ℕ) → ReadsMixed l n left
+      → (was left6 : List ℕ) → Reads (record { own = l .own; message = l .message; answer = was }) 0 left6 → BySender l n left left6
   -- as before, refusals too: a message of Issue 6's form from a sender that does not speak Issue 3, whatever the others speak; and every
   -- message where nobody does
   pub six-as-before : (l : MixedLent) (n : ℕ) (left : List ℕ) → ReadsMixed l n left
