@@ -58,6 +58,12 @@ fn beside_each_reader_alone() {
             assert_eq!(mixed, expected, "{bytes:?}");
         } else if let Ok(got) = three {
             threes += 1;
+            // Written again with its own fields it is the same bytes.
+            let (domain, id) = (u64::from(bytes[2] % 16), bytes[4..8].try_into().unwrap());
+            let (id, payload) = (u32::from_be_bytes(id), &bytes[24..]);
+            let (from, number, room) = (got.from, got.sequence, bytes.len());
+            let again = message3::write(from, got.time, domain, id, number, payload, room);
+            assert_eq!(again.as_ref(), Ok(&bytes));
             let expected = match set_up.is_three(u32::from(got.from)) {
                 true => Ok(Message::Three(got)),
                 false => Err(3),
