@@ -1,5 +1,5 @@
-//! Crowds among partners of Issue 3: more services than there are places for, and platforms that all
-//! announce themselves.
+//! Crowds among partners of Issue 3: more services than there are places for, and many platforms
+//! that announce themselves.
 
 use crate::calls_bench::Bench;
 use crate::calls_compose::Call;
@@ -29,8 +29,9 @@ impl Bench {
         self.services = (200..270).collect();
     }
 
-    /// All 256 announce themselves in either form, and some go down again.
-    pub fn everybody(&mut self, rng: &mut Prng, calls: &mut Vec<Call>) {
+    /// Every three and every eighth of all announce themselves, each in its own form; the threes tell
+    /// of services and go down again.
+    pub fn many(&mut self, rng: &mut Prng, calls: &mut Vec<Call>) {
         for from in 0..=255 {
             let three = self.threes.contains(&from);
             let say = |state: u32| match three {

@@ -18,7 +18,7 @@ pub fn file(seed: u64) -> Vec<u8> {
     calls.push(bench.start(rng));
     match seed % 4 {
         1 => bench.crowd(rng, &mut calls),
-        2 => bench.everybody(rng, &mut calls),
+        2 => bench.many(rng, &mut calls),
         _ => {}
     }
     while calls.len() < CALLS {

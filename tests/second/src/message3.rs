@@ -61,10 +61,10 @@ fn fields(payload: &[u8]) -> Vec<u32> {
 }
 
 /// The pairs of an AVAILABILITY_STATUS, behind their count.
-fn pairs(payload: &[u8]) -> impl Iterator<Item = (u32, u32)> {
+fn pairs(payload: &[u8]) -> Vec<(u32, u32)> {
     let fields = fields(payload);
-    let both: Vec<(u32, u32)> = fields[1..].chunks_exact(2).map(|p| (p[0], p[1])).collect();
-    both.into_iter()
+    let each = fields[1..].chunks_exact(2);
+    each.map(|pair| (pair[0], pair[1])).collect()
 }
 
 /// How long 001's Table 4 has a payload, or nothing for an ID that Table 3 has not.
@@ -83,7 +83,7 @@ fn length(id: u32, payload: &[u8]) -> Option<u64> {
 fn reserved(id: u32, payload: &[u8]) -> bool {
     match id {
         STATUS | COMPOSITE_ACK => fields(payload)[0] > 1,
-        SERVICES => pairs(payload).any(|(_, state)| state > 1),
+        SERVICES => pairs(payload).iter().any(|(_, state)| *state > 1),
         _ => false,
     }
 }
@@ -146,7 +146,10 @@ fn content(domain: u64, id: u32, payload: &[u8]) -> Content {
             composite: fields[1],
         },
         REQUEST => Content::Request,
-        SERVICES => Content::Services(pairs(payload).map(|(id, s)| (id, s == 1)).collect()),
+        SERVICES => {
+            let pairs = pairs(payload).into_iter();
+            Content::Services(pairs.map(|(id, state)| (id, state == 1)).collect())
+        }
         SERVICES_REQUEST => Content::ServicesRequest(fields[0]),
         UNKNOWN => Content::Unknown(fields[0]),
         NOT_AVAILABLE => Content::NotAvailable(fields[0]),

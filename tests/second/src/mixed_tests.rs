@@ -113,3 +113,36 @@ fn our_own_messages() {
     assert_eq!((said(&[9], three), said(&[9], six)), (Err(6), Err(3)));
     assert_eq!((said(&[], three), said(&[], six)), (Err(3), Err(6)));
 }
+
+/// 000's Tables 3 and 4 at a reader among threes: every ID at every length, and its reserved values.
+#[test]
+fn every_id_of_issue_6_at_every_length() {
+    for id in 0..=9u32 {
+        for length in 0..=12usize {
+            for byte in [0u8, 1, 255] {
+                let head = format!("EC0A0200 00000005 {id:08X} {length:08X} 00000001");
+                let message = [bytes(&head), vec![byte; length]].concat();
+                let right = match id {
+                    1 | 3 | 4 => Some(4),
+                    2 => Some(0),
+                    _ => None,
+                };
+                let expected = match right {
+                    None => Err(7),
+                    Some(right) if right != length => Err(8),
+                    // 01010101 and FFFFFFFF are reserved.
+                    _ if id == 1 && byte != 0 => Err(9),
+                    _ => Ok(("six", 5)),
+                };
+                for threes in [&[][..], &[0, 1, 2, 3, 4, 9]] {
+                    assert_eq!(reads(threes, &message), expected, "{id}: {length}");
+                }
+                assert_eq!(reads(&[5], &message), Err(3), "{id}: {length}");
+            }
+        }
+    }
+    for (status, expected) in [(0, Ok(("six", 5))), (1, Ok(("six", 5))), (2, Err(9))] {
+        let text = format!("EC0A0200 00000005 00000001 00000004 00000001 {status:08X}");
+        assert_eq!(said(&[0, 1], &text), expected);
+    }
+}

@@ -5,6 +5,8 @@ use crate::hex::bytes;
 use crate::message3::ALL;
 use crate::partners::*;
 use crate::partners_tests::{ask, hear, of_1, of_2, told, DOWN, STAMP, TABLE, UP};
+use crate::prng::Prng;
+use crate::services;
 
 #[test]
 fn availability_requests() {
@@ -102,5 +104,38 @@ fn a_block_that_is_not_there() {
         assert_eq!(hear(&mut one, DOWN, 0).is_ok(), there, "{lent}");
         assert_eq!(one.platform.is_up(2), !there);
         assert_eq!(one == up, !there);
+    }
+}
+
+/// End to end: what we answer to a request for all leaves at the partner, for each ID of ours, the
+/// state that our words have, and nothing else of ours moved.
+#[test]
+fn what_we_tell_is_what_the_partner_knows() {
+    let rng = &mut Prng::new(4);
+    for _ in 0..300 {
+        let count = rng.pick(&[0, 1, 3, 40, 250]);
+        let state = |rng: &mut Prng| rng.pick(&[0u64, 1, 2, 2, 3]) << 32;
+        let ours: Vec<u64> = (0..count)
+            .map(|_| state(rng) | rng.below(300) as u64)
+            .collect();
+        let mut one = Partners::new(1, &[2]);
+        let mut two = Partners::new(2, &[1]);
+        let before: Vec<(u32, bool)> = (290..296).map(|id| (id, true)).collect();
+        two.services.note(1, &before).unwrap();
+        let request = bytes(&of_2(0, 4, 9, "FFFFFFFF"));
+        let got = one.call(STAMP, &ours, &bytes(TABLE), &request, 70_000);
+        let Ok(Heard::Three(answer)) = got else {
+            panic!("{got:?}");
+        };
+        let heard = two.call(STAMP, &[], &bytes(TABLE), &answer.owed, 0);
+        assert!(matches!(heard, Ok(Heard::Three(a)) if a.owed.is_empty()));
+        for id in 0..300 {
+            let told = ours.iter().rev().find(|word| **word as u32 == id);
+            let state = told.map(|word| word >> 32 == 2);
+            let kept = before.contains(&(id, true)).then_some(true);
+            assert_eq!(two.services.state(1, id), state.or(kept), "{id}");
+            let asked = services::own_state(&services::ours(&ours), id);
+            assert_eq!(asked, state.unwrap_or(false), "{id}");
+        }
     }
 }

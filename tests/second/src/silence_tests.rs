@@ -129,33 +129,40 @@ fn apart(owed: &[u8], three: bool) -> Vec<Vec<u8>> {
     out
 }
 
-/// The most messages of an exchange that a status starts, itself counted, from any two states.
-fn longest(issues: [u8; 2]) -> usize {
-    let mut most = 0;
+/// The most messages of an exchange that a status starts, itself counted, from any two states; and
+/// how many worlds were looked at.
+fn longest(issues: [u8; 2]) -> (usize, usize) {
+    let (mut most, mut worlds) = (0, 0);
     for state in 0..16 {
         let bit = |place: u32| state >> place & 1 == 1;
         let mut world = World::new(issues, [bit(0), bit(1)], bit(2));
         world.broadcast(u8::from(bit(3)));
-        most = most.max(1 + world.most(&mut HashMap::new()));
+        let mut seen = HashMap::new();
+        most = most.max(1 + world.most(&mut seen));
+        worlds += seen.len();
     }
-    most
+    (most, worlds)
 }
 
 #[test]
 fn two_threes() {
-    assert_eq!(longest([3, 3]), 9);
+    let (most, worlds) = longest([3, 3]);
+    assert_eq!(most, 9);
+    assert!(worlds > 300, "{worlds}");
 }
 
 #[test]
 fn two_sixes() {
-    assert_eq!(longest([6, 6]), 7);
+    let (most, worlds) = longest([6, 6]);
+    assert_eq!(most, 7);
+    assert!(worlds > 80, "{worlds}");
 }
 
 /// Each holds the other for another issue: nobody reads anything.
 #[test]
 fn one_of_each() {
-    assert_eq!(longest([3, 6]), 1);
-    assert_eq!(longest([6, 3]), 1);
+    assert_eq!(longest([3, 6]).0, 1);
+    assert_eq!(longest([6, 3]).0, 1);
     // The one message is refused with 3.
     let mut world = World::new([3, 6], [false; 2], false);
     world.broadcast(1);
