@@ -2,3 +2,5 @@ mod Readings
 pub mod Issues
 pub mod NoCrossing
 pub mod ByByteTwo
+mod OursLaws
+mod ReactionLaws

@@ -1,2 +1,4 @@
 pub mod Form
 pub mod Reading
+pub mod Ours
+pub mod Reaction

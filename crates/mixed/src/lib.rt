@@ -1,11 +1,17 @@
 // Partners of both issues (02, request 8): a message is read by its sender's issue, version number included. Who speaks Issue 3 is
 // told by `partners`; a message of Issue 6 is what `message` reads, one of Issue 3 what `message3` reads, and nothing is both.
+mod ours;
+mod reacting;
+mod reactions;
 mod reader;
 
 use message::Header;
 use message::Message;
 use message3::Header3;
 use message3::Message3;
+pub use reactions::Deed;
+pub use reactions::Heard3;
+pub use reactions::Reaction3;
 pub use reader::payload;
 pub use reader::read;
 
