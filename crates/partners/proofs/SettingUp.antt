@@ -10,14 +10,14 @@ use borrow.Author.Tests.{lt-ltb, le-ltb, ltb-true, ltb-false, eqb-true, eqb-fals
 use lib.Bits.{bitOr, bitXor}
 use lib.Dec.{eqb, ltb}
 use lib.Pow.{pow-pos}
-use lib.ListN.{length, getD, set, length-set}
+use lib.ListN.{length, getD, set, replicate, length-set}
 use lib.Seq.{set-out, getD-set-same, getD-set-other}
 use Rattle.message.specs.Refusal.{platforms}
 use Rattle.states.specs.States.{wordBits, mask}
 use Rattle.states.proofs.Bits.{bit, set-there, set-elsewhere, turned-there, turned-elsewhere}
 use Rattle.services.specs.Known.{isIn}
 use Rattle.wire.proofs.Cond.{yes-if, no-if}
-use Rattle.partners.specs.Threes.{bitIn, isThree, withThree, threeSet, noThree, listed}
+use Rattle.partners.specs.Threes.{bitIn, isThree, withThree, threeSet, listed}
 use Rattle.partners.proofs.Counting.{above-is-none, by-bit}
 
 -- the bit of a platform in its word
@@ -96,27 +96,26 @@ unfolding listed
 listed-long [] = refl
 listed-long (k ∷ ks) = set-long (listed ks) k true ∙ listed-long ks
 
-zeros : (i : ℕ) → getD noThree i 0 ≡ 0
-zeros zero = refl
-zeros (suc zero) = refl
-zeros (suc (suc zero)) = refl
-zeros (suc (suc (suc zero))) = refl
-zeros (suc (suc (suc (suc i)))) = refl
+zeros : (n i : ℕ) → _≡_ {A = ℕ} (getD (replicate n 0) i 0) 0
+zeros zero i = refl
+zeros (suc n) zero = refl
+zeros (suc n) (suc i) = zeros n i
 
-pub none-is : (k : ℕ) → isThree noThree k ≡ false
+-- words of 0 say of none that it speaks Issue 3, however many they are
+pub none-in : (n k : ℕ) → isThree (replicate n 0) k ≡ false
 unfolding bitIn
-none-is k = go (ltb k platforms) refl
+none-in n k = go (ltb k platforms) refl
   where
-    no-bit : bitIn noThree k ≡ 0
-    no-bit = ap (λ (y : ℕ). y / mask k % 2) (zeros (k / wordBits)) ∙ ap (λ (n : ℕ). n % 2) (div-eq-of-lt (pow-pos (k % wordBits)))
+    no-bit : bitIn (replicate n 0) k ≡ 0
+    no-bit = ap (λ (y : ℕ). y / mask k % 2) (zeros n (k / wordBits)) ∙ ap (λ (x : ℕ). x % 2) (div-eq-of-lt (pow-pos (k % wordBits)))
 
-    go : (t : Bool) → ltb k platforms ≡ t → isThree noThree k ≡ false
-    go true t = by-bit noThree k (ltb-true k platforms t) ∙ ap (λ (n : ℕ). eqb n 1) no-bit
-    go false t = above-is-none noThree k (ltb-false k platforms t)
+    go : (t : Bool) → ltb k platforms ≡ t → isThree (replicate n 0) k ≡ false
+    go true t = by-bit (replicate n 0) k (ltb-true k platforms t) ∙ ap (λ (x : ℕ). eqb x 1) no-bit
+    go false t = above-is-none (replicate n 0) k (ltb-false k platforms t)
 
 pub just-those : (ks : List ℕ) (k : ℕ) → k < platforms → isThree (listed ks) k ≡ isIn k ks
 unfolding listed isIn
-just-those [] k h = none-is k
+just-those [] k h = none-in 4 k
 just-those (j ∷ ks) k h = go (eqb j k) refl (just-those ks k h)
   where
     go : (t : Bool) → eqb j k ≡ t → isThree (listed ks) k ≡ isIn k ks → isThree (threeSet (listed ks) j true) k ≡ (eqb j k || isIn k ks)

@@ -37,6 +37,10 @@ pub mod AskedAndAnswered
 pub mod WrongListings
 pub mod UniqueOperations
 pub mod UniquePlans
+pub mod UniqueServices
+pub mod Services
+pub mod WorkedServices
+pub mod WrongServices
 pub mod Plans
 pub mod WorkedPlans
 pub mod PlanCalls

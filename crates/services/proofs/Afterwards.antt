@@ -20,6 +20,7 @@ use Rattle.services.specs.Block.{services, servicePlace, availabilityIn,
 use Rattle.services.specs.Block.{pairsIn, pairTold, pairHasPlace, pairsTold, hasPlace, allHavePlaces}
 use Rattle.services.specs.Block.{servicesFull, statusFits, noteRefusal, statusNoted}
 use Rattle.services.specs.Known.{known, Packed, knownWith, lastTold}
+use Rattle.services.proofs.Telling.{told-long}
 use Rattle.services.proofs.OnePair.{told-there, told-elsewhere}
 use Rattle.services.proofs.Exactly.{so-far}
 
@@ -61,12 +62,20 @@ module _ (before : Availability) (s : List ℕ) (x : ℕ) where
           no-if _ _ (ne-eqb (pairId s i) x (h i (omega arith) (omega arith))) ∙ r (omega arith)
 
 -- a status that was refused, whatever the words
-not-noted : (b s : List ℕ) → statusFits b s ≡ false → statusNoted b s ≡ b
+pub not-noted : (b s : List ℕ) → statusFits b s ≡ false → statusNoted b s ≡ b
 unfolding statusNoted
 not-noted b s f = no-if _ _ f
 
+pub noted-long : (b s : List ℕ) → length (statusNoted b s) ≡ length b
+unfolding statusNoted
+noted-long b s = go (statusFits b s)
+  where
+    go : (t : Bool) → length (cond t (pairsTold b s (pairsIn s)) b) ≡ length b
+    go true = told-long b s (pairsIn s)
+    go false = refl
+
 module _ (b s : List ℕ) where
-  by-fitting : (t : Bool) → statusFits b s ≡ t → noteRefusal b s ≡ cond t 0 servicesFull
+  pub by-fitting : (t : Bool) → statusFits b s ≡ t → noteRefusal b s ≡ cond t 0 servicesFull
   unfolding noteRefusal
   by-fitting t f = ap (λ (u : Bool). cond u 0 servicesFull) f
 

@@ -1,18 +1,15 @@
--- A block whose services are marked UNAVAILABLE, word by word; what a word says, and the word that says it.
+-- A block whose services are marked UNAVAILABLE, word by word.
 -- Assumes nothing.
-use Prim.Native.Nat.{ℕ, suc, _+_, _*_, _/_, _^_, _≤_, _<_}
+use Prim.Native.Nat.{ℕ, suc, _+_, _≤_, _<_}
 use mathlib.Core.Path.{_≡_, refl, sym, ap, ap₂, _∙_}
 use mathlib.Core.Bool.{Bool, true, false, cond}
 use mathlib.Core.List.{List, _∷_, _++_, append-nil}
 use native.Mathlib.Omega.{arith}
 use native.Mathlib.Numerals.{add-one}
-use borrow.Author.Tests.{eq-eqb, ne-eqb}
 use lib.ListN.{length, take, drop, getD, set, take-append-drop, drop-of-length-le}
 use lib.Seq.{take-all, take-suc-set, drop-set-lt, drop-cons, append-snoc}
-use Rattle.services.specs.declared.Availability.{Availability}
-use Rattle.services.specs.declared.Availability.the-variants.{Unheard, Unavailable, Available}
-use Rattle.services.specs.Word.{isFree, says, wordFor, unavailableOf}
-use Rattle.services.specs.Block.{servicePlace, availabilityIn, marked}
+use Rattle.services.specs.Word.{isFree, unavailableOf}
+use Rattle.services.specs.Block.{marked}
 
 -- `mark`: the first i words are marked, and what is left to mark stands behind them
 module _ (was b : List ℕ) (i : ℕ) (e : marked was ≡ take i b ++ marked (drop i b)) where
@@ -41,31 +38,3 @@ module _ (was b : List ℕ) (i : ℕ) (e : marked was ≡ take i b ++ marked (dr
   unfolding marked
   all-marked h =
       sym (e ∙ ap₂ (λ (x y : List ℕ). x ++ marked y) (take-all i b h) (drop-of-length-le b h) ∙ append-nil b)
-
--- `state`
-pub state-is : (b : List ℕ) (x : ℕ) {at w : ℕ} {r : Availability} → at ≡ servicePlace b x → w ≡ getD b at 0 → r ≡ says w → r ≡ availabilityIn b x
-state-is b x p q f = f ∙ ap says (q ∙ ap (λ (k : ℕ). getD b k 0) p)
-
--- `said`
-module _ (w : ℕ) where
-  pub says-unheard : w / 2 ^ 32 ≡ 0 → Unheard ≡ says w
-  unfolding says
-  says-unheard e = rw (eq-eqb (w / 2 ^ 32) 0 e)
-
-  pub says-available : w / 2 ^ 32 ≡ 2 → Available ≡ says w
-  unfolding says
-  says-available e = rw e
-
-  pub says-unavailable : (w / 2 ^ 32 ≡ 0 → ⊥) → (w / 2 ^ 32 ≡ 2 → ⊥) → Unavailable ≡ says w
-  unfolding says
-  says-unavailable e f = rw (ne-eqb (w / 2 ^ 32) 0 e, ne-eqb (w / 2 ^ 32) 2 f)
-
--- `word_for`
-module _ (id state : ℕ) where
-  pub word-available : state ≡ 1 → 2 * 2 ^ 32 + id ≡ wordFor id state
-  unfolding wordFor
-  word-available e = rw (eq-eqb state 1 e)
-
-  pub word-unavailable : (state ≡ 1 → ⊥) → 1 * 2 ^ 32 + id ≡ wordFor id state
-  unfolding wordFor
-  word-unavailable e = rw (ne-eqb state 1 e)

@@ -13,7 +13,7 @@ use Rattle.services.specs.Word.{isFree, isPlaceFor, says, wordFor, unava
 abbrev pub services : ℕ
 services = 256
 
--- 02: "63: a status that would need a 257th service of its platform"
+-- 02: "a status that would need a 257th is refused with 63"
 abbrev pub servicesFull : ℕ
 servicesFull = 63
 

@@ -6,15 +6,10 @@ use mathlib.Core.Path.{_≡_}
 use mathlib.Core.Bool.{Bool, true, false, cond, _||_}
 use mathlib.Core.List.{List, [], _∷_, _++_}
 use lib.Dec.{eqb}
-use lib.ListN.{replicate}
 use Rattle.services.specs.declared.Availability.{Availability}
 use Rattle.services.specs.declared.Availability.the-variants.{Unheard, Unavailable, Available}
 use Rattle.services.specs.Word.{serviceId, isFree, toldState}
-use Rattle.services.specs.Block.{services, pairId, pairState}
-
--- nothing was heard yet
-abbrev pub freshBlock : List ℕ
-freshBlock = replicate services 0
+use Rattle.services.specs.Block.{pairId, pairState}
 
 -- the services that are known: the IDs before the first free word
 unfoldable pub known : List ℕ → List ℕ

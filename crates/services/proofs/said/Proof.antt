@@ -1,6 +1,6 @@
 -- `services::said` meets its contract.
 -- Assumes nothing.
-use Rattle.services.proofs.Marking.{says-unheard, says-available, says-unavailable}
+use Rattle.services.proofs.Saying.{says-unheard, says-available, says-unavailable}
 use Rattle.services.proofs.said.Statement.{statement}
 use Rattle.services.proofs.said.Tie as tie
 

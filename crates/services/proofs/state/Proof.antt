@@ -1,7 +1,7 @@
 -- `services::state` meets its contract.
 -- Assumes nothing.
 use borrow.Author.Needs.{needs}
-use Rattle.services.proofs.Marking.{state-is}
+use Rattle.services.proofs.Saying.{state-is}
 use Rattle.services.proofs.state.Statement.{statement}
 use Rattle.services.proofs.state.Tie as tie
 

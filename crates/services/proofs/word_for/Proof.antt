@@ -1,7 +1,7 @@
 -- `services::word_for` meets its contract.
 -- Assumes nothing.
 use borrow.Author.Needs.{needs}
-use Rattle.services.proofs.Marking.{word-available, word-unavailable}
+use Rattle.services.proofs.Saying.{word-available, word-unavailable}
 use Rattle.services.proofs.word_for.Statement.{statement}
 use Rattle.services.proofs.word_for.Tie as tie
 
