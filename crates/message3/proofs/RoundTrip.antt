@@ -1,7 +1,7 @@
 -- A message of Issue 3 that is written reads back as the same header, timestamp too, kind and payload at every platform but its
 -- sender, and a message that is read gives the same bytes when it is written again with the same fields.
 -- Assumes nothing.
-use Prim.Native.Nat.{ℕ, _+_, _-_, _^_, _/_, _%_, _≤_, _<_}
+use Prim.Native.Nat.{ℕ, _+_, _-_, _≤_, _<_}
 use mathlib.Core.Path.{_≡_, refl, sym, ap, _∙_}
 use mathlib.Core.List.{List, [], _++_}
 use native.Mathlib.Omega.{arith}
@@ -10,14 +10,13 @@ use lib.Seq.{take-length, take-all, take-at}
 use Rattle.wire.specs.Bytes.{Octets, span, number, bytes, over}
 use Rattle.wire.proofs.Numbers.{number-lt, number-bytes}
 use Rattle.wire.proofs.Runs.{part-in}
-use Rattle.message.specs.Header.{theMark}
 use Rattle.message.specs.Writing.{answered, leftBy}
 use Rattle.message.proofs.RoundTrip.{field}
 use Rattle.message3.specs.declared.Header3.{Header3}
 use Rattle.message3.specs.declared.Stamp.{Stamp}
 use Rattle.message3.specs.declared.Reading3.the-variants.{Read}
-use Rattle.message3.specs.Header.{headerLength3, theVersion3, halfByte, versionIn3, domainIn3, versionAndDomain, senderIn3, idIn3, secondsIn}
-use Rattle.message3.specs.Header.{nanosecondsIn, stampIn, payloadSizeIn3, sequenceIn3, payloadIn3, headerOf3, headerIn3}
+use Rattle.message3.specs.Header.{headerLength3, theVersion3, versionIn3, domainIn3, versionAndDomain, senderIn3, idIn3, secondsIn}
+use Rattle.message3.specs.Header.{nanosecondsIn, stampIn, payloadSizeIn3, sequenceIn3, payloadIn3, headerOf3}
 use Rattle.message3.specs.Platform.{firstIn, secondIn, messageOf3}
 use Rattle.message3.specs.Refusal.{contentsRefusal3, readRefusal3, writeRefusal3}
 use Rattle.message3.specs.Reading.{answered3, readOut3, readOf3, payloadOf3}

@@ -1,15 +1,14 @@
 -- A status of services tells what was laid into it: each service at its place with its state, however many they are. And nothing
 -- refuses its contents.
 -- Assumes nothing.
-use Prim.Native.Nat.{ℕ, zero, suc, _+_, _*_, _^_, _≤_, _<_}
-use mathlib.Core.Path.{_≡_, refl, sym, ap, _∙_}
+use Prim.Native.Nat.{ℕ, zero, suc, _+_, _*_, _^_, _<_}
+use mathlib.Core.Path.{_≡_, refl, ap, _∙_}
 use mathlib.Core.Bool.{not}
 use mathlib.Core.List.{List, [], _∷_, _++_}
 use native.Mathlib.Omega.{arith}
 use borrow.Author.Tests.{lt-ltb}
-use lib.ListN.{length, getD, length-append}
+use lib.ListN.{length, getD}
 use Rattle.wire.specs.Bytes.{span, number, bytes}
-use Rattle.wire.specs.All.{allBelow}
 use Rattle.wire.proofs.AllBelow.{all-below}
 use Rattle.wire.proofs.Cond.{no-ne, no-if}
 use Rattle.wire.proofs.Numbers.{number-bytes, number-append}
@@ -30,6 +29,9 @@ Good ps = (i : ℕ) → (pairAt ps i .0 < span 2) × (pairAt ps i .1 < reservedS
 pub length-pairs : (ps : List (ℕ × ℕ)) → length (pairBytes ps) ≡ 8 * length ps
 length-pairs [] = refl
 length-pairs (p ∷ ps) = let n = length-pairs ps in omega arith
+
+pub length-services : (ps : List (ℕ × ℕ)) → length (servicesBytes ps) ≡ servicesLength (length ps)
+length-services ps = let n = length-pairs ps in omega arith
 
 -- each pair stands at its place
 pub id-at : (ps : List (ℕ × ℕ)) (i : ℕ) → Good ps → i < length ps → number 2 (pairBytes ps) (8 * i) ≡ pairAt ps i .0
@@ -64,9 +66,6 @@ module _ (ps : List (ℕ × ℕ)) (g : Good ps) where
       let place : 8 + 8 * i ≡ 4 + (4 + 8 * i) = omega arith in
       ap (number 2 (servicesBytes ps)) place ∙ number-append 2 (bytes 2 (length ps)) (pairBytes ps) (4 + 8 * i) ∙ state-at ps i g h
 
-  pub length-services : length (servicesBytes ps) ≡ servicesLength (length ps)
-  length-services = let n = length-pairs ps in omega arith
-
   module _ (few : length ps < 2 ^ 29) where
     pub how-many : firstIn (servicesBytes ps) ≡ length ps
     how-many = number-bytes 2 (length ps) (pairBytes ps) (omega arith)
@@ -74,5 +73,5 @@ module _ (ps : List (ℕ × ℕ)) (g : Good ps) where
     pub services-written : contentsRefusal3 platformDomain availabilityStatus (servicesBytes ps) ≡ 0
     services-written =
         let n = how-many in
-        services-pass (servicesBytes ps) (omega (arith, length-services))
+        services-pass (servicesBytes ps) (omega (arith, length-services ps))
         (λ i h. omega (arith, state-told i (omega arith), g i .1))

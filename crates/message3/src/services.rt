@@ -15,8 +15,8 @@ const PAIR: usize = 8;
 // The byte of the payload at which the first state stands.
 const STATES_AT: usize = 8;
 
-// Whether the payload is as long as it says. The pairs that are there are counted: how many it says is any number of 32 bits, and its
-// pairs' length may be none.
+// Whether the payload is as long as it says. The pairs that are there are counted, and 4 + 8n is not formed: in 32 bits it is 4 for
+// 2^29 services.
 pub(crate) fn are_whole(payload: &[u8]) -> bool
     ensures { λ r. ⌜ r ≡ eqb (length (now (payload .entry))) (servicesLength (firstIn (now (payload .entry)))) ⌝ }
 {

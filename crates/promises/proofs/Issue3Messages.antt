@@ -7,12 +7,13 @@ use native.Mathlib.Omega.{arith}
 use lib.ListN.{length, take, length-drop}
 use Rattle.wire.specs.Bytes.{Octets, number, bytes, over}
 use Rattle.wire.specs.All.{allBelow}
+use Rattle.wire.proofs.Cond.{yes-le}
 use Rattle.wire.proofs.Numbers.{number-bytes}
 use Rattle.message.specs.declared.Status.{Status}
 use Rattle.message.specs.declared.Status.the-variants.{Down, Up}
 use Rattle.message.specs.declared.Writing.the-variants as writing
 use Rattle.message.specs.Platform.{statusValue}
-use Rattle.message.specs.Refusal.{readRefusal}
+use Rattle.message.specs.Refusal.{readRefusal, sizeLimit}
 use Rattle.message.specs.Reading.{readOut}
 use Rattle.message.specs.Writing.{answered}
 use Rattle.message3.specs.declared.Stamp.{Stamp}
@@ -26,17 +27,17 @@ use Rattle.message3.specs.declared.Message3.the-variants.{CompositeChangeReques
 use Rattle.message3.specs.declared.Reading3.{Reading3}
 use Rattle.message3.specs.declared.Reading3.the-variants as reading
 use Rattle.message3.specs.Header.{headerLength3, domainIn3, senderIn3, idIn3, stampIn, sequenceIn3, payloadIn3, headerIn3}
-use Rattle.message3.specs.Platform.{agreementValue, messageOf3, servicesBytes, kindIn3}
+use Rattle.message3.specs.Platform.{agreementValue, messageOf3, servicesBytes, kindIn3, valueIn3}
 use Rattle.message3.specs.Refusal.{contentsRefusal3, readRefusal3, writeRefusal3}
 use Rattle.message3.specs.Reading.{answered3, readOut3, readOf3, payloadOf3}
-use Rattle.message3.specs.Writing.{headerFor3, messageBytes3, writeOf3, outputAfter3}
+use Rattle.message3.specs.Writing.{headerFor3, writeOf3, outputAfter3}
 use Rattle.message3.proofs.Accepted.{readable, admits}
 use Rattle.message3.proofs.RoundTrip.{Fields, reads-back, payload-back, written-out, front, same-bytes, writes-again, payload-stands}
 use Rattle.message3.proofs.Told.{how-many, length-services, services-written, service-told, state-told}
 use Rattle.message3.proofs.NeverBoth as apart
 use Rattle.message3.proofs.Worked.{worked-bytes, worked-read}
 use Rattle.promises.specs.Issue3Messages.{ReadsAs3, FromAnother3, WrittenThenRead3, ReadThenWritten3, stampOf, IsSentAs3, AreServices, EachMessage3}
-use Rattle.promises.specs.Issue3Messages.{NeverBoth, WorkedMessages3, Issue3Messages}
+use Rattle.promises.specs.Issue3Messages.{Kinds3, NeverBoth, WorkedMessages3, Issue3Messages}
 use Rattle.promises.proofs.Headers.{not-refused, was-read}
 
 -- what an answer says of the refusal behind it
@@ -131,8 +132,13 @@ composite-ack Agree = sent-as 0 9 (bytes 2 1) (CompositeChangeRequestAck Agree) 
 
 services : (ps : List (ℕ × ℕ)) → AreServices ps → length ps < 2 ^ 29 → IsSentAs3 0 3 (servicesBytes ps) (AvailabilityStatus (length ps))
 services ps g few =
-    sent-as 0 3 (servicesBytes ps) (AvailabilityStatus (length ps)) (omega arith) (omega (arith, length-services ps g))
+    sent-as 0 3 (servicesBytes ps) (AvailabilityStatus (length ps)) (omega arith) (omega (arith, length-services ps))
     (services-written ps g few) (ap AvailabilityStatus (how-many ps g few))
+
+services-too-many : (ps : List (ℕ × ℕ)) (room : ℕ) → 2 ^ 29 ≤ length ps → writeOf3 0 3 (servicesBytes ps) room ≡ writing.Refused 5
+services-too-many ps room h =
+    ap (λ (r : ℕ). answered r (headerLength3 + length (servicesBytes ps)))
+    (yes-le 5 _ sizeLimit (length (servicesBytes ps)) (omega (arith, length-services ps)))
 
 each-message : EachMessage3
 each-message =
@@ -140,6 +146,7 @@ each-message =
       status = status;
       request = sent-as 0 2 [] PlatformStatusRequest (omega arith) (omega arith) refl refl;
       services = services;
+      services-too-many = services-too-many;
       services-told = λ ps g i h. (service-told ps g i h, state-told ps g i h);
       services-request = one-id 4 AvailabilityStatusRequest (λ x. refl) (λ x y. refl);
       unknown = one-id 5 UnknownOperation (λ x. refl) (λ x y. refl);
@@ -150,19 +157,49 @@ each-message =
       operation = λ id payload h. sent-as 1 id payload Operation (omega arith) h refl refl;
     }
 
--- by the nine IDs
-by-id : (id field second : ℕ) → 1 ≤ id → id ≤ 9 → kindIn3 (messageOf3 0 id field second) ≡ id
-by-id zero field second l h = absurd (omega arith)
-by-id (suc zero) field second l h = refl
-by-id (suc (suc zero)) field second l h = refl
-by-id (suc (suc (suc zero))) field second l h = refl
-by-id (suc (suc (suc (suc zero)))) field second l h = refl
-by-id (suc (suc (suc (suc (suc zero))))) field second l h = refl
-by-id (suc (suc (suc (suc (suc (suc zero)))))) field second l h = refl
-by-id (suc (suc (suc (suc (suc (suc (suc zero))))))) field second l h = refl
-by-id (suc (suc (suc (suc (suc (suc (suc (suc zero)))))))) field second l h = refl
-by-id (suc (suc (suc (suc (suc (suc (suc (suc (suc zero))))))))) field second l h = refl
-by-id (suc (suc (suc (suc (suc (suc (suc (suc (suc (suc n)))))))))) field second l h = absurd (omega arith)
+-- what is so of each of the nine IDs
+abbrev Nine : (ℕ → Type 0) → Type 0
+Nine P = P 1 × P 2 × P 3 × P 4 × P 5 × P 6 × P 7 × P 8 × P 9
+
+nine : (P : ℕ → Type 0) → Nine P → (id : ℕ) → 1 ≤ id → id ≤ 9 → P id
+nine P h zero l m = absurd (omega arith)
+nine P h (suc zero) l m = h .0
+nine P h (suc (suc zero)) l m = h .1
+nine P h (suc (suc (suc zero))) l m = h .2
+nine P h (suc (suc (suc (suc zero)))) l m = h .3
+nine P h (suc (suc (suc (suc (suc zero))))) l m = h .4
+nine P h (suc (suc (suc (suc (suc (suc zero)))))) l m = h .5
+nine P h (suc (suc (suc (suc (suc (suc (suc zero))))))) l m = h .6
+nine P h (suc (suc (suc (suc (suc (suc (suc (suc zero)))))))) l m = h .7
+nine P h (suc (suc (suc (suc (suc (suc (suc (suc (suc zero))))))))) l m = h .8
+nine P h (suc (suc (suc (suc (suc (suc (suc (suc (suc (suc n)))))))))) l m = absurd (omega arith)
+
+kinds : Kinds3
+kinds =
+    record {
+      of-platform = λ id field second. nine (λ n. kindIn3 (messageOf3 0 n field second) ≡ n) (refl, refl, refl, refl, refl, refl, refl, refl, refl) id;
+      of-operation = λ id field second. refl;
+      value = λ id field second l m. nine (λ n. 3 ≤ n → n ≤ 8 → valueIn3 n (messageOf3 0 n field second) ≡ field) (
+        λ l m. absurd (omega arith),
+        λ l m. absurd (omega arith),
+        λ l m. refl,
+        λ l m. refl,
+        λ l m. refl,
+        λ l m. refl,
+        λ l m. refl,
+        λ l m. refl,
+        λ l m. absurd (omega arith),
+      ) id (omega arith) (omega arith) l m;
+      status-value = below-two 1 (λ second. refl) (λ second. refl);
+      ack-value = below-two 9 (λ second. refl) (λ second. refl);
+      operation-value = λ id field second. refl;
+    }
+  where
+    below-two : (n : ℕ) → ((second : ℕ) → valueIn3 n (messageOf3 0 n 0 second) ≡ 0) → ((second : ℕ) → valueIn3 n (messageOf3 0 n 1 second) ≡ 1)
+        → (field second : ℕ) → field < 2 → valueIn3 n (messageOf3 0 n field second) ≡ field
+    below-two n a b zero second h = a second
+    below-two n a b (suc zero) second h = b second
+    below-two n a b (suc (suc field)) second h = absurd (omega arith)
 
 never-both : NeverBoth
 never-both own reader s h m start len h₃ m₃ start₃ len₃ e f =
@@ -190,7 +227,7 @@ issue3-messages =
       written-then-read = written-then-read;
       read-then-written = read-then-written;
       each-message = each-message;
-      kinds = record { of-platform = by-id; of-operation = λ id field second. refl };
+      kinds = kinds;
       never-both = never-both;
       worked = worked;
     }

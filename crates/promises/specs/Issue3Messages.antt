@@ -12,6 +12,7 @@ use Rattle.message.specs.declared.Status.the-variants.{Up}
 use Rattle.message.specs.declared.Message.{Message}
 use Rattle.message.specs.declared.Reading.the-variants as six
 use Rattle.message.specs.declared.Writing.the-variants.{Written}
+use Rattle.message.specs.declared.Writing.the-variants as writing
 use Rattle.message.specs.Platform.{statusValue}
 use Rattle.message.specs.Reading.{readOf}
 use Rattle.message3.specs.declared.Stamp.{Stamp}
@@ -22,7 +23,7 @@ use Rattle.message3.specs.declared.Message3.the-variants.{PlatformStatus, Platf
 use Rattle.message3.specs.declared.Message3.the-variants.{UnknownOperation, ServiceNotAvailable, VersionedDataPull, CompositeChangeRequest}
 use Rattle.message3.specs.declared.Message3.the-variants.{CompositeChangeRequestAck, Operation}
 use Rattle.message3.specs.declared.Reading3.the-variants.{Refused, Read}
-use Rattle.message3.specs.Platform.{agreementValue, messageOf3, servicesBytes, kindIn3}
+use Rattle.message3.specs.Platform.{agreementValue, messageOf3, servicesBytes, kindIn3, valueIn3}
 use Rattle.message3.specs.Reading.{readOf3, payloadOf3}
 use Rattle.message3.specs.Writing.{headerFor3, messageBytes3, writeOf3, outputAfter3}
 use Rattle.message3.specs.Worked.{workedStatus}
@@ -75,12 +76,13 @@ abbrev pub Tells : List ℕ → List (ℕ × ℕ) → Type 0
 Tells payload ps =
     (i : ℕ) → i < length ps → (number 2 payload (4 + 8 * i) ≡ getD ps i (0, 0) .0) × (number 2 payload (8 + 8 * i) ≡ getD ps i (0, 0) .1)
 
--- 001, Tables 3 and 4: each platform message, by its ID; a status of any services, as many as the size field can say; and an
--- operation, whose payload is any
+-- 001, Tables 3 and 4: each platform message, by its ID; a status of any services, up to as many as the size field can say,
+-- and 5 above; and an operation, whose payload is any
 pub record EachMessage3 : Type 0 where
   pub status : (x : Status) (composite : ℕ) → composite < 2 ^ 32 → IsSentAs3 0 1 (bytes 2 (statusValue x) ++ bytes 2 composite) (PlatformStatus x composite)
   pub request : IsSentAs3 0 2 [] PlatformStatusRequest
   pub services : (ps : List (ℕ × ℕ)) → AreServices ps → length ps < 2 ^ 29 → IsSentAs3 0 3 (servicesBytes ps) (AvailabilityStatus (length ps))
+  pub services-too-many : (ps : List (ℕ × ℕ)) (room : ℕ) → 2 ^ 29 ≤ length ps → writeOf3 0 3 (servicesBytes ps) room ≡ writing.Refused 5
   pub services-told : (ps : List (ℕ × ℕ)) → AreServices ps → Tells (servicesBytes ps) ps
   pub services-request : (id : ℕ) → id < 2 ^ 32 → IsSentAs3 0 4 (bytes 2 id) (AvailabilityStatusRequest id)
   pub unknown : (id : ℕ) → id < 2 ^ 32 → IsSentAs3 0 5 (bytes 2 id) (UnknownOperation id)
@@ -90,10 +92,14 @@ pub record EachMessage3 : Type 0 where
   pub composite-ack : (a : Agreement) → IsSentAs3 0 9 (bytes 2 (agreementValue a)) (CompositeChangeRequestAck a)
   pub operation : (id : ℕ) (payload : List ℕ) → length payload < 2 ^ 32 → IsSentAs3 1 id payload Operation
 
--- what a message is told as: its kind is its ID in Table 3, and 10 of an operation
+-- what a message is told as: its kind is its ID in Table 3, and 10 of an operation; its value is its first field, and an operation's is its ID
 pub record Kinds3 : Type 0 where
   pub of-platform : (id field second : ℕ) → 1 ≤ id → id ≤ 9 → kindIn3 (messageOf3 0 id field second) ≡ id
   pub of-operation : (id field second : ℕ) → kindIn3 (messageOf3 1 id field second) ≡ 10
+  pub value : (id field second : ℕ) → 3 ≤ id → id ≤ 8 → valueIn3 id (messageOf3 0 id field second) ≡ field
+  pub status-value : (field second : ℕ) → field < 2 → valueIn3 1 (messageOf3 0 1 field second) ≡ field
+  pub ack-value : (field second : ℕ) → field < 2 → valueIn3 9 (messageOf3 0 9 field second) ≡ field
+  pub operation-value : (id field second : ℕ) → valueIn3 id (messageOf3 1 id field second) ≡ id
 
 -- "No message may be read under the other issue's meaning": no bytes are read as both
 abbrev pub NeverBoth : Type 0
@@ -117,7 +123,8 @@ pub record WorkedMessages3 : Type 0 where
   pub own-refused : readOf3 7 workedStatus ≡ Refused 6
   pub cut : (own : ℕ) → readOf3 own (take 23 workedStatus) ≡ Refused 1
   pub wrapping : readOf3 1 (ofServices (bytes 2 (2 ^ 29))) ≡ Refused 8
-  pub no-services : payloadOf3 (ofServices (bytes 2 0)) (readOf3 1 (ofServices (bytes 2 0))) ≡ bytes 2 0
+  pub no-services : readOf3 1 (ofServices (bytes 2 0))
+      ≡ Read (record { domain = 0; platform = 7; id = 3; seconds = 5; nanoseconds = 6; «payload_size» = 4; sequence = 9 }) (AvailabilityStatus 0) 24 4
   pub last-reserved : readOf3 1 (ofServices (servicesBytes ((77, 1) ∷ (78, 2) ∷ []))) ≡ Refused 9
   pub one-missing : readOf3 1 (ofServices (bytes 2 2 ++ (bytes 2 77 ++ bytes 2 1))) ≡ Refused 8
 
