@@ -4,3 +4,4 @@ pub mod NoCrossing
 pub mod ByByteTwo
 mod OursLaws
 mod ReactionLaws
+pub mod Laying

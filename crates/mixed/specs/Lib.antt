@@ -2,3 +2,4 @@ pub mod Form
 pub mod Reading
 pub mod Ours
 pub mod Reaction
+pub mod Replies

@@ -4,6 +4,7 @@ mod ours;
 mod reacting;
 mod reactions;
 mod reader;
+mod replies;
 
 use message::Header;
 use message::Message;
