@@ -4,4 +4,6 @@ pub mod NoCrossing
 pub mod ByByteTwo
 mod OursLaws
 mod ReactionLaws
-pub mod Laying
+pub mod LaidReplies
+pub mod ToldLaws
+mod Rooms

@@ -1,10 +1,12 @@
 // Partners of both issues (02, request 8): a message is read by its sender's issue, version number included. Who speaks Issue 3 is
 // told by `partners`; a message of Issue 6 is what `message` reads, one of Issue 3 what `message3` reads, and nothing is both.
+mod laying;
 mod ours;
 mod reacting;
 mod reactions;
 mod reader;
 mod replies;
+mod telling;
 
 use message::Header;
 use message::Message;

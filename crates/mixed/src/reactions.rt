@@ -46,3 +46,9 @@ pub struct Reaction3 {
     pub heard: Heard3,
     pub deed: Deed,
 }
+
+// Whether an output takes what is to be written: no, and the number that says why; or so many bytes.
+pub(crate) enum Room {
+    Short(u32),
+    Enough(usize),
+}

@@ -1,7 +1,7 @@
 -- `mixed::replies::lay_field` meets its contract.
 -- Assumes nothing.
 use borrow.Author.Needs.{needs}
-use Rattle.mixed.proofs.Laying.{field-laid}
+use Rattle.mixed.proofs.LaidReplies.{field-laid}
 use Rattle.mixed.proofs.replies.lay_field.Statement.{statement}
 use Rattle.mixed.proofs.replies.lay_field.Tie as tie
 

@@ -1,7 +1,7 @@
 -- `mixed::replies::put_field` meets its contract: the header, and the field behind it.
 -- Assumes nothing.
 use borrow.Author.Needs.{needs}
-use Rattle.mixed.proofs.Laying.{field-put}
+use Rattle.mixed.proofs.LaidReplies.{field-put}
 use Rattle.mixed.proofs.replies.put_field.Statement.{statement}
 use Rattle.mixed.proofs.replies.put_field.Tie as tie
 

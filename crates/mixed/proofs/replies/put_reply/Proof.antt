@@ -1,7 +1,7 @@
 -- `mixed::replies::put_reply` meets its contract: each reply is its message.
 -- Assumes nothing.
 use borrow.Author.Needs.{needs}
-use Rattle.mixed.proofs.Laying.{room-for-status, room-for-pull, room-for-unknown, is-status, is-pull, is-unknown}
+use Rattle.mixed.proofs.LaidReplies.{room-for-status, room-for-pull, room-for-unknown, is-status, is-pull, is-unknown}
 use Rattle.mixed.proofs.replies.put_reply.Statement.{statement}
 use Rattle.mixed.proofs.replies.put_reply.Tie as tie
 

@@ -1,7 +1,7 @@
 -- `mixed::replies::put_start_up` meets its contract: three messages, one behind another.
 -- Assumes nothing.
 use borrow.Author.Needs.{needs}
-use Rattle.mixed.proofs.Laying.{start-up-put}
+use Rattle.mixed.proofs.LaidReplies.{start-up-put}
 use Rattle.mixed.proofs.replies.put_start_up.Statement.{statement}
 use Rattle.mixed.proofs.replies.put_start_up.Tie as tie
 

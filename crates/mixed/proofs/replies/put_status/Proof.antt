@@ -1,7 +1,7 @@
 -- `mixed::replies::put_status` meets its contract: the header, and two fields behind it.
 -- Assumes nothing.
 use borrow.Author.Needs.{needs}
-use Rattle.mixed.proofs.Laying.{status-put}
+use Rattle.mixed.proofs.LaidReplies.{status-put}
 use Rattle.mixed.proofs.replies.put_status.Statement.{statement}
 use Rattle.mixed.proofs.replies.put_status.Tie as tie
 
