@@ -7,3 +7,4 @@ mod ReactionLaws
 pub mod LaidReplies
 pub mod ToldLaws
 mod Rooms
+mod Kept

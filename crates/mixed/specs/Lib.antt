@@ -3,3 +3,4 @@ pub mod Reading
 pub mod Ours
 pub mod Reaction
 pub mod Replies
+pub mod Keeping
