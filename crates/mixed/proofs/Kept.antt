@@ -42,7 +42,8 @@ module _ (i : List ℕ) (k start : ℕ) (e : start ≡ blockStart i k) where
         pub noted-number : {r : ℕ} → r ≡ noteRefusal (take (start + services - start) (drop start ws)) payload → r ≡ noteNumber i k payload ws
         unfolding noteNumber
         noted-number q =
-            q ∙ ap (λ (b : List ℕ). noteRefusal b payload) lent ∙ sym (yes-le (noteRefusal (blockOf i k ws) payload) noRoom (blockStart i k + services) (length ws) there)
+            q ∙ ap (λ (b : List ℕ). noteRefusal b payload) lent
+            ∙ sym (yes-le (noteRefusal (blockOf i k ws) payload) noRoom (blockStart i k + services) (length ws) there)
 
         pub noted-words : {last : List ℕ} → last ≡ statusNoted (take (start + services - start) (drop start ws)) payload
             → putMid start (start + services - start) ws last ≡ withNoted i k payload ws

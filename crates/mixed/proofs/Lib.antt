@@ -8,3 +8,4 @@ pub mod LaidReplies
 pub mod ToldLaws
 mod Rooms
 mod Kept
+mod Receipts

@@ -4,3 +4,4 @@ pub mod Ours
 pub mod Reaction
 pub mod Replies
 pub mod Keeping
+pub mod Receiving

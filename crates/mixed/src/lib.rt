@@ -6,6 +6,7 @@ mod ours;
 mod reacting;
 mod reactions;
 mod reader;
+mod receiving;
 mod replies;
 mod telling;
 
@@ -13,6 +14,8 @@ use message::Header;
 use message::Message;
 use message3::Header3;
 use message3::Message3;
+use platform::Heard;
+use platform::Standing;
 pub use reactions::Deed;
 pub use reactions::Heard3;
 pub use reactions::Reaction3;
@@ -35,4 +38,39 @@ pub enum AnyReading {
         start: usize,
         length: usize,
     },
+}
+
+pub enum AnyAnswer {
+    Refused(u32),
+    // Of a partner of Issue 6, as `platform` has it. The replies are owed to the header's platform.
+    Six {
+        header: Header,
+        heard: Heard,
+        written: usize,
+    },
+    // The response to a request that was pending: its operation's entry, and its payload, `length` bytes of the message from `start`
+    // on. Nothing is owed.
+    SixResponse {
+        header: Header,
+        entry: u16,
+        start: usize,
+        length: usize,
+    },
+    // Of a partner of Issue 3, likewise.
+    Three {
+        header: Header3,
+        heard: Heard3,
+        written: usize,
+    },
+    ThreeResponse {
+        header: Header3,
+        entry: u16,
+        start: usize,
+        length: usize,
+    },
+}
+
+pub struct AnyReceived {
+    pub standing: Standing,
+    pub answer: AnyAnswer,
 }
