@@ -9,3 +9,4 @@ pub mod ToldLaws
 mod Rooms
 mod Kept
 mod Receipts
+mod Calls

@@ -1,7 +1,7 @@
 -- What the functions of `receiving` come to at their returns.
 -- Assumes nothing.
 use Prim.Native.Nat.{ℕ}
-use mathlib.Core.Path.{_≡_, refl, sym, ap, _∙_}
+use mathlib.Core.Path.{_≡_, refl, sym, ap, ap₂, _∙_}
 use mathlib.Core.Bool.{Bool, true, false}
 use mathlib.Core.List.{List, [], _∷_}
 use denote.Enum.Declared.{tagOf}
@@ -136,3 +136,14 @@ module _ (own : ℕ) (t : Stamp) (c : ℕ) (i ours : List ℕ) (p : Standing) (h
 
       pub not-laid : (k ≡ 0 → ⊥) → out ≡ laid3 own t c i ours h x payload ws out
       not-laid z = sym (no-eq bytes-of out k 0 z) ∙ laid-by
+
+-- the reaction to a message
+module _ (i ours : List ℕ) (p : Standing) (h : Header3) (x y : Reaction3) (v w ws : List ℕ) (ex : x ≡ y) (ev : v ≡ w) where
+  pub reacted-answer : (room : ℕ) (r : AnyReceived) → r ≡ settled3 i ours p h x v ws room → r ≡ settled3 i ours p h y w ws room
+  reacted-answer room r d = d ∙ ap₂ (λ (a : Reaction3) (b : List ℕ). settled3 i ours p h a b ws room) ex ev
+
+  pub reacted-output : (own : ℕ) (t : Stamp) (c : ℕ) (out o : List ℕ) → o ≡ laid3 own t c i ours h x v ws out → o ≡ laid3 own t c i ours h y w ws out
+  reacted-output own t c out o d = d ∙ ap₂ (λ (a : Reaction3) (b : List ℕ). laid3 own t c i ours h a b ws out) ex ev
+
+  pub reacted-words : (room : ℕ) (a : List ℕ) → a ≡ kept3 i ours h x v ws room → a ≡ kept3 i ours h y w ws room
+  reacted-words room a d = d ∙ ap₂ (λ (z : Reaction3) (b : List ℕ). kept3 i ours h z b ws room) ex ev

@@ -10,10 +10,15 @@ mod receiving;
 mod replies;
 mod telling;
 
+ghost use mathlib.Core.Path.{_≡_};
+ghost use lib.ListN.{length};
+ghost use Rattle.mixed.specs.Receiving.{anyOutcome, anyOutput, anyList, anyWords};
 use message::Header;
 use message::Message;
+use message::Own;
 use message3::Header3;
 use message3::Message3;
+use message3::Stamp;
 use platform::Heard;
 use platform::Standing;
 pub use reactions::Deed;
@@ -21,6 +26,7 @@ pub use reactions::Heard3;
 pub use reactions::Reaction3;
 pub use reader::payload;
 pub use reader::read;
+use table::Sections;
 
 // What a message is, by its sender's issue.
 pub enum AnyReading {
@@ -73,4 +79,87 @@ pub enum AnyAnswer {
 pub struct AnyReceived {
     pub standing: Standing,
     pub answer: AnyAnswer,
+}
+
+// Reads a message by its sender's issue, notes the state or the services that it tells, and writes the owed replies at the output's
+// start; a response frees its place of the list. `partners` says who speaks Issue 3, `ours` are our services, `blocks` has what the
+// partners of Issue 3 told of theirs. The sections are known to lie in the table, and it does not ask.
+pub fn receive_within(
+    own: Own,
+    stamp: Stamp,
+    composite: u32,
+    partners: &[u64],
+    ours: &[u64],
+    table: &[u8],
+    s: Sections,
+    index: &[u64],
+    standing: Standing,
+    list: &mut [u64],
+    blocks: &mut [u64],
+    message: &[u8],
+    out: &mut [u8],
+) -> AnyReceived
+    ensures answer { λ r. ⌜ r
+        ≡ anyOutcome (own .platform) (now (partners .entry)) (now (ours .entry)) (now (table .entry)) s (now (index .entry)) standing
+        (now (list .entry)) (now (blocks .entry)) (now (message .entry)) (length (now (out .entry))) ⌝ }
+    ensures output { λ r. ⌜ now (out .exit)
+        ≡ anyOutput (own .platform) stamp composite (now (partners .entry)) (now (ours .entry)) (now (table .entry)) s (now (index .entry)) standing
+        (now (blocks .entry)) (now (message .entry)) (now (out .entry)) ⌝ }
+    ensures list { λ r. ⌜ now (list .exit)
+        ≡ anyList (own .platform) (now (partners .entry)) (now (table .entry)) s (now (index .entry)) (now (list .entry)) (now (message .entry)) ⌝ }
+    ensures blocks { λ r. ⌜ now (blocks .exit)
+        ≡ anyWords (own .platform) (now (partners .entry)) (now (ours .entry)) (now (table .entry)) s (now (index .entry)) standing
+        (now (blocks .entry)) (now (message .entry)) (length (now (out .entry))) ⌝ }
+{
+    match reader::read(own, partners, message) {
+        AnyReading::Refused(number) => receiving::refused(standing, number),
+        AnyReading::Six {
+            header: _,
+            message: _,
+            start: _,
+            length: _,
+        } => {
+            let received = platform::receive_within(
+                own,
+                table,
+                s,
+                index,
+                standing,
+                list,
+                message,
+                out,
+            );
+            receiving::from_received(received)
+        }
+        AnyReading::Three {
+            header,
+            message: kind,
+            start,
+            length,
+        } => {
+            let found = reacting::look_up(table, s, index, header, kind);
+            if receiving::is_answer(table, found, kind) {
+                receiving::response_to(list, found, standing, header, start, length)
+            } else {
+                receiving::reacted(
+                    own,
+                    stamp,
+                    composite,
+                    partners,
+                    ours,
+                    table,
+                    s,
+                    found,
+                    standing,
+                    header,
+                    kind,
+                    start,
+                    length,
+                    message,
+                    blocks,
+                    out,
+                )
+            }
+        }
+    }
 }

@@ -1,11 +1,14 @@
 // What a message of Issue 3 answers: the response to a request of ours, services that are kept, or replies that are laid.
 ghost use mathlib.Core.Path.{_≡_};
 ghost use lib.ListN.{length};
+ghost use Rattle.wire.specs.Bytes.{part};
+ghost use Rattle.mixed.specs.Reaction.{reaction3};
 ghost use Rattle.mixed.specs.Receiving.{fromReceived, refusedAny, isAnswer3, delivered3, responseTo3, listAnswered3, taken3, settled3, laid3, kept3};
 use crate::AnyAnswer;
 use crate::AnyReceived;
 use crate::keeping;
 use crate::laying;
+use crate::reacting;
 use crate::reactions::Reaction3;
 use crate::reactions::Room;
 use message::Own;
@@ -17,6 +20,67 @@ use platform::NOT_AWAITED;
 use platform::Noting;
 use platform::Received;
 use platform::Standing;
+use table::Sections;
+
+// Any message that is no response, with the operation that was looked up for it.
+pub(crate) fn reacted(
+    own: Own,
+    stamp: Stamp,
+    composite: u32,
+    partners: &[u64],
+    ours: &[u64],
+    table: &[u8],
+    s: Sections,
+    found: Sought,
+    standing: Standing,
+    header: Header3,
+    kind: Message3,
+    start: usize,
+    size: usize,
+    message: &[u8],
+    blocks: &mut [u64],
+    out: &mut [u8],
+) -> AnyReceived
+    ensures answer { λ r. ⌜ r
+        ≡ settled3 (now (partners .entry)) (now (ours .entry)) standing header
+        (reaction3 (own .platform) (now (ours .entry)) (now (table .entry)) s found standing header kind start size)
+        (part (now (message .entry)) start size) (now (blocks .entry)) (length (now (out .entry))) ⌝ }
+    ensures output { λ r. ⌜ now (out .exit)
+        ≡ laid3 (own .platform) stamp composite (now (partners .entry)) (now (ours .entry)) header
+        (reaction3 (own .platform) (now (ours .entry)) (now (table .entry)) s found standing header kind start size)
+        (part (now (message .entry)) start size) (now (blocks .entry)) (now (out .entry)) ⌝ }
+    ensures blocks { λ r. ⌜ now (blocks .exit)
+        ≡ kept3 (now (partners .entry)) (now (ours .entry)) header
+        (reaction3 (own .platform) (now (ours .entry)) (now (table .entry)) s found standing header kind start size)
+        (part (now (message .entry)) start size) (now (blocks .entry)) (length (now (out .entry))) ⌝ }
+{
+    let reaction = reacting::reaction_to(
+        own,
+        ours,
+        table,
+        s,
+        found,
+        standing,
+        header,
+        kind,
+        start,
+        size,
+    );
+    let payload = wire::part(message, start, size);
+    settled(
+        own,
+        stamp,
+        composite,
+        partners,
+        ours,
+        standing,
+        header,
+        reaction,
+        payload,
+        blocks,
+        out,
+    )
+}
 
 // Services are kept, or replies laid; where there is no room for them nothing changes.
 pub(crate) fn settled(
