@@ -10,3 +10,5 @@ mod Rooms
 mod Kept
 mod Receipts
 mod Calls
+mod OnTables
+pub mod AsBefore

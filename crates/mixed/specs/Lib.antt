@@ -5,3 +5,4 @@ pub mod Reaction
 pub mod Replies
 pub mod Keeping
 pub mod Receiving
+pub mod Tables
