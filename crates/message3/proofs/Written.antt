@@ -8,14 +8,14 @@ use mir.Syntax.{w32}
 use mir.Val.{Fits}
 use lib.ListN.{length}
 use Rattle.wire.specs.Bytes.{bytes, over, written}
-use Rattle.wire.proofs.Runs.{written-in, written-behind}
+use Rattle.wire.proofs.Runs.{written-in, written-out, written-behind}
 use Rattle.message.specs.declared.Writing.the-variants as writing
-use Rattle.message.specs.Header.{theMark, reservedDomains}
+use Rattle.message.specs.Header.{theMark, platformDomain, reservedDomains}
 use Rattle.message.specs.Writing.{answered, leftBy}
 use Rattle.message.proofs.Written.{writing-refused, left-as-it-was}
 use Rattle.message3.specs.declared.Header3.{Header3}
 use Rattle.message3.specs.declared.Stamp.{Stamp}
-use Rattle.message3.specs.Header.{headerLength3, headerBytes3}
+use Rattle.message3.specs.Header.{headerLength3, headerOf3, headerBytes3}
 use Rattle.message3.specs.Refusal.{writeRefusal3}
 use Rattle.message3.specs.Writing.{headerFor3, messageBytes3, writeOf3, outputAfter3}
 use Rattle.message3.proofs.Accepted.{Writable, writable}
@@ -80,3 +80,19 @@ module _ (own : ℕ) (t : Stamp) (domain id seq : ℕ) (payload out : List ℕ) 
   pub output-not : (n ≡ 0 → ⊥) → out ≡ outputAfter3 own t domain id seq payload out
   unfolding laid
   output-not h = left-as-it-was n (headerLength3 + length payload) laid out h ∙ ap laid-by e
+
+-- the header of a platform-level message by itself
+module _ (own id : ℕ) (t : Stamp) (size seq : ℕ) where
+  abbrev its-header : Header3
+  its-header = headerOf3 platformDomain own id t size seq
+
+  pub platform-domain : {h : Header3} → h ≡ its-header → h .domain < reservedDomains
+  platform-domain e = omega (arith, ap (λ (x : Header3). x .domain) e)
+
+  pub platform-header : {h : Header3} {a : List ℕ} (out : List ℕ) → headerLength3 ≤ length out → h ≡ its-header → a ≡ over out 0 (headerBytes3 h)
+      → a ≡ written out 0 (headerBytes3 its-header)
+  platform-header out l e d =
+      d ∙ ap (λ (x : Header3). over out 0 (headerBytes3 x)) e ∙ sym (written-in out 0 (headerBytes3 its-header) (omega (arith, l)))
+
+  pub no-platform-header : (out : List ℕ) → length out < headerLength3 → out ≡ written out 0 (headerBytes3 its-header)
+  no-platform-header out l = sym (written-out out 0 (headerBytes3 its-header) (omega (arith, l)))

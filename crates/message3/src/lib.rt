@@ -10,6 +10,7 @@ mod writer;
 use message::Status;
 pub use reader::payload;
 pub use reader::read;
+pub use writer::put_platform_header;
 pub use writer::write;
 ghost use mathlib.Core.Path.{_≡_};
 ghost use Rattle.message3.specs.Header.{headerOf3, headerIn3};

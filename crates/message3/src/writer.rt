@@ -2,9 +2,9 @@
 ghost use mathlib.Core.Path.{_≡_};
 ghost use Prim.Native.Nat.{_≤_, _<_};
 ghost use lib.ListN.{length};
-ghost use Rattle.wire.specs.Bytes.{over};
-ghost use Rattle.message.specs.Header.{reservedDomains};
-ghost use Rattle.message3.specs.Header.{headerLength3, headerBytes3};
+ghost use Rattle.wire.specs.Bytes.{over, written};
+ghost use Rattle.message.specs.Header.{platformDomain, reservedDomains};
+ghost use Rattle.message3.specs.Header.{headerLength3, headerOf3, headerBytes3};
 ghost use Rattle.message3.specs.Refusal.{writeRefusal3};
 ghost use Rattle.message3.specs.Writing.{writeOf3, outputAfter3};
 use crate::Header3;
@@ -42,6 +42,32 @@ pub fn write(
         Writing::Written(Header3::LENGTH + payload.len())
     } else {
         Writing::Refused(number)
+    }
+}
+
+// Writes the header of a platform-level message of this platform at the output's start, for a payload of this size; where it does
+// not fit nothing changes.
+pub fn put_platform_header(
+    own: Own,
+    stamp: Stamp,
+    id: u32,
+    payload_size: u32,
+    sequence: u32,
+    out: &mut [u8],
+)
+    ensures { λ _. ⌜ now (out .exit)
+        ≡ written (now (out .entry)) 0 (headerBytes3 (headerOf3 platformDomain (own .platform) id stamp «payload_size» sequence)) ⌝ }
+{
+    if Header3::LENGTH <= out.len() {
+        let header = Header3::new(
+            Header::PLATFORM_DOMAIN,
+            own.platform,
+            id,
+            stamp,
+            payload_size,
+            sequence,
+        );
+        put_header(out, header);
     }
 }
 

@@ -22,11 +22,11 @@ pub const SERVICES: usize = 256;
 pub const SERVICES_FULL: u32 = 63;
 
 // A word's state is its upper half: 0 free, 1 UNAVAILABLE, 2 AVAILABLE.
-const STATE: u64 = 4294967296;
+pub const STATE: u64 = 4294967296;
 
 const UNAVAILABLE: u64 = 1;
 
-const AVAILABLE: u64 = 2;
+pub const AVAILABLE: u64 = 2;
 
 // In an AVAILABILITY_STATUS 1 says AVAILABLE.
 const TOLD_AVAILABLE: u32 = 1;
