@@ -101,3 +101,4 @@ mod WrittenByIssue
 mod ReadByIssue
 mod ReadAgain
 pub mod LinkedIssue3
+pub mod AsBefore

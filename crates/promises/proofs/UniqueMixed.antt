@@ -17,4 +17,12 @@ unique-mixed =
       receive-within-list = λ k a z z′ e e′ p q. p .1 .1 .0 ∙ sym (q .1 .1 .0);
       receive-within-blocks = λ k a z z′ e e′ p q. p .1 .1 .1 ∙ sym (q .1 .1 .1);
       receive-within-out = λ k a z z′ e e′ p q. p .1 .0 ∙ sym (q .1 .0);
+      receive-checked = λ k a z z′ e e′ p q. p .0 ∙ sym (q .0);
+      receive-checked-list = λ k a z z′ e e′ p q. p .1 .1 .0 ∙ sym (q .1 .1 .0);
+      receive-checked-blocks = λ k a z z′ e e′ p q. p .1 .1 .1 ∙ sym (q .1 .1 .1);
+      receive-checked-out = λ k a z z′ e e′ p q. p .1 .0 ∙ sym (q .1 .0);
+      receive = λ k a z z′ e e′ p q. p .0 ∙ sym (q .0);
+      receive-list = λ k a z z′ e e′ p q. p .1 .1 .0 ∙ sym (q .1 .1 .0);
+      receive-blocks = λ k a z z′ e e′ p q. p .1 .1 .1 ∙ sym (q .1 .1 .1);
+      receive-out = λ k a z z′ e e′ p q. p .1 .0 ∙ sym (q .1 .0);
     }

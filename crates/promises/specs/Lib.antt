@@ -72,3 +72,4 @@ pub mod WrongReaders
 pub mod AnyOrder
 pub mod UniqueMixed
 pub mod LinkedIssue3
+pub mod AsBefore

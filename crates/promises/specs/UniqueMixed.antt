@@ -10,6 +10,8 @@ use Rattle.platform.proofs.reaction_to.Reads.{Post as platform-reaction-to}
 use Rattle.mixed.proofs.read.Reads.{Post as mixed-read}
 use Rattle.mixed.proofs.payload.Reads.{Post as mixed-payload}
 use Rattle.mixed.proofs.receive_within.Reads.{Post as mixed-receive-within}
+use Rattle.mixed.proofs.receive_checked.Reads.{Post as mixed-receive-checked}
+use Rattle.mixed.proofs.receive.Reads.{Post as mixed-receive}
 
 pub record UniqueMixed : Type 0 where
   pub put-platform-header : Lent message3-put-platform-header (λ k e. now (e .1 .1 .1 .1 .1 .0))
@@ -23,3 +25,11 @@ pub record UniqueMixed : Type 0 where
   pub receive-within-list : Lent mixed-receive-within (λ k e. now (e .1 .1 .1 .1 .1 .1 .1 .1 .1 .0))
   pub receive-within-blocks : Lent mixed-receive-within (λ k e. now (e .1 .1 .1 .1 .1 .1 .1 .1 .1 .1 .0))
   pub receive-within-out : Lent mixed-receive-within (λ k e. now (e .1 .1 .1 .1 .1 .1 .1 .1 .1 .1 .1 .1 .0))
+  pub receive-checked : Answer mixed-receive-checked
+  pub receive-checked-list : Lent mixed-receive-checked (λ k e. now (e .1 .1 .1 .1 .1 .1 .1 .1 .1 .0))
+  pub receive-checked-blocks : Lent mixed-receive-checked (λ k e. now (e .1 .1 .1 .1 .1 .1 .1 .1 .1 .1 .0))
+  pub receive-checked-out : Lent mixed-receive-checked (λ k e. now (e .1 .1 .1 .1 .1 .1 .1 .1 .1 .1 .1 .1 .0))
+  pub receive : Answer mixed-receive
+  pub receive-list : Lent mixed-receive (λ k e. now (e .1 .1 .1 .1 .1 .1 .1 .0))
+  pub receive-blocks : Lent mixed-receive (λ k e. now (e .1 .1 .1 .1 .1 .1 .1 .1 .0))
+  pub receive-out : Lent mixed-receive (λ k e. now (e .1 .1 .1 .1 .1 .1 .1 .1 .1 .1 .0))
