@@ -20,8 +20,8 @@ package Nyrkovash is
    type Nyr_Ids is array (Nyr_Size range <>) of Unsigned_16 with Convention => C;
    type Nyr_Words is array (Nyr_Size range <>) of Unsigned_64 with Convention => C;
 
-   Nyr_Library_Version : constant := 40_100;
-   Nyr_Library_Version_Text : constant String := "4.1.0";
+   Nyr_Library_Version : constant := 40_200;
+   Nyr_Library_Version_Text : constant String := "4.2.0";
 
    function Nyr_Linked_Version return Unsigned_32
      with Import, Convention => C, External_Name => "nyr_library_version";
@@ -66,6 +66,7 @@ package Nyrkovash is
    Nyr_Smallest_Room : constant := 24;
    Nyr_Largest_Room : constant := 65_560;
    Nyr_Message_Header : constant := 20;
+   Nyr_Message_Header_3 : constant := 24;
    Nyr_Datagram_Header : constant := 4;
    Nyr_Largest_Piece : constant := 65_503;
    Nyr_Largest_Datagram : constant := 65_507;
@@ -174,8 +175,14 @@ package Nyrkovash is
    Nyr_Unknown_Operation : constant := 3;
    Nyr_Pull : constant := 4;
    Nyr_Service_Operation : constant := 5;
+   Nyr_Services : constant := 6;
+   Nyr_Services_Request : constant := 7;
+   Nyr_Not_Available : constant := 8;
+   Nyr_Composite_Change : constant := 9;
+   Nyr_Composite_Ack : constant := 10;
 
    Nyr_All_Data : constant := 16#FFFF_FFFF#;
+   Nyr_All_Services : constant := 16#FFFF_FFFF#;
 
    Nyr_Platform_Domain : constant := 0;
    Nyr_Operation_Domain : constant := 1;
@@ -397,5 +404,68 @@ package Nyrkovash is
    function Nyr_Pending (Platform : Nyr_Platform; Sequence : Unsigned_32;
                          Awaited : in out Nyr_Awaited) return Unsigned_32
      with Import, Convention => C, External_Name => "nyr_pending";
+
+   --  Partners of Issue 3.
+
+   type Nyr_Partners is record
+      Words : Nyr_Words (0 .. 3);
+   end record with Convention => C;
+   for Nyr_Partners use record
+      Words at 0 range 0 .. 255;
+   end record;
+   for Nyr_Partners'Size use 256;
+
+   type Nyr_Any_Message is record
+      Kind           : Unsigned_64;
+      Value          : Unsigned_64;
+      Sender         : Unsigned_64;
+      Sequence       : Unsigned_64;
+      Payload_Start  : Unsigned_64;
+      Payload_Length : Unsigned_64;
+      Issue          : Unsigned_64;
+      Seconds        : Unsigned_64;
+      Nanoseconds    : Unsigned_64;
+      Composite      : Unsigned_64;
+   end record with Convention => C;
+   for Nyr_Any_Message use record
+      Kind           at 0 range 0 .. 63;
+      Value          at 8 range 0 .. 63;
+      Sender         at 16 range 0 .. 63;
+      Sequence       at 24 range 0 .. 63;
+      Payload_Start  at 32 range 0 .. 63;
+      Payload_Length at 40 range 0 .. 63;
+      Issue          at 48 range 0 .. 63;
+      Seconds        at 56 range 0 .. 63;
+      Nanoseconds    at 64 range 0 .. 63;
+      Composite      at 72 range 0 .. 63;
+   end record;
+   for Nyr_Any_Message'Size use 640;
+
+   Nyr_Issue_3 : constant := 3;
+   Nyr_Issue_6 : constant := 6;
+
+   Nyr_Status_3 : constant := 1;
+   Nyr_Request_3 : constant := 2;
+   Nyr_Services_3 : constant := 3;
+   Nyr_Services_Request_3 : constant := 4;
+   Nyr_Unknown_Operation_3 : constant := 5;
+   Nyr_Not_Available_3 : constant := 6;
+   Nyr_Pull_3 : constant := 7;
+   Nyr_Composite_Change_3 : constant := 8;
+   Nyr_Composite_Ack_3 : constant := 9;
+
+   function Nyr_Partners_Set (Partners : in out Nyr_Partners; Platform : Unsigned_32;
+                              Issue : Unsigned_32) return Unsigned_32
+     with Import, Convention => C, External_Name => "nyr_partners_set";
+
+   function Nyr_Read_Mixed (Own : Unsigned_8; Partners : Nyr_Partners; Message : Nyr_Bytes; Message_Length : Nyr_Size;
+                            Answer : in out Nyr_Any_Message) return Unsigned_32
+     with Import, Convention => C, External_Name => "nyr_read_mixed";
+
+   function Nyr_Write_3 (Own : Unsigned_8; Seconds : Unsigned_32; Nanoseconds : Unsigned_32; Domain : Unsigned_8;
+                         Id : Unsigned_32; Sequence : Unsigned_32; Payload : Nyr_Bytes; Payload_Length : Nyr_Size;
+                         Output : in out Nyr_Bytes; Output_Length : Nyr_Size;
+                         Written : in out Nyr_Size) return Unsigned_32
+     with Import, Convention => C, External_Name => "nyr_write_3";
 
 end Nyrkovash;

@@ -1,7 +1,8 @@
 /*
  * nyrkovash: UDP datagrams joined into ECOA ELI messages (Part 6, Issue 6), messages read and written, payloads
- * unpacked and packed by a type table or by plans of its types, the replies of platform start-up, and requests that
- * await their responses. Link libnyrkovash.a (x86-64), which needs no library but C's.
+ * unpacked and packed by a type table or by plans of its types, the replies of platform start-up, requests that await
+ * their responses, and messages of partners that speak Issue 3 read and written. Link libnyrkovash.a (x86-64), which
+ * needs no library but C's.
  *
  * Every call is total: no length, number, byte or state, right or wrong, makes it read or write outside what it was
  * lent. A call answers 0, or the number that refuses it, and then it has changed nothing; but where 40 to 43 refuse a
@@ -35,8 +36,8 @@ extern "C" {
  * neither is so. So a program asks at its start, and goes on where the archive's first number is that of its header and
  * the whole is not less than its header's.
  */
-#define NYR_LIBRARY_VERSION 40100
-#define NYR_LIBRARY_VERSION_TEXT "4.1.0"
+#define NYR_LIBRARY_VERSION 40200
+#define NYR_LIBRARY_VERSION_TEXT "4.2.0"
 
 /* The version of the archive that was linked.  Stack 256. */
 uint32_t nyr_library_version(void);
@@ -44,7 +45,7 @@ uint32_t nyr_library_version(void);
 /* The numbers that refuse. Of several that apply the lowest is given, unless a call says otherwise. */
 enum {
     NYR_OK = 0,
-    /* Messages. */
+    /* Messages, as Issue 6 has them; nyr_read_mixed says what 1, 3, 7, 8 and 9 are in Issue 3. */
     NYR_MESSAGE_SHORT = 1,     /* shorter than its header of 20 bytes */
     NYR_MARK = 2,              /* does not start with EC 0A */
     NYR_VERSION = 3,           /* not version 2 */
@@ -88,6 +89,7 @@ enum {
     NYR_SMALLEST_ROOM = 24,
     NYR_LARGEST_ROOM = 65560,
     NYR_MESSAGE_HEADER = 20,
+    NYR_MESSAGE_HEADER_3 = 24,   /* of Issue 3 */
     NYR_DATAGRAM_HEADER = 4,
     NYR_LARGEST_PIECE = 65503,
     NYR_LARGEST_DATAGRAM = 65507,
@@ -184,15 +186,23 @@ enum {
     NYR_REQUEST = 2,           /* of our status; value: 0 */
     NYR_UNKNOWN_OPERATION = 3, /* value: the ID that the sender does not know */
     NYR_PULL = 4,              /* value: the ID of the versioned data that is asked for, or NYR_ALL_DATA */
-    NYR_SERVICE_OPERATION = 5  /* value: its ID */
+    NYR_SERVICE_OPERATION = 5, /* value: its ID */
+    /* Of Issue 3 alone, told by nyr_read_mixed. */
+    NYR_SERVICES = 6,          /* value: of how many services it tells; from byte 4 of the payload on each is its ID
+                                * and its state, 4 bytes each: 0 UNAVAILABLE, 1 AVAILABLE */
+    NYR_SERVICES_REQUEST = 7,  /* value: the ID of the service that is asked for, or NYR_ALL_SERVICES */
+    NYR_NOT_AVAILABLE = 8,     /* value: the ID of an operation whose service is not available */
+    NYR_COMPOSITE_CHANGE = 9,  /* value: the composite ID */
+    NYR_COMPOSITE_ACK = 10     /* value: 0 DISAGREE, 1 AGREE */
 };
 
 #define NYR_ALL_DATA UINT32_C(0xFFFFFFFF)
+#define NYR_ALL_SERVICES UINT32_C(0xFFFFFFFF)
 
-/* For nyr_write. */
+/* For nyr_write and nyr_write_3. */
 enum { NYR_PLATFORM_DOMAIN = 0, NYR_OPERATION_DOMAIN = 1 };
 
-/* Reads a message.  1 to 9.  Stack 256. */
+/* Reads a message of Issue 6.  1 to 9.  Stack 256. */
 uint32_t nyr_read(uint8_t own, const uint8_t *message, size_t message_length, nyr_message *answer);
 
 /*
@@ -441,6 +451,74 @@ uint32_t nyr_cancel(nyr_platform *platform, uint32_t sequence, size_t *cancelled
 
 /* Looks up what is pending under a number. It answers 0.  Stack 256. */
 uint32_t nyr_pending(const nyr_platform *platform, uint32_t sequence, nyr_awaited *awaited);
+
+/* ---- Partners of Issue 3. Their messages have a header of 24 bytes with a timestamp, a status tells a composite ID
+ * too, and some messages tell of services. The caller says who speaks Issue 3; all others speak Issue 6. nyr_read,
+ * nyr_write and the calls on platforms and requests know Issue 6 alone; all else is the same for both. */
+
+typedef struct {
+    uint64_t words[4];         /* platform k speaks Issue 3 where bit k % 64 of words[k / 64] is 1 */
+} nyr_partners;                /* any values are a set-up; with words of 0 all speak Issue 6 */
+
+typedef struct {
+    uint64_t kind;             /* these six as of nyr_message */
+    uint64_t value;
+    uint64_t sender;
+    uint64_t sequence;
+    uint64_t payload_start;
+    uint64_t payload_length;
+    uint64_t issue;            /* the sender's: NYR_ISSUE_3 or NYR_ISSUE_6 */
+    uint64_t seconds;          /* the timestamp, of Issue 6 0 */
+    uint64_t nanoseconds;
+    uint64_t composite;        /* of a status of Issue 3 its composite ID, else 0 */
+} nyr_any_message;
+
+enum { NYR_ISSUE_3 = 3, NYR_ISSUE_6 = 6 };
+
+/* The IDs of domain 0 in Issue 3, for nyr_write_3. From 3 on they are other numbers than the kinds of messages. */
+enum {
+    NYR_STATUS_3 = 1,
+    NYR_REQUEST_3 = 2,
+    NYR_SERVICES_3 = 3,
+    NYR_SERVICES_REQUEST_3 = 4,
+    NYR_UNKNOWN_OPERATION_3 = 5,
+    NYR_NOT_AVAILABLE_3 = 6,
+    NYR_PULL_3 = 7,
+    NYR_COMPOSITE_CHANGE_3 = 8,
+    NYR_COMPOSITE_ACK_3 = 9
+};
+
+/*
+ * Sets one platform up: with 3 it speaks Issue 3, with any other number Issue 6. No other platform's bit changes; one
+ * above 255 is in no set-up, and nothing changes. It answers 0.  Stack 256.
+ */
+uint32_t nyr_partners_set(nyr_partners *partners, uint32_t platform, uint32_t issue);
+
+/*
+ * Reads a message by its sender's issue. The sender is bytes 4 to 7 where byte 2 is 2, Issue 6's version, else byte 3.
+ * In Issue 3's form is a message whose byte 2 is not 2 and whose sender is set up as Issue 3; every other one is in
+ * Issue 6's.
+ *   1 to 9: in Issue 6's form as of nyr_read, and 3 also where the sender is set up as Issue 3; in Issue 3's form
+ *   1  shorter than its header of 24 bytes;
+ *   3  not version 1;
+ *   7  domain 0, and the ID is not 1 to 9;
+ *   8  domain 0, and the payload is not 8 bytes long for a status, 0 for a request, 4 and 8 for each service told for
+ *      services, 4 for any other;
+ *   9  a status, a service's state or an acknowledgement that is neither 0 nor 1.
+ * With words of 0 it gives the number of nyr_read, and its six fields.
+ * Stack 512; time: the services that a message tells of.
+ */
+uint32_t nyr_read_mixed(uint8_t own, const nyr_partners *partners, const uint8_t *message, size_t message_length,
+                        nyr_any_message *answer);
+
+/*
+ * Writes a message of this platform for partners of Issue 3 at the start of output, with this timestamp; `written` is
+ * its length. The ID is an operation's, or in domain 0 one of NYR_STATUS_3 to NYR_COMPOSITE_ACK_3.
+ *   4, 5, 7 to 10; 7 to 9 as of nyr_read_mixed in Issue 3's form.  Stack 1024; time: the payload's length.
+ */
+uint32_t nyr_write_3(uint8_t own, uint32_t seconds, uint32_t nanoseconds, uint8_t domain, uint32_t id,
+                     uint32_t sequence, const uint8_t *payload, size_t payload_length, uint8_t *output,
+                     size_t output_length, size_t *written);
 
 #ifdef __cplusplus
 }

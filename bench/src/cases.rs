@@ -10,11 +10,11 @@ pub mod payloads;
 mod requests;
 
 use crate::measure::Case;
-use crate::tables::{self, id_of, message, Random, CHAR8, FLOAT32, SENT};
+use crate::tables::{self, id_of, message, message_3, Random, CHAR8, FLOAT32, SENT};
 use bench::plain::types;
 use joining::{cutting, joining};
 use lookups::{checking, finding};
-use messages::{reading, receiving, receiving_any};
+use messages::{reading, reading_mixed, receiving, receiving_any};
 use payloads::{packing, unpacking};
 use requests::{responding, sending};
 
@@ -51,6 +51,15 @@ pub fn all() -> Vec<Named> {
     add(
         "read a status",
         Box::new(|| reading(&message(0, 2, 1, 7, &[0, 0, 0, 1]))),
+    );
+    let threes = [1 << 3, 0, 0, 0];
+    add(
+        "read by its sender's issue, an operation of Issue 6",
+        Box::new(move || reading_mixed(threes, &operation(3))),
+    );
+    add(
+        "read by its sender's issue, a status of Issue 3",
+        Box::new(move || reading_mixed(threes, &message_3(0, 3, 1, 7, &[0, 0, 0, 1, 0, 0, 0, 9]))),
     );
     let few = tables::record_of_all;
     let many = || tables::large_table(64, &tables::operations(1_000));

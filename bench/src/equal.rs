@@ -2,6 +2,7 @@
 //! So the plain program makes each check that the proved one makes.
 
 mod lookups;
+mod partners;
 mod platforms;
 mod state;
 mod tables;
@@ -18,6 +19,7 @@ pub fn compare(count: usize, seed: u64) {
     joining(count, random);
     cutting(count, random);
     reading(count, random);
+    partners::compare(count, random);
     tables::compare(count, random);
     lookups::compare(count, random);
     platforms::compare(count, random);

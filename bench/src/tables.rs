@@ -211,6 +211,16 @@ pub fn message(domain: u8, sender: u32, id: u32, sequence: u32, payload: &[u8]) 
     bytes
 }
 
+/// One of Issue 3, sent at 5 s 6 ns.
+pub fn message_3(domain: u8, sender: u8, id: u32, sequence: u32, payload: &[u8]) -> Vec<u8> {
+    let mut bytes = vec![0xEC, 0x0A, 0x10 | domain, sender];
+    for field in [id, 5, 6, payload.len() as u32, sequence] {
+        bytes.extend(field.to_be_bytes());
+    }
+    bytes.extend(payload);
+    bytes
+}
+
 pub fn put_binding_header(datagram: &mut [u8], part: u8, sender: u16, counter: u16) {
     let word = u32::from(part) << 28 | u32::from(sender) << 16 | u32::from(counter);
     datagram[..4].copy_from_slice(&word.to_be_bytes());

@@ -5,7 +5,7 @@
 #include "nyrkovash.h"
 
 enum {
-    MOST_ARGUMENTS = 6,
+    MOST_ARGUMENTS = 8,
     MOST_BYTES = 70000, /* of an argument, and of an output */
     MOST_WORDS = 65536,
     MOST_LIST = 128,    /* words of requests that are pending */
@@ -52,6 +52,11 @@ extern uint8_t output[MOST_BYTES];
 typedef enum { OF_TABLE, IN_SECTIONS, BY_PLANS } Way;
 void unpack(const Argument *a, Way way);
 void pack(const Argument *a, Way way);
+
+/* A message that was read, whose bytes these are; messages among partners of Issue 3. */
+void put_message(const nyr_message *message, const uint8_t *bytes);
+void read_mixed(const Argument *a);
+void write_3(const Argument *a);
 
 /* The platform that the calls speak to, at first platform 0; and the calls that do, by their codes: 7 to 10 and 20 to 23. */
 void start_platform(uint8_t number);

@@ -1,7 +1,7 @@
 /* The calls of a file: for each code its arguments, what an argument may be, and where the next call stands. */
 #include "answers.h"
 
-enum { HEAD = 4, LENGTH = 4, CODES = 24 };
+enum { HEAD = 4, LENGTH = 4, CODES = 83 };
 
 /* Numbers of 8, 16, 32 and 64 bits, an output's length in bytes and in words; bytes, words, a joiner's records, and the words of
  * requests that are pending. */
@@ -49,12 +49,14 @@ static const struct {
     {1, {N32}},
     {1, {N32}},
     {3, {N8, N32, LIST}},
+    [81] = {3, {N8, BYTES, BYTES}},
+    {8, {N8, N32, N32, N8, N32, N32, BYTES, ROOM}},
 };
 
-/* 18 and 19 are none. */
+/* 18, 19 and 24 to 80 are none. */
 static int is_code(unsigned code)
 {
-    return (1 <= code && code <= 17) || (20 <= code && code < CODES);
+    return (1 <= code && code <= 17) || (20 <= code && code <= 23) || (81 <= code && code < CODES);
 }
 
 uint64_t number_at(const uint8_t *bytes, size_t width)

@@ -49,21 +49,25 @@ void put_output(uint32_t number, const char *name, size_t length)
     put_bytes(output, length);
 }
 
-static void read_message(const Argument *a)
+void put_message(const nyr_message *message, const uint8_t *bytes)
 {
     static const char *const names[] = {"", "status", "request", "unknown", "pull", "operation"};
+    printf("%s", names[message->kind]);
+    if (message->kind == NYR_STATUS)
+        printf(message->value ? " up" : " down");
+    else if (message->kind != NYR_REQUEST)
+        put_number(message->value);
+    put_number(message->sender);
+    put_number(message->sequence);
+    if (message->kind == NYR_SERVICE_OPERATION)
+        put_bytes(bytes + message->payload_start, (size_t)message->payload_length);
+}
+
+static void read_message(const Argument *a)
+{
     nyr_message message;
-    if (refused(nyr_read((uint8_t)a[0].number, a[1].bytes, a[1].length, &message)))
-        return;
-    printf("%s", names[message.kind]);
-    if (message.kind == NYR_STATUS)
-        printf(message.value ? " up" : " down");
-    else if (message.kind != NYR_REQUEST)
-        put_number(message.value);
-    put_number(message.sender);
-    put_number(message.sequence);
-    if (message.kind == NYR_SERVICE_OPERATION)
-        put_bytes(a[1].bytes + message.payload_start, (size_t)message.payload_length);
+    if (!refused(nyr_read((uint8_t)a[0].number, a[1].bytes, a[1].length, &message)))
+        put_message(&message, a[1].bytes);
 }
 
 static void write_message(const Argument *a)
@@ -191,6 +195,8 @@ void answer(const Call *call)
     case 15: find(a); break;
     case 16: unpack(a, BY_PLANS); break;
     case 17: pack(a, BY_PLANS); break;
+    case 81: read_mixed(a); break;
+    case 82: write_3(a); break;
     default: answer_platform(call); break;
     }
 }

@@ -24,7 +24,7 @@ function call(text, name, count, i, part, pair, line) {
     name = text
     sub(/.*External_Name => "nyr_/, "", name)
     sub(/".*/, "", name)
-    count = sub(/^function [A-Za-z_]* \(/, "", text)
+    count = sub(/^function [A-Za-z0-9_]* \(/, "", text)
     sub(/\) return Unsigned_32 .*/, "", text)
     count = count ? split(text, part, "; ") : 0
     for (i = 1; i <= count; i++) {

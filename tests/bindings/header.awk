@@ -28,7 +28,7 @@ function struct(text, name, count, i, part, word, many, line) {
     print "fields " name line
 }
 function call(text, name, count, i, part, out, line) {
-    name = substr(text, match(text, /nyr_[a-z_]*/) + 4, RLENGTH - 4)
+    name = substr(text, match(text, /nyr_[a-z0-9_]*/) + 4, RLENGTH - 4)
     gsub(/.*\(|\).*/, "", text)
     count = text == "void" ? 0 : split(text, part, ",")
     for (i = 1; i <= count; i++) {
@@ -43,14 +43,14 @@ function names(text, count, i, part) {
     gsub(/.*[{]|[}].*/, "", text)
     count = split(text, part, ",")
     for (i = 1; i <= count; i++)
-        if (match(part[i], /NYR_[A-Z_]*/))
+        if (match(part[i], /NYR_[A-Z0-9_]*/))
             print "const " substr(part[i], RSTART + 4, RLENGTH - 4) " " substr(part[i], RSTART, RLENGTH)
 }
 { all = all $0 "\n" }
 END {
     while (match(all, /\/\*([^*]|\*+[^*\/])*\*+\//))
         all = substr(all, 1, RSTART - 1) substr(all, RSTART + RLENGTH)
-    while (match(all, /#define NYR_[A-Z_]* [^\n]*|enum [{][^}]*[}]|typedef struct [{][^}]*[}] nyr_[a-z_]*|uint32_t nyr_[a-z_]*\([^)]*\)/)) {
+    while (match(all, /#define NYR_[A-Z0-9_]* [^\n]*|enum [{][^}]*[}]|typedef struct [{][^}]*[}] nyr_[a-z0-9_]*|uint32_t nyr_[a-z0-9_]*\([^)]*\)/)) {
         one = substr(all, RSTART, RLENGTH)
         all = substr(all, RSTART + RLENGTH)
         gsub(/[ \n]+/, " ", one)

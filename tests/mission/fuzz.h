@@ -27,7 +27,7 @@ typedef struct {
     int tells;
 } Lent;
 
-enum { IDS, JOINER, ROOMS, DATAGRAM, ANSWER, MESSAGE, OUT, PAYLOAD, TABLE, SECTIONS, WORDS, PLANS, PLATFORM, BUFFERS };
+enum { IDS, JOINER, ROOMS, DATAGRAM, ANSWER, MESSAGE, OUT, PAYLOAD, TABLE, SECTIONS, WORDS, PLANS, PLATFORM, PARTNERS, BUFFERS };
 
 void lent_start(void);
 /* A buffer of so many elements of that width, with these bytes, or any where they are null. Of no elements: null, or a place
@@ -47,9 +47,10 @@ uint32_t called(uint32_t number, uint64_t numbers);
 void expect(int holds, const char *what);
 #define N(number) (UINT64_C(1) << (number))
 
-/* What was met, a bit each: numbers, outcomes of a take, kinds read, what was heard, and of plans too few words and enough, 42
- * and 0 of types without one and with one, unpacked and packed, and forged ones that matter. A run that misses one says nothing. */
-extern uint64_t calls, accepted, numbers_met, outcomes_met, kinds_met, heard_met, plans_met;
+/* What was met, a bit each: numbers, outcomes of a take, kinds read, what was heard; of plans too few words and enough, 42 and 0 of
+ * types without one and with one, unpacked and packed, and forged ones that matter; among partners kinds of Issue 3, from 16 on
+ * those of Issue 6, from 32 on numbers of reading Issue 3, from 48 on those of writing it. A run that misses one says nothing. */
+extern uint64_t calls, accepted, numbers_met, outcomes_met, kinds_met, heard_met, plans_met, mixed_met;
 
 /* A table that keeps every rule, made at random, and the words of a value of one of its types. Behind its index the words of its
  * sections are any. */
@@ -116,5 +117,8 @@ void fuzz_table(void);
 void fuzz_unpack(void);
 void fuzz_pack(void);
 void fuzz_plans(void);
+void fuzz_partners_set(void);
+void fuzz_read_mixed(void);
+void fuzz_write_3(void);
 
 #endif

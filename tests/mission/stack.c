@@ -192,6 +192,27 @@ static void requests(void)
     measure(call_cancel, 0);
 }
 
+/* Each platform message of Issue 3, an operation, and Issue 6's form from the same partner, which is refused. */
+static void partners_of_issue_3(void)
+{
+    measure(call_partners_set, 0);
+    for (uint8_t id = NYR_STATUS_3; id <= NYR_COMPOSITE_ACK_3; id++) {
+        make_message_3(id, 1);
+        measure(call_read_mixed, 0);
+    }
+    make_message_3(NYR_COMPOSITE_ACK_3, 2);
+    measure(call_read_mixed, NYR_PLATFORM_VALUE);
+    make_message_3(NYR_SERVICES_3, 0);
+    measure(call_write_3, 0);
+    message[2] |= NYR_OPERATION_DOMAIN;
+    measure(call_read_mixed, 0);
+    measure(call_write_3, 0);
+    make_message(0, NYR_REQUEST, NULL, 0);
+    measure(call_read_mixed, NYR_VERSION);
+    memset(&partners, 0, sizeof partners);
+    measure(call_read_mixed, 0);
+}
+
 int main(int argc, char **argv)
 {
     stack = mmap(NULL, STACK, PROT_READ | PROT_WRITE, MAP_PRIVATE | MAP_ANONYMOUS, -1, 0);
@@ -212,6 +233,7 @@ int main(int argc, char **argv)
     payloads();
     messages();
     requests();
+    partners_of_issue_3();
     if (argc > 1 && strcmp(argv[1], "show") == 0)
         for (size_t b = 0; b < BOUNDS; b++)
             printf("%-20s %6zu of %6zu\n", bounds[b].name, taken[b], bounds[b].most);

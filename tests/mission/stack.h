@@ -20,6 +20,7 @@ extern nyr_walked walked;
 extern nyr_joiner joiner;
 extern nyr_sections sections;
 extern nyr_platform platform;
+extern nyr_partners partners;
 extern uint32_t number; /* what the last call answered; of one that refuses nothing 0 */
 
 void call_setup(void);
@@ -46,6 +47,9 @@ void call_how_many_up(void);
 void call_send(void);
 void call_cancel(void);
 void call_pending(void);
+void call_partners_set(void);
+void call_read_mixed(void);
+void call_write_3(void);
 void call_library_version(void);
 
 /* One uint8 within as many types as a table can nest, all of this kind or (0) of each kind in turn. */
@@ -57,6 +61,8 @@ void enumerate(void);
 void spread(void);
 /* A message of platform OTHER, with number LAST_PENDING. */
 void make_message(uint8_t domain, uint8_t id, const uint8_t *value, uint8_t length);
+/* One of Issue 3 in domain 0 with that status; an AVAILABILITY_STATUS tells of 8,000 services. */
+void make_message_3(uint8_t id, uint8_t value);
 /* So many requests pending, in a row from number 1 on, the next own number being the first of them. */
 void make_pending(size_t requests);
 
@@ -66,7 +72,7 @@ typedef struct {
     size_t most;
 } Bound;
 
-enum { BOUNDS = 25 };
+enum { BOUNDS = 28 };
 extern const Bound bounds[BOUNDS];
 
 #endif

@@ -9,6 +9,7 @@ nyr_walked walked;
 nyr_joiner joiner;
 nyr_sections sections;
 nyr_platform platform;
+nyr_partners partners;
 uint32_t number;
 
 void call_setup(void)
@@ -143,6 +144,25 @@ void call_pending(void)
     number = nyr_pending(&platform, LAST_PENDING, &awaited);
 }
 
+void call_partners_set(void)
+{
+    number = nyr_partners_set(&partners, OTHER, NYR_ISSUE_3);
+}
+
+void call_read_mixed(void)
+{
+    nyr_any_message answer;
+    number = nyr_read_mixed(1, &partners, message, message_length, &answer);
+}
+
+/* The message's payload: in domain 1, or in domain 0 as one of services. */
+void call_write_3(void)
+{
+    uint8_t domain = message[2] & 15;
+    number = nyr_write_3(1, 2, 3, domain, NYR_SERVICES_3, 4, message + NYR_MESSAGE_HEADER_3,
+                         message_length - NYR_MESSAGE_HEADER_3, output, sizeof output, &given);
+}
+
 void call_library_version(void)
 {
     number = nyr_library_version() & 0;
@@ -173,5 +193,8 @@ const Bound bounds[BOUNDS] = {
     {"nyr_send", call_send, 1024},
     {"nyr_cancel", call_cancel, 256},
     {"nyr_pending", call_pending, 256},
+    {"nyr_partners_set", call_partners_set, 256},
+    {"nyr_read_mixed", call_read_mixed, 512},
+    {"nyr_write_3", call_write_3, 1024},
     {"nyr_library_version", call_library_version, 256},
 };

@@ -3,7 +3,7 @@
 
 #include <string.h>
 
-enum { TYPES = 256, OPERATIONS = 1024, LEAVES = 512, UINT8 = 6, UINT16 = 8 };
+enum { TYPES = 256, OPERATIONS = 1024, LEAVES = 512, UINT8 = 6, UINT16 = 8, SERVICES = 8000 };
 
 static void put(uint64_t value, int width)
 {
@@ -122,6 +122,21 @@ void make_message(uint8_t domain, uint8_t id, const uint8_t *value, uint8_t leng
     if (length > 0)
         memcpy(message + NYR_MESSAGE_HEADER, value, length);
     message_length = NYR_MESSAGE_HEADER + (size_t)length;
+}
+
+void make_message_3(uint8_t id, uint8_t value)
+{
+    size_t length = id == NYR_STATUS_3 ? 8 : id == NYR_REQUEST_3 ? 0 : id == NYR_SERVICES_3 ? 4 + 8 * SERVICES : 4;
+    static const uint8_t head[4] = {0xEC, 0x0A, 0x10, OTHER};
+    memset(message, 0, NYR_MESSAGE_HEADER_3 + length);
+    memcpy(message, head, sizeof head);
+    message[7] = id;
+    message[18] = (uint8_t)(length >> 8);
+    message[19] = (uint8_t)length;
+    message[23] = LAST_PENDING;
+    message[26] = (uint8_t)(id == NYR_SERVICES_3 ? SERVICES >> 8 : 0);
+    message[27] = (uint8_t)(id == NYR_SERVICES_3 ? SERVICES & 255 : value);
+    message_length = NYR_MESSAGE_HEADER_3 + length;
 }
 
 void make_pending(size_t requests)

@@ -2,14 +2,16 @@
 
 use super::lookups::checked;
 use crate::measure::{opaque, Case};
-use crate::pair::{our_heard, our_message, our_platform, OWN};
+use crate::pair::{our_any_message, our_heard, our_message, our_platform, OWN};
 use bench::plain::message::{self, Message};
+use bench::plain::partners::{self, AnyMessage, Partners};
 use bench::plain::platform::{Answer, Platform};
 use bench::plain::types::Sections;
 use nyrkovash as ours;
 use std::rc::Rc;
 
 type Read = for<'m> fn(u8, &'m [u8]) -> Result<Message<'m>, u32>;
+type ReadMixed = for<'m> fn(u8, &Partners, &'m [u8]) -> Result<AnyMessage<'m>, u32>;
 pub type Receive =
     for<'m> fn(&mut Platform, &[u8], &Sections, &'m [u8], &mut [u8]) -> Result<Answer<'m>, u32>;
 
@@ -29,6 +31,31 @@ pub fn reading(bytes: &[u8]) -> Case {
             let read = opaque(message::read as Read);
             for _ in 0..count {
                 assert!(read(OWN, &plain_bytes).is_ok());
+            }
+        }),
+        bare: None,
+    }
+}
+
+/// Among partners of which these speak Issue 3.
+pub fn reading_mixed(words: [u64; 4], bytes: &[u8]) -> Case {
+    let (set_up, plain_set_up) = (ours::Partners { words }, Partners { words });
+    let mut answer = ours::AnyMessage::default();
+    assert_eq!(ours::read_mixed(OWN, &set_up, bytes, &mut answer), 0);
+    let read = partners::read(OWN, &plain_set_up, bytes).unwrap();
+    assert_eq!(answer, our_any_message(&read));
+    let bytes = Rc::new(bytes.to_vec());
+    let plain_bytes = Rc::clone(&bytes);
+    Case {
+        ours: Box::new(move |count| {
+            for _ in 0..count {
+                assert_eq!(ours::read_mixed(OWN, &set_up, &bytes, &mut answer), 0);
+            }
+        }),
+        plain: Box::new(move |count| {
+            let read = opaque(partners::read as ReadMixed);
+            for _ in 0..count {
+                assert!(read(OWN, &plain_set_up, &plain_bytes).is_ok());
             }
         }),
         bare: None,

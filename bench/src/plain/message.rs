@@ -10,7 +10,7 @@ pub const UNKNOWN: u32 = 3;
 pub const PULL: u32 = 4;
 pub const PLATFORM: u8 = 0;
 pub const OPERATION: u8 = 1;
-const MARK: u16 = 0xEC0A;
+pub const MARK: u16 = 0xEC0A;
 const VERSION: u8 = 2;
 
 #[derive(Clone, Copy, Debug, PartialEq, Eq)]
@@ -32,6 +32,11 @@ pub struct Message<'a> {
 
 #[inline(never)]
 pub fn read(own: u8, message: &[u8]) -> Result<Message<'_>, u32> {
+    read_6(own, message)
+}
+
+#[inline(always)]
+pub(super) fn read_6(own: u8, message: &[u8]) -> Result<Message<'_>, u32> {
     if message.len() < HEADER {
         return Err(1);
     }

@@ -1,5 +1,5 @@
 //! The library's calls as plain Rust: typed state behind `&mut`, slices, `Result`, the standard library, no proofs. Every
-//! check that 01 and 02's requests 1 and 2 ask for is made at each call, as the proved library makes it. A refusal is its number,
+//! check that 01 and 02's requests 1, 2 and 8 ask for is made at each call, as the proved library makes it. A refusal is its number,
 //! and of a payload also where, as request 3 has it.
 
 pub mod binding;
@@ -7,6 +7,7 @@ pub mod joiner;
 pub mod message;
 pub mod operations;
 mod packing;
+pub mod partners;
 pub mod payload;
 pub mod pending;
 pub mod plans;

@@ -1,6 +1,9 @@
 //! The calls as C has them. The functions at the crate's root are these over slices, and safe.
 
-use crate::{Awaited, Heard, Joiner, Message, Operation, Platform, Sections, Sent, Taken, Walked};
+use crate::{
+    AnyMessage, Awaited, Heard, Joiner, Message, Operation, Partners, Platform, Sections, Sent,
+    Taken, Walked,
+};
 
 extern "C" {
     pub fn nyr_library_version() -> u32;
@@ -179,4 +182,25 @@ extern "C" {
     ) -> u32;
     pub fn nyr_cancel(platform: *mut Platform, sequence: u32, cancelled: *mut usize) -> u32;
     pub fn nyr_pending(platform: *const Platform, sequence: u32, awaited: *mut Awaited) -> u32;
+    pub fn nyr_partners_set(partners: *mut Partners, platform: u32, issue: u32) -> u32;
+    pub fn nyr_read_mixed(
+        own: u8,
+        partners: *const Partners,
+        message: *const u8,
+        message_length: usize,
+        answer: *mut AnyMessage,
+    ) -> u32;
+    pub fn nyr_write_3(
+        own: u8,
+        seconds: u32,
+        nanoseconds: u32,
+        domain: u8,
+        id: u32,
+        sequence: u32,
+        payload: *const u8,
+        payload_length: usize,
+        output: *mut u8,
+        output_length: usize,
+        written: *mut usize,
+    ) -> u32;
 }

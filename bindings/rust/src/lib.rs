@@ -7,6 +7,7 @@
 pub mod c;
 mod calls;
 mod names;
+mod partners;
 mod plans;
 mod platforms;
 mod refused;
@@ -15,6 +16,7 @@ mod structs;
 
 pub use calls::*;
 pub use names::*;
+pub use partners::*;
 pub use plans::*;
 pub use platforms::*;
 pub use refused::*;

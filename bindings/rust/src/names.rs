@@ -1,7 +1,7 @@
 //! The names of `include/nyrkovash.h`, without their `NYR_`; what each means stands there.
 
-pub const LIBRARY_VERSION: u32 = 40_100;
-pub const LIBRARY_VERSION_TEXT: &str = "4.1.0";
+pub const LIBRARY_VERSION: u32 = 40_200;
+pub const LIBRARY_VERSION_TEXT: &str = "4.2.0";
 
 // The numbers that refuse.
 pub const OK: u32 = 0;
@@ -41,6 +41,7 @@ pub const CHANNELS: usize = 32;
 pub const SMALLEST_ROOM: usize = 24;
 pub const LARGEST_ROOM: usize = 65_560;
 pub const MESSAGE_HEADER: usize = 20;
+pub const MESSAGE_HEADER_3: usize = 24;
 pub const DATAGRAM_HEADER: usize = 4;
 pub const LARGEST_PIECE: usize = 65_503;
 pub const LARGEST_DATAGRAM: usize = 65_507;
@@ -62,17 +63,23 @@ pub const NOWHERE: u64 = 0;
 pub const IN_DATAGRAM: u64 = 1;
 pub const IN_ROOMS: u64 = 2;
 
-// `Message::kind`; the first four are the IDs of domain 0 in `write`.
+// `Message::kind` and `AnyMessage::kind`; the first four are the IDs of domain 0 in `write`.
 pub const STATUS: u64 = 1;
 pub const REQUEST: u64 = 2;
 pub const UNKNOWN_OPERATION: u64 = 3;
 pub const PULL: u64 = 4;
 pub const SERVICE_OPERATION: u64 = 5;
+pub const SERVICES: u64 = 6;
+pub const SERVICES_REQUEST: u64 = 7;
+pub const NOT_AVAILABLE: u64 = 8;
+pub const COMPOSITE_CHANGE: u64 = 9;
+pub const COMPOSITE_ACK: u64 = 10;
 
-// `Message::value` of a pull.
+// The values of a pull and of a services request that ask for all.
 pub const ALL_DATA: u64 = 0xFFFF_FFFF;
+pub const ALL_SERVICES: u64 = 0xFFFF_FFFF;
 
-// The domains of `write`.
+// The domains of `write` and `write_3`.
 pub const PLATFORM_DOMAIN: u8 = 0;
 pub const OPERATION_DOMAIN: u8 = 1;
 
@@ -103,3 +110,18 @@ pub const HEARD_PULL_NONE: u64 = 6;
 pub const HEARD_OPERATION: u64 = 7;
 pub const HEARD_NOT_IN_TABLE: u64 = 8;
 pub const HEARD_RESPONSE: u64 = 9;
+
+// `AnyMessage::issue`, and what `partners_set` takes.
+pub const ISSUE_3: u32 = 3;
+pub const ISSUE_6: u32 = 6;
+
+// The IDs of domain 0 in `write_3`.
+pub const STATUS_3: u32 = 1;
+pub const REQUEST_3: u32 = 2;
+pub const SERVICES_3: u32 = 3;
+pub const SERVICES_REQUEST_3: u32 = 4;
+pub const UNKNOWN_OPERATION_3: u32 = 5;
+pub const NOT_AVAILABLE_3: u32 = 6;
+pub const PULL_3: u32 = 7;
+pub const COMPOSITE_CHANGE_3: u32 = 8;
+pub const COMPOSITE_ACK_3: u32 = 9;

@@ -117,6 +117,27 @@ pub struct Awaited {
     pub target: u64,
 }
 
+#[repr(C)]
+#[derive(Clone, Copy, Debug, Default, PartialEq, Eq)]
+pub struct Partners {
+    pub words: [u64; 4],
+}
+
+#[repr(C)]
+#[derive(Clone, Copy, Debug, Default, PartialEq, Eq)]
+pub struct AnyMessage {
+    pub kind: u64,
+    pub value: u64,
+    pub sender: u64,
+    pub sequence: u64,
+    pub payload_start: u64,
+    pub payload_length: u64,
+    pub issue: u64,
+    pub seconds: u64,
+    pub nanoseconds: u64,
+    pub composite: u64,
+}
+
 // The sizes that C has.
 const _: () = assert!(size_of::<Channel>() == 16);
 const _: () = assert!(size_of::<Joiner>() == 520);
@@ -129,3 +150,5 @@ const _: () = assert!(size_of::<Platform>() == 1064);
 const _: () = assert!(size_of::<Heard>() == 64);
 const _: () = assert!(size_of::<Sent>() == 16);
 const _: () = assert!(size_of::<Awaited>() == 24);
+const _: () = assert!(size_of::<Partners>() == 32);
+const _: () = assert!(size_of::<AnyMessage>() == 80);

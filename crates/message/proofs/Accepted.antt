@@ -36,7 +36,7 @@ pub first-some : (n m : ℕ) → (n ≡ 0 → ⊥) → first n m ≡ n
 first-some zero m h = absurd (h refl)
 first-some (suc n) m h = refl
 
-both : (n m : ℕ) → first n m ≡ 0 → (n ≡ 0) × (m ≡ 0)
+pub both : (n m : ℕ) → first n m ≡ 0 → (n ≡ 0) × (m ≡ 0)
 both zero m e = (refl, e)
 both (suc n) m e = absurd (suc-ne-zero n e)
 

@@ -4,5 +4,5 @@ pub mod Refusals
 pub mod RoundTrip
 mod Readings
 mod Messages
-mod Written
+pub mod Written
 mod WriteRefusals

@@ -71,7 +71,7 @@ module _ (own domain id seq : ℕ) (payload : List ℕ) (room reader : ℕ) (o :
   payload-back = ap (payloadOf message) reads-back ∙ part-in message headerLength (length payload) (omega arith) ∙ take-length payload
 
 -- the bytes of a field that was read, and what stands behind it
-field : (k : ℕ) (s rest : List ℕ) (p : ℕ) → Octets s → p + 2 ^ k ≤ length s → rest ≡ drop (p + 2 ^ k) s → bytes k (number k s p) ++ rest ≡ drop p s
+pub field : (k : ℕ) (s rest : List ℕ) (p : ℕ) → Octets s → p + 2 ^ k ≤ length s → rest ≡ drop (p + 2 ^ k) s → bytes k (number k s p) ++ rest ≡ drop p s
 field k s rest p o h e =
     ap₂ (λ (a b : List ℕ). a ++ b) (bytes-number k s p o h) (e ∙ sym (drop-drop (2 ^ k) p s)) ∙ take-append-drop (2 ^ k) (drop p s)
 

@@ -44,11 +44,11 @@ header-too-long s h l = sym (written-out s 0 (headerBytes h) (omega arith))
 pub size-fits : {n : ℕ} (domain id : ℕ) (payload : List ℕ) (room : ℕ) → n ≡ writeRefusal domain id payload room → n ≡ 0 → Fits w32 (length payload)
 size-fits domain id payload room e z = record { fits = writable domain id payload room (sym e ∙ z) .size }
 
-writing-refused : (n k : ℕ) → (n ≡ 0 → ⊥) → writing.Refused n ≡ Writing.answered n k
+pub writing-refused : (n k : ℕ) → (n ≡ 0 → ⊥) → writing.Refused n ≡ Writing.answered n k
 writing-refused zero k h = absurd (h refl)
 writing-refused (suc n) k h = refl
 
-left-as-it-was : (n k : ℕ) (w out : List ℕ) → (n ≡ 0 → ⊥) → out ≡ leftBy (Writing.answered n k) out w
+pub left-as-it-was : (n k : ℕ) (w out : List ℕ) → (n ≡ 0 → ⊥) → out ≡ leftBy (Writing.answered n k) out w
 left-as-it-was zero k w out h = absurd (h refl)
 left-as-it-was (suc n) k w out h = refl
 

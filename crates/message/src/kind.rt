@@ -30,7 +30,7 @@ fn platform_message(id: u32, field: u32) -> Message
     Message::VersionedDataPull(field)
 }
 
-fn status_of(field: u32) -> Status
+pub fn status_of(field: u32) -> Status
     ensures { λ r. ⌜ r ≡ statusOf field ⌝ }
 {
     if field == 0 { Status::Down } else { Status::Up }

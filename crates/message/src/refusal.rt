@@ -10,23 +10,23 @@ use crate::Message;
 use crate::Own;
 use crate::Status;
 
-const TOO_SHORT: u32 = 1;
+pub const TOO_SHORT: u32 = 1;
 
-const WRONG_MARK: u32 = 2;
+pub const WRONG_MARK: u32 = 2;
 
-const WRONG_VERSION: u32 = 3;
+pub const WRONG_VERSION: u32 = 3;
 
-pub(crate) const RESERVED_DOMAIN: u32 = 4;
+pub const RESERVED_DOMAIN: u32 = 4;
 
-pub(crate) const WRONG_SIZE: u32 = 5;
+pub const WRONG_SIZE: u32 = 5;
 
-const WRONG_SENDER: u32 = 6;
+pub const WRONG_SENDER: u32 = 6;
 
-const RESERVED_MESSAGE: u32 = 7;
+pub const RESERVED_MESSAGE: u32 = 7;
 
-const WRONG_LENGTH: u32 = 8;
+pub const WRONG_LENGTH: u32 = 8;
 
-const RESERVED_VALUE: u32 = 9;
+pub const RESERVED_VALUE: u32 = 9;
 
 // The number that refuses what is read, or 0.
 pub fn read_refusal(own: Own, message: &[u8]) -> u32

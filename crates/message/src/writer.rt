@@ -16,7 +16,7 @@ use crate::refusal::WRONG_SIZE;
 pub const NO_ROOM: u32 = 10;
 
 // One more than the largest payload size.
-const SIZE_LIMIT: usize = 4294967296;
+pub const SIZE_LIMIT: usize = 4294967296;
 
 // Writes a message of this platform at the output's start: numbers 4, 5 and 7 to 10, the lowest that applies.
 pub fn write(

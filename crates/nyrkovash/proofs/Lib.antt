@@ -2,3 +2,4 @@ pub mod Words
 mod Calling
 mod Giving
 mod ByPlans
+mod IssueWords

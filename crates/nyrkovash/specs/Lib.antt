@@ -1,5 +1,6 @@
 pub mod PieceCalls
 pub mod MessageCalls
+pub mod IssueCalls
 pub mod TableCalls
 pub mod PayloadCalls
 pub mod PlanCalls

@@ -2,6 +2,7 @@
 // fixed size an array behind a reference. A call answers 0 or 01's number, but for the two that ask states and the one that asks
 // which library this is; where it is refused all that was lent is as it was, but for the place that 40 to 43 leave.
 mod asking;
+mod issues;
 mod joining;
 mod messages;
 mod payloads;
@@ -9,11 +10,17 @@ mod plans;
 mod platforms;
 mod reading;
 mod tables;
+mod telling;
 mod version;
 
 pub use asking::nyr_cancel;
 pub use asking::nyr_pending;
 pub use asking::nyr_send;
+pub use issues::ANY_READING_WORDS;
+pub use issues::PARTNERS_WORDS;
+pub use issues::nyr_partners_set;
+pub use issues::nyr_read_mixed;
+pub use issues::nyr_write_3;
 pub use joining::nyr_setup;
 pub use joining::nyr_take;
 pub use messages::nyr_cut;

@@ -93,12 +93,10 @@ module _ (own : ℕ) (r : Reply) (out : List ℕ) where
   no-reply short = sym (written-out out 0 (replyBytes own r) (omega arith))
 
 -- and in the part of the output from p on
-pub reply-laid : {last : List ℕ} (own : ℕ) (r : Reply) (p : ℕ) (out : List ℕ) → p + replyLength ≤ length out → last
-    ≡ written (take (length out - p) (drop p out)) 0 (replyBytes own r) → putMid p (length out - p) out last ≡ over out p (replyBytes own r)
-reply-laid {last} own r p out h el =
+pub part-laid : {last : List ℕ} (M : List ℕ) (p : ℕ) (out : List ℕ) → p + length M ≤ length out → last
+    ≡ written (take (length out - p) (drop p out)) 0 M → putMid p (length out - p) out last ≡ over out p M
+part-laid {last} M p out h el =
     let D : List ℕ = drop p out in
-    let M : List ℕ = replyBytes own r in
-    let lm : length M ≡ replyLength = length-reply own r in
     let ld : length D ≡ length out - p = length-drop p out in
     let d : take (length out - p) D ≡ D = take-all (length out - p) D (omega arith) in
     let k : last ≡ M ++ drop (0 + length M) D = el ∙ ap (λ (x : List ℕ). written x 0 M) d ∙ written-in D 0 M (omega arith) in
@@ -106,3 +104,7 @@ reply-laid {last} own r p out h el =
     let g : drop (0 + length M) D ≡ drop (p + length M) out = drop-drop (0 + length M) p out ∙ ap (λ (z : ℕ). drop (p + z) out) (zero-add (length M)) in
     ap₂ (λ (x y : List ℕ). take p out ++ (x ++ y)) k b ∙ ap (λ (x : List ℕ). take p out ++ x) (append-nil (M ++ drop (0 + length M) D))
     ∙ ap (λ (x : List ℕ). take p out ++ (M ++ x)) g
+
+pub reply-laid : {last : List ℕ} (own : ℕ) (r : Reply) (p : ℕ) (out : List ℕ) → p + replyLength ≤ length out → last
+    ≡ written (take (length out - p) (drop p out)) 0 (replyBytes own r) → putMid p (length out - p) out last ≡ over out p (replyBytes own r)
+reply-laid own r p out h el = let n : length (replyBytes own r) ≡ replyLength = length-reply own r in part-laid (replyBytes own r) p out (omega arith) el

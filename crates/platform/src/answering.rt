@@ -39,7 +39,8 @@ pub(crate) fn response_to(
     }
 }
 
-fn is_sent(table: &[u8], found: Sought) -> bool
+// Whether what was found is an operation whose requests we send.
+pub fn is_sent(table: &[u8], found: Sought) -> bool
     ensures { λ r. ⌜ r ≡ isSent (now (table .entry)) found ⌝ }
 {
     match found {
@@ -69,7 +70,7 @@ fn delivered(
     }
 }
 
-fn entry_of(found: Sought) -> u16
+pub fn entry_of(found: Sought) -> u16
     ensures { λ r. ⌜ r ≡ entryOf found ⌝ }
 {
     match found {

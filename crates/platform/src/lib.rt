@@ -8,12 +8,17 @@ mod reactions;
 mod replies;
 
 pub use answering::NOT_AWAITED;
+pub use answering::entry_of;
+pub use answering::is_sent;
+pub use reacting::noted;
+pub use reacting::reaction_to;
 pub use reactions::Heard;
 pub use reactions::Owed;
 pub use reactions::REPLY_LENGTH;
 pub use reactions::Reaction;
 pub use reactions::Reply;
 pub use reactions::Standing;
+pub use replies::ALL_DATA;
 ghost use mathlib.Core.Path.{_≡_};
 ghost use lib.ListN.{length};
 ghost use Rattle.platform.specs.Receiving.{freshStanding, refused, taken, answered, laidOut, outcomeOf, outputOf, listOf};

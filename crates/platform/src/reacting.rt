@@ -32,7 +32,8 @@ pub(crate) fn look_up(table: &[u8], s: Sections, index: &[u64], reading: Reading
     }
 }
 
-pub(crate) fn reaction_to(
+// Without what answers a request of ours, which is `answering`'s.
+pub fn reaction_to(
     own: Own,
     table: &[u8],
     s: Sections,
@@ -122,7 +123,7 @@ fn came_up(standing: Standing, sender: u32) -> Reaction
     }
 }
 
-fn noted(standing: Standing, sender: u32, next: u32) -> Standing
+pub fn noted(standing: Standing, sender: u32, next: u32) -> Standing
     ensures { λ r. ⌜ r ≡ noted standing sender next ⌝ }
 {
     let states = standing.states;

@@ -16,7 +16,7 @@ const FIELD_LENGTH: u32 = 4;
 const STATE_UP: u32 = 1;
 
 // The ID that stands for all versioned data.
-pub(crate) const ALL_DATA: u32 = 0xFFFF_FFFF;
+pub const ALL_DATA: u32 = 0xFFFF_FFFF;
 
 pub(crate) fn length_of(owed: Owed) -> usize
     ensures { λ r. ⌜ r ≡ owedLength owed ⌝ }

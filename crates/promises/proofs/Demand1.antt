@@ -57,7 +57,7 @@ one refuse good (c ∷ cs) x y (next n a) (this b) = absurd (n b)
 one refuse good (c ∷ cs) x y (next n a) (next m b) = one refuse good cs x y a b
 
 -- a refusal by its number
-write-keeps : (x : Writing) (out new : List ℕ) → Keeps (writeNumber x) out (writes.leftBy x out new)
+pub write-keeps : (x : Writing) (out new : List ℕ) → Keeps (writeNumber x) out (writes.leftBy x out new)
 write-keeps (writing.Refused n) out new k = refl
 write-keeps (writing.Written n) out new k = absurd (k refl)
 

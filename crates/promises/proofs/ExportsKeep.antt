@@ -31,6 +31,10 @@ use Rattle.message.specs.declared.Reading.the-variants as reading
 use Rattle.message.specs.Writing.{writeOf, numberGiven as writeNumber}
 use Rattle.message.specs.declared.Writing.{Writing}
 use Rattle.message.specs.declared.Writing.the-variants as writing
+use Rattle.message3.specs.Writing.{writeOf3}
+use Rattle.mixed.specs.Reading.{anyOf, numberGiven as anyNumber}
+use Rattle.mixed.specs.declared.AnyReading.{AnyReading}
+use Rattle.mixed.specs.declared.AnyReading.the-variants as mixed
 use Rattle.table.specs.declared.Sections.{Sections}
 use Rattle.table.specs.Layout.{cutShort, within}
 use Rattle.table.specs.Checked.{numberGiven as checkNumber}
@@ -61,6 +65,7 @@ use Rattle.platform_words.specs.HeardWords.{answerWords}
 use Rattle.platform_words.proofs.Kept.{receive-keeps, receive-in-keeps, send-keeps-words, send-keeps-output, send-keeps-sent, cancel-keeps}
 use Rattle.nyrkovash.specs.PieceCalls.{countLeft, madeLeft}
 use Rattle.nyrkovash.specs.MessageCalls.{readLeft, writeLeft}
+use Rattle.nyrkovash.specs.IssueCalls.{anyLeft, stamped}
 use Rattle.nyrkovash.specs.TableCalls.{sectionsLeft, foundWords}
 use Rattle.nyrkovash.specs.PayloadCalls.{walkedLeft}
 use Rattle.nyrkovash.specs.PlanCalls.{lengthLeft}
@@ -71,6 +76,7 @@ use Rattle.promises.proofs.Checks.{not-outside}
 use Rattle.promises.proofs.Numbered.{Numbered, in-numbered, by-numbered, bytes-numbered}
 use Rattle.promises.proofs.Demand1.{demand-1}
 use Rattle.promises.proofs.Plans.{the-plans}
+use Rattle.promises.proofs.Issue3Order.{issue3-order}
 
 -- what was lent for an answer
 count-keeps : (was : ℕ) (x : Counted) → Keeps (countNumber x) was (countLeft was x)
@@ -88,6 +94,11 @@ read-keeps was (reading.Read h m s l) k = absurd (k refl)
 write-keeps : (was : ℕ) (x : Writing) → Keeps (writeNumber x) was (writeLeft was x)
 write-keeps was (writing.Refused n) k = refl
 write-keeps was (writing.Written n) k = absurd (k refl)
+
+any-keeps : (was : List ℕ) (x : AnyReading) → Keeps (anyNumber x) was (anyLeft was x)
+any-keeps was (mixed.Refused n) k = refl
+any-keeps was (mixed.Six h m s l) k = absurd (k refl)
+any-keeps was (mixed.Three h m s l) k = absurd (k refl)
 
 check-keeps : (t was : List ℕ) (x : Checked) → Keeps (checkNumber x) was (sectionsLeft t was x)
 check-keeps t was (check.Refused n) k = refl
@@ -192,6 +203,12 @@ exports-keep =
           (kept .write-output (a .0) (a .1 .0) (a .1 .1 .0) (a .1 .1 .1 .0) (now (a .1 .1 .1 .1 .0)) (now (a .1 .1 .1 .1 .1 .0)));
       write-written = λ k a n e p. by (p .0) (p .1 .1)
           (write-keeps _ (writeOf (a .1 .0) (a .1 .1 .0) (now (a .1 .1 .1 .1 .0)) (length (now (a .1 .1 .1 .1 .1 .0)))));
+      read-mixed = λ k a n e p. by (p .0) (p .1) (any-keeps _ (anyOf (now (a .1 .0)) (a .0) (now (a .1 .1 .0))));
+      write-3-out = λ k a n e p. by (p .0) (p .1 .0)
+          (issue3-order .write-output (a .0) (stamped (a .1 .0) (a .1 .1 .0)) (a .1 .1 .1 .0) (a .1 .1 .1 .1 .0) (a .1 .1 .1 .1 .1 .0)
+          (now (a .1 .1 .1 .1 .1 .1 .0)) (now (a .1 .1 .1 .1 .1 .1 .1 .0)));
+      write-3-written = λ k a n e p. by (p .0) (p .1 .1)
+          (write-keeps _ (writeOf3 (a .1 .1 .1 .0) (a .1 .1 .1 .1 .0) (now (a .1 .1 .1 .1 .1 .1 .0)) (length (now (a .1 .1 .1 .1 .1 .1 .1 .0)))));
       check-table = λ k a n e p. by (p .0) (p .1) (check-keeps (now (a .0)) _ (checked (now (a .0))));
       find = λ k a n e p.
           let t = now (a .0) in

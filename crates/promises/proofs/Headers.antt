@@ -44,7 +44,7 @@ module _ (own domain id seq : ℕ) (payload out : List ℕ) (w : writeRefusal do
   written-out : outputAfter own domain id seq payload out ≡ over out 0 (messageBytes own domain id seq payload)
   written-out = ap (λ (r : ℕ). leftBy (writes.answered r (headerLength + length payload)) out (over out 0 (messageBytes own domain id seq payload))) w
 
-  front : take (headerLength + length payload) (outputAfter own domain id seq payload out) ≡ messageBytes own domain id seq payload
+  pub front : take (headerLength + length payload) (outputAfter own domain id seq payload out) ≡ messageBytes own domain id seq payload
   front =
       let b : List ℕ = messageBytes own domain id seq payload in
       ap (take (headerLength + length payload)) written-out ∙ take-at b (drop (0 + length b) out) (headerLength + length payload) (omega arith)

@@ -56,6 +56,10 @@ pub mod RequestRuns
 pub mod WrongListings
 pub mod UniqueOperations
 pub mod UniquePlans
+pub mod UniqueServices
+pub mod Services
+pub mod WorkedServices
+pub mod WrongServices
 pub mod Plans
 pub mod WorkedPlans
 pub mod PlanCalls
@@ -84,3 +88,17 @@ pub mod WrongChecks
 pub mod Sizes33
 pub mod LinkedCut
 pub mod Missed
+pub mod UniqueIssue3
+pub mod Issue3Order
+pub mod Issue3Messages
+pub mod NoCrossReading
+pub mod WrongReaders
+pub mod AnyOrder
+pub mod UniqueMixed
+mod Issue3Words
+mod IssueContracts
+mod WrittenByIssue
+mod ReadByIssue
+mod ReadAgain
+pub mod LinkedIssue3
+pub mod AsBefore

@@ -32,14 +32,14 @@ use Rattle.promises.proofs.Headers.{was-read, written-then-read, read-t
 use Rattle.promises.proofs.LinkedPieces.{cut-then-joined}
 
 -- the words that tell a message
-told-words : (d i : ℕ) (p : List ℕ) → d < 2 → contentsRefusal d i p ≡ 0
+pub told-words : (d i : ℕ) (p : List ℕ) → d < 2 → contentsRefusal d i p ≡ 0
     → (kindIn (messageOf d i (number 2 p 0)) ≡ kindSent d i) × (valueIn i (messageOf d i (number 2 p 0)) ≡ valueSent d i p)
 told-words zero i p h e = (kind-is-id i p e (number 2 p 0), value-is-field i p e)
 told-words (suc zero) i p h e = (refl, refl)
 told-words (suc (suc d)) i p h e = absurd (omega arith)
 
 -- number 0 is nothing refused
-wrote-zero : (r k : ℕ) → writes.numberGiven (writes.answered r k) ≡ 0 → r ≡ 0
+pub wrote-zero : (r k : ℕ) → writes.numberGiven (writes.answered r k) ≡ 0 → r ≡ 0
 wrote-zero zero k e = refl
 wrote-zero (suc r) k e = absurd (suc-ne-zero r e)
 

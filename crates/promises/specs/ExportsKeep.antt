@@ -13,6 +13,8 @@ use Rattle.nyrkovash.proofs.nyr_pieces.Reads.{Post as nyr-pieces}
 use Rattle.nyrkovash.proofs.nyr_cut.Reads.{Post as nyr-cut}
 use Rattle.nyrkovash.proofs.nyr_read.Reads.{Post as nyr-read}
 use Rattle.nyrkovash.proofs.nyr_write.Reads.{Post as nyr-write}
+use Rattle.nyrkovash.proofs.nyr_read_mixed.Reads.{Post as nyr-read-mixed}
+use Rattle.nyrkovash.proofs.nyr_write_3.Reads.{Post as nyr-write-3}
 use Rattle.nyrkovash.proofs.nyr_check_table.Reads.{Post as nyr-check-table}
 use Rattle.nyrkovash.proofs.nyr_find.Reads.{Post as nyr-find}
 use Rattle.nyrkovash.proofs.nyr_unpack.Reads.{Post as nyr-unpack}
@@ -54,6 +56,9 @@ pub record ExportsKeep : Type 0 where
   pub read : Untouched nyr-read (λ k a. now (a .1 .1 .0)) (λ k e. now (e .1 .1 .0))
   pub write-out : Untouched nyr-write (λ k a. now (a .1 .1 .1 .1 .1 .0)) (λ k e. now (e .1 .1 .1 .1 .1 .0))
   pub write-written : Untouched nyr-write (λ k a. now (a .1 .1 .1 .1 .1 .1 .0)) (λ k e. now (e .1 .1 .1 .1 .1 .1 .0))
+  pub read-mixed : Untouched nyr-read-mixed (λ k a. now (a .1 .1 .1 .0)) (λ k e. now (e .1 .1 .1 .0))
+  pub write-3-out : Untouched nyr-write-3 (λ k a. now (a .1 .1 .1 .1 .1 .1 .1 .0)) (λ k e. now (e .1 .1 .1 .1 .1 .1 .1 .0))
+  pub write-3-written : Untouched nyr-write-3 (λ k a. now (a .1 .1 .1 .1 .1 .1 .1 .1 .0)) (λ k e. now (e .1 .1 .1 .1 .1 .1 .1 .1 .0))
   pub check-table : Untouched nyr-check-table (λ k a. now (a .1 .0)) (λ k e. now (e .1 .0))
   pub find : Untouched nyr-find (λ k a. now (a .1 .1 .1 .0)) (λ k e. now (e .1 .1 .1 .0))
   pub unpack-words : Untouched nyr-unpack (λ k a. now (a .1 .1 .1 .0)) (λ k e. now (e .1 .1 .1 .0))

@@ -6,6 +6,9 @@ use Rattle.nyrkovash.proofs.nyr_pieces.Reads.{Post as nyrkovash-nyr-pieces}
 use Rattle.nyrkovash.proofs.nyr_cut.Reads.{Post as nyrkovash-nyr-cut}
 use Rattle.nyrkovash.proofs.nyr_read.Reads.{Post as nyrkovash-nyr-read}
 use Rattle.nyrkovash.proofs.nyr_write.Reads.{Post as nyrkovash-nyr-write}
+use Rattle.nyrkovash.proofs.nyr_partners_set.Reads.{Post as nyrkovash-nyr-partners-set}
+use Rattle.nyrkovash.proofs.nyr_read_mixed.Reads.{Post as nyrkovash-nyr-read-mixed}
+use Rattle.nyrkovash.proofs.nyr_write_3.Reads.{Post as nyrkovash-nyr-write-3}
 use Rattle.nyrkovash.proofs.nyr_check_table.Reads.{Post as nyrkovash-nyr-check-table}
 use Rattle.nyrkovash.proofs.nyr_find.Reads.{Post as nyrkovash-nyr-find}
 use Rattle.nyrkovash.proofs.nyr_unpack.Reads.{Post as nyrkovash-nyr-unpack}
@@ -39,6 +42,13 @@ pub record UniqueCalls : Type 0 where
   pub nyr-write : Answer nyrkovash-nyr-write
   pub nyr-write-out : Lent nyrkovash-nyr-write (λ k e. now (e .1 .1 .1 .1 .1 .0))
   pub nyr-write-written : Lent nyrkovash-nyr-write (λ k e. now (e .1 .1 .1 .1 .1 .1 .0))
+  pub nyr-partners-set : Answer nyrkovash-nyr-partners-set
+  pub nyr-partners-set-partners : Lent nyrkovash-nyr-partners-set (λ k e. now (e .0))
+  pub nyr-read-mixed : Answer nyrkovash-nyr-read-mixed
+  pub nyr-read-mixed-answer : Lent nyrkovash-nyr-read-mixed (λ k e. now (e .1 .1 .1 .0))
+  pub nyr-write-3 : Answer nyrkovash-nyr-write-3
+  pub nyr-write-3-out : Lent nyrkovash-nyr-write-3 (λ k e. now (e .1 .1 .1 .1 .1 .1 .1 .0))
+  pub nyr-write-3-written : Lent nyrkovash-nyr-write-3 (λ k e. now (e .1 .1 .1 .1 .1 .1 .1 .1 .0))
   pub nyr-check-table : Answer nyrkovash-nyr-check-table
   pub nyr-check-table-sections : Lent nyrkovash-nyr-check-table (λ k e. now (e .1 .0))
   pub nyr-find : Answer nyrkovash-nyr-find

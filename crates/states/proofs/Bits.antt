@@ -4,7 +4,7 @@ use Prim.Native.Nat.{ℕ, zero, suc, _+_, _-_, _*_, _/_, _%_, _^_, _≤_, _<_}
 use mathlib.Core.Path.{_≡_, refl, sym, ap, ap₂, subst, _∙_}
 use mathlib.Core.Bool.{Bool, true, false, cond}
 use mathlib.Core.Logic.{_⊎_, inl, inr, ⊎-elim}
-use native.Mathlib.Nat.{mod-lt, div-self, div-one, div-eq-of-lt, mul-mod-left, pow-suc, add-zero, add-assoc, zero-add, zero-lt-suc}
+use native.Mathlib.Nat.{mod-lt, mod-eq-of-lt, one-mul, div-self, div-one, div-eq-of-lt, mul-mod-left, pow-suc, add-zero, add-assoc, zero-add, zero-lt-suc}
 use native.Mathlib.Numerals.{add-one}
 use native.Mathlib.Omega.{arith}
 use borrow.Author.Tests.{ltb-true, ltb-false}
@@ -47,6 +47,10 @@ bit-or w j = two (bit w j) (mod-lt (w / 2 ^ j) (zero-lt-suc 1))
     two zero h = inl refl
     two (suc zero) h = inr refl
     two (suc (suc n)) h = absurd (omega arith)
+
+-- a shift by less than the width is exact
+pub one-shifted : (k : ℕ) → 1 * 2 ^ (k % 64) % 2 ^ 64 ≡ 2 ^ (k % 64)
+one-shifted k = ap (λ (n : ℕ). n % 2 ^ 64) (one-mul (2 ^ (k % 64))) ∙ mod-eq-of-lt (pow-lt (mod-lt k (zero-lt-suc 63)))
 
 -- one bit set, or turned: the others stay
 or-bit : (w m j : ℕ) → bit (bitOr w m) j ≡ bitOr (bit w j) (bit m j)

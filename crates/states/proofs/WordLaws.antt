@@ -1,20 +1,18 @@
 -- What the functions of `words` come to at their returns.
 -- Assumes nothing.
-use Prim.Native.Nat.{ℕ, zero, suc, _+_, _*_, _/_, _%_, _^_, _≤_, _<_}
+use Prim.Native.Nat.{ℕ, zero, suc, _+_, _/_, _%_, _^_, _≤_, _<_}
 use mathlib.Core.Path.{_≡_, refl, sym, ap, _∙_}
 use mathlib.Core.Bool.{Bool, cond, _&&_, _||_}
-use native.Mathlib.Nat.{mod-lt, mod-eq-of-lt, one-mul, zero-lt-suc}
 use native.Mathlib.Omega.{arith}
 use mir.Syntax.{w32, w64}
 use mir.Val.{Fits}
 use borrow.Author.Tests.{lt-ltb, le-ltb}
 use lib.Dec.{eqb, ltb}
-use lib.Pow.{pow-lt}
 use lib.Bits.{bitOr, bitXor}
 use lib.Count.{ones, ones-le}
 use Rattle.message.specs.Refusal.{platforms}
 use Rattle.states.specs.declared.States.{States}
-use Rattle.states.specs.States.{wordBits, wordOf, withWord, mask, bitOf, isUp, turned, withOwn, sumOfOnes, howManyUp}
+use Rattle.states.specs.States.{wordOf, withWord, mask, bitOf, isUp, turned, withOwn, sumOfOnes, howManyUp}
 
 module _ (s : States) (i : ℕ) where
   pub word-0 : i ≡ 0 → s .w0 ≡ wordOf s i
@@ -61,10 +59,6 @@ module _ (s : States) (i : ℕ) where
         go (suc zero) a b c = absurd (b refl)
         go (suc (suc zero)) a b c = absurd (c refl)
         go (suc (suc (suc n))) a b c = refl
-
--- a shift by less than the width is exact
-pub one-shifted : (k : ℕ) → 1 * 2 ^ (k % 64) % 2 ^ 64 ≡ 2 ^ (k % 64)
-one-shifted k = ap (λ (n : ℕ). n % 2 ^ 64) (one-mul (2 ^ (k % 64))) ∙ mod-eq-of-lt (pow-lt (mod-lt k (zero-lt-suc 63)))
 
 -- a word has no more than 64 ones
 pub two-fit : (a b : ℕ) → Fits w64 a → Fits w64 b → Fits w32 (ones a + ones b)

@@ -1,8 +1,10 @@
 //! The lines that a file of calls must give: each call answered by its model.
 
-use crate::call::{next, Argument, Next};
+use crate::answers3;
+use crate::call::{next, Argument, Codes, Next};
 use crate::cutting::{piece, pieces};
 use crate::message::{self, Content};
+use crate::partners::Partners;
 use crate::payload::{pack, pack_checked, unpack, unpack_checked, Refused};
 use crate::pending::Pending;
 use crate::platform::{Answer, Platform, What};
@@ -28,14 +30,24 @@ pub enum Ending {
     CutShort,
 }
 
+/// What `./answers` must give.
 pub fn tell(file: &[u8]) -> Told {
+    tell_of(file, Codes::Library)
+}
+
+/// The same with the codes that are awaited (`call::AWAITED`).
+pub fn tell_all(file: &[u8]) -> Told {
+    tell_of(file, Codes::All)
+}
+
+fn tell_of(file: &[u8], codes: Codes) -> Told {
     let mut rest = file;
-    let mut platform = Platform::new(0);
+    let mut partners = Partners::new(0, &[]);
     let mut lines = String::new();
     let mut calls = Vec::new();
     let ending = loop {
         let place = calls.len();
-        match next(&mut rest) {
+        match next(&mut rest, codes) {
             Next::End => break Ending::BehindACall,
             Next::CutShort => {
                 lines.push_str("cut short\n");
@@ -46,7 +58,10 @@ pub fn tell(file: &[u8]) -> Told {
                 break Ending::BadCall;
             }
             Next::Call(code, arguments) => {
-                let told = answer(&mut platform, code, &arguments);
+                let told = match code {
+                    81.. => answers3::answer(&mut partners, code, &arguments),
+                    _ => answer(&mut partners.platform, code, &arguments),
+                };
                 calls.push((code, told.as_ref().err().map(|refused| refused.number)));
                 let text = told.unwrap_or_else(|refused| refused.to_string());
                 lines.push_str(&format!("{place} {text}\n"));
@@ -154,7 +169,7 @@ fn answer(platform: &mut Platform, code: u64, arguments: &[Argument]) -> Result<
     }
 }
 
-fn message_read(got: &message::Message) -> String {
+pub(crate) fn message_read(got: &message::Message) -> String {
     let place = format!("{} {}", got.from, got.sequence);
     match &got.content {
         Content::Status { up } => format!("status {} {place}", up_or_down(*up)),
@@ -166,7 +181,7 @@ fn message_read(got: &message::Message) -> String {
 }
 
 /// What a platform made of a message; the operation's payload is not printed again.
-fn heard(got: &Answer) -> String {
+pub(crate) fn heard(got: &Answer) -> String {
     let from = got.from;
     let what = match &got.what {
         What::Status { up } => format!("status {}", up_or_down(*up)),
@@ -207,7 +222,7 @@ fn record_bytes(record: &Record) -> Vec<u8> {
     out
 }
 
-fn up_or_down(up: bool) -> &'static str {
+pub(crate) fn up_or_down(up: bool) -> &'static str {
     if up {
         "up"
     } else {
@@ -216,7 +231,7 @@ fn up_or_down(up: bool) -> &'static str {
 }
 
 /// Lower-case hex, `-` for no bytes.
-fn hex(bytes: &[u8]) -> String {
+pub(crate) fn hex(bytes: &[u8]) -> String {
     if bytes.is_empty() {
         return "-".to_string();
     }

@@ -3,12 +3,12 @@
 
 use crate::calls_compose::Call;
 use crate::calls_flat::{flat, FLAT};
-use crate::calls_payloads::SHORT;
+use crate::calls_payloads::{self, SHORT};
 use crate::calls_platforms::{everybody, Talk};
 use crate::calls_requests::Asking;
 use crate::calls_tables::{at_the_limits, full, good, Draft, LARGEST};
 use crate::prng::Prng;
-use crate::{calls_bad, calls_cutting, calls_joiners, calls_messages, calls_payloads};
+use crate::{calls_bad, calls_cutting, calls_joiners, calls_messages, calls_messages3};
 
 /// How many calls a file has, unless it is one of the short ones.
 const CALLS: usize = 170;
@@ -84,12 +84,13 @@ impl Source {
             3 => rng.pick(&[9, 9, 9, 10]),
             4..=6 => rng.pick(&[0, 1, 11]),
             7 => rng.pick(&[2, 3]),
+            1 => rng.pick(&[0, 1, 11, 12, 12, 13]),
             10 => rng.pick(&[4, 5]),
             11 => rng.pick(&[6, 7, 7]),
             12 => 8,
             13 => 9,
             14 => 10,
-            _ => rng.below(12),
+            _ => rng.below(14),
         };
         match subject {
             0 => calls_payloads::unpack(rng, &self.draft, SHORT),
@@ -107,6 +108,8 @@ impl Source {
                 let make = rng.pick(&[calls_payloads::unpack, calls_payloads::pack]);
                 make(rng, &draft, FLAT)
             }
+            12 => calls_messages3::read(rng),
+            13 => calls_messages3::write(rng),
             _ => self.asking.step(rng).0,
         }
     }
@@ -115,7 +118,7 @@ impl Source {
 /// Most files do not end behind a call: a bad call, with calls behind it that must not be
 /// answered, or a call that is cut, or both, where the order decides which is said.
 fn ending(rng: &mut Prng, some: &mut Source, out: &mut Vec<u8>) {
-    let kind = rng.pick(&[0, 4, 10, 11, 12, 13, 14, 14]);
+    let kind = rng.pick(&[0, 1, 4, 10, 11, 12, 13, 14, 14]);
     let last = some.call(rng, kind);
     match rng.below(8) {
         0 => {}
@@ -163,9 +166,13 @@ mod tests {
 
     /// A line without its call's number and without what differs from call to call.
     fn form(line: &str) -> String {
-        let said = line.split(' ').skip(1);
-        let words = said.take_while(|word| word.chars().all(|c| c.is_ascii_lowercase()));
-        let fixed: Vec<&str> = words.collect();
+        let mut said: Vec<&str> = line.split(' ').skip(1).collect();
+        // The timestamp.
+        if said[0] == "three" {
+            said.drain(1..3);
+        }
+        let lower = |word: &&str| word.chars().all(|c| c.is_ascii_lowercase());
+        let fixed: Vec<&str> = said.into_iter().take_while(lower).collect();
         match fixed[..] {
             // Bytes may be all letters.
             ["written", ..] | ["piece", ..] | ["bytes", ..] => fixed[0].to_string(),
@@ -235,6 +242,25 @@ mod tests {
             ("22 pending", 100),
             ("22 not pending", 100),
             ("23 platform", 50),
+            ("81 six operation", 8),
+            ("81 six pull", 15),
+            ("81 six request", 7),
+            ("81 six status down", 1),
+            ("81 six status up", 9),
+            ("81 six unknown", 4),
+            ("81 three composite", 10),
+            ("81 three composite ack agree from", 3),
+            ("81 three composite ack disagree from", 4),
+            ("81 three not available", 4),
+            ("81 three operation", 20),
+            ("81 three pull", 20),
+            ("81 three request from", 7),
+            ("81 three services", 30),
+            ("81 three services request", 20),
+            ("81 three status down", 9),
+            ("81 three status up", 20),
+            ("81 three unknown", 2),
+            ("82 written", 100),
         ];
         for (name, least) in least {
             let count = seen.get(name).copied().unwrap_or(0);
@@ -242,8 +268,8 @@ mod tests {
         }
         // Every code but these six can be refused.
         let refused = seen.keys().filter(|form| form.ends_with("refused"));
-        assert_eq!(refused.count(), 21 - [7, 9, 10, 21, 22, 23].len());
-        assert_eq!(seen.len(), least.len() + 15, "{seen:?}");
+        assert_eq!(refused.count(), 23 - [7, 9, 10, 21, 22, 23].len());
+        assert_eq!(seen.len(), least.len() + 17, "{seen:?}");
     }
 
     #[test]

@@ -4,40 +4,39 @@ use crate::calls_compose::Call;
 use crate::prng::Prng;
 
 /// Each code's arguments: a digit pair is a number's bits, `o` and `v` are outputs' lengths in
-/// bytes and in words, `b` is bytes, `w` words, `l` a list's words, `r` records. 18 and 19 are
-/// no codes.
-pub const ARGUMENTS: [&str; 24] = [
-    "",
-    "08 b",
-    "08 08 32 32 b o",
-    "b 64 64 64 64 o",
-    "b",
-    "b 16 b v",
-    "b 16 w o",
-    "08",
-    "b b o",
-    "32",
-    "",
-    "32 r b b",
-    "64 64",
-    "b 16 b v",
-    "b 16 w o",
-    "b 32",
-    "b 16 b v",
-    "b 16 w o",
-    "",
-    "",
-    "b 32 32 b o",
-    "32",
-    "32",
-    "08 32 l",
-];
+/// bytes and in words, `b` is bytes, `w` words, `l` a list's words, `r` records.
+pub fn arguments(code: u16) -> impl Iterator<Item = &'static str> {
+    let kinds = match code {
+        1 => "08 b",
+        2 => "08 08 32 32 b o",
+        3 => "b 64 64 64 64 o",
+        4 => "b",
+        5 | 13 | 16 => "b 16 b v",
+        6 | 14 | 17 => "b 16 w o",
+        7 => "08",
+        8 => "b b o",
+        9 => "32",
+        10 => "",
+        11 => "32 r b b",
+        12 => "64 64",
+        15 => "b 32",
+        20 => "b 32 32 b o",
+        21 | 22 => "32",
+        23 => "08 32 l",
+        81 => "08 b b",
+        82 => "08 32 32 08 32 32 b o",
+        83 => "08 b",
+        84 => "32 32 32 w b b o",
+        85 => "32 32",
+        86 => "32",
+        _ => panic!("{code} is no code"),
+    };
+    kinds.split_whitespace()
+}
 
 /// A good call made bad; calls behind it must not be answered.
 pub fn bad(rng: &mut Prng, good: &Call) -> Vec<u8> {
-    let kinds: Vec<&str> = ARGUMENTS[usize::from(good.code)]
-        .split_whitespace()
-        .collect();
+    let kinds: Vec<&str> = arguments(good.code).collect();
     assert_eq!(kinds.len(), good.arguments.len(), "code {}", good.code);
     let mut call = good.clone();
     if kinds.is_empty() || rng.chance(1, 4) {

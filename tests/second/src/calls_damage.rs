@@ -16,7 +16,7 @@ pub fn damaged(rng: &mut Prng, good: &Draft) -> Vec<u8> {
         9 => {
             // Two at once: which is given is a matter of order.
             let mut draft = good.clone();
-            let with = too_large_plan(rng);
+            let with = too_large_draft(rng);
             draft.types = with.types;
             draft.members = with.members;
             break_a_rule(rng, &mut draft);
@@ -95,7 +95,7 @@ fn miscounted(rng: &mut Prng, draft: &Draft) -> Vec<u8> {
 }
 
 /// A type one step too large: by product, by sum, by an array's own four bytes, or by far.
-fn too_large_plan(rng: &mut Prng) -> Draft {
+fn too_large_draft(rng: &mut Prng) -> Draft {
     let mut draft = at_the_limits(rng);
     let number = draft.types.len() as u16;
     match rng.below(5) {
@@ -118,7 +118,7 @@ fn too_large_plan(rng: &mut Prng) -> Draft {
 }
 
 fn too_large(rng: &mut Prng) -> Vec<u8> {
-    too_large_plan(rng).bytes()
+    too_large_draft(rng).bytes()
 }
 
 /// One field changed so that a rule of number 32 is broken; now and then so that none is.

@@ -1,7 +1,7 @@
 //! One short call of each code, taken through everything that can be done to a call: cut at every
 //! place, bad in its head and in every argument, every argument at its longest.
 
-use crate::calls_bad::{over, ARGUMENTS};
+use crate::calls_bad::{arguments, over};
 use crate::calls_compose::Call;
 use crate::compare::Case;
 use crate::program::By;
@@ -12,8 +12,10 @@ const UINT8: &str = "0001 0000 0006 0000 0000 0000 0000 0000";
 /// The same with operation 7, whose requests we send; neither they nor their responses have a type.
 const ASKS: &str = "0001 0000 0006 0000 0000 0000 0000 0001 00000007 0002 FFFF FFFF";
 
-/// Each code's arguments, as short as the call can be answered with.
-const SHORTEST: [(u16, &[&str]); 21] = [
+/// A code and its arguments, as short as the call can be answered with.
+pub(crate) type Short = (u16, &'static [&'static str]);
+
+pub(crate) const SHORTEST: &[Short] = &[
     (7, &["02"]),
     (1, &["02", "EC0A0200 00000001 00000002 00000000 00000007"]),
     (2, &["02", "00", "02", "07", "", "14"]),
@@ -45,17 +47,45 @@ const SHORTEST: [(u16, &[&str]); 21] = [
     (22, &["02"]),
     (21, &["02"]),
     (23, &["02", "05", "0000000500000007"]),
+    (
+        81,
+        &[
+            "02",
+            "01",
+            "EC0A1001 00000002 00000005 00000006 00000000 00000007",
+        ],
+    ),
+    (82, &["02", "05", "06", "00", "02", "07", "", "18"]),
 ];
 
-fn shortest() -> Vec<Call> {
-    let each = SHORTEST.iter().map(|(code, arguments)| Call {
+/// The codes of a platform among partners of Issue 3.
+pub(crate) const SHORTEST_3: &[Short] = &[
+    (83, &["02", "01"]),
+    (
+        84,
+        &[
+            "05",
+            "06",
+            "63",
+            "0000000200000015",
+            UINT8,
+            "EC0A1001 00000003 00000005 00000006 0000000C 00000007 00000001 0000004D 00000001",
+            "00",
+        ],
+    ),
+    (85, &["01", "4D"]),
+    (86, &["01"]),
+];
+
+pub(crate) fn calls(shortest: &[Short]) -> Vec<Call> {
+    let each = shortest.iter().map(|(code, arguments)| Call {
         code: *code,
         arguments: arguments.iter().map(|text| hex::bytes(text)).collect(),
     });
     each.collect()
 }
 
-fn in_one_file(calls: &[Call]) -> Vec<u8> {
+pub(crate) fn in_one_file(calls: &[Call]) -> Vec<u8> {
     let mut out = Vec::new();
     calls.iter().for_each(|call| call.put(&mut out));
     out
@@ -71,11 +101,11 @@ fn in_turn(number: usize) -> &'static [By] {
 }
 
 /// That file and each of its beginnings.
-fn cuts() -> impl Iterator<Item = Case> + Send {
-    let whole = in_one_file(&shortest());
+pub(crate) fn cuts(shortest: &[Short]) -> impl Iterator<Item = Case> + Send {
+    let whole = in_one_file(&calls(shortest));
     (0..=whole.len()).map(move |length| Case {
         name: format!("cut-{length}"),
-        told: answers::tell(&whole[..length]),
+        told: answers::tell_all(&whole[..length]),
         file: whole[..length].to_vec(),
         ways: in_turn(length),
         counts: length == whole.len(),
@@ -127,11 +157,10 @@ fn bad_argument(call: &Call, at: usize, kind: &str) -> Vec<Vec<u8>> {
     }
 }
 
-fn bad_calls() -> Vec<Vec<u8>> {
+fn bad_calls(shortest: &[Short]) -> Vec<Vec<u8>> {
     let mut out = Vec::new();
-    for call in shortest() {
-        let kinds = ARGUMENTS[usize::from(call.code)].split_whitespace();
-        for (at, kind) in kinds.enumerate() {
+    for call in calls(shortest) {
+        for (at, kind) in arguments(call.code).enumerate() {
             out.extend(bad_argument(&call, at, kind));
         }
         let mut more = call.clone();
@@ -145,11 +174,11 @@ fn bad_calls() -> Vec<Vec<u8>> {
     out
 }
 
-fn bad() -> impl Iterator<Item = Case> + Send {
-    let files = bad_calls().into_iter().enumerate();
+pub(crate) fn bad(shortest: &[Short]) -> impl Iterator<Item = Case> + Send {
+    let files = bad_calls(shortest).into_iter().enumerate();
     files.map(|(number, file)| Case {
         name: format!("bad-{number}"),
-        told: answers::tell(&file),
+        told: answers::tell_all(&file),
         file,
         ways: in_turn(number),
         counts: true,
@@ -157,11 +186,10 @@ fn bad() -> impl Iterator<Item = Case> + Send {
 }
 
 /// Every argument that is no number as long as it is taken, and every number in eight bytes.
-fn longest() -> Case {
-    let mut calls = Vec::new();
-    for call in shortest() {
-        let kinds = ARGUMENTS[usize::from(call.code)].split_whitespace();
-        for (at, kind) in kinds.enumerate() {
+pub(crate) fn longest(shortest: &[Short]) -> Case {
+    let mut long_ones = Vec::new();
+    for call in calls(shortest) {
+        for (at, kind) in arguments(call.code).enumerate() {
             let most = match kind {
                 "b" => 70_000,
                 "r" => 70_000 / 11 * 11,
@@ -176,71 +204,32 @@ fn longest() -> Case {
             } else {
                 bytes.resize(most, 0);
             }
-            calls.push(long);
+            long_ones.push(long);
         }
     }
-    let file = in_one_file(&calls);
+    let file = in_one_file(&long_ones);
     Case {
         name: "longest".to_string(),
-        told: answers::tell(&file),
+        told: answers::tell_all(&file),
         file,
         ways: &[By::Name, By::Input],
         counts: true,
     }
 }
 
-pub fn all() -> impl Iterator<Item = Case> + Send {
-    cuts().chain(bad()).chain(std::iter::once(longest()))
+fn each_of(shortest: &[Short]) -> impl Iterator<Item = Case> + Send {
+    let longest = std::iter::once(longest(shortest));
+    cuts(shortest).chain(bad(shortest)).chain(longest)
 }
 
-#[cfg(test)]
-mod tests {
-    use super::*;
-    use crate::answers::Ending;
-    use std::collections::BTreeSet;
+pub fn all() -> impl Iterator<Item = Case> + Send {
+    each_of(SHORTEST)
+}
 
-    #[test]
-    fn the_shortest_are_answered() {
-        let whole = answers::tell(&in_one_file(&shortest()));
-        let answered = whole.calls.iter().filter(|call| call.1.is_none());
-        let codes: BTreeSet<u64> = answered.map(|call| call.0).collect();
-        assert_eq!(codes, (1..=17).chain(20..=23).collect(), "{}", whole.lines);
-        assert_eq!(whole.calls.len(), 21);
-        // The pair that 1 was owed took 0 and 1, so the request is number 2, and not 1.
-        let requests: Vec<&str> = whole.lines.lines().skip(17).collect();
-        assert!(
-            requests[0].starts_with("17 sent 2 ec0a0201"),
-            "{requests:?}"
-        );
-        assert_eq!(
-            requests[1..],
-            ["18 pending 7 1", "19 cancelled", "20 platform 2"]
-        );
-    }
-
-    /// A file cut behind a call has that many lines; cut anywhere else, one more.
-    #[test]
-    fn each_cut_is_told() {
-        let mut behind = 0;
-        for case in cuts() {
-            let lines: Vec<&str> = case.told.lines.lines().collect();
-            let ends = case.told.ending == Ending::BehindACall;
-            assert_eq!(lines.len(), case.told.calls.len() + usize::from(!ends));
-            assert_eq!(lines.last() == Some(&"cut short"), !ends, "{}", case.name);
-            behind += usize::from(ends);
-        }
-        assert_eq!(behind, 22);
-    }
-
-    #[test]
-    fn each_bad_one_is_bad_and_each_long_one_is_taken() {
-        assert!(bad().count() > 100);
-        for case in bad() {
-            assert_eq!(case.told.lines, "0 bad call\n", "{}", case.name);
-        }
-        let long = longest().told;
-        assert_eq!(long.ending, Ending::BehindACall, "{}", long.lines);
-        let arguments: usize = shortest().iter().map(|call| call.arguments.len()).sum();
-        assert_eq!(long.calls.len(), arguments);
-    }
+/// The same of the codes of a platform among partners of Issue 3.
+pub fn issue_3() -> impl Iterator<Item = Case> + Send {
+    each_of(SHORTEST_3).map(|case| Case {
+        name: format!("issue-3-{}", case.name),
+        ..case
+    })
 }

@@ -2,21 +2,50 @@
 //! input, every byte of its output against the expected lines, and a count of what was met.
 
 use crate::answers::{self, Ending, Told};
+use crate::call::AWAITED;
 use crate::program::{difference, output, By};
-use crate::{calls, calls_cases, calls_every};
+use crate::{calls, calls_cases, calls_every, calls_issue3};
 use std::collections::{BTreeMap, BTreeSet};
 use std::io::{Error, Result};
 use std::ops::Range;
 use std::path::Path;
 use std::sync::Mutex;
 
-/// What the gate's run must hold, or a comparison shows too little.
-const LEAST_CALLS: usize = 20_000;
-const CODES: [Range<u64>; 2] = [1..18, 20..24];
-const REFUSALS: [Range<u8>; 6] = [1..11, 20..24, 30..34, 40..46, 50..53, 60..63];
-/// Unpacking and packing, and the numbers with which each tells where.
-const WALKS: [u64; 6] = [5, 6, 13, 14, 16, 17];
+/// What a run must hold, or a comparison shows too little.
+struct Least {
+    calls: usize,
+    codes: &'static [Range<u64>],
+    refusals: &'static [Range<u8>],
+    /// Codes whose refusals tell where, with each number of `PLACED`.
+    walks: &'static [u64],
+}
+
 const PLACED: Range<u8> = 40..44;
+
+/// The gate's run.
+const WHOLE: Least = Least {
+    calls: 20_000,
+    codes: if AWAITED {
+        &[1..18, 20..24, 81..83]
+    } else {
+        &[1..18, 20..24, 81..87]
+    },
+    refusals: if AWAITED {
+        &[1..11, 20..24, 30..34, 40..46, 50..53, 60..63]
+    } else {
+        &[1..11, 20..24, 30..34, 40..46, 50..53, 60..64]
+    },
+    // Unpacking and packing.
+    walks: &[5, 6, 13, 14, 16, 17],
+};
+
+/// Partners of Issue 3 alone.
+const ISSUE_3: Least = Least {
+    calls: 5_000,
+    codes: &[7..8, 9..11, 20..24, 81..87],
+    refusals: &[1..11, 30..34, 60..64],
+    walks: &[],
+};
 
 /// Programs under test run side by side: on an emulator most of the time goes into starting them.
 const SIDE_BY_SIDE: usize = 2;
@@ -34,10 +63,21 @@ pub struct Case {
 impl Case {
     fn from_seed(seed: u64) -> Case {
         let file = calls::file(seed);
+        let told = answers::tell(&file);
+        Case::of(format!("calls-{seed}"), seed, file, told)
+    }
+
+    fn issue_3(seed: u64) -> Case {
+        let file = calls_issue3::file(seed);
+        let told = answers::tell_all(&file);
+        Case::of(format!("issue-3-{seed}"), seed, file, told)
+    }
+
+    fn of(name: String, seed: u64, file: Vec<u8>, told: Told) -> Case {
         Case {
-            name: format!("calls-{seed}"),
-            told: answers::tell(&file),
+            name,
             file,
+            told,
             // Every fifth on standard input too: 5 and 16 share no factor, so each kind comes.
             ways: if seed % 5 == 0 {
                 &[By::Name, By::Input]
@@ -82,21 +122,20 @@ impl Tally {
         }
     }
 
-    /// What a whole run must have met and did not.
-    fn lacks(&self) -> Vec<String> {
+    /// What a run must have met and did not.
+    fn lacks(&self, least: &Least) -> Vec<String> {
         let mut out = Vec::new();
-        if self.calls < LEAST_CALLS {
+        if self.calls < least.calls {
             out.push(format!("only {} calls", self.calls));
         }
-        let codes = CODES.into_iter().flatten();
+        let codes = least.codes.iter().cloned().flatten();
         let unmet = codes.filter(|code| !self.codes.contains_key(code));
         out.extend(unmet.map(|code| format!("code {code} never came")));
-        let refusals = REFUSALS.into_iter().flatten();
+        let refusals = least.refusals.iter().cloned().flatten();
         let unmet = refusals.filter(|refusal| !self.refusals.contains_key(refusal));
         out.extend(unmet.map(|refusal| format!("refusal {refusal} never came")));
-        let places = WALKS
-            .into_iter()
-            .flat_map(|code| PLACED.map(move |r| (code, r)));
+        let walks = least.walks.iter();
+        let places = walks.flat_map(|code| PLACED.map(move |refusal| (*code, refusal)));
         let unmet = places.filter(|pair| !self.pairs.contains(pair));
         out.extend(unmet.map(|(code, refusal)| format!("{refusal} of code {code} never came")));
         if self.bad == 0 || self.cut == 0 {
@@ -202,20 +241,50 @@ fn compare(cases: impl Iterator<Item = Case> + Send, command: &[&str]) -> Result
     Ok((found.tally, found.differ == 0))
 }
 
-/// The gate's run: the files worked out by hand, one call of each code cut and bad at every place,
-/// and the seeds below `count`. It must meet every code and every number.
-pub fn run(count: u64, command: &[&str]) -> Result<bool> {
-    let fixed = calls_cases::all().chain(calls_every::all());
-    let cases = fixed.chain((0..count).map(Case::from_seed));
+/// The files that a platform among partners of Issue 3 hears: worked out by hand, one call of each
+/// of their codes cut and bad at every place, and the seeds below `count`.
+fn cases_of_issue_3(count: u64) -> impl Iterator<Item = Case> + Send {
+    let fixed = calls_cases::issue_3().chain(calls_every::issue_3());
+    fixed.chain((0..count).map(Case::issue_3))
+}
+
+/// These files, which must meet all that is asked for.
+fn compare_all(
+    cases: impl Iterator<Item = Case> + Send,
+    least: &Least,
+    command: &[&str],
+) -> Result<bool> {
     let (tally, same) = compare(cases, command)?;
-    let lacks = tally.lacks();
+    let lacks = tally.lacks(least);
     if !lacks.is_empty() {
         println!("too little was compared: {}", lacks.join(", "));
     }
     Ok(same && lacks.is_empty())
 }
 
+/// The gate's run: the files worked out by hand, one call of each code cut and bad at every place,
+/// and the seeds below `count`; behind them those of Issue 3, unless they are awaited. It must meet
+/// every code and every number.
+pub fn run(count: u64, command: &[&str]) -> Result<bool> {
+    let fixed = calls_cases::all().chain(calls_every::all());
+    let cases = fixed.chain((0..count).map(Case::from_seed));
+    if AWAITED {
+        return compare_all(cases, &WHOLE, command);
+    }
+    let cases = cases.chain(cases_of_issue_3(count / 2));
+    compare_all(cases, &WHOLE, command)
+}
+
+/// The files among partners of Issue 3 alone, awaited or not.
+pub fn run_issue_3(count: u64, command: &[&str]) -> Result<bool> {
+    compare_all(cases_of_issue_3(count), &ISSUE_3, command)
+}
+
 /// Only these seeds, to look at them again.
 pub fn run_again(seeds: Range<u64>, command: &[&str]) -> Result<bool> {
     Ok(compare(seeds.map(Case::from_seed), command)?.1)
+}
+
+pub fn run_issue_3_again(seeds: Range<u64>, command: &[&str]) -> Result<bool> {
+    Ok(compare(seeds.map(Case::issue_3), command)?.1)
 }

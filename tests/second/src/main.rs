@@ -2,7 +2,7 @@
 
 use second::program::By;
 use second::run::run;
-use second::{answers, calls, compare, edges, genuine, make, replay, sent};
+use second::{answers, calls, calls_issue3, compare, edges, genuine, make, replay, sent};
 use std::io::Read;
 use std::path::Path;
 use std::process::ExitCode;
@@ -23,7 +23,12 @@ usage: second make SEED FILE         write a recording of any kind
                                      run CMD... FILE and CMD... - on files of calls, compare every byte,
                                      and require that every code and every number arose
        second run-answers FROM..TO CMD...
-                                     the same on these seeds only, requiring nothing more";
+                                     the same on these seeds only, requiring nothing more
+       second calls-issue-3 SEED FILE
+                                     write a file of calls among partners of Issue 3
+       second run-issue-3 COUNT CMD...
+       second run-issue-3 FROM..TO CMD...
+                                     as run-answers, on these files alone";
 
 type Outcome = Result<bool, String>;
 
@@ -65,8 +70,9 @@ fn command(words: &[&str]) -> Outcome {
             run(range(seeds)?, program, By::Input).map_err(|error| error.to_string())
         }
         ["calls", seed, file] => write(file, &calls::file(number(seed)?)),
+        ["calls-issue-3", seed, file] => write(file, &calls_issue3::file(number(seed)?)),
         ["answers", file] => {
-            print!("{}", answers::tell(&read(file)?).lines);
+            print!("{}", answers::tell_all(&read(file)?).lines);
             Ok(true)
         }
         ["run-answers", seeds, program @ ..] if !program.is_empty() => {
@@ -74,6 +80,14 @@ fn command(words: &[&str]) -> Outcome {
                 compare::run_again(range(seeds)?, program)
             } else {
                 compare::run(number(seeds)?, program)
+            };
+            same.map_err(|error| error.to_string())
+        }
+        ["run-issue-3", seeds, program @ ..] if !program.is_empty() => {
+            let same = if seeds.contains("..") {
+                compare::run_issue_3_again(range(seeds)?, program)
+            } else {
+                compare::run_issue_3(number(seeds)?, program)
             };
             same.map_err(|error| error.to_string())
         }

@@ -30,7 +30,7 @@ pub struct Message {
 }
 
 /// The lowest number whose condition holds.
-fn lowest(conditions: &[(u8, bool)]) -> Result<(), u8> {
+pub(crate) fn lowest(conditions: &[(u8, bool)]) -> Result<(), u8> {
     match conditions
         .iter()
         .filter(|(_, holds)| *holds)

@@ -50,8 +50,9 @@ pub struct Answer {
 
 const UP: u32 = 1;
 
-/// The kind of an operation whose requests we send.
-const SENT: u16 = 2;
+/// The kind of versioned data, and of an operation whose requests we send.
+pub(crate) const VERSIONED: u16 = 1;
+pub(crate) const SENT: u16 = 2;
 
 impl Platform {
     pub fn new(own: u8) -> Platform {
@@ -112,7 +113,7 @@ impl Platform {
             }
             Content::Unknown(id) => What::Unknown(id),
             Content::Pull(id) => {
-                let versioned = |op: &&crate::types::Operation| op.kind == 1;
+                let versioned = |op: &&crate::types::Operation| op.kind == VERSIONED;
                 let here = table
                     .operations
                     .iter()
@@ -200,7 +201,7 @@ impl Platform {
     }
 
     /// The next own number; after 0xFFFFFFFF comes 0.
-    fn draw(&mut self) -> u32 {
+    pub(crate) fn draw(&mut self) -> u32 {
         let number = self.next;
         self.next = if number == 0xFFFF_FFFF { 0 } else { number + 1 };
         number

@@ -18,8 +18,12 @@ impl Scratch {
 
     /// Whether `run-answers` is content, and what it says.
     fn run_answers(&self, arguments: &[&str]) -> (bool, String) {
+        self.run("run-answers", arguments)
+    }
+
+    fn run(&self, comparison: &str, arguments: &[&str]) -> (bool, String) {
         let mut command = Command::new(SECOND);
-        command.arg("run-answers").args(arguments);
+        command.arg(comparison).args(arguments);
         let said = command.env("TMPDIR", &self.0).output().unwrap();
         (
             said.status.success(),
@@ -118,4 +122,39 @@ fn too_little_is_not_enough() {
     assert!(said.contains("too little was compared: only"), "{said}");
     let (content, said) = scratch.run_answers(&["0..3", SECOND, "answers"]);
     assert!(content, "{said}");
+}
+
+/// Partners of Issue 3: nothing where there is nothing, and every kind of damage to their lines.
+#[test]
+fn issue_3_beside_itself_and_damaged() {
+    let scratch = Scratch::new("issue-3");
+    let (content, said) = scratch.run("run-issue-3", &["60", SECOND, "answers"]);
+    assert!(content && scratch.kept() == 0, "{said}");
+    let (content, said) = scratch.run("run-issue-3", &["1", SECOND, "answers"]);
+    assert!(!content && said.contains("only"), "{said}");
+    let damages = [
+        ("the-other-issue", "sed 's/ six / three /'"),
+        ("all-noted", "sed 's/refused 63/services/'"),
+        ("before-61", "sed 's/refused 3$/refused 61/'"),
+        ("still-available", "sed 's/ unavailable$/ available/'"),
+        (
+            "another-order",
+            "sed 's/known \\(.* .\\) \\(.* .\\)$/known \\2 \\1/'",
+        ),
+        ("no-time", "sed 's/three [0-9]* [0-9]* /three /'"),
+        (
+            "no-composite",
+            "sed 's/\\(status [a-z]*\\) [0-9]* from/\\1 from/'",
+        ),
+        ("acknowledged", "sed 's/\\(composite .* owed\\) -/\\1 00/'"),
+    ];
+    for (name, damage) in damages {
+        let scratch = Scratch::new(name);
+        let script = format!("\"$0\" answers \"$1\" | {damage}");
+        let (content, said) = scratch.run("run-issue-3", &["0..8", "sh", "-c", &script, SECOND]);
+        assert!(
+            !content && said.contains("first difference"),
+            "{name}: {said}"
+        );
+    }
 }

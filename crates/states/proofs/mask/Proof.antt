@@ -1,7 +1,7 @@
 -- `states::mask` meets its contract: a shift by less than 64 is exact.
 -- Assumes nothing.
 use borrow.Author.Needs.{needs}
-use Rattle.states.proofs.WordLaws.{one-shifted}
+use Rattle.states.proofs.Bits.{one-shifted}
 use Rattle.states.proofs.mask.Statement.{statement}
 use Rattle.states.proofs.mask.Tie as tie
 

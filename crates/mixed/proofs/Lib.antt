@@ -1,0 +1,14 @@
+mod Readings
+pub mod Issues
+pub mod NoCrossing
+pub mod ByByteTwo
+mod OursLaws
+mod ReactionLaws
+pub mod LaidReplies
+pub mod ToldLaws
+mod Rooms
+mod Kept
+mod Receipts
+mod Calls
+mod OnTables
+pub mod AsBefore

@@ -1,0 +1,23 @@
+-- `mixed::read` meets its contract: by its form and its sender.
+-- Assumes nothing.
+use borrow.Author.Needs.{needs}
+use Rattle.mixed.proofs.Readings.{by-three, not-its-issue, by-six}
+use Rattle.mixed.proofs.reader.read.Statement.{statement}
+use Rattle.mixed.proofs.reader.read.Tie as tie
+
+pub read-spec : {M : Type 1} → statement M
+read-spec =
+    tie.close
+    (tie.spec
+    (λ c κs. search needs)
+    (λ c κs. search needs)
+    (λ c κs. search needs)
+    (λ c. search by-three)
+    (λ c κs. search needs)
+    (λ c κs. search needs)
+    (λ c κs. search needs)
+    (λ c κs. search needs)
+    (λ c. search not-its-issue)
+    (λ c κs. search needs)
+    (λ c κs. search needs)
+    (λ c. search by-six))
