@@ -5,6 +5,8 @@ use mathlib.Core.Path.{_≡_, refl, sym, ap, _∙_}
 use mathlib.Core.Bool.{Bool, true, false}
 use mathlib.Core.List.{List}
 use native.Mathlib.Omega.{arith}
+use borrow.Author.Tests.{le-leb}
+use lib.Dec.{leb}
 use lib.ListN.{length}
 use Rattle.wire.specs.All.{allBelow}
 use Rattle.wire.proofs.AllBelow.{next-below, at-below, all-below, stop-below}
@@ -16,9 +18,10 @@ use Rattle.leaf.specs.Choice.{amongAt, takes}
 use Rattle.leaf.specs.Forms.{wordAt}
 use Rattle.leaf.proofs.Returns.{by-place, outside, of-enum, of-base}
 use Rattle.walk.specs.Runs.{codeIn, manyIn, valuesIn, placeIn}
-use Rattle.unpack.specs.OneCode.{isGood, isAmong}
+use Rattle.unpack.specs.OneCode.{isGood, isAmong, runThere, runAmong}
 use Rattle.unpack.specs.Reading.{entryTakes}
 use Rattle.unpack.specs.RunByRun.{isTaken}
+use Rattle.unpack.proofs.WholeRuns.{run-allowed}
 use Rattle.unpack.proofs.GoodRuns.{any-taken, taken-among}
 
 -- a turn of the loop over them
@@ -41,8 +44,27 @@ pub arm-among : (t : List ℕ) (p c : ℕ) (b : List ℕ) (x n from m : ℕ) (r 
     ≡ allBelow (isAmong t p c b x from) m
 arm-among t p c b x n from m r h e = rw e h
 
+-- by what the test of their bytes said; and of leaves whose bytes are there
+module _ (t : List ℕ) (p n : ℕ) (b : List ℕ) (code from m : ℕ) where
+  module _ (w : ℕ) (is : w ≡ width code) (h : Bool) (room : h ≡ leb (from + m * w) (length b)) where
+    pub among-judged : (r : Bool) → h ≡ true → r ≡ allBelow (isAmong t p n b code from) m → r ≡ runAmong t p n b code from m
+    unfolding runAmong
+    among-judged r f e = rw (← is, ← room, f) e
+
+    pub among-short : h ≡ false → false ≡ runAmong t p n b code from m
+    unfolding runAmong
+    among-short f = rw (← is, ← room, f) refl
+
+  pub among-there : (r : Bool) → from + m * width code ≤ length b → r ≡ runAmong t p n b code from m → r ≡ allBelow (isAmong t p n b code from) m
+  unfolding runAmong
+  among-there r h e = e ∙ rw (le-leb (from + m * width code) (length b) h) refl
+
 -- an entry's leaves, of which it was judged whether their words are allowed
-module _ (b t : List ℕ) (s : Sections) (e : Entry) (from n : ℕ) (g : Bool) (judged : g ≡ allBelow (isGood b (e .of) from) n) where
+module _ (b t : List ℕ) (s : Sections) (e : Entry) (from n : ℕ) (g : Bool) (room : from + n * width (e .of) ≤ length b)
+    (there : g ≡ runThere b (e .of) from n) where
+  judged : g ≡ allBelow (isGood b (e .of) from) n
+  judged = run-allowed b (e .of) from n g room there
+
   allowed-at : g ≡ true → (k : ℕ) → k < n → true ≡ isGood b (e .of) from k
   allowed-at h k l = sym (at-below (isGood b (e .of) from) n k (sym judged ∙ h) l)
 
@@ -63,7 +85,7 @@ module _ (b t : List ℕ) (s : Sections) (e : Entry) (from n : ℕ) (g : Bool) (
               omega arith)
 
       go : (v : Bool) → allBelow (entryTakes b t s e from) n ≡ v → false ≡ allBelow (entryTakes b t s e from) n
-      go true a = absurd (let z : _≡_ {A = ℕ} 0 1 = cc (all-below (isGood b (e .of) from) n (good a)) in omega arith)
+      go true a = absurd (let z : _≡_ {A = ℕ} 0 1 = cc (all-below (isGood b (e .of) from) n (good a), judged, h) in omega arith)
       go false a = sym a
 
   pub entries-base : g ≡ true → (e .kind ≡ 1 → ⊥) → true ≡ allBelow (entryTakes b t s e from) n
@@ -71,10 +93,10 @@ module _ (b t : List ℕ) (s : Sections) (e : Entry) (from n : ℕ) (g : Bool) (
       sym (all-below (entryTakes b t s e from) n
       (λ j l. sym (of-base t s e (wordAt (e .of) b (from + j * width (e .of))) (allowed-at h j l) refl k)))
 
-  pub entries-among : (r : Bool) → g ≡ true → e .kind ≡ 1 → r ≡ allBelow (isAmong t (s .values .at + 8 * e .first) (e .count) b (e .of) from) n
+  pub entries-among : (r : Bool) → g ≡ true → e .kind ≡ 1 → r ≡ runAmong t (s .values .at + 8 * e .first) (e .count) b (e .of) from n
       → r ≡ allBelow (entryTakes b t s e from) n
   entries-among r h k a =
-      a
+      among-there t (s .values .at + 8 * e .first) (e .count) b (e .of) from n r room a
       ∙ same-below (isAmong t (s .values .at + 8 * e .first) (e .count) b (e .of) from) (entryTakes b t s e from) n
       (λ j l. of-enum t s e (wordAt (e .of) b (from + j * width (e .of))) (allowed-at h j l) refl k
       (by-place t s e (wordAt (e .of) b (from + j * width (e .of))) refl))
@@ -86,12 +108,9 @@ module _ (t b : List ℕ) (run from n : ℕ) (is : n ≡ valuesIn run) where
       sym (all-below (isTaken t b run from) (manyIn run) (λ k l. sym (any-taken t run n is (wordAt (codeIn run) b (from + k * width (codeIn run))) e)))
 
   pub taken-values : (p code many : ℕ) (r : Bool) → (n ≡ 0 → ⊥) → p ≡ placeIn run → code ≡ codeIn run → many ≡ manyIn run
-      → r ≡ allBelow (isAmong t p n b code from) many → r ≡ allBelow (isTaken t b run from) (manyIn run)
-  taken-values p code many r e at c m h =
-      h ∙ rw (c, m) refl
+      → from + manyIn run * width (codeIn run) ≤ length b → r ≡ runAmong t p n b code from many → r ≡ allBelow (isTaken t b run from) (manyIn run)
+  taken-values p code many r e at c m room h =
+      among-there t p n b (codeIn run) from (manyIn run) r room (h ∙ rw (c, m) refl)
       ∙ same-below (isAmong t p n b (codeIn run) from) (isTaken t b run from) (manyIn run)
       (λ k l. taken-among t run n is (wordAt (codeIn run) b (from + k * width (codeIn run))) p
       (isAmong t p n b (codeIn run) from k) e at refl)
-
-  pub taken-room : (code many l : ℕ) → code ≡ codeIn run → many ≡ manyIn run → from + manyIn run * width (codeIn run) ≤ l → from + many * width code ≤ l
-  taken-room code many l c m h = rw (c, m) h

@@ -17,9 +17,11 @@ use Rattle.walk.specs.Walk.{Step, on, answer, left, through, walk, Going}
 use Rattle.walk.proofs.Walks.{Holds, through-none}
 use Rattle.walk.proofs.Returns.{Did, did-stop, item-short, item-bad, item-on, loop-stop, loop-done, kept-length}
 use Rattle.walk.proofs.Turns.{Within, going-next}
+use Rattle.unpack.specs.Leaves.{wholeWord}
 use Rattle.unpack.specs.Reading.{reader, Reading}
 use Rattle.unpack.specs.RunByRun.{leafRead, runRead}
 use Rattle.unpack.proofs.ReadReturns.{reader-keeps}
+use Rattle.unpack.proofs.OneLeaf.{word-there}
 use Rattle.unpack.proofs.GoodRuns.{run-is, no-words}
 
 -- one leaf
@@ -33,7 +35,10 @@ module _ (t b : List ℕ) (run : ℕ) (p : Place) (code n : ℕ) (code-is : code
   judged-short f =
       did-stop (leafRead b t run 0 p []) 40 p [] (item-short (reader b) 42 (codeIn run) (takenBy t run) p [] (there-is ∙ f)) .0
 
-  module _ (f : h ≡ true) (w : ℕ) (word : w ≡ wordAt code b (p .from)) (u v : Bool) (allows : u ≡ allowed code w) (takes : v ≡ takenBy t run w) where
+  module _ (f : h ≡ true) (w : ℕ) (read : w ≡ wholeWord code b (p .from)) (u v : Bool) (allows : u ≡ allowed code w) (takes : v ≡ takenBy t run w) where
+    word : w ≡ wordAt code b (p .from)
+    word = word-there b (p .from) n code h is room w f read
+
     test-is : (allowed (codeIn run) (wordAt (codeIn run) b (p .from)) && takenBy t run (wordAt (codeIn run) b (p .from))) ≡ (u && v)
     test-is = rw (← code-is, ← word, ← allows, ← takes) refl
 

@@ -10,7 +10,7 @@ use borrow.Author.Tests.{le-leb, lt-leb, leb-true}
 use lib.Dec.{ltb, leb}
 use lib.ListN.{length, set}
 use Rattle.wire.specs.Bytes.{number, written, Octets}
-use Rattle.wire.proofs.Cond.{and-left, and-right}
+use Rattle.wire.proofs.Cond.{and-left, and-right, yes-if, no-if}
 use Rattle.table.specs.Leaf.{Leaf, base, width, allowed}
 use Rattle.table.proofs.Leaves.{none-of}
 use Rattle.leaf.specs.declared.codes.Range.{Range}
@@ -19,7 +19,7 @@ use Rattle.leaf.specs.Forms.{truth, extended, wordOf, wordAt}
 use Rattle.leaf.proofs.Limits.{every-word}
 use Rattle.walk.proofs.Walks.{some-bytes}
 use Rattle.walk.proofs.Returns.{stored as put-in}
-use Rattle.unpack.specs.Leaves.{isThere}
+use Rattle.unpack.specs.Leaves.{isThere, wholeWord}
 
 -- the room of the code that was met
 pub room-of : (n w : ℕ) → w ≡ width n → (p l code : ℕ) → code ≡ n → p + width code ≤ l → p + w ≤ l
@@ -28,6 +28,20 @@ room-of n w e p l code h r = rw (e, ← h) r
 -- the room that a test of the bytes showed
 pub room-there : (l from n code : ℕ) (r : Bool) → n ≡ width code → r ≡ leb (from + n) l → r ≡ true → from + width code ≤ l
 room-there l from n code r e h t = rw (← e) (leb-true (from + n) l (sym h ∙ t))
+
+-- its word, where that was asked for one that has them all; and where the test failed
+module _ (b : List ℕ) (from n code : ℕ) (h : Bool) (is : n ≡ width code) (room : h ≡ leb (from + n) (length b)) where
+  pub fits-is : leb (from + width code) (length b) ≡ h
+  fits-is = rw (← is) (sym room)
+
+  pub word-there : (w : ℕ) → h ≡ true → w ≡ wholeWord code b from → w ≡ wordAt code b from
+  word-there w f e = e ∙ yes-if (wordAt code b from) 0 (fits-is ∙ f)
+
+  pub word-whole : (w : ℕ) → h ≡ true → w ≡ wordAt code b from → w ≡ wholeWord code b from
+  word-whole w f e = e ∙ sym (yes-if (wordAt code b from) 0 (fits-is ∙ f))
+
+  pub word-cut : h ≡ false → 0 ≡ wholeWord code b from
+  word-cut f = sym (no-if (wordAt code b from) 0 (fits-is ∙ f))
 
 -- reading: the arm of code n
 pub at-truth : (s : List ℕ) (p x r code : ℕ) → x ≡ number 0 s p → r ≡ truth x → code ≡ 0 → r ≡ wordAt code s p

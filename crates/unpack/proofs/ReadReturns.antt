@@ -23,7 +23,9 @@ use Rattle.walk.specs.declared.Walked.{Walked}
 use Rattle.walk.specs.declared.Walked.the-variants.{Went, Stopped}
 use Rattle.walk.specs.Tree.{Tree}
 use Rattle.walk.specs.Walk.{Step, counted, countCode, walk, begun, times, leafWalk}
+use Rattle.unpack.specs.Leaves.{wholeWord}
 use Rattle.unpack.specs.Reading.{reader, Reading}
+use Rattle.unpack.proofs.OneLeaf.{word-there}
 use Rattle.walk.proofs.Walks.{some-bytes}
 use Rattle.walk.proofs.Returns.{Did, did-on, did-stop, item-short, item-bad, item-on, counts}
 use Rattle.walk.proofs.Turns.{Keeps, keeps}
@@ -43,7 +45,10 @@ module _ (t : List ℕ) (s : Sections) (e : Entry) (b : List ℕ) (p : Place) (x
   unfolding leafWalk reader
   leaf-short f = did-stop (leafWalk (reader b) t s e p x) 40 p x (item-short (reader b) 42 (e .of) (choice t s e) p x (rw (← is) (sym room ∙ f)))
 
-  module _ (f : h ≡ true) (w : ℕ) (word : w ≡ wordAt (e .of) b (p .from)) (k : Bool) (taken : k ≡ takes t s e w) where
+  module _ (f : h ≡ true) (w : ℕ) (read : w ≡ wholeWord (e .of) b (p .from)) (k : Bool) (taken : k ≡ takes t s e w) where
+    word : w ≡ wordAt (e .of) b (p .from)
+    word = word-there b (p .from) n (e .of) h is room w f read
+
     pub leaf-bad : k ≡ false → Did (leafWalk (reader b) t s e p x) (Stopped 42 p) x
     unfolding leafWalk reader takes
     leaf-bad g =

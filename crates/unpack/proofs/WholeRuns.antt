@@ -4,13 +4,13 @@ use Prim.Native.Nat.{ℕ, zero, suc, _+_, _*_, _^_, _≤_, _<_}
 use mathlib.Core.Path.{_≡_, refl, sym, ap, _∙_}
 use mathlib.Core.Bool.{Bool, true, false, _&&_, cond}
 use mathlib.Core.List.{List}
-use native.Mathlib.Nat.{mul-le-mul-left, zero-mul, add-zero}
+use native.Mathlib.Nat.{mul-le-mul-left, zero-mul, one-mul, add-zero}
 use native.Mathlib.Omega.{arith}
 use borrow.Author.Tests.{le-leb, leb-true, ne-eqb}
 use mir.Syntax.{w64}
 use mir.Val.{Fits}
 use lib.Dec.{leb, eqb}
-use lib.ListN.{length}
+use lib.ListN.{length, set}
 use Rattle.wire.proofs.Cond.{yes-if, no-if, and-left, and-right}
 use Rattle.wire.specs.All.{allBelow}
 use Rattle.table.specs.Leaf.{Leaf, none, base, isValue, width, allowed}
@@ -22,7 +22,8 @@ use Rattle.walk.specs.Walk.{Step, on, through}
 use Rattle.walk.proofs.Walks.{width-few}
 use Rattle.unpack.specs.OneCode.{along, isGood, filled, runThere}
 use Rattle.unpack.specs.Steps.{Reads}
-use Rattle.unpack.proofs.OneCode.{run-on}
+use Rattle.unpack.proofs.OneLeaf.{stored-word, fits-is}
+use Rattle.unpack.proofs.OneCode.{run-on, no-room-left}
 
 -- the bytes of so many leaves are few
 pub bytes-fit : (n w code : ℕ) → w ≡ width code → n < 2 ^ 32 → Fits w64 (n * w)
@@ -38,6 +39,11 @@ module _ (b : List ℕ) (code from n : ℕ) where
     pub run-good : allBelow (isGood b code from) n ≡ true
     unfolding runThere
     run-good = and-right (leb (from + n * width code) (length b)) (allBelow (isGood b code from) n) h
+
+  -- one whose bytes are there
+  pub run-allowed : (r : Bool) → from + n * width code ≤ length b → r ≡ runThere b code from n → r ≡ allBelow (isGood b code from) n
+  unfolding runThere
+  run-allowed r h e = e ∙ rw (le-leb (from + n * width code) (length b) h) refl
 
   -- judging one, by what the test of its bytes said
   module _ (w : ℕ) (is : w ≡ width code) (h : Bool) (room : h ≡ leb (from + n * w) (length b)) where
@@ -55,6 +61,10 @@ module _ (b : List ℕ) (code from n : ℕ) where
     unfolding runThere
     run-short f = rw (← has, f) refl
 
+either-way : {x y : List ℕ} (c : Bool) → x ≡ y → x ≡ cond c y x
+either-way true e = e
+either-way false e = refl
+
 -- storing one
 module _ (b : List ℕ) (code n : ℕ) (p : Place) (x : List ℕ) where
   module _ (w : ℕ) (is : w ≡ width code) (h : Bool) (room : h ≡ leb (p .from + n * w) (length b)) where
@@ -63,6 +73,25 @@ module _ (b : List ℕ) (code n : ℕ) (p : Place) (x : List ℕ) where
 
     pub run-left : h ≡ false → x ≡ cond (leb (p .from + n * width code) (length b)) (filled b code p n x) x
     run-left f = sym (no-if (filled b code p n x) x (sym (has b code (p .from) n w is h room) ∙ f))
+
+  -- one leaf, by what the test of its bytes said, and where there is no room for its word
+  pub one-stored : (y : List ℕ) → n ≡ 1 → y ≡ cond (leb (p .from + width code) (length b)) (filled b code p 1 x) x → y
+      ≡ cond (leb (p .from + n * width code) (length b)) (filled b code p n x) x
+  one-stored y e h = rw (e, one-mul (width code)) h
+
+  pub one-no-room : length x ≤ p .to → x ≡ cond (leb (p .from + width code) (length b)) (filled b code p 1 x) x
+  one-no-room h = either-way (leb (p .from + width code) (length b)) (no-room-left b code p x 1 h)
+
+  module _ (w : ℕ) (is : w ≡ width code) (h : Bool) (room : h ≡ leb (p .from + w) (length b)) where
+    pub leaf-stored : (at v : ℕ) → h ≡ true → at ≡ p .to → at < length x → v ≡ wordAt code b (p .from) → set x at v
+        ≡ cond (leb (p .from + width code) (length b)) (filled b code p 1 x) x
+    unfolding filled
+    leaf-stored at v t e l r =
+        stored-word x at v b (p .from) code l r ∙ rw (e, zero-mul (width code), add-zero (p .from), add-zero (p .to)) refl
+        ∙ sym (yes-if (filled b code p 1 x) x (fits-is b (p .from) w code h is room ∙ t))
+
+    pub leaf-left : h ≡ false → x ≡ cond (leb (p .from + width code) (length b)) (filled b code p 1 x) x
+    leaf-left f = sym (no-if (filled b code p 1 x) x (fits-is b (p .from) w code h is room ∙ f))
 
   pub arm-stored : (m : ℕ) (y : List ℕ) → y ≡ cond (leb (p .from + n * width m) (length b)) (filled b m p n x) x → code ≡ m → y
       ≡ cond (leb (p .from + n * width code) (length b)) (filled b code p n x) x

@@ -13,6 +13,10 @@ use Rattle.walk.specs.declared.Place.{Place}
 unfoldable pub isThere : List ℕ → ℕ → ℕ → Bool
 isThere b code from = leb (from + width code) (length b) && allowed code (wordAt code b from)
 
+-- its word where all its bytes are there, and 0 where one is past the end
+abbrev pub wholeWord : ℕ → List ℕ → ℕ → ℕ
+wholeWord code b from = cond (leb (from + width code) (length b)) (wordAt code b from) 0
+
 -- the place behind it, and what is left of the words
 abbrev pub behind : ℕ → Place → Place
 behind code p = record { from = p .from + width code; to = p .to + 1 }

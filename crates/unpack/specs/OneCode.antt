@@ -30,6 +30,10 @@ filled b code p (suc k) x = stored b code (along code p k) (filled b code p k x)
 unfoldable pub runThere : List ℕ → ℕ → ℕ → ℕ → Bool
 runThere b code from n = leb (from + n * width code) (length b) && allBelow (isGood b code from) n
 
+-- so many are all there, and each is one of those values
+unfoldable pub runAmong : List ℕ → ℕ → ℕ → List ℕ → ℕ → ℕ → ℕ → Bool
+runAmong t p n b code from m = leb (from + m * width code) (length b) && allBelow (isAmong t p n b code from) m
+
 -- uint32 and float32: the codes whose word is the number of four bytes itself
 abbrev pub isWhole4 : ℕ → Bool
 isWhole4 code = eqb code 9 || eqb code 11

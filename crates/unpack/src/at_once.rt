@@ -6,7 +6,7 @@ use walk::Met;
 use walk::Place;
 ghost use mathlib.Core.Path.{_≡_};
 ghost use mathlib.Core.List.{List};
-ghost use Prim.Native.Nat.{ℕ, _+_, _*_, _≤_, _<_};
+ghost use Prim.Native.Nat.{ℕ, _+_, _*_, _≤_};
 ghost use lib.ListN.{length};
 ghost use Rattle.wire.specs.All.{allBelow};
 ghost use Rattle.table.specs.Leaf.{width};
@@ -114,7 +114,7 @@ fn read_enums(
     let many = count as usize;
     let width = leaf::width(e.of);
     if wire::has_room(payload.len(), p.from, many * width) {
-        if are_taken(table, s, e, payload, p.from, many) {
+        if are_taken(table, s, e, payload, p.from, count) {
             runs::store_run(payload, words, e.of, count, p);
             Reached {
                 upto: count,
@@ -132,11 +132,11 @@ fn read_enums(
 }
 
 // Whether the entry takes the words of so many leaves.
-fn are_taken(table: &[u8], s: Sections, e: Entry, payload: &[u8], from: usize, count: usize) -> bool
-    requires { ⌜ (from + count * width (e .of) ≤ length (now payload)) × (count < 4294967296) ⌝ }
+fn are_taken(table: &[u8], s: Sections, e: Entry, payload: &[u8], from: usize, count: u32) -> bool
+    requires { ⌜ from + count * width (e .of) ≤ length (now payload) ⌝ }
     ensures { λ r. ⌜ r ≡ allBelow (entryTakes (now (payload .entry)) (now (table .entry)) s e from) count ⌝ }
 {
-    if runs::judged(payload, from, e.of, count) {
+    if runs::judge_run(payload, from, e.of, count) {
         if e.kind == table::ENUM {
             let at = s.values.at as u32 + 8 * (e.first as u32);
             enums::are_among(table, at, e.count, payload, from, e.of, count)

@@ -5,7 +5,7 @@ ghost use lib.ListN.{length};
 ghost use Rattle.wire.specs.Bytes.{number};
 ghost use Rattle.table.specs.Leaf.{width, allowed};
 ghost use Rattle.leaf.specs.Forms.{wordAt};
-ghost use Rattle.unpack.specs.Leaves.{isThere};
+ghost use Rattle.unpack.specs.Leaves.{isThere, wholeWord};
 
 // Whether a leaf of the base code, which has so many bytes, is there, and its word is allowed.
 pub(crate) fn is_there(payload: &[u8], from: usize, code: u16, bytes: usize) -> bool
@@ -31,6 +31,17 @@ fn is_allowed(payload: &[u8], from: usize, code: u16) -> bool
         return true;
     }
     leaf::allowed(code, word_in(payload, from, code))
+}
+
+// The word of a leaf, or 0 where not all its bytes are there.
+pub(crate) fn word_at(s: &[u8], at: usize, code: u16) -> u64
+    ensures { λ r. ⌜ r ≡ wholeWord code (now (s .entry)) at ⌝ }
+{
+    if wire::has_room(s.len(), at, leaf::width(code)) {
+        word_in(s, at, code)
+    } else {
+        0
+    }
 }
 
 // The word of a leaf that is there.

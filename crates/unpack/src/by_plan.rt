@@ -16,7 +16,6 @@ ghost use Rattle.walk.specs.Runs.{codeIn, manyIn, takenBy, runTree, runsTree};
 ghost use Rattle.walk.specs.Walk.{on, start, answer, left, through, walk};
 ghost use Rattle.walk.specs.Planned.{planTree};
 ghost use Rattle.walk.specs.Whole.{allOrNothing};
-ghost use Rattle.unpack.specs.OneCode.{filled};
 ghost use Rattle.unpack.specs.Reading.{reader, Reading};
 ghost use Rattle.unpack.specs.RunByRun.{isTaken, isAny, runGood, leafRead, runRead, wordsOf, storedUpto, Within};
 
@@ -76,7 +75,7 @@ fn are_taken(table: &[u8], run: u64, payload: &[u8], from: usize) -> bool
         return true;
     }
     let code = walk::plans::code_in(run);
-    let many = walk::plans::many_in(run) as usize;
+    let many = walk::plans::many_in(run);
     let at = walk::plans::place_in(run);
     enums::are_among(table, at, values, payload, from, code, many)
 }
@@ -140,7 +139,7 @@ fn judge_leaf(table: &[u8], run: u64, payload: &[u8], p: Place) -> Walked
     let code = walk::plans::code_in(run);
     let width = leaf::width(code);
     if wire::has_room(payload.len(), p.from, width) {
-        let word = bases::word_in(payload, p.from, code);
+        let word = bases::word_at(payload, p.from, code);
         if leaf::allowed(code, word) & is_taken(table, run, word) {
             Walked::Went(Place {
                 from: p.from + width,
@@ -171,32 +170,10 @@ pub(crate) fn store_runs(payload: &[u8], words: &mut [u64], runs: &[u64], p: Pla
         let run = runs[k];
         let code = walk::plans::code_in(run);
         let many = wire::least(walk::plans::many_in(run) as usize, upto - to);
-        store_leaves(payload, words, code, many as u32, Place { from, to });
+        runs::store_run(payload, words, code, many as u32, Place { from, to });
         from = from + many * leaf::width(code);
         to = to + many;
         k += 1;
-    }
-}
-
-// The words of so many leaves of one code, each where there is room for it; of one leaf with no loop.
-fn store_leaves(payload: &[u8], words: &mut [u64], code: u16, count: u32, p: Place)
-    requires { ⌜ p .from + count * width code ≤ length (now payload) ⌝ }
-    ensures { λ _. ⌜ now (words .exit) ≡ filled (now (payload .entry)) code p count (now (words .entry)) ⌝ }
-{
-    if count == 1 {
-        store_leaf(payload, words, code, p);
-    } else {
-        runs::store_run(payload, words, code, count, p);
-    }
-}
-
-fn store_leaf(payload: &[u8], words: &mut [u64], code: u16, p: Place)
-    requires { ⌜ p .from + width code ≤ length (now payload) ⌝ }
-    ensures { λ _. ⌜ now (words .exit) ≡ filled (now (payload .entry)) code p 1 (now (words .entry)) ⌝ }
-{
-    let to = p.to;
-    if to < words.len() {
-        words[to] = bases::leaf_in(payload, p.from, code);
     }
 }
 

@@ -5,11 +5,30 @@ ghost use Prim.Native.Nat.{_+_, _*_, _≤_};
 ghost use lib.ListN.{length};
 ghost use Rattle.wire.specs.All.{allBelow};
 ghost use Rattle.table.specs.Leaf.{width};
-ghost use Rattle.unpack.specs.OneCode.{isAmong};
+ghost use Rattle.unpack.specs.OneCode.{isAmong, runAmong};
 
-// Of so many leaves, whether each is one of the `count` values that stand at `at` in the table. A call for each code but the widest,
-// so that the compiler makes a loop for each, with no jump by the code inside.
+// Whether so many leaves are all there, and each is one of the `count` values that stand at `at` in the table.
 pub(crate) fn are_among(
+    table: &[u8],
+    at: u32,
+    count: u16,
+    payload: &[u8],
+    from: usize,
+    code: u16,
+    many: u32,
+) -> bool
+    ensures { λ r. ⌜ r ≡ runAmong (now (table .entry)) at count (now (payload .entry)) code from many ⌝ }
+{
+    let all = many as usize;
+    if wire::has_room(payload.len(), from, all * leaf::width(code)) {
+        all_among(table, at, count, payload, from, code, all)
+    } else {
+        false
+    }
+}
+
+// A call for each code but the widest, so that the compiler makes a loop for each, with no jump by the code inside.
+fn all_among(
     table: &[u8],
     at: u32,
     count: u16,

@@ -46,7 +46,7 @@ fn judge_each(payload: &[u8], from: usize, code: u16, count: u32) -> bool
 }
 
 // Whether the words of so many leaves are allowed: of most codes every word is. The refused are counted, and not left at the first.
-pub(crate) fn judged(payload: &[u8], from: usize, code: u16, count: usize) -> bool
+fn judged(payload: &[u8], from: usize, code: u16, count: usize) -> bool
     requires { ⌜ (from + count * width code ≤ length (now payload)) × (count < 4294967296) ⌝ }
     ensures { λ r. ⌜ r ≡ allBelow (isGood (now (payload .entry)) code from) count ⌝ }
 {
@@ -87,8 +87,34 @@ fn refused(code: u16, word: u64) -> u32
     if leaf::allowed(code, word) { 0 } else { 1 }
 }
 
-// Stores the words of so many leaves of one code where all their bytes are there, each word where there is room for it.
+// Stores the words of so many leaves of one code where all their bytes are there, each word where there is room for it; of one leaf
+// with no loop.
 pub(crate) fn store_run(payload: &[u8], words: &mut [u64], code: u16, count: u32, p: Place)
+    ensures { λ _. ⌜ now (words .exit)
+        ≡ cond (leb (p .from + count * width code) (length (now (payload .entry))))
+        (filled (now (payload .entry)) code p count (now (words .entry))) (now (words .entry)) ⌝ }
+{
+    if count == 1 {
+        store_leaf(payload, words, code, p);
+    } else {
+        store_all(payload, words, code, count, p);
+    }
+}
+
+fn store_leaf(payload: &[u8], words: &mut [u64], code: u16, p: Place)
+    ensures { λ _. ⌜ now (words .exit)
+        ≡ cond (leb (p .from + width code) (length (now (payload .entry))))
+        (filled (now (payload .entry)) code p 1 (now (words .entry))) (now (words .entry)) ⌝ }
+{
+    let to = p.to;
+    if to < words.len() {
+        if wire::has_room(payload.len(), p.from, leaf::width(code)) {
+            words[to] = bases::leaf_in(payload, p.from, code);
+        }
+    }
+}
+
+fn store_all(payload: &[u8], words: &mut [u64], code: u16, count: u32, p: Place)
     ensures { λ _. ⌜ now (words .exit)
         ≡ cond (leb (p .from + count * width code) (length (now (payload .entry))))
         (filled (now (payload .entry)) code p count (now (words .entry))) (now (words .entry)) ⌝ }

@@ -199,7 +199,7 @@ fn read_leaf(
 {
     let width = leaf::width(e.of);
     if wire::has_room(payload.len(), p.from, width) {
-        let word = bases::word_in(payload, p.from, e.of);
+        let word = bases::word_at(payload, p.from, e.of);
         if leaf::takes(table, s, e, word) {
             put_word(words, p.to, word);
             Walked::Went(Place {

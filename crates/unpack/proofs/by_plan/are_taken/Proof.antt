@@ -1,7 +1,7 @@
 -- `unpack::by_plan::are_taken` meets its contract: any words where the run has no values, and else those among them.
 -- Assumes nothing.
 use borrow.Author.Needs.{needs}
-use Rattle.unpack.proofs.Among.{taken-any, taken-values, taken-room}
+use Rattle.unpack.proofs.Among.{taken-any, taken-values}
 use Rattle.unpack.proofs.by_plan.are_taken.Statement.{statement}
 use Rattle.unpack.proofs.by_plan.are_taken.Tie as tie
 
@@ -13,7 +13,6 @@ are-taken-spec =
     (λ c. search taken-any)
     (λ c κs. search needs)
     (λ c κs. search needs)
-    (λ c. search needs)
     (λ c κs. search needs)
-    (λ c κs. search taken-room)
+    (λ c κs. search needs)
     (λ c. search taken-values))

@@ -2,7 +2,6 @@
 -- Assumes nothing.
 use borrow.Author.Needs.{needs}
 use Rattle.walk.proofs.Walks.{width-few}
-use Rattle.unpack.proofs.OneLeaf.{room-there}
 use Rattle.unpack.proofs.ReadReturns.{next-from}
 use Rattle.unpack.proofs.LeafByLeaf.{judged-short, judged-bad, judged-went}
 use Rattle.unpack.proofs.by_plan.judge_leaf.Statement.{statement}
@@ -15,7 +14,7 @@ judge-leaf-spec =
     (λ c κs. search needs)
     (λ c κs. search needs)
     (λ c κs. search needs)
-    (λ c κs. search room-there)
+    (λ c κs. search needs)
     (λ c κs. search needs)
     (λ c κs. search needs)
     (λ c. search (next-from, width-few))

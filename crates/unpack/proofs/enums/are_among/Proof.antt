@@ -1,7 +1,8 @@
--- `unpack::enums::are_among` meets its contract: each arm looks at leaves of its own code.
+-- `unpack::enums::are_among` meets its contract: all of the leaves, or none.
 -- Assumes nothing.
 use borrow.Author.Needs.{needs}
-use Rattle.unpack.proofs.Among.{arm-room, arm-among}
+use Rattle.unpack.proofs.WholeRuns.{bytes-fit, run-in}
+use Rattle.unpack.proofs.Among.{among-judged, among-short}
 use Rattle.unpack.proofs.enums.are_among.Statement.{statement}
 use Rattle.unpack.proofs.enums.are_among.Tie as tie
 
@@ -9,17 +10,9 @@ pub are-among-spec : {M : Type 1} → statement M
 are-among-spec =
     tie.close
     (tie.spec
-    (λ c κs. search arm-room)
-    (λ c κs. search arm-room)
-    (λ c κs. search arm-room)
-    (λ c κs. search arm-room)
-    (λ c κs. search arm-room)
-    (λ c κs. search arm-room)
     (λ c κs. search needs)
-    (λ c. search arm-among)
-    (λ c. search arm-among)
-    (λ c. search arm-among)
-    (λ c. search arm-among)
-    (λ c. search arm-among)
-    (λ c. search arm-among)
-    (λ c. search needs))
+    (λ c. search bytes-fit)
+    (λ c κs. search needs)
+    (λ c κs. search run-in)
+    (λ c. search among-judged)
+    (λ c. search among-short))

@@ -3,7 +3,6 @@
 use borrow.Author.Needs.{needs}
 use native.Mathlib.Omega.{arith}
 use Rattle.walk.proofs.Walks.{width-few}
-use Rattle.unpack.proofs.OneLeaf.{room-there}
 use Rattle.unpack.proofs.ReadReturns.{leaf-short, leaf-bad, leaf-went, next-from, next-to}
 use Rattle.unpack.proofs.walking.read_leaf.Statement.{statement}
 use Rattle.unpack.proofs.walking.read_leaf.Tie as tie
@@ -14,7 +13,7 @@ read-leaf-spec =
     (tie.spec
     (λ c κs. search needs)
     (λ c κs. search needs)
-    (λ c κs. search room-there)
+    (λ c κs. search needs)
     (λ c κs. search needs)
     (λ c κs. search needs)
     (λ c.
@@ -29,17 +28,17 @@ read-leaf-spec =
     let at-put-word = c .before .before .before .before in
     let at-if2 = at-put-word .before .before in
     let at-takes = at-if2 .before in
-    let at-word-in = at-takes .before in
-    let at-if1 = at-word-in .before in
+    let at-word-at = at-takes .before in
+    let at-if1 = at-word-at .before in
     let at-has-room = at-if1 .before in
     let at-width = at-has-room .before in
     leaf-went _ _ _ _ _ _ _ _ (at-width .width .ensures) (at-has-room .has-room .ensures) (at-if1 .if1 .taken) _
-    (at-word-in .word-in .ensures) _ (at-takes .takes .ensures) _ (at-if2 .if2 .taken) (at-put-word .put-word .ensures))
+    (at-word-at .word-at .ensures) _ (at-takes .takes .ensures) _ (at-if2 .if2 .taken) (at-put-word .put-word .ensures))
     (λ c.
-    let at-word-in = c .before .before in
-    let at-if1 = at-word-in .before in
+    let at-word-at = c .before .before in
+    let at-if1 = at-word-at .before in
     let at-has-room = at-if1 .before in
     let at-width = at-has-room .before in
     leaf-bad _ _ _ _ _ _ _ _ (at-width .width .ensures) (at-has-room .has-room .ensures) (at-if1 .if1 .taken) _
-    (at-word-in .word-in .ensures) _ (c .before .takes .ensures) (c .if2 .left))
+    (at-word-at .word-at .ensures) _ (c .before .takes .ensures) (c .if2 .left))
     (λ c. leaf-short _ _ _ _ _ _ _ _ (c .before .before .width .ensures) (c .before .has-room .ensures) (c .if1 .left)))
