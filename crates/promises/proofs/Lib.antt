@@ -56,6 +56,7 @@ pub mod RequestRuns
 pub mod WrongListings
 pub mod UniqueOperations
 pub mod UniquePlans
+pub mod UniqueLeaves
 pub mod UniqueServices
 pub mod Services
 pub mod WorkedServices

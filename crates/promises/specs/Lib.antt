@@ -37,6 +37,7 @@ pub mod AskedAndAnswered
 pub mod WrongListings
 pub mod UniqueOperations
 pub mod UniquePlans
+pub mod UniqueLeaves
 pub mod UniqueServices
 pub mod Services
 pub mod WorkedServices

@@ -28,11 +28,11 @@ use Rattle.walk.specs.Walk.{on, through, walk, Going}
 use Rattle.walk.proofs.Trees.{child-met}
 use Rattle.walk.proofs.Returns.{item-on, did-on, kept-on}
 use Rattle.walk.proofs.Turns.{from-first}
-use Rattle.unpack.specs.Leaves.{behind, stored}
-use Rattle.unpack.specs.OneCode.{along, filled}
+use Rattle.unpack_leaves.specs.Leaves.{behind, stored}
+use Rattle.unpack_leaves.specs.OneCode.{along, filled}
 use Rattle.unpack.specs.Reading.{reader, Reading, elementRead, entryRead, entryTakes}
-use Rattle.unpack.proofs.OneCode.{leaf-room, steps-on}
-use Rattle.unpack.proofs.WholeRuns.{run-in}
+use Rattle.unpack_leaves.proofs.OneCode.{leaf-room, steps-on}
+use Rattle.unpack_leaves.proofs.WholeRuns.{run-in}
 use Rattle.unpack.proofs.ReadBases.{run-many}
 use Rattle.unpack.proofs.ReadReturns.{reader-keeps}
 

@@ -25,13 +25,13 @@ use Rattle.walk.specs.Runs.{codeIn, manyIn, valuesIn, placeIn, takenBy, runTree
 use Rattle.walk.specs.Walk.{on, through, walk, Going}
 use Rattle.walk.proofs.Returns.{item-on, did-on}
 use Rattle.walk.proofs.Turns.{going-next}
-use Rattle.unpack.specs.Leaves.{isThere, behind, stored}
-use Rattle.unpack.specs.OneCode.{along, isGood, filled, runThere}
+use Rattle.unpack_leaves.specs.Leaves.{isThere, behind, stored}
+use Rattle.unpack_leaves.specs.OneCode.{along, isGood, filled, runThere}
 use Rattle.unpack.specs.Reading.{reader, Reading}
 use Rattle.unpack.specs.RunByRun.{isTaken, isAny, runGood, leafRead, runRead}
-use Rattle.unpack.proofs.OneCode.{all-good, good-there, steps-on, same-many}
+use Rattle.unpack_leaves.proofs.OneCode.{all-good, good-there, steps-on, same-many}
 use Rattle.unpack.proofs.ReadReturns.{reader-keeps}
-use Rattle.unpack.proofs.WholeRuns.{run-room, run-good}
+use Rattle.unpack_leaves.proofs.WholeRuns.{run-room, run-good}
 
 -- a run's values
 module _ (t : List ℕ) (run n : ℕ) (is : n ≡ valuesIn run) (w : ℕ) where

@@ -17,11 +17,11 @@ use Rattle.walk.specs.Walk.{Step, on, answer, left, through, walk, Going}
 use Rattle.walk.proofs.Walks.{Holds, through-none}
 use Rattle.walk.proofs.Returns.{Did, did-stop, item-short, item-bad, item-on, loop-stop, loop-done, kept-length}
 use Rattle.walk.proofs.Turns.{Within, going-next}
-use Rattle.unpack.specs.Leaves.{wholeWord}
+use Rattle.unpack_leaves.specs.Leaves.{wholeWord}
 use Rattle.unpack.specs.Reading.{reader, Reading}
 use Rattle.unpack.specs.RunByRun.{leafRead, runRead}
 use Rattle.unpack.proofs.ReadReturns.{reader-keeps}
-use Rattle.unpack.proofs.OneLeaf.{word-there}
+use Rattle.unpack_leaves.proofs.OneLeaf.{word-there}
 use Rattle.unpack.proofs.GoodRuns.{run-is, no-words}
 
 -- one leaf

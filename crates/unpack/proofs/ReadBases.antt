@@ -23,13 +23,13 @@ use Rattle.walk.specs.Walk.{Step, on, through, walk, Goes, Going}
 use Rattle.walk.proofs.Walks.{some-bytes}
 use Rattle.walk.proofs.Bases.{base-on}
 use Rattle.walk.proofs.Turns.{from-first}
-use Rattle.unpack.specs.Leaves.{isThere, behind, stored, ends, allThere, laid, thereCount, wholeCount}
-use Rattle.unpack.specs.OneCode.{along, isGood, filled, runThere}
-use Rattle.unpack.specs.Steps.{Reads, ReadsCodes}
-use Rattle.unpack.proofs.InTurn.{codes-on, fewer-read}
-use Rattle.unpack.proofs.Counts.{there-few, there-all, there-ends, ends-far, laid-whole, length-laid}
-use Rattle.unpack.proofs.OneCode.{same-many}
-use Rattle.unpack.proofs.WholeRuns.{run-room, run-good, run-walked}
+use Rattle.unpack_leaves.specs.Leaves.{isThere, behind, stored, ends, allThere, laid, thereCount, wholeCount}
+use Rattle.unpack_leaves.specs.OneCode.{along, isGood, filled, runThere}
+use Rattle.unpack_leaves.specs.Steps.{Reads, ReadsCodes}
+use Rattle.unpack_leaves.proofs.InTurn.{codes-on, fewer-read}
+use Rattle.unpack_leaves.proofs.Counts.{there-few, there-all, there-ends, ends-far, laid-whole, length-laid}
+use Rattle.unpack_leaves.proofs.OneCode.{same-many}
+use Rattle.unpack_leaves.proofs.WholeRuns.{run-room, run-good, run-walked}
 use Rattle.unpack.specs.Reading.{reader, Reading}
 
 -- a base that is met, among a record's members or as an array's element

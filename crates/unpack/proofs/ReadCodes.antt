@@ -12,7 +12,7 @@ use Rattle.table.specs.declared.Entry.{Entry}
 use Rattle.table.specs.Entries.{memberAt}
 use Rattle.walk.specs.Codes.{codeCount, codesOf}
 use Rattle.walk.proofs.Codes.{few-codes, codes-fit, codes-as-long, code-is}
-use Rattle.unpack.specs.Steps.{ReadsCodes}
+use Rattle.unpack_leaves.specs.Steps.{ReadsCodes}
 use Rattle.unpack.specs.Reading.{memberRead}
 use Rattle.unpack.proofs.ReadBases.{base-reads}
 

@@ -23,9 +23,9 @@ use Rattle.walk.specs.declared.Walked.{Walked}
 use Rattle.walk.specs.declared.Walked.the-variants.{Went, Stopped}
 use Rattle.walk.specs.Tree.{Tree}
 use Rattle.walk.specs.Walk.{Step, counted, countCode, walk, begun, times, leafWalk}
-use Rattle.unpack.specs.Leaves.{wholeWord}
+use Rattle.unpack_leaves.specs.Leaves.{wholeWord}
 use Rattle.unpack.specs.Reading.{reader, Reading}
-use Rattle.unpack.proofs.OneLeaf.{word-there}
+use Rattle.unpack_leaves.proofs.OneLeaf.{word-there}
 use Rattle.walk.proofs.Walks.{some-bytes}
 use Rattle.walk.proofs.Returns.{Did, did-on, did-stop, item-short, item-bad, item-on, counts}
 use Rattle.walk.proofs.Turns.{Keeps, keeps}

@@ -14,9 +14,9 @@ use Rattle.wire.proofs.Cond.{yes-le}
 use Rattle.table.specs.Leaf.{width}
 use Rattle.walk.specs.declared.Place.{Place}
 use Rattle.walk.specs.Runs.{codeIn, manyIn}
-use Rattle.unpack.specs.OneCode.{along, filled}
+use Rattle.unpack_leaves.specs.OneCode.{along, filled}
 use Rattle.unpack.specs.RunByRun.{placeAt, storedUpto, Within}
-use Rattle.unpack.proofs.WholeRuns.{bytes-fit}
+use Rattle.unpack_leaves.proofs.WholeRuns.{bytes-fit}
 
 -- behind no run, and behind all
 pub place-start : (runs : List ℕ) (p : Place) (upto : ℕ) → p ≡ placeAt runs p upto 0

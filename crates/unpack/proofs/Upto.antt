@@ -18,11 +18,11 @@ use Rattle.walk.specs.Runs.{codeIn, manyIn, takenBy, runTree, runsTree}
 use Rattle.walk.specs.Walk.{Step, on, stop, answer, left, next, through, walk}
 use Rattle.walk.proofs.Walks.{Holds, through-stop, walk-holds, walk-same}
 use Rattle.walk.proofs.Returns.{item-short, item-bad, item-on}
-use Rattle.unpack.specs.Leaves.{behind, stored}
-use Rattle.unpack.specs.OneCode.{along, filled}
+use Rattle.unpack_leaves.specs.Leaves.{behind, stored}
+use Rattle.unpack_leaves.specs.OneCode.{along, filled}
 use Rattle.unpack.specs.Reading.{reader, Reading}
 use Rattle.unpack.specs.RunByRun.{leafRead, runRead, wordsOf, placeAt, storedUpto, Within}
-use Rattle.unpack.proofs.OneCode.{no-room-left}
+use Rattle.unpack_leaves.proofs.OneCode.{no-room-left}
 use Rattle.unpack.proofs.ReadReturns.{reader-keeps}
 use Rattle.unpack.proofs.GoodRuns.{run-is}
 use Rattle.unpack.proofs.LeafByLeaf.{runs-are}

@@ -1,5 +1,2 @@
 pub mod Reading
-pub mod Leaves
-pub mod OneCode
-pub mod Steps
 pub mod RunByRun

@@ -13,7 +13,7 @@ use Rattle.walk.specs.declared.Walked.{Walked}
 use Rattle.walk.specs.declared.Walked.the-variants.{Went, Stopped}
 use Rattle.walk.specs.Walk.{Step, item, notAllowed, walk}
 use Rattle.walk.specs.Runs.{codeIn, manyIn, valuesIn, takenBy, runTree, runsTree}
-use Rattle.unpack.specs.OneCode.{along, filled, runThere}
+use Rattle.unpack_leaves.specs.OneCode.{along, filled, runThere}
 use Rattle.unpack.specs.Reading.{reader}
 
 -- the word of the k-th leaf of a run that stands at a byte is among those that the run takes

@@ -12,12 +12,9 @@ ghost use Rattle.wire.specs.All.{allBelow};
 ghost use Rattle.table.specs.Leaf.{width};
 ghost use Rattle.walk.specs.declared.Place.{Place};
 ghost use Rattle.walk.specs.Walk.{Step, Goes, Going};
-ghost use Rattle.unpack.specs.Steps.{Reads, ReadsCodes};
+ghost use Rattle.unpack_leaves.specs.Steps.{Reads, ReadsCodes};
 ghost use Rattle.unpack.specs.Reading.{Reading, memberRead, elementRead, entryRead, entryTakes};
-use crate::by_codes;
 use crate::each;
-use crate::enums;
-use crate::runs;
 
 // How many base codes of a record's members are read at once.
 const MOST_CODES: usize = 64;
@@ -57,8 +54,8 @@ fn read_codes(payload: &[u8], words: &mut [u64], codes: &[u8], from: u32, p: Pla
     ensures { λ r. ⌜ ((f : ℕ → Place → List ℕ → Step) → ReadsCodes (now (payload .entry)) (now (codes .entry)) from f
         → Goes f from p (now (words .entry)) (r .upto) (r .at) (now (words .exit))) ⌝ }
 {
-    let part = by_codes::judge_codes(payload, codes, p.from);
-    by_codes::store_codes(payload, words, &codes[..part.count], p);
+    let part = unpack_leaves::judge_codes(payload, codes, p.from);
+    unpack_leaves::store_codes(payload, words, &codes[..part.count], p);
     Reached {
         upto: from + part.count as u32,
         at: Place {
@@ -115,7 +112,7 @@ fn read_enums(
     let width = leaf::width(e.of);
     if wire::has_room(payload.len(), p.from, many * width) {
         if are_taken(table, s, e, payload, p.from, count) {
-            runs::store_run(payload, words, e.of, count, p);
+            unpack_leaves::store_run(payload, words, e.of, count, p);
             Reached {
                 upto: count,
                 at: Place {
@@ -136,10 +133,10 @@ fn are_taken(table: &[u8], s: Sections, e: Entry, payload: &[u8], from: usize, c
     requires { ⌜ from + count * width (e .of) ≤ length (now payload) ⌝ }
     ensures { λ r. ⌜ r ≡ allBelow (entryTakes (now (payload .entry)) (now (table .entry)) s e from) count ⌝ }
 {
-    if runs::judge_run(payload, from, e.of, count) {
+    if unpack_leaves::judge_run(payload, from, e.of, count) {
         if e.kind == table::ENUM {
             let at = s.values.at as u32 + 8 * (e.first as u32);
-            enums::are_among(table, at, e.count, payload, from, e.of, count)
+            unpack_leaves::are_among(table, at, e.count, payload, from, e.of, count)
         } else {
             true
         }
@@ -154,8 +151,8 @@ fn read_run(payload: &[u8], words: &mut [u64], code: u16, count: u32, p: Place) 
     ensures { λ r. ⌜ ((f : ℕ → Place → List ℕ → Step) → Reads (now (payload .entry)) code f
         → Going (Reading (now (payload .entry))) f count 0 p (now (words .entry)) (r .upto) (r .at) (now (words .exit))) ⌝ }
 {
-    if runs::judge_run(payload, p.from, code, count) {
-        runs::store_run(payload, words, code, count, p);
+    if unpack_leaves::judge_run(payload, p.from, code, count) {
+        unpack_leaves::store_run(payload, words, code, count, p);
         let many = count as usize;
         Reached {
             upto: count,

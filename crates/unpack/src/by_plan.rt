@@ -1,8 +1,5 @@
 // The leaves of a payload by the runs of a plan (02, request 13): judged run by run, with no table but for an enum's values, then
 // stored.
-use crate::bases;
-use crate::enums;
-use crate::runs;
 use walk::Place;
 use walk::Walked;
 ghost use mathlib.Core.Path.{_≡_};
@@ -51,7 +48,7 @@ fn is_good(table: &[u8], run: u64, payload: &[u8], from: usize) -> bool
     if is_any(run) {
         return (many as usize) * leaf::width(code) <= payload.len() - from;
     }
-    if runs::judge_run(payload, from, code, many) {
+    if unpack_leaves::judge_run(payload, from, code, many) {
         are_taken(table, run, payload, from)
     } else {
         false
@@ -77,7 +74,7 @@ fn are_taken(table: &[u8], run: u64, payload: &[u8], from: usize) -> bool
     let code = walk::plans::code_in(run);
     let many = walk::plans::many_in(run);
     let at = walk::plans::place_in(run);
-    enums::are_among(table, at, values, payload, from, code, many)
+    unpack_leaves::are_among(table, at, values, payload, from, code, many)
 }
 
 // Whether a run takes the word, of those that its code allows: any, where it has no values.
@@ -139,7 +136,7 @@ fn judge_leaf(table: &[u8], run: u64, payload: &[u8], p: Place) -> Walked
     let code = walk::plans::code_in(run);
     let width = leaf::width(code);
     if wire::has_room(payload.len(), p.from, width) {
-        let word = bases::word_at(payload, p.from, code);
+        let word = unpack_leaves::word_at(payload, p.from, code);
         if leaf::allowed(code, word) & is_taken(table, run, word) {
             Walked::Went(Place {
                 from: p.from + width,
@@ -170,7 +167,7 @@ pub(crate) fn store_runs(payload: &[u8], words: &mut [u64], runs: &[u64], p: Pla
         let run = runs[k];
         let code = walk::plans::code_in(run);
         let many = wire::least(walk::plans::many_in(run) as usize, upto - to);
-        runs::store_run(payload, words, code, many as u32, Place { from, to });
+        unpack_leaves::store_run(payload, words, code, many as u32, Place { from, to });
         from = from + many * leaf::width(code);
         to = to + many;
         k += 1;

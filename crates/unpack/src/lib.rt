@@ -1,12 +1,8 @@
 // A payload is unpacked whole or not at all: what is refused, even at its end, changes nothing. So it is judged before any word is
 // stored.
 mod at_once;
-mod bases;
-mod by_codes;
 mod by_plan;
 mod each;
-mod enums;
-pub mod runs;
 mod walking;
 
 use table::Sections;

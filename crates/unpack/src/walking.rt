@@ -13,7 +13,6 @@ ghost use Rattle.walk.specs.Walk.{start, answer, left, walk, begun, times, leaf
 ghost use Rattle.walk.specs.Planned.{typeBy, walkBy};
 ghost use Rattle.unpack.specs.Reading.{reader, Reading};
 use crate::at_once;
-use crate::bases;
 use crate::by_plan;
 use walk::COUNT_BYTES;
 use walk::COUNT_WORDS;
@@ -199,7 +198,7 @@ fn read_leaf(
 {
     let width = leaf::width(e.of);
     if wire::has_room(payload.len(), p.from, width) {
-        let word = bases::word_at(payload, p.from, e.of);
+        let word = unpack_leaves::word_at(payload, p.from, e.of);
         if leaf::takes(table, s, e, word) {
             put_word(words, p.to, word);
             Walked::Went(Place {

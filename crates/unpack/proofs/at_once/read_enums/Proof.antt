@@ -2,7 +2,7 @@
 -- Assumes nothing.
 use borrow.Author.Needs.{needs}
 use Rattle.walk.proofs.Turns.{going-start}
-use Rattle.unpack.proofs.WholeRuns.{bytes-fit, run-in}
+use Rattle.unpack_leaves.proofs.WholeRuns.{bytes-fit, run-in}
 use Rattle.unpack.proofs.Entries.{all-from-fits, all-to-fits, all-going}
 use Rattle.unpack.proofs.at_once.read_enums.Statement.{statement}
 use Rattle.unpack.proofs.at_once.read_enums.Tie as tie

@@ -2,7 +2,7 @@
 -- Assumes nothing.
 use borrow.Author.Needs.{needs}
 use Rattle.walk.proofs.Turns.{going-start}
-use Rattle.unpack.proofs.WholeRuns.{bytes-fit}
+use Rattle.unpack_leaves.proofs.WholeRuns.{bytes-fit}
 use Rattle.unpack.proofs.ReadBases.{run-from-fits, run-to-fits, run-many, run-going}
 use Rattle.unpack.proofs.at_once.read_run.Statement.{statement}
 use Rattle.unpack.proofs.at_once.read_run.Tie as tie

@@ -3,7 +3,7 @@
 use borrow.Author.Needs.{needs}
 use denote.Ref.{now}
 use Rattle.wire.specs.Bytes.{Octets}
-use Rattle.unpack.proofs.WholeRuns.{bytes-fit}
+use Rattle.unpack_leaves.proofs.WholeRuns.{bytes-fit}
 use Rattle.unpack.proofs.GoodRuns.{has-bytes, bad-run, by-values, any-good}
 use Rattle.unpack.proofs.by_plan.is_good.Statement.{statement}
 use Rattle.unpack.proofs.by_plan.is_good.Tie as tie

@@ -8,7 +8,7 @@ use Rattle.walk.specs.Walk.{Going}
 use Rattle.walk.proofs.Turns.{going-start}
 use Rattle.unpack.specs.Reading.{Reading}
 use Rattle.unpack.specs.RunByRun.{runRead}
-use Rattle.unpack.proofs.WholeRuns.{bytes-fit}
+use Rattle.unpack_leaves.proofs.WholeRuns.{bytes-fit}
 use Rattle.unpack.proofs.GoodRuns.{run-next, run-next-from, run-next-to}
 use Rattle.unpack.proofs.by_plan.judge_runs.Statement.{statement}
 use Rattle.unpack.proofs.by_plan.judge_runs.Tie as tie

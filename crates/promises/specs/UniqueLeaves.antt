@@ -1,0 +1,22 @@
+-- 01, "What the promises have to say": two outcomes that one promise allows are equal, for the functions on leaves that stand one
+-- behind another, over their very contracts. The theorem is in proofs/UniqueLeaves.antt.
+use denote.Ref.{now}
+use Rattle.promises.specs.Unique.{Answer, Lent}
+use Rattle.unpack_leaves.proofs.word_at.Reads.{Post as unpack-word-at}
+use Rattle.unpack_leaves.proofs.judge_run.Reads.{Post as unpack-judge-run}
+use Rattle.unpack_leaves.proofs.store_run.Reads.{Post as unpack-store-run}
+use Rattle.unpack_leaves.proofs.are_among.Reads.{Post as unpack-are-among}
+use Rattle.unpack_leaves.proofs.judge_codes.Reads.{Post as unpack-judge-codes}
+use Rattle.unpack_leaves.proofs.store_codes.Reads.{Post as unpack-store-codes}
+
+-- leaves of a payload, and their words
+pub record UnpackLeavesUnique : Type 0 where
+  pub word-at : Answer unpack-word-at
+  pub judge-run : Answer unpack-judge-run
+  pub store-run-words : Lent unpack-store-run (λ k e. now (e .1 .0))
+  pub are-among : Answer unpack-are-among
+  pub judge-codes : Answer unpack-judge-codes
+  pub store-codes-words : Lent unpack-store-codes (λ k e. now (e .1 .0))
+
+pub record UniqueLeaves : Type 0 where
+  pub unpack : UnpackLeavesUnique

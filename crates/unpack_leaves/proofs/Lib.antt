@@ -1,0 +1,10 @@
+pub mod OneLeaf
+pub mod InTurn
+pub mod Counts
+pub mod OneCode
+mod Ascii
+mod Pairs
+pub mod WholeRuns
+pub mod Loops
+pub mod ByWidth
+pub mod AmongValues

@@ -1,0 +1,17 @@
+-- `unpack_leaves::runs::store_run` meets its contract: one leaf, or several.
+-- Assumes nothing.
+use borrow.Author.Needs.{needs}
+use Rattle.unpack_leaves.proofs.WholeRuns.{one-stored}
+use Rattle.unpack_leaves.proofs.runs.store_run.Statement.{statement}
+use Rattle.unpack_leaves.proofs.runs.store_run.Tie as tie
+
+pub store-run-spec : {M : Type 1} → statement M
+store-run-spec =
+    tie.close
+    (tie.spec
+    (λ c κs. search needs)
+    (λ c κs. search needs)
+    (λ c. search needs)
+    (λ c. search one-stored)
+    (λ c. search needs)
+    (λ c. search needs))

@@ -1,0 +1,212 @@
+// The leaves of an array of one base code, one behind another: judged in one loop and stored in another, neither with a test of
+// its own inside, so that the compiler takes several leaves at once. A call for each code, so that it makes loops for each.
+use crate::bases;
+use walk::Place;
+ghost use mathlib.Core.Path.{_≡_};
+ghost use mathlib.Core.Bool.{true, cond};
+ghost use Prim.Native.Nat.{_+_, _*_, _/_, _%_, _≤_, _<_};
+ghost use lib.Dec.{leb};
+ghost use lib.ListN.{length};
+ghost use Rattle.wire.specs.Bytes.{number};
+ghost use Rattle.wire.specs.All.{allBelow};
+ghost use Rattle.table.specs.Leaf.{width, allowed};
+ghost use Rattle.unpack_leaves.specs.OneCode.{isGood, filled, runThere, isWhole4};
+
+// Whether so many leaves of one code are all there and allowed.
+pub fn judge_run(payload: &[u8], from: usize, code: u16, count: u32) -> bool
+    ensures { λ r. ⌜ r ≡ runThere (now (payload .entry)) code from count ⌝ }
+{
+    match code {
+        leaf::BOOLEAN8 => judge_each(payload, from, leaf::BOOLEAN8, count),
+        leaf::INT8 => judge_each(payload, from, leaf::INT8, count),
+        leaf::CHAR8 => judge_each(payload, from, leaf::CHAR8, count),
+        leaf::INT16 => judge_each(payload, from, leaf::INT16, count),
+        leaf::INT32 => judge_each(payload, from, leaf::INT32, count),
+        leaf::INT64 => judge_each(payload, from, leaf::INT64, count),
+        leaf::UINT8 => judge_each(payload, from, leaf::UINT8, count),
+        leaf::BYTE => judge_each(payload, from, leaf::BYTE, count),
+        leaf::UINT16 => judge_each(payload, from, leaf::UINT16, count),
+        leaf::UINT32 => judge_each(payload, from, leaf::UINT32, count),
+        leaf::UINT64 => judge_each(payload, from, leaf::UINT64, count),
+        leaf::FLOAT32 => judge_each(payload, from, leaf::FLOAT32, count),
+        leaf::DOUBLE64 => judge_each(payload, from, leaf::DOUBLE64, count),
+        _ => (count == 0) & (from <= payload.len()),
+    }
+}
+
+fn judge_each(payload: &[u8], from: usize, code: u16, count: u32) -> bool
+    ensures { λ r. ⌜ r ≡ runThere (now (payload .entry)) code from count ⌝ }
+{
+    let many = count as usize;
+    if wire::has_room(payload.len(), from, many * leaf::width(code)) {
+        judged(payload, from, code, many)
+    } else {
+        false
+    }
+}
+
+// Whether the words of so many leaves are allowed: of most codes every word is. The refused are counted, and not left at the first.
+fn judged(payload: &[u8], from: usize, code: u16, count: usize) -> bool
+    requires { ⌜ (from + count * width code ≤ length (now payload)) × (count < 4294967296) ⌝ }
+    ensures { λ r. ⌜ r ≡ allBelow (isGood (now (payload .entry)) code from) count ⌝ }
+{
+    if leaf::range_of(code).every {
+        return true;
+    }
+    if code == leaf::CHAR8 {
+        return are_ascii(payload, from, count);
+    }
+    let width = leaf::width(code);
+    let mut bad: u32 = 0;
+    let mut seen: usize = 0;
+    while seen < count {
+        bad += refused(code, bases::word_in(payload, from + seen * width, code));
+        seen += 1;
+    }
+    bad == 0
+}
+
+// The same for char8, by one test for all: bytes put together are not above the last of ASCII where none of them is, since that
+// is one less than a power of two.
+fn are_ascii(payload: &[u8], from: usize, count: usize) -> bool
+    requires { ⌜ from + count ≤ length (now payload) ⌝ }
+    ensures { λ r. ⌜ r ≡ allBelow (isGood (now (payload .entry)) 2 from) count ⌝ }
+{
+    let mut all: u8 = 0;
+    let mut seen: usize = 0;
+    while seen < count {
+        all = all | payload[from + seen];
+        seen += 1;
+    }
+    all as u64 <= leaf::range_of(leaf::CHAR8).last
+}
+
+fn refused(code: u16, word: u64) -> u32
+    ensures { λ r. ⌜ (r ≤ 1) × (r ≡ cond (allowed code word) 0 1) ⌝ }
+{
+    if leaf::allowed(code, word) { 0 } else { 1 }
+}
+
+// Stores the words of so many leaves of one code where all their bytes are there, each word where there is room for it; of one leaf
+// with no loop.
+pub fn store_run(payload: &[u8], words: &mut [u64], code: u16, count: u32, p: Place)
+    ensures { λ _. ⌜ now (words .exit)
+        ≡ cond (leb (p .from + count * width code) (length (now (payload .entry))))
+        (filled (now (payload .entry)) code p count (now (words .entry))) (now (words .entry)) ⌝ }
+{
+    if count == 1 {
+        store_leaf(payload, words, code, p);
+    } else {
+        store_all(payload, words, code, count, p);
+    }
+}
+
+fn store_leaf(payload: &[u8], words: &mut [u64], code: u16, p: Place)
+    ensures { λ _. ⌜ now (words .exit)
+        ≡ cond (leb (p .from + width code) (length (now (payload .entry))))
+        (filled (now (payload .entry)) code p 1 (now (words .entry))) (now (words .entry)) ⌝ }
+{
+    let to = p.to;
+    if to < words.len() {
+        if wire::has_room(payload.len(), p.from, leaf::width(code)) {
+            words[to] = bases::leaf_in(payload, p.from, code);
+        }
+    }
+}
+
+fn store_all(payload: &[u8], words: &mut [u64], code: u16, count: u32, p: Place)
+    ensures { λ _. ⌜ now (words .exit)
+        ≡ cond (leb (p .from + count * width code) (length (now (payload .entry))))
+        (filled (now (payload .entry)) code p count (now (words .entry))) (now (words .entry)) ⌝ }
+{
+    match code {
+        leaf::BOOLEAN8 => store_each(payload, words, leaf::BOOLEAN8, count, p),
+        leaf::INT8 => store_each(payload, words, leaf::INT8, count, p),
+        leaf::CHAR8 => store_each(payload, words, leaf::CHAR8, count, p),
+        leaf::INT16 => store_each(payload, words, leaf::INT16, count, p),
+        leaf::INT32 => store_each(payload, words, leaf::INT32, count, p),
+        leaf::INT64 => store_each(payload, words, leaf::INT64, count, p),
+        leaf::UINT8 => store_each(payload, words, leaf::UINT8, count, p),
+        leaf::BYTE => store_each(payload, words, leaf::BYTE, count, p),
+        leaf::UINT16 => store_each(payload, words, leaf::UINT16, count, p),
+        leaf::UINT32 => store_each(payload, words, leaf::UINT32, count, p),
+        leaf::UINT64 => store_each(payload, words, leaf::UINT64, count, p),
+        leaf::FLOAT32 => store_each(payload, words, leaf::FLOAT32, count, p),
+        leaf::DOUBLE64 => store_each(payload, words, leaf::DOUBLE64, count, p),
+        _ => store_each(payload, words, code, count, p),
+    }
+}
+
+fn store_each(payload: &[u8], words: &mut [u64], code: u16, count: u32, p: Place)
+    ensures { λ _. ⌜ now (words .exit)
+        ≡ cond (leb (p .from + count * width code) (length (now (payload .entry))))
+        (filled (now (payload .entry)) code p count (now (words .entry))) (now (words .entry)) ⌝ }
+{
+    let many = count as usize;
+    if wire::has_room(payload.len(), p.from, many * leaf::width(code)) {
+        put_run(payload, words, code, many, p);
+    }
+}
+
+// As far as there is room for them.
+fn put_run(payload: &[u8], words: &mut [u64], code: u16, count: usize, p: Place)
+    requires { ⌜ p .from + count * width code ≤ length (now payload) ⌝ }
+    ensures { λ _. ⌜ now (words .exit) ≡ filled (now (payload .entry)) code p count (now (words .entry)) ⌝ }
+{
+    if p.to < words.len() {
+        let room = wire::least(count, words.len() - p.to);
+        if is_whole4(code) {
+            store_pairs(payload, words, code, room, p);
+        } else {
+            store(payload, words, code, room, p);
+        }
+    }
+}
+
+fn store(payload: &[u8], words: &mut [u64], code: u16, count: usize, p: Place)
+    requires { ⌜ (p .from + count * width code ≤ length (now payload)) × (p .to + count ≤ length (now words)) ⌝ }
+    ensures { λ _. ⌜ now (words .exit) ≡ filled (now (payload .entry)) code p count (now (words .entry)) ⌝ }
+{
+    let width = leaf::width(code);
+    let mut done: usize = 0;
+    while done < count {
+        words[p.to + done] = bases::word_in(payload, p.from + done * width, code);
+        done += 1;
+    }
+}
+
+// The same for codes whose word is the number of four bytes itself: of two leaves one load. By itself the compiler takes more of
+// them at once, and loses that again by bringing them into order.
+fn store_pairs(payload: &[u8], words: &mut [u64], code: u16, count: usize, p: Place)
+    requires { ⌜ (p .from + count * 4 ≤ length (now payload)) × (p .to + count ≤ length (now words)) ⌝ }
+    requires { ⌜ isWhole4 code ≡ true ⌝ }
+    ensures { λ _. ⌜ now (words .exit) ≡ filled (now (payload .entry)) code p count (now (words .entry)) ⌝ }
+{
+    let pairs = count / 2;
+    let mut k: usize = 0;
+    while k < pairs {
+        let to = p.to + 2 * k;
+        let two = two_in(payload, p.from + k * 8);
+        words[to] = two / 4294967296;
+        words[to + 1] = two % 4294967296;
+        k += 1;
+    }
+    if 2 * pairs < count {
+        words[p.to + 2 * pairs] = bases::word_in(payload, p.from + pairs * 8, code);
+    }
+}
+
+// Two numbers of four bytes, as the halves of one.
+fn two_in(payload: &[u8], at: usize) -> u64
+    requires { ⌜ at + 8 ≤ length (now payload) ⌝ }
+    ensures { λ r. ⌜ (r / 4294967296 ≡ number 2 (now (payload .entry)) at) × (r % 4294967296 ≡ number 2 (now (payload .entry)) (at + 4)) ⌝ }
+{
+    wire::whole_u64(&payload[at..at + 8], 0)
+}
+
+// uint32 and float32.
+fn is_whole4(code: u16) -> bool
+    ensures { λ r. ⌜ r ≡ isWhole4 code ⌝ }
+{
+    (code == leaf::UINT32) | (code == leaf::FLOAT32)
+}
