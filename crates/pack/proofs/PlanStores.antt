@@ -171,19 +171,6 @@ module _ (ws t : List ℕ) where
         go (on q y) g = g .0 .1
         go (stop n q y) g = g .0 .1
 
--- so many leaves of one code, and one leaf alone
-module _ (ws : List ℕ) (code n : ℕ) (p : Place) (x y : List ℕ) where
-  pub leaves-stored : p .from + n ≤ length ws → y ≡ cond (leb (p .from + n) (length ws)) (storedAll ws code p n x) x → y ≡ storedAll ws code p n x
-  leaves-stored inside put = all-stored ws code p x n y inside put
-
-  pub leaf-stored : n ≡ 1 → y ≡ written x (p .to) (formOf code (getD ws (p .from) 0)) → y ≡ storedAll ws code p n x
-  unfolding storedAll
-  leaf-stored e put =
-      put
-      ∙ ap₂ (λ (a b : ℕ). written x a (formOf code (getD ws b 0)))
-      (sym (ap (λ (m : ℕ). p .to + m) (zero-mul (width code)) ∙ add-zero (p .to))) (sym (add-zero (p .from)))
-      ∙ ap (λ (m : ℕ). storedAll ws code p m x) (sym e)
-
 -- the loop over the runs: what is left to store leads to the whole
 module _ (ws rs : List ℕ) (upto : ℕ) (all : List ℕ) (k : ℕ) (q : Place) (y : List ℕ) where
   abbrev pub Stores : Type 0
@@ -196,7 +183,10 @@ module _ (ws rs : List ℕ) (upto : ℕ) (all : List ℕ) (k : ℕ) (q : Place) 
   -- one run more, of which m leaves were stored
   module _ (code n m d : ℕ) (is : code ≡ codeIn (getD rs k 0)) (many : n ≡ manyIn (getD rs k 0)) (least : m ≡ min n (upto - q .from)) (wide : d ≡ width code)
       (before : q .from ≤ upto) (there : upto ≤ length ws) (z : List ℕ)
-      (put : z ≡ storedAll ws code q m y) where
+      (laid : z ≡ cond (leb (q .from + m) (length ws)) (storedAll ws code q m y) y) where
+    put : z ≡ storedAll ws code q m y
+    put = all-stored ws code q y m z (omega arith) laid
+
     pub stores-long : length z ≡ length y
     stores-long = as-long ws code q y m put
 

@@ -1,11 +1,11 @@
 -- A run of leaves of one base code: how many of them there is room for, and that their width is all that is stored by.
 -- Assumes nothing.
 use Prim.Native.Nat.{ℕ, zero, suc, min, _+_, _-_, _*_, _/_, _%_, _^_, _≤_, _<_}
-use mathlib.Core.Path.{_≡_, refl, sym, ap, _∙_}
+use mathlib.Core.Path.{_≡_, refl, sym, ap, ap₂, _∙_}
 use mathlib.Core.Logic.{⊎-elim}
 use mathlib.Core.Bool.{cond}
 use mathlib.Core.List.{List, [], _∷_}
-use native.Mathlib.Nat.{zero-mul, suc-mul, mod-lt, mul-le-mul-right, eq-or-lt-of-le, div-add-mod'}
+use native.Mathlib.Nat.{add-zero, zero-mul, suc-mul, mod-lt, mul-le-mul-right, eq-or-lt-of-le, div-add-mod'}
 use native.Mathlib.Numerals.{add-one}
 use native.Mathlib.Omega.{arith}
 use mir.Syntax.{w64}
@@ -128,7 +128,7 @@ module _ (ws : List ℕ) (code : ℕ) (p : Place) (x : List ℕ) where
       ∙ ap (λ (v : List ℕ). written (storedAll ws own p n x) (p .to + n * width code) v) f
       ∙ ap (λ (y : List ℕ). written y (p .to + n * width code) (formOf code w)) (as-wide k own a b n)
 
-  no-width : (m : ℕ) → m ≡ width code → (m ≡ 1 → ⊥) → (m ≡ 2 → ⊥) → (m ≡ 4 → ⊥) → (m ≡ 8 → ⊥) → (n : ℕ) → x ≡ storedAll ws code p n x
+  pub no-width : (m : ℕ) → m ≡ width code → (m ≡ 1 → ⊥) → (m ≡ 2 → ⊥) → (m ≡ 4 → ⊥) → (m ≡ 8 → ⊥) → (n : ℕ) → x ≡ storedAll ws code p n x
   unfolding storedAll
   no-width m is a b c d zero = refl
   no-width m is a b c d (suc n) =
@@ -144,18 +144,23 @@ module _ (ws : List ℕ) (code : ℕ) (p : Place) (x : List ℕ) where
   pub run-few : (n : ℕ) → p .from ≤ length ws → length ws - p .from < n → Run n x
   run-few n a h = sym (no-le (storedAll ws code p n x) x (p .from + n) (length ws) (omega arith))
 
-  module _ (n m : ℕ) (from : p .from ≤ length ws) (there : n ≤ length ws - p .from) (is : m ≡ width code) where
+  module _ (n : ℕ) (from : p .from ≤ length ws) (there : n ≤ length ws - p .from) where
     whole-run : Run n (storedAll ws code p n x)
     whole-run = sym (yes-le (storedAll ws code p n x) x (p .from + n) (length ws) (omega arith))
 
-    run-by : (k own : ℕ) → width own ≡ 2 ^ k → m ≡ 2 ^ k → (y : List ℕ) → y ≡ storedAll ws own p n x → Run n y
-    run-by k own a b y h = h ∙ as-wide k own a (sym is ∙ b) n ∙ whole-run
+    pub run-all : (y : List ℕ) → y ≡ storedAll ws code p n x → Run n y
+    run-all y h = h ∙ whole-run
 
-    pub run-empty : (m ≡ 1 → ⊥) → (m ≡ 2 → ⊥) → (m ≡ 4 → ⊥) → (m ≡ 8 → ⊥) → Run n x
-    run-empty a b c d = no-width m is a b c d n ∙ whole-run
+    pub run-one : (y : List ℕ) → n ≡ 1 → y ≡ written x (p .to) (formOf code (getD ws (p .from) 0)) → Run n y
+    unfolding storedAll
+    run-one y e put =
+        put
+        ∙ ap₂ (λ (a b : ℕ). written x a (formOf code (getD ws b 0)))
+        (sym (ap (λ (m : ℕ). p .to + m) (zero-mul (width code)) ∙ add-zero (p .to))) (sym (add-zero (p .from)))
+        ∙ ap (λ (m : ℕ). storedAll ws code p m x) (sym e)
+        ∙ whole-run
 
 -- the arm of 2 ^ k bytes, which stores by a code of its own
-pub run-stored : (k own : ℕ) → width own ≡ 2 ^ k → (ws : List ℕ) (code : ℕ) (p : Place) (x : List ℕ) (n m : ℕ) → p .from ≤ length ws
-    → n ≤ length ws - p .from → m ≡ width code → m ≡ 2 ^ k → (y : List ℕ) → y ≡ storedAll ws own p n x → y
-    ≡ cond (leb (p .from + n) (length ws)) (storedAll ws code p n x) x
-run-stored k own a ws code p x n m from there is b y h = run-by ws code p x n m from there is k own a b y h
+pub run-stored : (k own : ℕ) → width own ≡ 2 ^ k → (ws : List ℕ) (code : ℕ) (p : Place) (x : List ℕ) (n m : ℕ) → m ≡ width code → m ≡ 2 ^ k
+    → (y : List ℕ) → y ≡ storedAll ws own p n x → y ≡ storedAll ws code p n x
+run-stored k own a ws code p x n m is b y h = h ∙ as-wide ws code p x k own a (sym is ∙ b) n

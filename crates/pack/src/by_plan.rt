@@ -15,7 +15,6 @@ ghost use Rattle.walk.specs.Planned.{planTree};
 ghost use Rattle.pack.specs.Writing.{writer, Writing};
 ghost use Rattle.pack.specs.ByPlan.{AllAmong, AllTaken, RunTaken, storedRuns};
 ghost use Rattle.pack.specs.StoredRuns.{storedAll};
-use crate::bases;
 use crate::limits;
 use crate::runs;
 use walk::plans;
@@ -236,22 +235,9 @@ pub(crate) fn store_runs(words: &[u64], out: &mut [u8], runs: &[u64], p: Place, 
         let run = runs[k];
         let code = plans::code_in(run);
         let many = wire::least(plans::many_in(run) as usize, upto - from);
-        store_leaves(words, out, code, many, Place { from, to });
+        runs::store_run(words, out, code, many, Place { from, to });
         from = from + many;
         to = to + many * leaf::width(code);
         k += 1;
-    }
-}
-
-// The words of so many leaves of one code: of one leaf with no loop.
-fn store_leaves(words: &[u64], out: &mut [u8], code: u16, count: usize, p: Place)
-    requires { ⌜ p .from + count ≤ length (now words) ⌝ }
-    ensures { λ _. ⌜ now (out .exit) ≡ storedAll (now (words .entry)) code p count (now (out .entry)) ⌝ }
-{
-    if count == 1 {
-        let from = p.from;
-        bases::put_base(out, p.to, code, words[from]);
-    } else {
-        runs::store_run(words, out, code, count, p);
     }
 }

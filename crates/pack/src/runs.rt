@@ -9,9 +9,8 @@ ghost use lib.ListN.{length};
 ghost use Rattle.table.specs.Leaf.{width};
 ghost use Rattle.pack.specs.StoredRuns.{storedAll};
 
-// Stores the words of so many leaves of one code, as many as there is room for; nothing where not all the words are there. A call
-// for each width, so that the compiler makes its own loop of each: a leaf's bytes are the low ones of its word, whichever code of its
-// width it has.
+// Stores the words of so many leaves of one code, as many as there is room for; nothing where not all the words are there. Of one leaf
+// with no loop.
 pub(crate) fn store_run(words: &[u64], out: &mut [u8], code: u16, count: usize, p: Place)
     ensures { λ _. ⌜ now (out .exit)
         ≡ cond (leb (p .from + count) (length (now (words .entry)))) (storedAll (now (words .entry)) code p count (now (out .entry))) (now (out .entry)) ⌝ }
@@ -22,6 +21,20 @@ pub(crate) fn store_run(words: &[u64], out: &mut [u8], code: u16, count: usize, 
     if words.len() - p.from < count {
         return;
     }
+    if count == 1 {
+        let from = p.from;
+        bases::put_base(out, p.to, code, words[from]);
+    } else {
+        store_all(words, out, code, count, p);
+    }
+}
+
+// A call for each width, so that the compiler makes its own loop of each: a leaf's bytes are the low ones of its word, whichever code
+// of its width it has.
+fn store_all(words: &[u64], out: &mut [u8], code: u16, count: usize, p: Place)
+    requires { ⌜ p .from + count ≤ length (now words) ⌝ }
+    ensures { λ _. ⌜ now (out .exit) ≡ storedAll (now (words .entry)) code p count (now (out .entry)) ⌝ }
+{
     match leaf::width(code) {
         1 => store(words, out, leaf::UINT8, count, p),
         2 => store(words, out, leaf::UINT16, count, p),

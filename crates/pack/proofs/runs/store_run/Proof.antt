@@ -1,31 +1,22 @@
--- `pack::runs::store_run` meets its contract: each arm stores leaves of its width.
+-- `pack::runs::store_run` meets its contract: nothing where a word is not there; one leaf, or several.
 -- Assumes nothing.
-use mathlib.Core.Path.{refl}
 use borrow.Author.Needs.{needs}
-use Rattle.table.specs.Leaf.{base, bytesOf, width}
-use Rattle.pack.proofs.StoredRuns.{run-short, run-few, run-stored, run-empty}
+use Rattle.pack.proofs.StoredRuns.{run-short, run-few, run-one, run-all}
 use Rattle.pack.proofs.runs.store_run.Statement.{statement}
 use Rattle.pack.proofs.runs.store_run.Tie as tie
 
 pub store-run-spec : {M : Type 1} → statement M
-unfolding width base bytesOf
 store-run-spec =
     tie.close
     (tie.spec
     (λ c. search run-short)
     (λ c. search needs)
     (λ c. search run-few)
-    (λ c κs. search needs)
-    (λ c κs. search needs)
-    (λ c κs. search needs)
+    (λ c. search needs)
+    (λ c. search needs)
     (λ c κs. search needs)
     (λ c κs. search needs)
     (λ c. search needs)
-    (λ c. search (run-stored 0 6 refl))
+    (λ c. search run-one)
     (λ c. search needs)
-    (λ c. search (run-stored 1 8 refl))
-    (λ c. search needs)
-    (λ c. search (run-stored 2 9 refl))
-    (λ c. search needs)
-    (λ c. search (run-stored 3 10 refl))
-    (λ c. search run-empty))
+    (λ c. search run-all))
