@@ -21,8 +21,8 @@ use Rattle.walk.specs.Walk.{Step, on, through, walk, leafWalk, Going}
 use Rattle.walk.specs.Planned.{treeBy, treesBy, childBy}
 use Rattle.walk.proofs.Trees.{child-met, members-by, elements-by}
 use Rattle.walk.proofs.Returns.{item-on}
-use Rattle.pack.specs.Stored.{isThere, behind, stored}
-use Rattle.pack.specs.StoredRuns.{behindAll, storedAll}
+use Rattle.pack_leaves.specs.Stored.{isThere, behind, stored}
+use Rattle.pack_leaves.specs.StoredRuns.{behindAll, storedAll}
 use Rattle.pack.specs.JudgedRuns.{AllThere}
 use Rattle.pack.specs.Writing.{writer, Writing, treeWritten}
 use Rattle.pack.specs.ByPlan.{AllAmong}

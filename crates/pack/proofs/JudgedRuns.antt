@@ -16,9 +16,9 @@ use Rattle.walk.specs.declared.Place.{Place}
 use Rattle.walk.specs.Walk.{Step, on, next, through, Going}
 use Rattle.walk.proofs.Walks.{few-bytes}
 use Rattle.walk.proofs.Turns.{from-first}
-use Rattle.pack.specs.Stored.{behind, stored}
-use Rattle.pack.specs.StoredRuns.{behindAll, storedAll}
-use Rattle.pack.proofs.StoredRuns.{as-long}
+use Rattle.pack_leaves.specs.Stored.{behind, stored}
+use Rattle.pack_leaves.specs.StoredRuns.{behindAll, storedAll}
+use Rattle.pack_leaves.proofs.StoredRuns.{as-long}
 use Rattle.pack.specs.Writing.{Writing, Writes}
 use Rattle.pack.specs.JudgedRuns.{AllThere}
 

@@ -8,8 +8,3 @@ mod PlanLeaves
 mod PlanStores
 mod PlanReturns
 mod PlanEach
-mod Laid
-pub mod There
-pub mod Behind
-mod OneMore
-pub mod StoredRuns

@@ -15,9 +15,9 @@ use Rattle.table.specs.Leaf.{base, allowed}
 use Rattle.leaf.specs.declared.codes.Range.{Range}
 use Rattle.leaf.specs.Limits.{rangeOf, measure}
 use Rattle.leaf.proofs.Limits.{counted}
-use Rattle.pack.specs.Stored.{isThere}
+use Rattle.pack_leaves.specs.Stored.{isThere}
 use Rattle.pack.specs.JudgedRuns.{AllThere}
-use Rattle.pack.proofs.There.{judged}
+use Rattle.pack_leaves.proofs.There.{judged}
 
 -- a run of words: what is known of the first k
 module _ (ws : List ℕ) (code from : ℕ) where

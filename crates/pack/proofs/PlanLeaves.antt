@@ -18,11 +18,11 @@ use Rattle.walk.specs.Walk.{on, stop, answer, left, through}
 use Rattle.walk.specs.Runs.{codeIn, manyIn, valuesIn, placeIn, takenBy}
 use Rattle.walk.proofs.Walks.{few-bytes, went, through-more, through-stop, through-done}
 use Rattle.walk.proofs.Returns.{item-short, item-bad, item-on}
-use Rattle.pack.specs.Stored.{isThere}
+use Rattle.pack_leaves.specs.Stored.{isThere}
 use Rattle.pack.specs.JudgedRuns.{AllThere}
 use Rattle.pack.specs.Writing.{writer, Writing}
 use Rattle.pack.specs.ByPlan.{AllAmong, AllTaken, RunTaken}
-use Rattle.pack.proofs.There.{judged}
+use Rattle.pack_leaves.proofs.There.{judged}
 use Rattle.pack.proofs.PlanWalks.{overRun, leafStep, run-leaves}
 
 -- one word

@@ -21,11 +21,11 @@ use Rattle.walk.specs.Walk.{Step, on, stop, answer, left, next, through}
 use Rattle.walk.specs.Runs.{codeIn, manyIn, takenBy, runsTree}
 use Rattle.walk.proofs.Walks.{Holds, walk-holds, walk-same}
 use Rattle.walk.proofs.Returns.{Did, item-short, item-bad, item-on}
-use Rattle.pack.specs.StoredRuns.{behindAll, storedAll}
+use Rattle.pack_leaves.specs.StoredRuns.{behindAll, storedAll}
 use Rattle.pack.specs.Writing.{writer, Writing}
 use Rattle.pack.specs.ByPlan.{storedRuns}
-use Rattle.pack.proofs.Laid.{put-behind}
-use Rattle.pack.proofs.StoredRuns.{length-all, as-long}
+use Rattle.pack_leaves.proofs.Laid.{put-behind}
+use Rattle.pack_leaves.proofs.StoredRuns.{length-all, as-long}
 use Rattle.pack.proofs.JudgedRuns.{none-yet, one-more, all-stored, writing-run}
 use Rattle.pack.proofs.WriteReturns.{writer-keeps}
 use Rattle.pack.proofs.PlanWalks.{overRun, overRuns, leafStep, run-leaves, no-run, first-run}

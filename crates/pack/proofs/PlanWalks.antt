@@ -18,8 +18,8 @@ use Rattle.walk.specs.Walk.{Step, on, stop, answer, left, next, through, item, 
 use Rattle.walk.specs.Runs.{codeIn, manyIn, takenBy, runTree, runsTree}
 use Rattle.walk.proofs.Walks.{went, stopped, walk-same}
 use Rattle.walk.proofs.Returns.{item-on, kept-on}
-use Rattle.pack.specs.Stored.{isThere, behind, stored}
-use Rattle.pack.specs.StoredRuns.{behindAll, storedAll}
+use Rattle.pack_leaves.specs.Stored.{isThere, behind, stored}
+use Rattle.pack_leaves.specs.StoredRuns.{behindAll, storedAll}
 use Rattle.pack.specs.Writing.{writer, Writing}
 use Rattle.pack.specs.ByPlan.{RunTaken}
 use Rattle.pack.proofs.JudgedRuns.{run-on, writing-run}

@@ -23,8 +23,8 @@ use Rattle.walk.specs.Walk.{on, through, walk, Goes, Going}
 use Rattle.walk.specs.Codes.{codeCount, codesOf}
 use Rattle.walk.proofs.Bases.{base-on}
 use Rattle.walk.proofs.Codes.{codes-fit, codes-as-long, code-member, code-is}
-use Rattle.pack.specs.Stored.{isThere, behind, stored, takenCount, ends, laid, WritesEach}
-use Rattle.pack.proofs.Behind.{ends-near, ends-from, laid-length, count-codes, count-words, count-taken, written-over, fewer-written}
+use Rattle.pack_leaves.specs.Stored.{isThere, behind, stored, takenCount, ends, laid, WritesEach}
+use Rattle.pack_leaves.proofs.Behind.{ends-near, ends-from, laid-length, count-codes, count-words, count-taken, written-over, fewer-written}
 use Rattle.pack.specs.Writing.{writer, Writing, Writes, memberWritten}
 
 -- a base among a record's members, and as an array's element

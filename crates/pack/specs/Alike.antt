@@ -13,7 +13,7 @@ use Rattle.walk.specs.declared.Place.{Place}
 use Rattle.walk.specs.Tree.{Tree, leaf}
 use Rattle.walk.specs.Planned.{isPlanned, planTree}
 use Rattle.walk.specs.Walk.{Step, leafWalk}
-use Rattle.pack.specs.Stored.{isThere}
+use Rattle.pack_leaves.specs.Stored.{isThere}
 use Rattle.pack.specs.Writing.{writer}
 
 -- n words from the from-th on are there, and the entry's leaf takes each

@@ -9,7 +9,7 @@ use Rattle.walk.specs.declared.Place.{Place}
 use Rattle.walk.specs.Runs.{codeIn, manyIn, takenBy, runsTree}
 use Rattle.walk.specs.Walk.{Step, walk}
 use Rattle.pack.specs.JudgedRuns.{AllThere}
-use Rattle.pack.specs.StoredRuns.{behindAll, storedAll}
+use Rattle.pack_leaves.specs.StoredRuns.{behindAll, storedAll}
 use Rattle.pack.specs.Writing.{writer}
 
 -- so many words from the from-th on are among the n values that stand at p, and are taken by a run, of those that its code allows

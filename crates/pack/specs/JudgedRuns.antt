@@ -3,7 +3,7 @@ use Prim.Native.Nat.{ℕ, _+_, _<_}
 use mathlib.Core.Path.{_≡_}
 use mathlib.Core.Bool.{true}
 use mathlib.Core.List.{List}
-use Rattle.pack.specs.Stored.{isThere}
+use Rattle.pack_leaves.specs.Stored.{isThere}
 
 -- n words are there, and a leaf of the base code takes each
 abbrev pub AllThere : List ℕ → ℕ → ℕ → ℕ → Type 0

@@ -14,7 +14,7 @@ use Rattle.walk.specs.declared.Place.{Place}
 use Rattle.walk.specs.Tree.{Tree}
 use Rattle.walk.specs.Planned.{childBy}
 use Rattle.walk.specs.Walk.{Step, on, Codec, walk}
-use Rattle.pack.specs.Stored.{isThere, behind, stored}
+use Rattle.pack_leaves.specs.Stored.{isThere, behind, stored}
 
 -- a leaf is the next word, and its bytes are written
 unfoldable pub writer : List ℕ → Codec

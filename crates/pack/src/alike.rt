@@ -17,7 +17,6 @@ ghost use Rattle.pack.specs.Alike.{AllChosen, WritesLeaf, MetTree};
 use crate::by_plan;
 use crate::each;
 use crate::limits;
-use crate::runs;
 
 // How far a run of leaves was written: up to which member or element, and where it ends.
 pub struct Reached {
@@ -37,7 +36,7 @@ pub(crate) fn write_run(words: &[u64], out: &mut [u8], code: u16, count: u32, p:
         return Reached { upto: 0, at: p };
     }
     if limits::judged(words, p.from, code, many) {
-        runs::store_run(words, out, code, many, p);
+        pack_leaves::store_run(words, out, code, many, p);
         let width = leaf::width(code);
         Reached {
             upto: count,
@@ -96,7 +95,7 @@ fn write_leaves(
         return Reached { upto: from, at: p };
     }
     if takes_all(table, s, e, words, p.from, many) {
-        runs::store_run(words, out, e.of, many, p);
+        pack_leaves::store_run(words, out, e.of, many, p);
         let width = leaf::width(e.of);
         Reached {
             upto: count,

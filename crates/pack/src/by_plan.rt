@@ -14,9 +14,8 @@ ghost use Rattle.walk.specs.Runs.{codeIn, manyIn, takenBy, runTree, runsTree};
 ghost use Rattle.walk.specs.Planned.{planTree};
 ghost use Rattle.pack.specs.Writing.{writer, Writing};
 ghost use Rattle.pack.specs.ByPlan.{AllAmong, AllTaken, RunTaken, storedRuns};
-ghost use Rattle.pack.specs.StoredRuns.{storedAll};
+ghost use Rattle.pack_leaves.specs.StoredRuns.{storedAll};
 use crate::limits;
-use crate::runs;
 use walk::plans;
 
 // Packs the words as a payload of type i's plan, and stores the bytes of each where there is room for them.
@@ -235,7 +234,7 @@ pub(crate) fn store_runs(words: &[u64], out: &mut [u8], runs: &[u64], p: Place, 
         let run = runs[k];
         let code = plans::code_in(run);
         let many = wire::least(plans::many_in(run) as usize, upto - from);
-        runs::store_run(words, out, code, many, Place { from, to });
+        pack_leaves::store_run(words, out, code, many, Place { from, to });
         from = from + many;
         to = to + many * leaf::width(code);
         k += 1;

@@ -1,12 +1,9 @@
 // Words are packed whole or not at all: what is refused, even at its end, changes nothing. So they are judged before any byte is
 // stored.
 mod alike;
-mod bases;
-mod by_codes;
 mod by_plan;
 mod each;
 mod limits;
-pub mod runs;
 mod walking;
 
 use table::Sections;

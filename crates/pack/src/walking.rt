@@ -15,7 +15,6 @@ ghost use Rattle.walk.specs.Planned.{typeBy, walkBy};
 ghost use Rattle.pack.specs.Writing.{writer, Writing, memberWritten};
 use crate::alike;
 use crate::alike::Reached;
-use crate::by_codes;
 use crate::by_plan;
 use walk::COUNT_BYTES;
 use walk::COUNT_WORDS;
@@ -240,9 +239,9 @@ fn write_bases(
 {
     let mut codes = [0u8; MOST_CODES];
     let n = walk::runs::base_codes(table, s, i, e, from, &mut codes);
-    let part = by_codes::judge_codes(words, &codes[..n], p.from);
+    let part = pack_leaves::judge_codes(words, &codes[..n], p.from);
     let count = part.count;
-    by_codes::store_codes(words, out, &codes[..count], p);
+    pack_leaves::store_codes(words, out, &codes[..count], p);
     Reached {
         upto: from + count as u32,
         at: Place {

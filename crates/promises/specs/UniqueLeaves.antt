@@ -8,6 +8,9 @@ use Rattle.unpack_leaves.proofs.store_run.Reads.{Post as unpack-store-run}
 use Rattle.unpack_leaves.proofs.are_among.Reads.{Post as unpack-are-among}
 use Rattle.unpack_leaves.proofs.judge_codes.Reads.{Post as unpack-judge-codes}
 use Rattle.unpack_leaves.proofs.store_codes.Reads.{Post as unpack-store-codes}
+use Rattle.pack_leaves.proofs.store_run.Reads.{Post as pack-store-run}
+use Rattle.pack_leaves.proofs.judge_codes.Reads.{Post as pack-judge-codes}
+use Rattle.pack_leaves.proofs.store_codes.Reads.{Post as pack-store-codes}
 
 -- leaves of a payload, and their words
 pub record UnpackLeavesUnique : Type 0 where
@@ -18,5 +21,12 @@ pub record UnpackLeavesUnique : Type 0 where
   pub judge-codes : Answer unpack-judge-codes
   pub store-codes-words : Lent unpack-store-codes (λ k e. now (e .1 .0))
 
+-- words, and the leaves that they are written as
+pub record PackLeavesUnique : Type 0 where
+  pub store-run-out : Lent pack-store-run (λ k e. now (e .1 .0))
+  pub judge-codes : Answer pack-judge-codes
+  pub store-codes-out : Lent pack-store-codes (λ k e. now (e .1 .0))
+
 pub record UniqueLeaves : Type 0 where
   pub unpack : UnpackLeavesUnique
+  pub pack : PackLeavesUnique

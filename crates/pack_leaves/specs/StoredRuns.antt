@@ -3,7 +3,7 @@ use Prim.Native.Nat.{ℕ, zero, suc, _+_, _*_}
 use mathlib.Core.List.{List}
 use Rattle.table.specs.Leaf.{width}
 use Rattle.walk.specs.declared.Place.{Place}
-use Rattle.pack.specs.Stored.{stored}
+use Rattle.pack_leaves.specs.Stored.{stored}
 
 -- the place behind n of them, and what is left of the bytes
 abbrev pub behindAll : ℕ → Place → ℕ → Place

@@ -1,9 +1,9 @@
--- `pack::bases::put_base` meets its contract: the room's end comes before the leaf, or within it, or behind it.
+-- `pack_leaves::bases::put_base` meets its contract: the room's end comes before the leaf, or within it, or behind it.
 -- Assumes nothing.
 use borrow.Author.Needs.{needs}
-use Rattle.pack.proofs.Laid.{put-behind, put-short}
-use Rattle.pack.proofs.bases.put_base.Statement.{statement}
-use Rattle.pack.proofs.bases.put_base.Tie as tie
+use Rattle.pack_leaves.proofs.Laid.{put-behind, put-short}
+use Rattle.pack_leaves.proofs.bases.put_base.Statement.{statement}
+use Rattle.pack_leaves.proofs.bases.put_base.Tie as tie
 
 pub put-base-spec : {M : Type 1} → statement M
 put-base-spec =

@@ -5,10 +5,10 @@ use mathlib.Core.Path.{_≡_}
 use native.Mathlib.Omega.{arith}
 use borrow.Author.Needs.{needs}
 use lib.ListN.{take}
-use Rattle.pack.specs.Stored.{ends}
-use Rattle.pack.proofs.OneMore.{So-far, none-there, none-ends, end-at, none-judged, more-judged, one-refused, all-judged, more-fits, more-ends}
-use Rattle.pack.proofs.by_codes.judge_codes.Statement.{statement}
-use Rattle.pack.proofs.by_codes.judge_codes.Tie as tie
+use Rattle.pack_leaves.specs.Stored.{ends}
+use Rattle.pack_leaves.proofs.OneMore.{So-far, none-there, none-ends, end-at, none-judged, more-judged, one-refused, all-judged, more-fits, more-ends}
+use Rattle.pack_leaves.proofs.by_codes.judge_codes.Statement.{statement}
+use Rattle.pack_leaves.proofs.by_codes.judge_codes.Tie as tie
 
 abbrev Inv-loop : tie.InvT-loop
 Inv-loop words codes from n bytes₀ k₀ bytes k = So-far words codes from k × (bytes ≡ ends (take k codes) 0) × (k ≤ n)

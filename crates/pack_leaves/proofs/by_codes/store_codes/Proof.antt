@@ -5,9 +5,9 @@ use mathlib.Core.Path.{_≡_, refl}
 use native.Mathlib.Omega.{arith}
 use borrow.Author.Needs.{needs}
 use lib.ListN.{length}
-use Rattle.pack.proofs.OneMore.{Leads, none-kept, leads-at-start, leads-outside, leads-on, leads-end, next-fits, as-many}
-use Rattle.pack.proofs.by_codes.store_codes.Statement.{statement}
-use Rattle.pack.proofs.by_codes.store_codes.Tie as tie
+use Rattle.pack_leaves.proofs.OneMore.{Leads, none-kept, leads-at-start, leads-outside, leads-on, leads-end, next-fits, as-many}
+use Rattle.pack_leaves.proofs.by_codes.store_codes.Statement.{statement}
+use Rattle.pack_leaves.proofs.by_codes.store_codes.Tie as tie
 
 abbrev Inv-loop : tie.InvT-loop
 Inv-loop words out₀ codes from n to₀ k₀ out to k = Leads words codes (record { from = from; to = to₀ }) out₀ k to out × (length out ≡ length out₀) × (k ≤ n)

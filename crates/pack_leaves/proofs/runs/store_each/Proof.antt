@@ -1,12 +1,12 @@
--- `pack::runs::store_each` meets its contract. The loop's invariant: so many leaves are stored.
+-- `pack_leaves::runs::store_each` meets its contract. The loop's invariant: so many leaves are stored.
 -- Assumes nothing.
 use Prim.Native.Nat.{_-_, _≤_}
 use mathlib.Core.Path.{_≡_}
 use borrow.Author.Needs.{needs}
-use Rattle.pack.specs.StoredRuns.{storedAll}
-use Rattle.pack.proofs.StoredRuns.{none-stored, one-stored, all-stored, as-long, at-times, at-place, at-room}
-use Rattle.pack.proofs.runs.store_each.Statement.{statement}
-use Rattle.pack.proofs.runs.store_each.Tie as tie
+use Rattle.pack_leaves.specs.StoredRuns.{storedAll}
+use Rattle.pack_leaves.proofs.StoredRuns.{none-stored, one-stored, all-stored, as-long, at-times, at-place, at-room}
+use Rattle.pack_leaves.proofs.runs.store_each.Statement.{statement}
+use Rattle.pack_leaves.proofs.runs.store_each.Tie as tie
 
 abbrev Inv-loop : tie.InvT-loop
 Inv-loop words out₀ code count p width k₀ out k = (k ≤ count) × (out ≡ storedAll words code p k out₀)

@@ -19,9 +19,9 @@ use Rattle.table.specs.Leaf.{width, allowed}
 use Rattle.leaf.specs.Forms.{formOf}
 use Rattle.walk.specs.declared.Place.{Place}
 use Rattle.walk.proofs.Walks.{few-bytes}
-use Rattle.pack.specs.Stored.{isThere, takenCount, ends, laid}
-use Rattle.pack.proofs.There.{judged}
-use Rattle.pack.proofs.Behind.{ends-append, ends-near, count-words, laid-outside}
+use Rattle.pack_leaves.specs.Stored.{isThere, takenCount, ends, laid}
+use Rattle.pack_leaves.proofs.There.{judged}
+use Rattle.pack_leaves.proofs.Behind.{ends-append, ends-near, count-words, laid-outside}
 
 -- what is left of the codes
 next-code : (codes : List ℕ) (k : ℕ) → k < length codes → drop k codes ≡ getD codes k 0 ∷ drop (k + 1) codes

@@ -1,10 +1,10 @@
--- `pack::bases::set` meets its contract: each arm writes the bytes of its width.
+-- `pack_leaves::bases::set` meets its contract: each arm writes the bytes of its width.
 -- Assumes nothing.
 use borrow.Author.Needs.{needs}
 use Rattle.leaf.proofs.Returns.{no-form}
-use Rattle.pack.proofs.Laid.{set-byte, set-form, set-whole}
-use Rattle.pack.proofs.bases.set.Statement.{statement}
-use Rattle.pack.proofs.bases.set.Tie as tie
+use Rattle.pack_leaves.proofs.Laid.{set-byte, set-form, set-whole}
+use Rattle.pack_leaves.proofs.bases.set.Statement.{statement}
+use Rattle.pack_leaves.proofs.bases.set.Tie as tie
 
 pub set-spec : {M : Type 1} → statement M
 set-spec =

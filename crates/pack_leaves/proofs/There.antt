@@ -9,7 +9,7 @@ use lib.Dec.{ltb}
 use lib.ListN.{length, getD}
 use Rattle.wire.proofs.Cond.{and-left}
 use Rattle.table.specs.Leaf.{allowed}
-use Rattle.pack.specs.Stored.{isThere}
+use Rattle.pack_leaves.specs.Stored.{isThere}
 
 module _ (ws : List ℕ) (from code : ℕ) where
   pub judged : (r : Bool) → from < length ws → r ≡ allowed code (getD ws from 0) → r ≡ isThere ws code from

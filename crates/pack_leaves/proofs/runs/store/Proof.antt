@@ -1,11 +1,11 @@
--- `pack::runs::store` meets its contract: as many leaves as there is room for, and those behind change nothing.
+-- `pack_leaves::runs::store` meets its contract: as many leaves as there is room for, and those behind change nothing.
 -- Assumes nothing.
 use borrow.Author.Needs.{needs}
 use mathlib.Core.Path.{refl}
 use native.Mathlib.Omega.{arith}
-use Rattle.pack.proofs.StoredRuns.{has-width, fit-in, all-that-fit, none-fits}
-use Rattle.pack.proofs.runs.store.Statement.{statement}
-use Rattle.pack.proofs.runs.store.Tie as tie
+use Rattle.pack_leaves.proofs.StoredRuns.{has-width, fit-in, all-that-fit, none-fits}
+use Rattle.pack_leaves.proofs.runs.store.Statement.{statement}
+use Rattle.pack_leaves.proofs.runs.store.Tie as tie
 
 pub store-spec : {M : Type 1} → statement M
 store-spec =

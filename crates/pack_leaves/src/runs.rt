@@ -7,11 +7,11 @@ ghost use Prim.Native.Nat.{_+_, _*_, _≤_, _<_};
 ghost use lib.Dec.{leb};
 ghost use lib.ListN.{length};
 ghost use Rattle.table.specs.Leaf.{width};
-ghost use Rattle.pack.specs.StoredRuns.{storedAll};
+ghost use Rattle.pack_leaves.specs.StoredRuns.{storedAll};
 
 // Stores the words of so many leaves of one code, as many as there is room for; nothing where not all the words are there. Of one leaf
 // with no loop.
-pub(crate) fn store_run(words: &[u64], out: &mut [u8], code: u16, count: usize, p: Place)
+pub fn store_run(words: &[u64], out: &mut [u8], code: u16, count: usize, p: Place)
     ensures { λ _. ⌜ now (out .exit)
         ≡ cond (leb (p .from + count) (length (now (words .entry)))) (storedAll (now (words .entry)) code p count (now (out .entry))) (now (out .entry)) ⌝ }
 {

@@ -21,8 +21,8 @@ use Rattle.leaf.specs.Forms.{formOf}
 use Rattle.leaf.proofs.Leaves.{form-is}
 use Rattle.leaf.proofs.Returns.{no-form}
 use Rattle.walk.specs.declared.Place.{Place}
-use Rattle.pack.specs.StoredRuns.{storedAll}
-use Rattle.pack.proofs.Laid.{length-of}
+use Rattle.pack_leaves.specs.StoredRuns.{storedAll}
+use Rattle.pack_leaves.proofs.Laid.{length-of}
 
 -- a base code has a byte at least
 pub has-width : (code : ℕ) → code < 13 → 1 ≤ width code

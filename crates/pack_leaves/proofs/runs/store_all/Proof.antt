@@ -1,11 +1,11 @@
--- `pack::runs::store_all` meets its contract: each arm stores leaves of its width.
+-- `pack_leaves::runs::store_all` meets its contract: each arm stores leaves of its width.
 -- Assumes nothing.
 use mathlib.Core.Path.{refl}
 use borrow.Author.Needs.{needs}
 use Rattle.table.specs.Leaf.{base, bytesOf, width}
-use Rattle.pack.proofs.StoredRuns.{run-stored, no-width}
-use Rattle.pack.proofs.runs.store_all.Statement.{statement}
-use Rattle.pack.proofs.runs.store_all.Tie as tie
+use Rattle.pack_leaves.proofs.StoredRuns.{run-stored, no-width}
+use Rattle.pack_leaves.proofs.runs.store_all.Statement.{statement}
+use Rattle.pack_leaves.proofs.runs.store_all.Tie as tie
 
 pub store-all-spec : {M : Type 1} → statement M
 unfolding width base bytesOf

@@ -16,9 +16,9 @@ use Rattle.leaf.specs.Forms.{formOf}
 use Rattle.walk.specs.declared.Place.{Place}
 use Rattle.walk.specs.Walk.{Step, on, through}
 use Rattle.walk.proofs.Walks.{few-bytes, through-more}
-use Rattle.pack.specs.Stored.{isThere, behind, stored, takenCount, ends, allTaken, laid, WritesEach}
-use Rattle.pack.proofs.There.{there-word}
-use Rattle.pack.proofs.Laid.{put-behind}
+use Rattle.pack_leaves.specs.Stored.{isThere, behind, stored, takenCount, ends, allTaken, laid, WritesEach}
+use Rattle.pack_leaves.proofs.There.{there-word}
+use Rattle.pack_leaves.proofs.Laid.{put-behind}
 
 -- where their bytes end: not before they begin, and at most 8 to a leaf
 pub ends-append : (a b : List ℕ) (to : ℕ) → ends (a ++ b) to ≡ ends b (ends a to)

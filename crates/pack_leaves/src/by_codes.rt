@@ -3,7 +3,7 @@ use walk::Place;
 ghost use mathlib.Core.Path.{_≡_};
 ghost use Prim.Native.Nat.{_-_};
 ghost use lib.ListN.{length, take};
-ghost use Rattle.pack.specs.Stored.{takenCount, ends, laid};
+ghost use Rattle.pack_leaves.specs.Stored.{takenCount, ends, laid};
 use crate::bases;
 
 // How many leaves, and how many bytes they have.
@@ -13,7 +13,7 @@ pub struct Passed {
 }
 
 // Judges words from the from-th on as leaves of these codes, up to one that is not there or is refused.
-pub(crate) fn judge_codes(words: &[u64], codes: &[u8], from: usize) -> Passed
+pub fn judge_codes(words: &[u64], codes: &[u8], from: usize) -> Passed
     ensures { λ r. ⌜ r .count ≡ takenCount (now (words .entry)) (now (codes .entry)) from ⌝ }
     ensures { λ r. ⌜ r .bytes ≡ ends (take (takenCount (now (words .entry)) (now (codes .entry)) from) (now (codes .entry))) 0 ⌝ }
 {
@@ -37,7 +37,7 @@ pub(crate) fn judge_codes(words: &[u64], codes: &[u8], from: usize) -> Passed
 
 // Stores the bytes of leaves of these codes for the words from p.from on, each where there is room for it, as long as there are
 // words. Behind a leaf that has no room a narrower one may have it: so only the room's end ends the loop.
-pub(crate) fn store_codes(words: &[u64], out: &mut [u8], codes: &[u8], p: Place)
+pub fn store_codes(words: &[u64], out: &mut [u8], codes: &[u8], p: Place)
     ensures { λ _. ⌜ now (out .exit) ≡ laid (now (words .entry)) (take (length (now (words .entry)) - p .from) (now (codes .entry))) p (now (out .entry)) ⌝ }
 {
     let from = p.from;

@@ -1,0 +1,5 @@
+pub mod Laid
+pub mod There
+pub mod Behind
+mod OneMore
+pub mod StoredRuns
