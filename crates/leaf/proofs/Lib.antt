@@ -2,4 +2,5 @@ pub mod Limits
 pub mod Leaves
 pub mod Counted
 mod Stretches
+mod Signs
 pub mod Returns

@@ -22,7 +22,7 @@ use Rattle.table.specs.declared.Entry.{Entry}
 use Rattle.wire.specs.All.{allBelow}
 use Rattle.table.specs.Leaf.{width, allowed}
 use Rattle.table.specs.Entries.{valueAt}
-use Rattle.leaf.specs.Forms.{truth, extended, formOf}
+use Rattle.leaf.specs.Forms.{truth, formOf}
 use Rattle.leaf.proofs.Leaves.{Other, form-is, no-bytes}
 use Rattle.leaf.specs.Choice.{other, otherAt, amongAt, among, choice, takes}
 
@@ -43,14 +43,6 @@ put-whole s p x w n h q f r = put-form 3 s p x w n h q (r ∙ ap (λ (m : ℕ). 
 
 pub no-form : (s : List ℕ) (p x w n : ℕ) → n ≡ width x → (n ≡ 1 → ⊥) → (n ≡ 2 → ⊥) → (n ≡ 4 → ⊥) → (n ≡ 8 → ⊥) → s ≡ written s p (formOf x w)
 no-form s p x w n h a b c d = nothing s p ∙ ap (written s p) (sym (no-bytes x w (subst Other h (a, b, c, d))))
-
-pub sign-clear : (x half : ℕ) → x < half → x ≡ extended half x
-unfolding extended
-sign-clear x half h = sym (yes-lt x (x + (2 ^ 64 - 2 * half)) x half h)
-
-pub sign-set : (x half : ℕ) → half ≤ x → 1 ≤ half → half ≤ 2 ^ 63 → x + (18446744073709551615 - (half - 1) - half) ≡ extended half x
-unfolding extended
-sign-set x half h a b = ap (λ (n : ℕ). x + n) (omega arith) ∙ sym (no-lt x (x + (2 ^ 64 - 2 * half)) x half h)
 
 pub is-false : (x : ℕ) → x ≡ 0 → 0 ≡ truth x
 unfolding truth

@@ -4,6 +4,7 @@ use Prim.Native.Nat.{ℕ, _+_, _-_, _*_, _/_, _%_, _^_, _<_}
 use mathlib.Core.Path.{_≡_}
 use mathlib.Core.Bool.{Bool, cond}
 use mathlib.Core.List.{List, [], _∷_}
+use lib.Bits.{bitXor}
 use lib.Dec.{ltb, eqb}
 use Rattle.wire.specs.Bytes.{span, number, bytes}
 use Rattle.table.specs.Leaf.{Leaf, boolean, signed, unsigned, float, none, base}
@@ -15,6 +16,10 @@ truth x = cond (eqb x 0) 0 1
 -- a number of two's complement, below twice half, with its sign carried up to 64 bits
 unfoldable pub extended : ℕ → ℕ → ℕ
 extended half x = cond (ltb x half) x (x + (2 ^ 64 - 2 * half))
+
+-- the same by turning the sign over, where half is a power of two (`sign-carried` of proofs/Signs); no contract of a public function says it
+abbrev pub carried : ℕ → ℕ → ℕ
+carried half x = bitXor (bitXor x half + (2 ^ 63 - half)) (2 ^ 63)
 
 -- the word of a leaf at p: signed leaves are sign-extended, the others zero-extended; a float is its bits
 unfoldable pub wordOf : Leaf → List ℕ → ℕ → ℕ

@@ -10,9 +10,12 @@ ghost use lib.ListN.{length};
 ghost use Rattle.wire.specs.All.{allBelow};
 ghost use Rattle.wire.specs.Bytes.{written};
 ghost use Rattle.wire.specs.LowFirst.{swapped};
-ghost use Rattle.leaf.specs.Forms.{truth, extended, formOf};
+ghost use Rattle.leaf.specs.Forms.{truth, extended, carried, formOf};
 ghost use Rattle.leaf.specs.Choice.{otherAt, amongAt, among, takes};
 use crate::codes;
+
+// Half of the words that there are.
+const HALF: u64 = 9223372036854775808;
 
 // Writes the bytes of the leaf's word at `at`, where they fit.
 pub fn put(s: &mut [u8], at: usize, code: u16, word: u64)
@@ -81,16 +84,13 @@ pub fn signed32(x: u32) -> u64
     extended(x as u64, 2147483648)
 }
 
-// A number below twice `half`.
+// A number below twice `half`, a power of two: with its sign turned over, and this as the highest of 64 bits turned over again. In this
+// form the compiler sees that a sign is carried up, and has instructions for it; of a choice between two sums it does not.
 fn extended(x: u64, half: u64) -> u64
-    requires { ⌜ (1 ≤ half) × (half ≤ 2 ^ 63) × (x < 2 * half) ⌝ }
-    ensures { λ r. ⌜ r ≡ extended half x ⌝ }
+    requires { ⌜ (half ≤ 2 ^ 31) × (x < 2 * half) ⌝ }
+    ensures { λ r. ⌜ r ≡ carried half x ⌝ }
 {
-    if x < half {
-        x
-    } else {
-        x + (18446744073709551615 - (half - 1) - half)
-    }
+    ((x ^ half) + (HALF - half)) ^ HALF
 }
 
 // Whether the word is one of the enum's own values.

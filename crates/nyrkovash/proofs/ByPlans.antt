@@ -2,20 +2,20 @@
 -- Assumes nothing.
 use Prim.Native.Nat.{ℕ}
 use mathlib.Core.Path.{_≡_, ap, _∙_}
-use mathlib.Core.Bool.{Bool, true}
+use mathlib.Core.Bool.{Bool, true, false}
 use mathlib.Core.List.{List}
 use lib.ListN.{length}
 use Rattle.wire.proofs.MetCases.{met, met-left}
 use Rattle.table.specs.declared.Sections.{Sections}
 use Rattle.walk.specs.Walk.{Codec, start, left, walk}
-use Rattle.walk.specs.Planned.{isPlanned, planTree}
+use Rattle.walk.specs.Planned.{isPlanned, planTree, typeBy}
 use Rattle.plan.specs.declared.Length.{Length}
 use Rattle.plan.specs.Length.{numberGiven as lengthNumber}
 use Rattle.plan.specs.Layout.{lengthIn, laidNumber, laidOut}
 use Rattle.payload.specs.declared.Answer.{Answer}
 use Rattle.payload.specs.Calls.{numberGiven, answeredTree, leftBy}
-use Rattle.payload.specs.ByPlans.{answeredBy, leftFor}
-use Rattle.payload.proofs.ByPlans.{by-plan}
+use Rattle.payload.specs.ByPlans.{answeredOn, answeredBy, leftFor}
+use Rattle.payload.proofs.ByPlans.{by-plan, by-parts}
 use Rattle.nyrkovash.specs.PayloadCalls.{walkedLeft}
 use Rattle.nyrkovash.specs.PlanCalls.{lengthLeft}
 use Rattle.nyrkovash.proofs.Giving.{given-number, given-words}
@@ -41,19 +41,21 @@ module _ {z : Sections} (t : List ℕ) (s : Sections) (es : z ≡ s) where
   laid-left ws e = same (λ y. laidOut t y ws) e
 
   -- a type that has no plan
-  module _ (c : Codec) (n : ℕ) (ps : List ℕ) (i : ℕ) where
-    module _ {g : Answer} (room : ℕ) (e : g ≡ answeredBy c n ps t z i room) where
-      answer-by : g ≡ answeredBy c n ps t s i room
-      answer-by = same (λ y. answeredBy c n ps t y i room) e
+  module _ {u : Bool} {a : Answer} {y : List ℕ} (c : Codec) (n : ℕ) (ps : List ℕ) (i : ℕ) (x : List ℕ) (p : u ≡ isPlanned ps i) (h : u ≡ false)
+      (e : a ≡ answeredOn c n t z i (typeBy ps t z i) (length x)) (f : y ≡ leftBy a x (left (walk c (typeBy ps t z i) start x))) where
+    its-parts : (a ≡ answeredBy c n ps t s i (length x)) × (y ≡ leftFor c n ps t s i x)
+    its-parts =
+        by-parts c n ps t s i x u p a y h
+        (same (λ q. answeredOn c n t q i (typeBy ps t q i) (length x)) e, same (λ q. leftBy a x (left (walk c (typeBy ps t q i) start x))) f)
 
-      pub number-by : {x : ℕ} → x ≡ numberGiven g → x ≡ numberGiven (answeredBy c n ps t s i room)
-      number-by f = given-number (answeredBy c n ps t s i room) answer-by f
+    pub number-by : {k : ℕ} → k ≡ numberGiven a → k ≡ numberGiven (answeredBy c n ps t s i (length x))
+    number-by g = given-number (answeredBy c n ps t s i (length x)) (its-parts .0) g
 
-      pub walked-by : {x : List ℕ} (was : List ℕ) → x ≡ walkedLeft was g → x ≡ walkedLeft was (answeredBy c n ps t s i room)
-      walked-by was f = given-words (answeredBy c n ps t s i room) answer-by was f
+    pub left-by : y ≡ leftFor c n ps t s i x
+    left-by = its-parts .1
 
-    pub left-by : {x : List ℕ} (before : List ℕ) → x ≡ leftFor c n ps t z i before → x ≡ leftFor c n ps t s i before
-    left-by before e = same (λ y. leftFor c n ps t y i before) e
+    pub walked-by : {w : List ℕ} (was : List ℕ) → w ≡ walkedLeft was a → w ≡ walkedLeft was (answeredBy c n ps t s i (length x))
+    walked-by was g = given-words (answeredBy c n ps t s i (length x)) (its-parts .0) was g
 
 -- a type that has one, whatever the sections
 module _ {u : Bool} {a : Answer} {y : List ℕ} (c : Codec) (n : ℕ) (ps t : List ℕ) (s : Sections) (i : ℕ) (x : List ℕ)

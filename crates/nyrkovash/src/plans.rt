@@ -67,7 +67,7 @@ pub extern "C" fn nyr_unpack_by(
         payloads::told(answer, walked)
     } else {
         let s = table::sections_in(sections);
-        let answer = payload::unpack_by(table, s, plans, number, payload, words);
+        let answer = payload::unpack_parts(table, s, plans, number, payload, words);
         payloads::told(answer, walked)
     }
 }
@@ -97,7 +97,7 @@ pub extern "C" fn nyr_pack_by(
         payloads::told(answer, walked)
     } else {
         let s = table::sections_in(sections);
-        let answer = payload::pack_by(table, s, plans, number, words, out);
+        let answer = payload::pack_parts(table, s, plans, number, words, out);
         payloads::told(answer, walked)
     }
 }

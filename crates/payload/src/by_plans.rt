@@ -9,28 +9,9 @@ ghost use Rattle.walk.specs.Planned.{planTree, typeBy};
 ghost use Rattle.unpack.specs.Reading.{reader};
 ghost use Rattle.pack.specs.Writing.{writer};
 ghost use Rattle.payload.specs.Calls.{answeredTree, leftBy};
-ghost use Rattle.payload.specs.ByPlans.{answeredOn, unpackedBy, wordsBy, packedBy, bytesBy};
+ghost use Rattle.payload.specs.ByPlans.{answeredOn};
 
-// Unpacks a payload of the type of that number, by its plan where it has one.
-pub fn unpack_by(
-    table: &[u8],
-    s: Sections,
-    plans: &[u64],
-    number: u16,
-    payload: &[u8],
-    words: &mut [u64],
-) -> Answer
-    ensures { λ r. ⌜ r ≡ unpackedBy (now (plans .entry)) (now (table .entry)) s number (now (payload .entry)) (length (now (words .entry))) ⌝ }
-    ensures { λ _. ⌜ now (words .exit) ≡ wordsBy (now (plans .entry)) (now (table .entry)) s number (now (payload .entry)) (now (words .entry)) ⌝ }
-{
-    if walk::plans::is_planned(plans, number) {
-        unpack_plan(table, plans, number, payload, words)
-    } else {
-        unpack_parts(table, s, plans, number, payload, words)
-    }
-}
-
-// The same by the plan alone, for a caller that has seen that there is one: no sections are asked for.
+// Unpacks a payload of the type of that number by its plan alone, for a caller that has seen that there is one: no sections are asked for.
 pub fn unpack_plan(
     table: &[u8],
     plans: &[u64],
@@ -48,8 +29,8 @@ pub fn unpack_plan(
     crate::read_to(payload.len(), room, walked)
 }
 
-// On sections: members and elements that have a plan go by it.
-pub(crate) fn unpack_parts(
+// The same on sections, for a type that has no plan: members and elements that have one go by it.
+pub fn unpack_parts(
     table: &[u8],
     s: Sections,
     plans: &[u64],
@@ -91,26 +72,7 @@ fn unpack_type(
     crate::read_to(payload.len(), room, walked)
 }
 
-// Packs the words as a payload of the type of that number, by its plan where it has one.
-pub fn pack_by(
-    table: &[u8],
-    s: Sections,
-    plans: &[u64],
-    number: u16,
-    words: &[u64],
-    out: &mut [u8],
-) -> Answer
-    ensures { λ r. ⌜ r ≡ packedBy (now (plans .entry)) (now (table .entry)) s number (now (words .entry)) (length (now (out .entry))) ⌝ }
-    ensures { λ _. ⌜ now (out .exit) ≡ bytesBy (now (plans .entry)) (now (table .entry)) s number (now (words .entry)) (now (out .entry)) ⌝ }
-{
-    if walk::plans::is_planned(plans, number) {
-        pack_plan(table, plans, number, words, out)
-    } else {
-        pack_parts(table, s, plans, number, words, out)
-    }
-}
-
-// The same by the plan alone, for a caller that has seen that there is one: no sections are asked for.
+// Packs the words as a payload of the type of that number by its plan alone, likewise.
 pub fn pack_plan(table: &[u8], plans: &[u64], number: u16, words: &[u64], out: &mut [u8]) -> Answer
     ensures { λ r. ⌜ r ≡ answeredTree (writer (now (words .entry))) (length (now (words .entry)))
         (planTree (now (table .entry)) (now (plans .entry)) number) (length (now (out .entry))) ⌝ }
@@ -122,8 +84,8 @@ pub fn pack_plan(table: &[u8], plans: &[u64], number: u16, words: &[u64], out: &
     crate::written_to(words.len(), room, walked)
 }
 
-// On sections: members and elements that have a plan go by it.
-pub(crate) fn pack_parts(
+// The same on sections, for a type that has no plan: members and elements that have one go by it.
+pub fn pack_parts(
     table: &[u8],
     s: Sections,
     plans: &[u64],

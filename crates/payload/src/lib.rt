@@ -2,9 +2,9 @@
 // one was refused (02, request 3).
 mod by_plans;
 
-pub use by_plans::pack_by;
+pub use by_plans::pack_parts;
 pub use by_plans::pack_plan;
-pub use by_plans::unpack_by;
+pub use by_plans::unpack_parts;
 pub use by_plans::unpack_plan;
 use table::Checked;
 use table::Sections;

@@ -37,12 +37,12 @@ by =
       read-plan-words = λ k a z z′ e e′ p q. p .1 ∙ sym (q .1);
       write-plan = λ k a z z′ e e′ p q. p .0 ∙ sym (q .0);
       write-plan-out = λ k a z z′ e e′ p q. p .1 ∙ sym (q .1);
-      unpack-by = λ k a z z′ e e′ p q. p .0 ∙ sym (q .0);
-      unpack-by-words = λ k a z z′ e e′ p q. p .1 ∙ sym (q .1);
+      unpack-parts = λ k a z z′ e e′ p q. p .0 ∙ sym (q .0);
+      unpack-parts-words = λ k a z z′ e e′ p q. same-left _ _ (p .0) (q .0) (p .1) (q .1);
       unpack-plan = λ k a z z′ e e′ p q. p .0 ∙ sym (q .0);
       unpack-plan-words = λ k a z z′ e e′ p q. same-left _ _ (p .0) (q .0) (p .1) (q .1);
-      pack-by = λ k a z z′ e e′ p q. p .0 ∙ sym (q .0);
-      pack-by-out = λ k a z z′ e e′ p q. p .1 ∙ sym (q .1);
+      pack-parts = λ k a z z′ e e′ p q. p .0 ∙ sym (q .0);
+      pack-parts-out = λ k a z z′ e e′ p q. same-left _ _ (p .0) (q .0) (p .1) (q .1);
       pack-plan = λ k a z z′ e e′ p q. p .0 ∙ sym (q .0);
       pack-plan-out = λ k a z z′ e e′ p q. same-left _ _ (p .0) (q .0) (p .1) (q .1);
     }

@@ -12,9 +12,9 @@ use Rattle.plan.proofs.length_in.Reads.{Post as plan-length-in}
 use Rattle.plan.proofs.lay.Reads.{Post as plan-lay}
 use Rattle.unpack.proofs.read_plan.Reads.{Post as unpack-read-plan}
 use Rattle.pack.proofs.write_plan.Reads.{Post as pack-write-plan}
-use Rattle.payload.proofs.unpack_by.Reads.{Post as payload-unpack-by}
+use Rattle.payload.proofs.unpack_parts.Reads.{Post as payload-unpack-parts}
 use Rattle.payload.proofs.unpack_plan.Reads.{Post as payload-unpack-plan}
-use Rattle.payload.proofs.pack_by.Reads.{Post as payload-pack-by}
+use Rattle.payload.proofs.pack_parts.Reads.{Post as payload-pack-parts}
 use Rattle.payload.proofs.pack_plan.Reads.{Post as payload-pack-plan}
 
 -- where a plan stands, and what a run says
@@ -38,12 +38,12 @@ pub record ByUnique : Type 0 where
   pub read-plan-words : Lent unpack-read-plan (λ k e. now (e .1 .1 .1 .1 .0))
   pub write-plan : Answer pack-write-plan
   pub write-plan-out : Lent pack-write-plan (λ k e. now (e .1 .1 .1 .1 .0))
-  pub unpack-by : Answer payload-unpack-by
-  pub unpack-by-words : Lent payload-unpack-by (λ k e. now (e .1 .1 .1 .1 .1 .0))
+  pub unpack-parts : Answer payload-unpack-parts
+  pub unpack-parts-words : Lent payload-unpack-parts (λ k e. now (e .1 .1 .1 .1 .1 .0))
   pub unpack-plan : Answer payload-unpack-plan
   pub unpack-plan-words : Lent payload-unpack-plan (λ k e. now (e .1 .1 .1 .1 .0))
-  pub pack-by : Answer payload-pack-by
-  pub pack-by-out : Lent payload-pack-by (λ k e. now (e .1 .1 .1 .1 .1 .0))
+  pub pack-parts : Answer payload-pack-parts
+  pub pack-parts-out : Lent payload-pack-parts (λ k e. now (e .1 .1 .1 .1 .1 .0))
   pub pack-plan : Answer payload-pack-plan
   pub pack-plan-out : Lent payload-pack-plan (λ k e. now (e .1 .1 .1 .1 .0))
 

@@ -1,7 +1,7 @@
 -- `leaf::extended` meets its contract.
 -- Assumes nothing.
 use borrow.Author.Needs.{needs}
-use Rattle.leaf.proofs.Returns.{sign-clear, sign-set}
+use Rattle.leaf.proofs.Signs.{carried-fits}
 use Rattle.leaf.proofs.words.extended.Statement.{statement}
 use Rattle.leaf.proofs.words.extended.Tie as tie
 
@@ -10,8 +10,5 @@ extended-spec =
     tie.close
     (tie.spec
     (λ c. search needs)
-    (λ c. search needs)
-    (λ c. search needs)
-    (λ c. search needs)
-    (λ c. search sign-clear)
-    (λ c. search sign-set))
+    (λ c. search carried-fits)
+    (λ c. search needs))

@@ -1,6 +1,7 @@
 -- `leaf::signed16` meets its contract.
 -- Assumes nothing.
 use borrow.Author.Needs.{needs}
+use Rattle.leaf.proofs.Signs.{carried-16}
 use Rattle.leaf.proofs.words.signed16.Statement.{statement}
 use Rattle.leaf.proofs.words.signed16.Tie as tie
 
@@ -9,4 +10,4 @@ signed16-spec =
     tie.close
     (tie.spec
     (λ c κs. search needs)
-    (λ c. search needs))
+    (λ c. search carried-16))
