@@ -234,7 +234,7 @@ pub(crate) fn store_runs(words: &[u64], out: &mut [u8], runs: &[u64], p: Place, 
         let run = runs[k];
         let code = plans::code_in(run);
         let many = wire::least(plans::many_in(run) as usize, upto - from);
-        pack_leaves::store_run(words, out, code, many, Place { from, to });
+        pack_leaves::store_leaves(words, out, code, many, Place { from, to });
         from = from + many;
         to = to + many * leaf::width(code);
         k += 1;

@@ -151,14 +151,18 @@ module _ (ws : List ℕ) (code : ℕ) (p : Place) (x : List ℕ) where
     pub run-all : (y : List ℕ) → y ≡ storedAll ws code p n x → Run n y
     run-all y h = h ∙ whole-run
 
-    pub run-one : (y : List ℕ) → n ≡ 1 → y ≡ written x (p .to) (formOf code (getD ws (p .from) 0)) → Run n y
-    unfolding storedAll
-    run-one y e put =
-        put
-        ∙ ap₂ (λ (a b : ℕ). written x a (formOf code (getD ws b 0)))
-        (sym (ap (λ (m : ℕ). p .to + m) (zero-mul (width code)) ∙ add-zero (p .to))) (sym (add-zero (p .from)))
-        ∙ ap (λ (m : ℕ). storedAll ws code p m x) (sym e)
-        ∙ whole-run
+  -- of one leaf
+  pub one-written : (n : ℕ) (y : List ℕ) → n ≡ 1 → p .from < length ws → y ≡ written x (p .to) (formOf code (getD ws (p .from) 0)) → Run n y
+  unfolding storedAll
+  one-written n y e h put =
+      put
+      ∙ ap₂ (λ (a b : ℕ). written x a (formOf code (getD ws b 0)))
+      (sym (ap (λ (m : ℕ). p .to + m) (zero-mul (width code)) ∙ add-zero (p .to))) (sym (add-zero (p .from)))
+      ∙ ap (λ (m : ℕ). storedAll ws code p m x) (sym e)
+      ∙ whole-run n (omega arith) (omega arith)
+
+  pub one-missing : (n : ℕ) → n ≡ 1 → length ws ≤ p .from → Run n x
+  one-missing n e h = sym (no-le (storedAll ws code p n x) x (p .from + n) (length ws) (omega arith))
 
 -- the arm of 2 ^ k bytes, which stores by a code of its own
 pub run-stored : (k own : ℕ) → width own ≡ 2 ^ k → (ws : List ℕ) (code : ℕ) (p : Place) (x : List ℕ) (n m : ℕ) → m ≡ width code → m ≡ 2 ^ k

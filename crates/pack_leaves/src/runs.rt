@@ -9,8 +9,7 @@ ghost use lib.ListN.{length};
 ghost use Rattle.table.specs.Leaf.{width};
 ghost use Rattle.pack_leaves.specs.StoredRuns.{storedAll};
 
-// Stores the words of so many leaves of one code, as many as there is room for; nothing where not all the words are there. Of one leaf
-// with no loop.
+// Stores the words of so many leaves of one code, as many as there is room for; nothing where not all the words are there.
 pub fn store_run(words: &[u64], out: &mut [u8], code: u16, count: usize, p: Place)
     ensures { λ _. ⌜ now (out .exit)
         ≡ cond (leb (p .from + count) (length (now (words .entry)))) (storedAll (now (words .entry)) code p count (now (out .entry))) (now (out .entry)) ⌝ }
@@ -21,11 +20,22 @@ pub fn store_run(words: &[u64], out: &mut [u8], code: u16, count: usize, p: Plac
     if words.len() - p.from < count {
         return;
     }
+    store_all(words, out, code, count, p);
+}
+
+// The same, and of one leaf with no loop: by a plan most runs are of one. A call of its own for plans alone, so that the compiler lays
+// it out in their loop.
+pub fn store_leaves(words: &[u64], out: &mut [u8], code: u16, count: usize, p: Place)
+    ensures { λ _. ⌜ now (out .exit)
+        ≡ cond (leb (p .from + count) (length (now (words .entry)))) (storedAll (now (words .entry)) code p count (now (out .entry))) (now (out .entry)) ⌝ }
+{
     if count == 1 {
         let from = p.from;
-        bases::put_base(out, p.to, code, words[from]);
+        if from < words.len() {
+            bases::put_base(out, p.to, code, words[from]);
+        }
     } else {
-        store_all(words, out, code, count, p);
+        store_run(words, out, code, count, p);
     }
 }
 

@@ -19,6 +19,7 @@ unpack =
       word-at = λ k a z z′ e e′ p q. p ∙ sym q;
       judge-run = λ k a z z′ e e′ p q. p ∙ sym q;
       store-run-words = λ k a z z′ e e′ p q. p ∙ sym q;
+      store-leaves-words = λ k a z z′ e e′ p q. p ∙ sym q;
       are-among = λ k a z z′ e e′ p q. p ∙ sym q;
       judge-codes = λ k a z z′ e e′ p q. same-passed z z′ (p .0 ∙ sym (q .0)) (p .1 ∙ sym (q .1));
       store-codes-words = λ k a z z′ e e′ p q. p ∙ sym q;
@@ -28,6 +29,7 @@ pack : PackLeavesUnique
 pack =
     record {
       store-run-out = λ k a z z′ e e′ p q. p ∙ sym q;
+      store-leaves-out = λ k a z z′ e e′ p q. p ∙ sym q;
       judge-codes = λ k a z z′ e e′ p q. same-words z z′ (p .0 ∙ sym (q .0)) (p .1 ∙ sym (q .1));
       store-codes-out = λ k a z z′ e e′ p q. p ∙ sym q;
     }

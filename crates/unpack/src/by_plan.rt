@@ -167,7 +167,7 @@ pub(crate) fn store_runs(payload: &[u8], words: &mut [u64], runs: &[u64], p: Pla
         let run = runs[k];
         let code = walk::plans::code_in(run);
         let many = wire::least(walk::plans::many_in(run) as usize, upto - to);
-        unpack_leaves::store_run(payload, words, code, many as u32, Place { from, to });
+        unpack_leaves::store_leaves(payload, words, code, many as u32, Place { from, to });
         from = from + many * leaf::width(code);
         to = to + many;
         k += 1;

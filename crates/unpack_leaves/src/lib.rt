@@ -10,4 +10,5 @@ pub use by_codes::judge_codes;
 pub use by_codes::store_codes;
 pub use enums::are_among;
 pub use runs::judge_run;
+pub use runs::store_leaves;
 pub use runs::store_run;

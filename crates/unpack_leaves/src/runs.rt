@@ -87,9 +87,9 @@ fn refused(code: u16, word: u64) -> u32
     if leaf::allowed(code, word) { 0 } else { 1 }
 }
 
-// Stores the words of so many leaves of one code where all their bytes are there, each word where there is room for it; of one leaf
-// with no loop.
-pub fn store_run(payload: &[u8], words: &mut [u64], code: u16, count: u32, p: Place)
+// The same of a run as `store_run` has it, and of one leaf with no loop: by a plan most runs are of one. A call of its own for plans
+// alone, so that the compiler lays it out in their loop, with the tests of a width that `leaf_in` has.
+pub fn store_leaves(payload: &[u8], words: &mut [u64], code: u16, count: u32, p: Place)
     ensures { λ _. ⌜ now (words .exit)
         ≡ cond (leb (p .from + count * width code) (length (now (payload .entry))))
         (filled (now (payload .entry)) code p count (now (words .entry))) (now (words .entry)) ⌝ }
@@ -97,7 +97,7 @@ pub fn store_run(payload: &[u8], words: &mut [u64], code: u16, count: u32, p: Pl
     if count == 1 {
         store_leaf(payload, words, code, p);
     } else {
-        store_all(payload, words, code, count, p);
+        store_run(payload, words, code, count, p);
     }
 }
 
@@ -114,7 +114,8 @@ fn store_leaf(payload: &[u8], words: &mut [u64], code: u16, p: Place)
     }
 }
 
-fn store_all(payload: &[u8], words: &mut [u64], code: u16, count: u32, p: Place)
+// Stores the words of so many leaves of one code where all their bytes are there, each word where there is room for it.
+pub fn store_run(payload: &[u8], words: &mut [u64], code: u16, count: u32, p: Place)
     ensures { λ _. ⌜ now (words .exit)
         ≡ cond (leb (p .from + count * width code) (length (now (payload .entry))))
         (filled (now (payload .entry)) code p count (now (words .entry))) (now (words .entry)) ⌝ }

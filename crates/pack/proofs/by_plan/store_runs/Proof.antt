@@ -63,7 +63,7 @@ store-runs-spec =
     let rs = start .args .runs .now in
     let upto = start .args .upto in
     let q : Place = record { from = here .from; to = here .to } in
-    let put = at-put .store-run .ensures in
+    let put = at-put .store-leaves .ensures in
     let code = at-code .code-in .ensures in
     let many = at-least .before .many-in .ensures in
     let least = at-least .least .ensures in

@@ -1,7 +1,7 @@
--- `pack_leaves::runs::store_run` meets its contract: nothing where a word is not there; one leaf, or several.
+-- `pack_leaves::runs::store_run` meets its contract: all of a run, or nothing.
 -- Assumes nothing.
 use borrow.Author.Needs.{needs}
-use Rattle.pack_leaves.proofs.StoredRuns.{run-short, run-few, run-one, run-all}
+use Rattle.pack_leaves.proofs.StoredRuns.{run-short, run-few, run-all}
 use Rattle.pack_leaves.proofs.runs.store_run.Statement.{statement}
 use Rattle.pack_leaves.proofs.runs.store_run.Tie as tie
 
@@ -12,11 +12,6 @@ store-run-spec =
     (λ c. search run-short)
     (λ c. search needs)
     (λ c. search run-few)
-    (λ c. search needs)
-    (λ c. search needs)
     (λ c κs. search needs)
-    (λ c κs. search needs)
-    (λ c. search needs)
-    (λ c. search run-one)
     (λ c. search needs)
     (λ c. search run-all))

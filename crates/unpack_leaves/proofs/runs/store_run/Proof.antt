@@ -1,7 +1,7 @@
--- `unpack_leaves::runs::store_run` meets its contract: one leaf, or several.
+-- `unpack_leaves::runs::store_run` meets its contract: each arm stores leaves of its own code.
 -- Assumes nothing.
 use borrow.Author.Needs.{needs}
-use Rattle.unpack_leaves.proofs.WholeRuns.{one-stored}
+use Rattle.unpack_leaves.proofs.WholeRuns.{arm-stored}
 use Rattle.unpack_leaves.proofs.runs.store_run.Statement.{statement}
 use Rattle.unpack_leaves.proofs.runs.store_run.Tie as tie
 
@@ -11,7 +11,43 @@ store-run-spec =
     (tie.spec
     (λ c κs. search needs)
     (λ c κs. search needs)
+    (λ c κs. search needs)
+    (λ c κs. search needs)
+    (λ c κs. search needs)
+    (λ c κs. search needs)
+    (λ c κs. search needs)
+    (λ c κs. search needs)
+    (λ c κs. search needs)
+    (λ c κs. search needs)
+    (λ c κs. search needs)
+    (λ c κs. search needs)
+    (λ c κs. search needs)
+    (λ c κs. search needs)
     (λ c. search needs)
-    (λ c. search one-stored)
+    (λ c. search arm-stored)
+    (λ c. search needs)
+    (λ c. search arm-stored)
+    (λ c. search needs)
+    (λ c. search arm-stored)
+    (λ c. search needs)
+    (λ c. search arm-stored)
+    (λ c. search needs)
+    (λ c. search arm-stored)
+    (λ c. search needs)
+    (λ c. search arm-stored)
+    (λ c. search needs)
+    (λ c. search arm-stored)
+    (λ c. search needs)
+    (λ c. search arm-stored)
+    (λ c. search needs)
+    (λ c. search arm-stored)
+    (λ c. search needs)
+    (λ c. search arm-stored)
+    (λ c. search needs)
+    (λ c. search arm-stored)
+    (λ c. search needs)
+    (λ c. search arm-stored)
+    (λ c. search needs)
+    (λ c. search arm-stored)
     (λ c. search needs)
     (λ c. search needs))
