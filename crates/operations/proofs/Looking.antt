@@ -61,11 +61,9 @@ module _ (index : List ℕ) (count id : ℕ) where
 
   module _ (base size : ℕ) (left : Left index count id base size) (word : ℕ) (ends : Ends index count base size word) where
     -- the middle's word is not there
-    pub unlaid : (r : Sought) (m : ℕ) → 1 < size → m ≡ base + size / 2 → length index ≤ m → r ≡ saidBy 0 id (base + size - 1) → Says index count id r
+    pub unlaid : (r : Sought) (m : ℕ) → 1 < size → m ≡ base + size / 2 → length index ≤ m → r ≡ toldBy index id (base + size - 1) → Says index count id r
     unlaid r m several em h e t =
-        let z : getD index (base + size - 1) 0 ≡ 0 = List·getD-eq-default index 0 (omega arith) in
-        ap (heldTo t id) (e ∙ ap (λ (w : ℕ). saidBy w id (base + size - 1)) (sym z))
-        ∙ sym (left .1 .1 t ∙ none-there t index id (left .0) base size (ends .some) (left .1 .0) (omega arith))
+        ap (heldTo t id) e ∙ sym (left .1 .1 t ∙ none-there t index id (left .0) base size (ends .some) (left .1 .0) (omega arith))
 
     -- one entry is left, which bears the ID or not
     pub last-told : (r : Sought) → size ≤ 1 → r ≡ saidBy word id base → Says index count id r
@@ -133,6 +131,13 @@ module _ (word id m : ℕ) where
 
   pub not-told : (word / half ≡ id → ⊥) → Nowhere ≡ saidBy word id m
   not-told x = sym (no-eq {A = Sought} (At m (word % half)) Nowhere (word / half) id x)
+
+module _ (index : List ℕ) (id m : ℕ) (r : Sought) where
+  pub told-there : (word : ℕ) → word ≡ getD index m 0 → r ≡ saidBy word id m → r ≡ toldBy index id m
+  told-there word is e = e ∙ ap (λ (w : ℕ). saidBy w id m) is
+
+  pub told-zero : length index ≤ m → r ≡ saidBy 0 id m → r ≡ toldBy index id m
+  told-zero h e = e ∙ ap (λ (w : ℕ). saidBy w id m) (sym (List·getD-eq-default index 0 h))
 
 pub no-first : (index : List ℕ) → length index ≤ 0 → 0 ≡ getD index 0 0
 no-first index h = sym (List·getD-eq-default index 0 h)

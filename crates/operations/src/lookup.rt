@@ -5,7 +5,7 @@ ghost use mathlib.Core.Path.{_≡_};
 ghost use mathlib.Core.Bool.{cond};
 ghost use Prim.Native.Nat.{_<_};
 ghost use lib.ListN.{length, getD};
-ghost use Rattle.operations.specs.Search.{borne, soughtIn, saidBy, Says};
+ghost use Rattle.operations.specs.Search.{borne, soughtIn, saidBy, toldBy, Says};
 
 // An entry that bears the ID, or none; where the IDs rise and the index is the table's, it is the operation of that ID.
 pub fn find(table: &[u8], index: &[u64], count: u16, id: u32) -> Sought
@@ -35,7 +35,7 @@ fn said(index: &[u64], count: u16, id: u32) -> Sought
         let half = size / 2;
         let middle = base + half;
         if index.len() <= middle {
-            return told(0, id, base + size - 1);
+            return told_in(index, id, base + size - 1);
         }
         let here = word_at(&index[half..], base);
         let is = here <= bound;
@@ -85,6 +85,17 @@ fn told(word: u64, id: u32, number: usize) -> Sought
     } else {
         Sought::Nowhere
     }
+}
+
+// The same of a word of the index, there or not.
+fn told_in(index: &[u64], id: u32, number: usize) -> Sought
+    requires { ⌜ number < 65536 ⌝ }
+    ensures { λ r. ⌜ r ≡ toldBy (now (index .entry)) id number ⌝ }
+{
+    if number < index.len() {
+        return told(word_at(index, number), id, number);
+    }
+    told(0, id, number)
 }
 
 // The index may be anybody's: the entry that it says is found only where all its bytes are there and bear the ID. Whether they are is
