@@ -41,8 +41,10 @@ said-spec =
     let g = c .before .before in
     let l = g .before .before .before .before .loop in
     let a = g .before .before .before .before .before .before .before .before .args in (
-      goes-on (a .index .now) (a .count) (a .id) (l .base) (l .size) (l .word) (g .word-at .result) (search needs) (search needs) (g .word-at .ensures) (l .inv .0) _ (c .chosen .ensures),
-      ends-on (a .index .now) (a .count) (a .id) (l .base) (l .size) (l .word) (g .word-at .result) (search needs) (search needs) (g .word-at .ensures) (l .inv .1) _ _ (c .chosen .ensures) (c .before .chosen-word .ensures),
+      goes-on (a .index .now) (a .count) (a .id) (l .base) (l .size) (l .word) (g .word-at .result)
+          (search needs) (search needs) (g .word-at .ensures) (l .inv .0) _ (c .chosen .ensures),
+      ends-on (a .index .now) (a .count) (a .id) (l .base) (l .size) (l .word) (g .word-at .result)
+          (search needs) (search needs) (g .word-at .ensures) (l .inv .1) _ _ (c .chosen .ensures) (c .before .chosen-word .ensures),
     ))
     (λ c κs. search needs)
     (λ c. search last-told))
