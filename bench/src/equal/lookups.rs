@@ -99,23 +99,23 @@ fn rises(s: &Sections) -> bool {
     index.windows(2).all(|two| two[0].id < two[1].id)
 }
 
-/// What halving finds in any index (request 4), and its number: the first word in the middle that bears the ID decides.
+/// What halving finds in any index (request 4), and its number: the lower end goes to the middle unless the ID there is above the
+/// one sought, so many are left as the count alone says, and the last one bears the ID or not.
 fn halved(table: &[u8], s: &Sections, id: u32) -> Option<(usize, Operation)> {
-    let (mut low, mut high) = (0, s.bounds.operations.count);
-    while low < high {
-        let middle = (low + high) / 2;
-        let here = s.index[middle];
-        if here.id == id {
-            let found = Operation::first(table.get(here.at as usize..)?)?;
-            return (found.id == id).then(|| (middle, found));
+    let (mut base, mut size) = (0, s.bounds.operations.count);
+    while size > 1 {
+        let middle = base + size / 2;
+        if s.index[middle].id <= id {
+            base = middle;
         }
-        if here.id < id {
-            low = middle + 1;
-        } else {
-            high = middle;
-        }
+        size -= size / 2;
     }
-    None
+    let last = s.index[..size + base].get(base)?;
+    if last.id != id {
+        return None;
+    }
+    let found = Operation::first(table.get(last.at as usize..)?)?;
+    (found.id == id).then(|| (base, found))
 }
 
 /// Whether the plain program finds what halving finds. It may not where the IDs of an index do not rise.

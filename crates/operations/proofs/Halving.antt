@@ -1,97 +1,92 @@
 -- What a search by halving comes to, look by look, over any index.
 -- Assumes nothing.
-use Prim.Native.Nat.{ℕ, zero, suc, _+_, _*_, _≤_, _<_}
-use mathlib.Core.Path.{_≡_, refl, sym, subst, _∙_}
+use Prim.Native.Nat.{ℕ, zero, suc, _+_, _-_, _*_, _/_, _≤_, _<_}
+use mathlib.Core.Path.{_≡_, refl, sym, ap, subst, _∙_}
 use mathlib.Core.Bool.{Bool, true, false, cond, _&&_}
 use mathlib.Core.List.{List}
 use native.Mathlib.Nat.{add-zero, add-suc}
 use native.Mathlib.Omega.{arith}
-use borrow.Author.Tests.{ltb-true, ltb-false, leb-true, eqb-true}
+use borrow.Author.Tests.{ltb-true, ltb-false, leb-true, leb-false, eqb-true, eqb-false}
 use lib.Dec.{ltb, leb, eqb}
 use lib.ListN.{length}
 use Rattle.wire.specs.Bytes.{number}
-use Rattle.wire.proofs.Cond.{yes-lt, no-lt, yes-eq, no-eq, and-left, and-right}
+use Rattle.wire.proofs.Cond.{yes-lt, no-lt, yes-le, no-le, yes-eq, no-eq, and-left, and-right}
 use Rattle.operations.specs.declared.Sought.{Sought}
 use Rattle.operations.specs.declared.Sought.the-variants.{At, Nowhere}
 use Rattle.operations.specs.Entries.{opWidth}
-use Rattle.operations.specs.Search.{idIn, placeIn, borne, middle, halved, mostLooks, soughtIn}
+use Rattle.operations.specs.Search.{idIn, placeIn, borne, toldBy, heldTo, middle, raised, halved, mostLooks, soughtIn}
 
--- so many entries are fewer than n looks can tell apart
+-- so many entries are left to one by n looks at the middle
 abbrev pub reach : ℕ → ℕ
 reach zero = 1
 reach (suc n) = 2 * reach n
 
 -- one look
-module _ (t index : List ℕ) (id low high n : ℕ) where
-  pub none-left : high ≤ low → halved t index id n low high ≡ Nowhere
-  unfolding halved
-  none-left h = go n
+module _ (t index : List ℕ) (id base size n : ℕ) where
+  last : Sought
+  last = cond (ltb 0 size) (heldTo t id (toldBy index id base)) Nowhere
+
+  module _ (several : 1 < size) where
+    by-middle : halved t index id (suc n) base size ≡ halved t index id n (raised index id base size) (size - size / 2)
+    unfolding halved last
+    by-middle = yes-lt {A = Sought} (halved t index id n (raised index id base size) (size - size / 2)) last 1 size several
+
+    pub moves : idIn index (middle base size) ≤ id → halved t index id (suc n) base size ≡ halved t index id n (middle base size) (size - size / 2)
+    moves h =
+        by-middle
+        ∙ ap (λ (b : ℕ). halved t index id n b (size - size / 2)) (yes-le {A = ℕ} (middle base size) base (idIn index (middle base size)) id h)
+
+    pub stays : id < idIn index (middle base size) → halved t index id (suc n) base size ≡ halved t index id n base (size - size / 2)
+    stays h =
+        by-middle
+        ∙ ap (λ (b : ℕ). halved t index id n b (size - size / 2)) (no-le {A = ℕ} (middle base size) base (idIn index (middle base size)) id h)
+
+  pub at-last : size ≡ 1 → halved t index id (suc n) base size ≡ heldTo t id (toldBy index id base)
+  unfolding halved last
+  at-last e =
+      no-lt {A = Sought} (halved t index id n (raised index id base size) (size - size / 2)) last 1 size (omega arith)
+      ∙ yes-lt {A = Sought} (heldTo t id (toldBy index id base)) Nowhere 0 size (omega arith)
+
+  pub none-left : size ≡ 0 → halved t index id (suc n) base size ≡ Nowhere
+  unfolding halved last
+  none-left e =
+      no-lt {A = Sought} (halved t index id n (raised index id base size) (size - size / 2)) last 1 size (omega arith)
+      ∙ no-lt {A = Sought} (heldTo t id (toldBy index id base)) Nowhere 0 size (omega arith)
+
+-- what the last look tells, for whatever is shown of both
+module _ (t index : List ℕ) (id m : ℕ) (P : Sought → Type 0) where
+  pub by-last : (idIn index m ≡ id → P (borne t id m (placeIn index m))) → ((idIn index m ≡ id → ⊥) → P Nowhere) → P (heldTo t id (toldBy index id m))
+  by-last same other = go (eqb (idIn index m) id) refl
     where
-      go : (k : ℕ) → halved t index id k low high ≡ Nowhere
-      go zero = refl
-      go (suc k) = no-lt {A = Sought} _ Nowhere low high h
+      go : (b : Bool) → eqb (idIn index m) id ≡ b → P (heldTo t id (cond b (At m (placeIn index m)) Nowhere))
+      go true e = same (eqb-true (idIn index m) id e)
+      go false e = other (eqb-false (idIn index m) id e)
 
-  module _ (l : low < high) where
-    here : ℕ
-    here = idIn index (middle low high)
-
-    it : Sought
-    it = borne t id (middle low high) (placeIn index (middle low high))
-
-    beside : Sought
-    beside = cond (ltb here id) (halved t index id n (middle low high + 1) high) (halved t index id n low (middle low high))
-
-    one-look : halved t index id (suc n) low high ≡ cond (eqb here id) it beside
-    unfolding halved here it beside
-    one-look = yes-lt {A = Sought} _ Nowhere low high l
-
-    pub bears-it : idIn index (middle low high) ≡ id
-        → halved t index id (suc n) low high ≡ borne t id (middle low high) (placeIn index (middle low high))
-    unfolding here it
-    bears-it e = one-look ∙ yes-eq {A = Sought} it beside here id e
-
-    pub above-it : idIn index (middle low high) < id → halved t index id (suc n) low high ≡ halved t index id n (middle low high + 1) high
-    unfolding here beside
-    above-it h =
-        one-look
-        ∙ no-eq {A = Sought} it beside here id (λ (e : idIn index (middle low high) ≡ id). omega arith)
-        ∙ yes-lt {A = Sought} (halved t index id n (middle low high + 1) high) (halved t index id n low (middle low high)) here id h
-
-    pub below-it : id < idIn index (middle low high) → halved t index id (suc n) low high ≡ halved t index id n low (middle low high)
-    unfolding here beside
-    below-it h =
-        one-look
-        ∙ no-eq {A = Sought} it beside here id (λ (e : idIn index (middle low high) ≡ id). omega arith)
-        ∙ no-lt {A = Sought} (halved t index id n (middle low high + 1) high) (halved t index id n low (middle low high)) here id (omega arith)
-
--- a look finds one of three, for whatever is shown of all
-module _ (t index : List ℕ) (id : ℕ) (P : Sought → Type 0) (low high n : ℕ) where
-  pub by-look : (high ≤ low → P Nowhere)
-      → (low < high → idIn index (middle low high) ≡ id → P (borne t id (middle low high) (placeIn index (middle low high))))
-      → (low < high → idIn index (middle low high) < id → P (halved t index id n (middle low high + 1) high))
-      → (low < high → id < idIn index (middle low high) → P (halved t index id n low (middle low high)))
-      → P (halved t index id (suc n) low high)
-  by-look none same above below =
-      go (ltb low high) refl (ltb (idIn index (middle low high)) id) refl (ltb id (idIn index (middle low high))) refl
+-- a look is one of four, for whatever is shown of all
+module _ (t index : List ℕ) (id : ℕ) (P : Sought → Type 0) (base size n : ℕ) where
+  pub by-look : (1 < size → idIn index (middle base size) ≤ id → P (halved t index id n (middle base size) (size - size / 2)))
+      → (1 < size → id < idIn index (middle base size) → P (halved t index id n base (size - size / 2)))
+      → (size ≡ 1 → P (heldTo t id (toldBy index id base)))
+      → (size ≡ 0 → P Nowhere)
+      → P (halved t index id (suc n) base size)
+  by-look above below one none = go (ltb 1 size) refl (leb (idIn index (middle base size)) id) refl (ltb 0 size) refl
     where
-      go : (a : Bool) → ltb low high ≡ a → (b : Bool) → ltb (idIn index (middle low high)) id ≡ b → (c : Bool)
-          → ltb id (idIn index (middle low high)) ≡ c → P (halved t index id (suc n) low high)
-      go false p b q c r =
-          let h : high ≤ low = ltb-false low high p in
-          subst P (sym (none-left t index id low high (suc n) h)) (none h)
+      go : (a : Bool) → ltb 1 size ≡ a → (b : Bool) → leb (idIn index (middle base size)) id ≡ b → (c : Bool) → ltb 0 size ≡ c
+          → P (halved t index id (suc n) base size)
       go true p true q c r =
-          let l : low < high = ltb-true low high p in
-          let h : idIn index (middle low high) < id = ltb-true (idIn index (middle low high)) id q in
-          subst P (sym (above-it t index id low high n l h)) (above l h)
-      go true p false q true r =
-          let l : low < high = ltb-true low high p in
-          let h : id < idIn index (middle low high) = ltb-true id (idIn index (middle low high)) r in
-          subst P (sym (below-it t index id low high n l h)) (below l h)
-      go true p false q false r =
-          let l : low < high = ltb-true low high p in
-          let h : idIn index (middle low high) ≡ id = omega
-          (arith, ltb-false (idIn index (middle low high)) id q, ltb-false id (idIn index (middle low high)) r) in
-          subst P (sym (bears-it t index id low high n l h)) (same l h)
+          let l : 1 < size = ltb-true 1 size p in
+          let h : idIn index (middle base size) ≤ id = leb-true (idIn index (middle base size)) id q in
+          subst P (sym (moves t index id base size n l h)) (above l h)
+      go true p false q c r =
+          let l : 1 < size = ltb-true 1 size p in
+          let h : id < idIn index (middle base size) = leb-false (idIn index (middle base size)) id q in
+          subst P (sym (stays t index id base size n l h)) (below l h)
+      go false p b q true r =
+          let e : size ≡ 1 = omega (arith, ltb-false 1 size p, ltb-true 0 size r) in
+          subst P (sym (at-last t index id base size n e)) (one e)
+      go false p b q false r =
+          let e : size ≡ 0 = omega (arith, ltb-false 0 size r) in
+          subst P (sym (none-left t index id base size n e)) (none e)
 
 -- what is found with any index: an entry below the count that bears the ID, and lies within the bytes, at the place that its word says
 module _ (t index : List ℕ) (id : ℕ) where
@@ -112,15 +107,15 @@ module _ (t index : List ℕ) (id : ℕ) where
       )
       go false e = tt
 
-  halved-bears : (count n low high : ℕ) → high ≤ count → Bearing count (halved t index id n low high)
+  halved-bears : (count n base size : ℕ) → base + size ≤ count → Bearing count (halved t index id n base size)
   unfolding halved
-  halved-bears count zero low high h = tt
-  halved-bears count (suc n) low high h =
-      by-look t index id (Bearing count) low high n
+  halved-bears count zero base size h = tt
+  halved-bears count (suc n) base size h =
+      by-look t index id (Bearing count) base size n
+      (λ l e. halved-bears count n (middle base size) (size - size / 2) (omega arith))
+      (λ l e. halved-bears count n base (size - size / 2) (omega arith))
+      (λ l. by-last t index id base (Bearing count) (λ e. borne-bears count base (placeIn index base) (omega arith) refl) (λ e. tt))
       (λ l. tt)
-      (λ l e. borne-bears count (middle low high) (placeIn index (middle low high)) (omega arith) refl)
-      (λ l e. halved-bears count n (middle low high + 1) high h)
-      (λ l e. halved-bears count n low (middle low high) (omega arith))
 
   pub found-bears : (count i p : ℕ) → soughtIn t index count id ≡ At i p
       → (i < count) × (p ≡ placeIn index i) × (number 2 t p ≡ id) × (p + opWidth t p ≤ length t)
@@ -128,24 +123,29 @@ module _ (t index : List ℕ) (id : ℕ) where
   found-bears count i p e = subst (Bearing count) e (halved-bears count mostLooks 0 count (omega arith))
 
   -- looks that are enough are as good as one more, and as any number more
-  one-more : (n low high : ℕ) → high < low + reach n → halved t index id (suc n) low high ≡ halved t index id n low high
-  one-more zero low high h = none-left t index id low high 1 (omega arith) ∙ sym (none-left t index id low high 0 (omega arith))
-  one-more (suc n) low high h =
-      by-look t index id (λ (x : Sought). x ≡ halved t index id (suc n) low high) low high (suc n)
-      (λ l. sym (none-left t index id low high (suc n) l))
-      (λ l e. sym (bears-it t index id low high n l e))
-      (λ l e. one-more n (middle low high + 1) high (omega arith) ∙ sym (above-it t index id low high n l e))
-      (λ l e. one-more n low (middle low high) (omega arith) ∙ sym (below-it t index id low high n l e))
+  one-more : (n base size : ℕ) → size ≤ reach n → halved t index id (suc (suc n)) base size ≡ halved t index id (suc n) base size
+  one-more zero base size h =
+      by-look t index id (λ (x : Sought). x ≡ halved t index id 1 base size) base size 1
+      (λ l e. absurd (omega arith))
+      (λ l e. absurd (omega arith))
+      (λ e. sym (at-last t index id base size 0 e))
+      (λ e. sym (none-left t index id base size 0 e))
+  one-more (suc n) base size h =
+      by-look t index id (λ (x : Sought). x ≡ halved t index id (suc (suc n)) base size) base size (suc (suc n))
+      (λ l e. one-more n (middle base size) (size - size / 2) (omega arith) ∙ sym (moves t index id base size (suc n) l e))
+      (λ l e. one-more n base (size - size / 2) (omega arith) ∙ sym (stays t index id base size (suc n) l e))
+      (λ e. sym (at-last t index id base size (suc n) e))
+      (λ e. sym (none-left t index id base size (suc n) e))
 
-  wider : (n k low high : ℕ) → high < low + reach n → high < low + reach (n + k)
-  wider n zero low high h = rw add-zero h
-  wider n (suc k) low high h = let g : high < low + reach (n + k) = wider n k low high h in rw (add-suc n k) (omega arith)
+  wider : (n k size : ℕ) → size ≤ reach n → size ≤ reach (n + k)
+  wider n zero size h = rw add-zero h
+  wider n (suc k) size h = let g : size ≤ reach (n + k) = wider n k size h in rw (add-suc n k) (omega arith)
 
-  pub looks-enough : (n k low high : ℕ) → high < low + reach n → halved t index id (n + k) low high ≡ halved t index id n low high
-  looks-enough n zero low high h = rw add-zero refl
-  looks-enough n (suc k) low high h = rw (add-suc n k) (one-more (n + k) low high (wider n k low high h) ∙ looks-enough n k low high h)
+  pub looks-enough : (n k base size : ℕ) → size ≤ reach n → halved t index id (suc (n + k)) base size ≡ halved t index id (suc n) base size
+  looks-enough n zero base size h = rw add-zero refl
+  looks-enough n (suc k) base size h = rw (add-suc n k) (one-more (n + k) base size (wider n k size h) ∙ looks-enough n k base size h)
 
   -- 11 looks are enough for 1,024 entries
   pub eleven-looks : (count : ℕ) → count ≤ 1024 → soughtIn t index count id ≡ halved t index id 11 0 count
   unfolding soughtIn
-  eleven-looks count h = looks-enough 11 5 0 count (omega arith)
+  eleven-looks count h = looks-enough 10 6 0 count h

@@ -1,184 +1,120 @@
 -- What looking an operation up shows: look by look, what the index says of an ID, and what that is, held against the bytes.
 -- Assumes nothing.
-use Prim.Native.Nat.{ℕ, zero, suc, _+_, _*_, _/_, _%_, _≤_, _<_}
+use Prim.Native.Nat.{ℕ, zero, suc, _+_, _-_, _*_, _/_, _%_, _≤_, _<_}
 use mathlib.Core.Path.{_≡_, refl, sym, ap, _∙_}
-use mathlib.Core.Bool.{Bool, true, false, cond, _&&_, _||_}
-use mathlib.Core.Logic.{_⊎_, inl, inr}
+use mathlib.Core.Bool.{Bool, true, false, cond, _&&_}
 use mathlib.Core.List.{List}
-use native.Mathlib.Nat.{zero-add}
 use native.Mathlib.Omega.{arith}
-use borrow.Author.Tests.{ltb-true, ltb-false, lt-leb, eqb-true, eqb-false, eq-eqb, ne-eqb}
+use borrow.Author.Tests.{leb-true, leb-false, lt-leb, eq-eqb, ne-eqb}
 use lib.Dec.{ltb, leb, eqb}
-use lib.ListN.{length, getD, List·getD-eq-default}
+use lib.ListN.{length, getD, take, drop, List·getD-eq-default}
+use lib.Seq.{getD-take, getD-drop}
 use Rattle.wire.specs.Bytes.{number}
-use Rattle.wire.proofs.Cond.{yes-if, no-if, yes-le, no-le, yes-eq, no-eq}
+use Rattle.wire.proofs.Cond.{yes-if, no-if, yes-eq, no-eq}
 use Rattle.wire.proofs.Runs.{failed}
 use Rattle.operations.specs.declared.Sought.{Sought}
 use Rattle.operations.specs.declared.Sought.the-variants.{At, Nowhere}
 use Rattle.operations.specs.Entries.{widthOf, kindAt, opWidth}
-use Rattle.operations.specs.Search.{half, idIn, placeIn, borne, middle, halved, mostLooks, soughtIn, heldTo, toldBy, Says}
+use Rattle.operations.specs.Search.{half, idIn, borne, middle, halved, soughtIn, saidBy, toldBy, heldTo, Says}
 use Rattle.operations.proofs.Places.{width-least}
-use Rattle.operations.proofs.Halving.{reach, none-left, bears-it, above-it, below-it, by-look}
+use Rattle.operations.proofs.Halving.{reach, none-left, moves, stays, at-last, by-look}
 
--- a word that is not there bears ID 0, and so do all behind it: no larger ID is found
-module _ (t index : List ℕ) (id : ℕ) (some : 0 < id) where
-  none-there : (n low high : ℕ) → length index ≤ middle low high → halved t index id n low high ≡ Nowhere
-  unfolding halved
-  none-there zero low high h = refl
-  none-there (suc n) low high h =
-      let z : getD index (middle low high) 0 ≡ 0 = List·getD-eq-default index 0 h in
-      by-look t index id (λ (x : Sought). x ≡ Nowhere) low high n
-      (λ l. refl)
+-- a word that is not there bears ID 0, and so do all behind it: the lower end goes up to the last of them
+module _ (t index : List ℕ) (id : ℕ) where
+  none-there : (n base size : ℕ) → 0 < size → size ≤ reach n → length index ≤ middle base size
+      → halved t index id (suc n) base size ≡ heldTo t id (toldBy index id (base + size - 1))
+  none-there zero base size some enough h =
+      let m : base ≡ base + size - 1 = omega arith in
+      at-last t index id base size 0 (omega arith) ∙ ap (λ (k : ℕ). heldTo t id (toldBy index id k)) m
+  none-there (suc n) base size some enough h =
+      let z : getD index (middle base size) 0 ≡ 0 = List·getD-eq-default index 0 h in
+      by-look t index id (λ (x : Sought). x ≡ heldTo t id (toldBy index id (base + size - 1))) base size (suc n)
+      (λ l e.
+      let m : middle base size + (size - size / 2) - 1 ≡ base + size - 1 = omega arith in
+      none-there n (middle base size) (size - size / 2) (omega arith) (omega arith) (omega arith)
+      ∙ ap (λ (k : ℕ). heldTo t id (toldBy index id k)) m)
       (λ l e. absurd (omega (arith, z)))
-      (λ l e. none-there n (middle low high + 1) high (omega arith))
-      (λ l e. absurd (omega (arith, z)))
+      (λ e. let m : base ≡ base + size - 1 = omega arith in ap (λ (k : ℕ). heldTo t id (toldBy index id k)) m)
+      (λ e. absurd (omega arith))
 
--- what is left to search: the entries from low on and below high, with looks enough
+-- what is left to search: so many entries from base on, with looks enough
 abbrev pub Left : List ℕ → ℕ → ℕ → ℕ → ℕ → Type 0
-Left index count id low high =
-    (n : ℕ) × ((high < low + reach n) × ((t : List ℕ) → soughtIn t index count id ≡ halved t index id n low high))
+Left index count id base size = (n : ℕ) × ((size ≤ reach n) × ((t : List ℕ) → soughtIn t index count id ≡ halved t index id (suc n) base size))
+
+-- where the search is: some entry is left, all of them are below the count, and the word is that of the lower end
+pub record Ends (index : List ℕ) (count base size word : ℕ) : Type 0 where
+  pub some : 0 < size
+  pub below : base + size ≤ count
+  pub its-word : word ≡ getD index base 0
 
 module _ (index : List ℕ) (count id : ℕ) where
-  all-left : count < 65536 → Left index count id 0 count
+  pub all-left : count < 65536 → (size : ℕ) → size ≡ count → Left index count id 0 size
   unfolding soughtIn
-  all-left h = (mostLooks, (h, λ t. refl))
+  all-left h size e = (16, (omega arith, λ t. ap (halved t index id 17 0) (sym e)))
 
-  module _ (low high : ℕ) (left : Left index count id low high) where
-    nowhere : high ≤ low → Says index count id Nowhere
-    nowhere h t = sym (left .1 .1 t ∙ none-left t index id low high (left .0) h)
+  pub all-ends : (size word : ℕ) → (count ≡ 0 → ⊥) → size ≡ count → word ≡ getD index 0 0 → Ends index count 0 size word
+  all-ends size word x e w = record { some = omega (arith, x); below = omega arith; its-word = w }
 
-    not-there : 0 < id → length index ≤ (low + high) / 2 → Says index count id Nowhere
-    not-there some h t = sym (left .1 .1 t ∙ none-there t index id some (left .0) low high h)
+  pub none-said : count ≡ 0 → Says index count id Nowhere
+  unfolding soughtIn
+  none-said e t = sym (none-left t index id 0 count 16 e)
 
-  -- one look: the word bears the ID, or what is left is above it or below
-  module _ (low high m : ℕ) (some : low < high) (em : m ≡ (low + high) / 2) where
-    its-id : idIn index (middle low high) ≡ idIn index m
-    its-id = sym (ap (idIn index) em)
+  module _ (base size : ℕ) (left : Left index count id base size) (word : ℕ) (ends : Ends index count base size word) where
+    -- the middle's word is not there
+    pub unlaid : (r : Sought) (m : ℕ) → 1 < size → m ≡ base + size / 2 → length index ≤ m → r ≡ toldBy index id (base + size - 1) → Says index count id r
+    unlaid r m several em h e t =
+        ap (heldTo t id) e ∙ sym (left .1 .1 t ∙ none-there t index id (left .0) base size (ends .some) (left .1 .0) (omega arith))
 
-    found-at : Left index count id low high → idIn index m ≡ id → Says index count id (At m (placeIn index m))
-    found-at (zero, (b, e)) q t = absurd (omega (arith, some))
-    found-at (suc n, (b, e)) q t = rw em refl ∙ sym (e t ∙ bears-it t index id low high n some (its-id ∙ q))
+    -- one entry is left, which bears the ID or not
+    pub last-told : (r : Sought) → size ≤ 1 → r ≡ saidBy word id base → Says index count id r
+    last-told r one e t =
+        ap (heldTo t id) (e ∙ ap (λ (w : ℕ). saidBy w id base) (ends .its-word))
+        ∙ sym (left .1 .1 t ∙ at-last t index id base size (left .0) (omega (arith, ends .some)))
 
-    upper : Left index count id low high → idIn index m < id → Left index count id (m + 1) high
-    upper (zero, (b, e)) h = absurd (omega (arith, some))
-    upper (suc n, (b, e)) h =
-        let g : idIn index (middle low high) < id = omega (arith, its-id) in
-        (n, (omega arith, λ t. e t ∙ above-it t index id low high n some g ∙ ap (λ (i : ℕ). halved t index id n (i + 1) high) (sym em)))
+  -- the lower end and its word as they are chosen, by what the middle's word bears
+  module _ (base size word here : ℕ) (several : 1 < size) (there : base + size / 2 < length index)
+      (eh : here ≡ getD (take (length index - size / 2) (drop (size / 2) index)) base 0) where
+    its-here : here ≡ getD index (middle base size) 0
+    its-here =
+        let l : base < length index - size / 2 = omega arith in
+        let e : size / 2 + base ≡ middle base size = omega arith in
+        eh ∙ getD-take (length index - size / 2) (drop (size / 2) index) base 0 l ∙ getD-drop (size / 2) index base 0 ∙ ap (λ (k : ℕ). getD index k 0) e
 
-    lower : Left index count id low high → id < idIn index m → Left index count id low m
-    lower (zero, (b, e)) h = absurd (omega (arith, some))
-    lower (suc n, (b, e)) h =
-        let g : id < idIn index (middle low high) = omega (arith, its-id) in
-        (n, (omega arith, λ t. e t ∙ below-it t index id low high n some g ∙ ap (halved t index id n low) (sym em)))
-
-  -- the ends have passed one another at a word that bears the ID
-  abbrev Met : ℕ → ℕ → Type 0
-  Met low high = (low ≡ high + 1) × ((high < length index) × ((idIn index high ≡ id) × Says index count id (At high (placeIn index high))))
-
-  -- at so many looks: it was met, or between the ends are twice as many entries as are left after the next look, or one more or fewer
-  abbrev pub Going : ℕ → ℕ → ℕ → Type 0
-  Going left low high =
-      Met low high ⊎ (Left index count id low high × ((low ≤ high) × ((low + 2 * left ≤ high + 1) × (high ≤ low + 2 * left + 1))))
-
-  pub all-going : count < 65536 → (left : ℕ) → left ≡ count / 2 → Going left 0 count
-  all-going h left e = inr (all-left h, (omega arith, (omega arith, omega arith)))
-
-  -- a look at a word that bears the ID, or at the last that is left, says what the whole index does
-  module _ (low high m : ℕ) (some : low < high) (em : m ≡ (low + high) / 2) (left : Left index count id low high) where
-    told-there : idIn index m ≡ id → Says index count id (toldBy index id m)
-    told-there e t = ap (heldTo t id) (yes-eq {A = Sought} (At m (placeIn index m)) Nowhere (idIn index m) id e) ∙ found-at low high m some em left e t
-
-    told-none : (idIn index m ≡ id → ⊥) → Says index count id Nowhere → Says index count id (toldBy index id m)
-    told-none x h t = ap (heldTo t id) (no-eq {A = Sought} (At m (placeIn index m)) Nowhere (idIn index m) id x) ∙ h t
-
-    told-by : ((idIn index m ≡ id → ⊥) → Says index count id Nowhere) → Says index count id (toldBy index id m)
-    told-by h = go (eqb (idIn index m) id) refl
+    pub goes-on : Left index count id base size → (from : ℕ) → from ≡ cond (leb here (id * half + 4294967295)) (base + size / 2) base
+        → Left index count id from (size - size / 2)
+    goes-on left from ef = go left (leb here (id * half + 4294967295)) refl ef
       where
-        go : (b : Bool) → eqb (idIn index m) id ≡ b → Says index count id (toldBy index id m)
-        go true e = told-there (eqb-true (idIn index m) id e)
-        go false e = told-none (eqb-false (idIn index m) id e) (h (eqb-false (idIn index m) id e))
+        go : Left index count id base size → (b : Bool) → leb here (id * half + 4294967295) ≡ b → from ≡ cond b (base + size / 2) base
+            → Left index count id from (size - size / 2)
+        go (zero, (enough, e)) b q f = absurd (omega arith)
+        go (suc n, (enough, e)) true q f =
+            let h : here ≤ id * half + 4294967295 = leb-true here (id * half + 4294967295) q in
+            let g : idIn index (middle base size) ≤ id = omega (arith, its-here) in (
+              n,
+              (
+                omega arith,
+                λ t. e t ∙ moves t index id base size (suc n) several g ∙ ap (λ (k : ℕ). halved t index id (suc n) k (size - size / 2)) (sym f),
+              ),
+            )
+        go (suc n, (enough, e)) false q f =
+            let h : id * half + 4294967295 < here = leb-false here (id * half + 4294967295) q in
+            let g : id < idIn index (middle base size) = omega (arith, its-here) in (
+              n,
+              (
+                omega arith,
+                λ t. e t ∙ stays t index id base size (suc n) several g ∙ ap (λ (k : ℕ). halved t index id (suc n) k (size - size / 2)) (sym f),
+              ),
+            )
 
-    told-unlaid : length index ≤ m → Says index count id (toldBy index id m)
-    told-unlaid h =
-        told-by (λ (x : idIn index m ≡ id → ⊥). not-there low high left (is-some (ltb 0 id) refl x) (omega arith))
+    pub ends-on : Ends index count base size word → (from w : ℕ) → from ≡ cond (leb here (id * half + 4294967295)) (base + size / 2) base
+        → w ≡ cond (leb here (id * half + 4294967295)) here word → Ends index count from (size - size / 2) w
+    ends-on ends from w ef ew = go (leb here (id * half + 4294967295)) ef ew
       where
-        z : getD index m 0 ≡ 0
-        z = List·getD-eq-default index 0 h
-
-        is-some : (b : Bool) → ltb 0 id ≡ b → (idIn index m ≡ id → ⊥) → 0 < id
-        is-some true e x = ltb-true 0 id e
-        is-some false e x = absurd (x (omega (arith, z, ltb-false 0 id e)))
-
-    told-last : high ≤ low + 1 → Says index count id (toldBy index id m)
-    told-last h =
-        told-by (λ (x : idIn index m ≡ id → ⊥). go (ltb (idIn index m) id) refl x)
-      where
-        go : (b : Bool) → ltb (idIn index m) id ≡ b → (idIn index m ≡ id → ⊥) → Says index count id Nowhere
-        go true e x = nowhere (m + 1) high (upper low high m some em left (ltb-true (idIn index m) id e)) (omega arith)
-        go false e x = nowhere low m (lower low high m some em left (omega (arith, x, ltb-false (idIn index m) id e))) (omega arith)
-
-  -- behind the loop nothing is left between the ends
-  pub none-said : (left low high : ℕ) → Going left low high → low ≡ high → Says index count id Nowhere
-  none-said left low high (inl met) e = absurd (omega (arith, met .0))
-  none-said left low high (inr on) e = nowhere low high (on .0) (omega arith)
-
-  -- the looks of the loop, and the one behind it
-  module _ (left low high m : ℕ) (going : Going left low high) (em : m ≡ (low + high) / 2) where
-    pub unlaid : (r : Sought) → 0 < left → length index ≤ m → r ≡ toldBy index id m → Says index count id r
-    unlaid r some h e = rw e (go going)
-      where
-        go : Going left low high → Says index count id (toldBy index id m)
-        go (inl met) = absurd (omega (arith, met .0, met .1 .0))
-        go (inr on) = told-unlaid low high m (omega (arith, on .1 .1 .0)) em (on .0) h
-
-    pub last-told : (r : Sought) → left ≤ 0 → (low ≡ high → ⊥) → r ≡ toldBy index id m → Says index count id r
-    last-told r none x e = rw e (go going)
-      where
-        go : Going left low high → Says index count id (toldBy index id m)
-        go (inl met) = met-told met
-          where
-            met-told : Met low high → Says index count id (toldBy index id m)
-            met-told h =
-                let is : m ≡ high = omega (arith, h .0) in
-                rw is (λ t. ap (heldTo t id) (yes-eq {A = Sought} (At high (placeIn index high)) Nowhere (idIn index high) id (h .1 .1 .0)) ∙ h .1 .1 .1 t)
-        go (inr on) = told-last low high m (omega (arith, x, on .1 .0)) em (on .0) (omega (arith, on .1 .1 .1))
-
-    -- the ends as they are chosen, by what the middle's word bears
-    module _ (here from to next : ℕ) (some : 0 < left) (there : m < length index) (is : here ≡ idIn index m)
-        (ef : from ≡ cond (leb here id) (m + 1) low) (et : to ≡ cond (leb id here) m high) (en : next ≡ left / 2) where
-      same : Going left low high → here ≡ id → Going next from to
-      same g e =
-          let f : from ≡ m + 1 = ef ∙ yes-le {A = ℕ} (m + 1) low here id (omega arith) in
-          let h : to ≡ m = et ∙ yes-le {A = ℕ} m high id here (omega arith) in
-          rw (f, h) (inl (refl, (there, (sym is ∙ e, go g))))
-        where
-          go : Going left low high → Says index count id (At m (placeIn index m))
-          go (inl met) = let h : m ≡ high = omega (arith, met .0) in rw h (met .1 .1 .1)
-          go (inr on) = found-at low high m (omega (arith, on .1 .1 .0)) em (on .0) (sym is ∙ e)
-
-      other : Going left low high → (here ≡ id → ⊥) → (a : Bool) → ltb here id ≡ a → Going next from to
-      other (inl met) x a p = let h : m ≡ high = omega (arith, met .0) in absurd (x (is ∙ ap (idIn index) h ∙ met .1 .1 .0))
-      other (inr on) x true p =
-          let g : here < id = ltb-true here id p in
-          let f : from ≡ m + 1 = ef ∙ yes-le {A = ℕ} (m + 1) low here id (omega arith) in
-          let h : to ≡ high = et ∙ no-le {A = ℕ} m high id here g in
-          let l : low + 2 * left ≤ high + 1 = on .1 .1 .0 in
-          let u : high ≤ low + 2 * left + 1 = on .1 .1 .1 in
-          rw (f, h) (inr (upper low high m (omega arith) em (on .0) (omega arith), (omega arith, (omega arith, omega arith))))
-      other (inr on) x false p =
-          let g : id < here = omega (arith, x, ltb-false here id p) in
-          let f : from ≡ low = ef ∙ no-le {A = ℕ} (m + 1) low here id g in
-          let h : to ≡ m = et ∙ yes-le {A = ℕ} m high id here (omega arith) in
-          let l : low + 2 * left ≤ high + 1 = on .1 .1 .0 in
-          let u : high ≤ low + 2 * left + 1 = on .1 .1 .1 in
-          rw (f, h) (inr (lower low high m (omega arith) em (on .0) (omega arith), (omega arith, (omega arith, omega arith))))
-
-      pub goes-on : Going next from to
-      goes-on = go (eqb here id) refl
-        where
-          go : (b : Bool) → eqb here id ≡ b → Going next from to
-          go true e = same going (eqb-true here id e)
-          go false e = other going (eqb-false here id e) (ltb here id) refl
+        go : (b : Bool) → from ≡ cond b (base + size / 2) base → w ≡ cond b here word → Ends index count from (size - size / 2) w
+        go true f g =
+            record { some = omega arith; below = omega (arith, ends .below); its-word = g ∙ its-here ∙ ap (λ (k : ℕ). getD index k 0) (sym f) }
+        go false f g =
+            record { some = omega arith; below = omega (arith, ends .below); its-word = g ∙ ends .its-word ∙ ap (λ (k : ℕ). getD index k 0) (sym f) }
 
 -- what the index says, held against the bytes
 module _ (t index : List ℕ) (count id : ℕ) (r : Sought) (says : Says index count id r) where
@@ -188,40 +124,23 @@ module _ (t index : List ℕ) (count id : ℕ) (r : Sought) (says : Says index c
   pub held-none : r ≡ Nowhere → Nowhere ≡ soughtIn t index count id
   held-none is = ap (heldTo t id) (sym is) ∙ says t
 
--- where the ends are, whatever was looked at
-pub record Ends (count low high : ℕ) : Type 0 where
-  pub near : low ≤ high + 1
-  pub below : high ≤ count
+-- what a word says
+module _ (word id m : ℕ) where
+  pub is-told : word / half ≡ id → At m (word % half) ≡ saidBy word id m
+  is-told e = sym (yes-eq {A = Sought} (At m (word % half)) Nowhere (word / half) id e)
 
-module _ (count low high m from to : ℕ) (a b : Bool) (ends : Ends count low high) (em : m ≡ (low + high) / 2) where
-  pub ends-on : from ≡ cond a (m + 1) low → to ≡ cond b m high → Ends count from to
-  ends-on f h = go a f b h
-    where
-      go : (a : Bool) → from ≡ cond a (m + 1) low → (b : Bool) → to ≡ cond b m high → Ends count from to
-      go true f true h = record { near = omega arith; below = omega arith }
-      go true f false h = record { near = omega arith; below = omega arith }
-      go false f true h = record { near = omega arith; below = omega arith }
-      go false f false h = record { near = omega arith; below = omega arith }
+  pub not-told : (word / half ≡ id → ⊥) → Nowhere ≡ saidBy word id m
+  not-told x = sym (no-eq {A = Sought} (At m (word % half)) Nowhere (word / half) id x)
 
--- what one word says
-module _ (index : List ℕ) (id m : ℕ) where
-  pub told-yes : (r : Sought) (d : ℕ) → d ≡ idIn index m → d ≡ id → r ≡ At m (placeIn index m) → r ≡ toldBy index id m
-  told-yes r d is e f = f ∙ sym (yes-eq {A = Sought} (At m (placeIn index m)) Nowhere (idIn index m) id (sym is ∙ e))
+module _ (index : List ℕ) (id m : ℕ) (r : Sought) where
+  pub told-there : (word : ℕ) → word ≡ getD index m 0 → r ≡ saidBy word id m → r ≡ toldBy index id m
+  told-there word is e = e ∙ ap (λ (w : ℕ). saidBy w id m) is
 
-  pub told-no : (d : ℕ) → d ≡ idIn index m → (d ≡ id → ⊥) → Nowhere ≡ toldBy index id m
-  told-no d is x = sym (no-eq {A = Sought} (At m (placeIn index m)) Nowhere (idIn index m) id (λ (e : idIn index m ≡ id). x (is ∙ e)))
+  pub told-zero : length index ≤ m → r ≡ saidBy 0 id m → r ≡ toldBy index id m
+  told-zero h e = e ∙ ap (λ (w : ℕ). saidBy w id m) (sym (List·getD-eq-default index 0 h))
 
-  module _ (h : length index ≤ m) where
-    unlaid-word : getD index m 0 ≡ 0
-    unlaid-word = List·getD-eq-default index 0 h
-
-    pub told-zero : id ≡ 0 → At m 0 ≡ toldBy index id m
-    told-zero e =
-        let p : placeIn index m ≡ 0 = omega (arith, unlaid-word) in
-        ap (At m) (sym p) ∙ sym (yes-eq {A = Sought} (At m (placeIn index m)) Nowhere (idIn index m) id (omega (arith, unlaid-word)))
-
-    pub told-nothing : (id ≡ 0 → ⊥) → Nowhere ≡ toldBy index id m
-    told-nothing x = told-no (idIn index m) refl (λ (e : idIn index m ≡ id). x (omega (arith, unlaid-word, e)))
+pub no-first : (index : List ℕ) → length index ≤ 0 → 0 ≡ getD index 0 0
+no-first index h = sym (List·getD-eq-default index 0 h)
 
 -- held against the bytes: 8 of them are not there
 pub too-short : (t : List ℕ) (id m p : ℕ) (b : Bool) → b ≡ leb (p + 8) (length t) → b ≡ false → Nowhere ≡ borne t id m p

@@ -1,7 +1,7 @@
 -- Where the IDs rise and the index is the table's, what the search finds is the operation of that ID, whatever its kind: the first that
 -- a plain scan meets, or none.
 -- Assumes nothing.
-use Prim.Native.Nat.{ℕ, zero, suc, _+_, _≤_, _<_}
+use Prim.Native.Nat.{ℕ, zero, suc, _+_, _-_, _/_, _≤_, _<_}
 use mathlib.Core.Path.{_≡_, refl, sym, ap, ap₂, subst, _∙_}
 use mathlib.Core.Bool.{Bool, true, false, cond}
 use mathlib.Core.Logic.{⊎-elim}
@@ -18,10 +18,10 @@ use Rattle.operations.specs.declared.Sought.{Sought}
 use Rattle.operations.specs.declared.Sought.the-variants.{At, Nowhere}
 use Rattle.operations.specs.Entries.{opWidth, opPlace, idAt}
 use Rattle.operations.specs.Rules.{idsRise}
-use Rattle.operations.specs.Search.{half, indexWord, indexed, idIn, placeIn, borne, middle, halved, mostLooks, soughtIn, orElse, firstBelow, operationOf}
+use Rattle.operations.specs.Search.{half, indexWord, indexed, idIn, placeIn, borne, toldBy, heldTo, middle, halved, soughtIn, orElse, firstBelow, operationOf}
 use Rattle.operations.proofs.Places.{place-most, entry-within}
 use Rattle.operations.proofs.Laying.{word-laid, id-in, place-in}
-use Rattle.operations.proofs.Halving.{reach, none-left, by-look}
+use Rattle.operations.proofs.Halving.{reach, by-last, by-look}
 
 module _ (t : List ℕ) (first id : ℕ) where
   -- an entry below n that bears the ID, and its place, or none of them does
@@ -50,16 +50,16 @@ module _ (t : List ℕ) (first id : ℕ) where
     unfolding idsRise
     up-to j k l h = rising-up-to (idAt t first) count rise j k l h
 
-    same-id : (i j : ℕ) → i < count → j < count → idAt t first i ≡ idAt t first j → i ≡ j
+    risen : (j k : ℕ) → j < k → k < count → idAt t first j < idAt t first k
     unfolding idsRise
+    risen j k l h = rising-apart (idAt t first) count rise j k l h
+
+    same-id : (i j : ℕ) → i < count → j < count → idAt t first i ≡ idAt t first j → i ≡ j
     same-id i j hi hj q = go (ltb i j) refl (ltb j i) refl
       where
-        apart : (m n : ℕ) → m < n → n < count → idAt t first m < idAt t first n
-        apart m n l h = rising-apart (idAt t first) count rise m n l h
-
         go : (a : Bool) → ltb i j ≡ a → (b : Bool) → ltb j i ≡ b → i ≡ j
-        go true p b r = absurd (omega (arith, apart i j (ltb-true i j p) hj))
-        go false p true r = absurd (omega (arith, apart j i (ltb-true j i r) hi))
+        go true p b r = absurd (omega (arith, risen i j (ltb-true i j p) hj))
+        go false p true r = absurd (omega (arith, risen j i (ltb-true j i r) hi))
         go false p false r = omega (arith, ltb-false i j p, ltb-false j i r)
 
     one-bears : (x y : Sought) → Bears count x → Bears count y → x ≡ y
@@ -91,38 +91,56 @@ module _ (t : List ℕ) (first id : ℕ) where
           (le-leb (opPlace t first i + opWidth t (opPlace t first i)) (length t) w) (eq-eqb (number 2 t (opPlace t first i)) id b)) in
           subst (λ (q : ℕ). Bears count (borne t id i q)) (sym p) (subst (Bears count) (sym s) (h, (refl, b)))
 
-      -- an entry that bears the ID lies from low on and below high
+      -- an entry that bears the ID is one of those that are left
       abbrev Between : ℕ → ℕ → Type 0
-      Between low high = (k : ℕ) → k < count → idAt t first k ≡ id → (low ≤ k) × (k < high)
+      Between base size = (k : ℕ) → k < count → idAt t first k ≡ id → (base ≤ k) × (k < base + size)
 
-      none : (low high : ℕ) → Between low high → high ≤ low → Bears count Nowhere
-      none low high between h = λ k l q. let b = between k l q in omega (arith, b .0, b .1)
+      module _ (base size : ℕ) (top : base + size ≤ count) (between : Between base size) where
+        after : 1 < size → idIn index (middle base size) ≤ id → Between (middle base size) (size - size / 2)
+        after l e k c q =
+            let b = between k c q in
+            let i : middle base size < count = omega arith in
+            let s : idIn index (middle base size) ≡ idAt t first (middle base size) = says (middle base size) i in
+            let g : middle base size < k + 1 =
+            lt-of-not-le (λ (z : k + 1 ≤ middle base size). let y : k < middle base size = omega arith in omega (arith, risen k (middle base size) y i)) in
+            (omega arith, omega (arith, b .1))
 
-      searched : (n low high : ℕ) → high ≤ count → high < low + reach n → Between low high → Bears count (halved t index id n low high)
-      searched zero low high top looks between =
-          subst (Bears count) (sym (none-left t index id low high zero (omega arith))) (none low high between (omega arith))
-      searched (suc n) low high top looks between =
-          by-look t index id (Bears count) low high n
-          (none low high between)
-          (λ l e. stands (middle low high) (omega arith) e)
-          (λ l e. searched n (middle low high + 1) high top (omega arith) (λ k c q. (after l e k c q, between k c q .1)))
-          (λ l e. searched n low (middle low high) (omega arith) (omega arith) (λ k c q. (between k c q .0, before l e k c q)))
-        where
-          after : low < high → idIn index (middle low high) < id → (k : ℕ) → k < count → idAt t first k ≡ id → middle low high + 1 ≤ k
-          after l e k c q =
-              let i : middle low high < count = omega arith in
-              let s : idIn index (middle low high) ≡ idAt t first (middle low high) = says (middle low high) i in
-              let g : middle low high < k = lt-of-not-le (λ (z : k ≤ middle low high). omega (arith, up-to k (middle low high) z i)) in
-              omega arith
+        before : 1 < size → id < idIn index (middle base size) → Between base (size - size / 2)
+        before l e k c q =
+            let i : middle base size < count = omega arith in
+            let g : k < middle base size =
+            lt-of-not-le (λ (z : middle base size ≤ k). omega (arith, up-to (middle base size) k z c, says (middle base size) i)) in
+            (between k c q .0, omega arith)
 
-          before : low < high → id < idIn index (middle low high) → (k : ℕ) → k < count → idAt t first k ≡ id → k < middle low high
-          before l e k c q =
-              let i : middle low high < count = omega arith in
-              lt-of-not-le (λ (z : middle low high ≤ k). omega (arith, up-to (middle low high) k z c, says (middle low high) i))
+        it : size ≡ 1 → (idIn index base ≡ id → ⊥) → Bears count Nowhere
+        it e x k c q =
+            let b = between k c q in
+            let same : base ≡ k = omega (arith, b .0, b .1) in
+            x (says base (omega arith) ∙ ap (idAt t first) same ∙ q)
+
+        at-one : size ≡ 1 → Bears count (heldTo t id (toldBy index id base))
+        at-one e = by-last t index id base (Bears count) (stands base (omega arith)) (it e)
+
+        none : size ≡ 0 → Bears count Nowhere
+        none e k c q = let b = between k c q in omega (arith, b .0, b .1)
+
+      searched : (n base size : ℕ) → base + size ≤ count → size ≤ reach n → Between base size → Bears count (halved t index id (suc n) base size)
+      searched zero base size top enough between =
+          by-look t index id (Bears count) base size 0
+          (λ l e. absurd (omega arith))
+          (λ l e. absurd (omega arith))
+          (at-one base size top between)
+          (none base size top between)
+      searched (suc n) base size top enough between =
+          by-look t index id (Bears count) base size (suc n)
+          (λ l e. searched n (middle base size) (size - size / 2) (omega arith) (omega arith) (after base size top between l e))
+          (λ l e. searched n base (size - size / 2) (omega arith) (omega arith) (before base size top between l e))
+          (at-one base size top between)
+          (none base size top between)
 
       found : Bears count (soughtIn t index count id)
       unfolding soughtIn
-      found = searched mostLooks 0 count (omega arith) few (λ k l q. (omega arith, l))
+      found = searched 16 0 count (omega arith) (omega arith) (λ k l q. (omega arith, omega arith))
 
       pub found-first : soughtIn t index count id ≡ operationOf t first count id
       unfolding operationOf

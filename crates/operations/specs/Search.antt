@@ -1,7 +1,7 @@
 -- 02, 4: an operation looked up by its ID, by halving over an index: a word for each operation, in ID order. Where the IDs rise and the
 -- index is the table's, what is found is the operation of that ID (`found-first` of proofs/WhereIDsRise); with any index it is an entry
 -- that bears the ID and lies within the bytes, or none (`found-bears` of proofs/Halving).
-use Prim.Native.Nat.{ℕ, zero, suc, _+_, _*_, _/_, _%_}
+use Prim.Native.Nat.{ℕ, zero, suc, _+_, _-_, _*_, _/_, _%_}
 use mathlib.Core.Path.{_≡_}
 use mathlib.Core.Bool.{cond, _&&_}
 use mathlib.Core.List.{List}
@@ -35,36 +35,38 @@ placeIn index m = getD index m 0 % half
 unfoldable pub borne : List ℕ → ℕ → ℕ → ℕ → Sought
 borne t id m p = cond (leb (p + opWidth t p) (length t) && eqb (number 2 t p) id) (At m p) Nowhere
 
-abbrev pub middle : ℕ → ℕ → ℕ
-middle low high = (low + high) / 2
+-- what a word by itself says of an ID, as the m-th; and what the m-th does
+abbrev pub saidBy : ℕ → ℕ → ℕ → Sought
+saidBy word id m = cond (eqb (word / half) id) (At m (word % half)) Nowhere
 
--- the ID among the entries from low on and below high, in at most n looks: the middle one bears it, or it is above or below that. What
--- `let` names is computed only where it is read: one half of the two
-unfoldable pub halved : List ℕ → List ℕ → ℕ → ℕ → ℕ → ℕ → Sought
-halved t index id zero low high = Nowhere
-halved t index id (suc n) low high =
-    let upper = halved t index id n (middle low high + 1) high in
-    let lower = halved t index id n low (middle low high) in
-    cond (ltb low high)
-    (cond (eqb (idIn index (middle low high)) id) (borne t id (middle low high) (placeIn index (middle low high)))
-    (cond (ltb (idIn index (middle low high)) id) upper lower))
-    Nowhere
-
--- a count has 16 bits, so that 16 looks are enough
-abbrev pub mostLooks : ℕ
-mostLooks = 16
-
-unfoldable pub soughtIn : List ℕ → List ℕ → ℕ → ℕ → Sought
-soughtIn t index count id = halved t index id mostLooks 0 count
-
--- what the m-th word by itself says of an ID
 abbrev pub toldBy : List ℕ → ℕ → ℕ → Sought
-toldBy index id m = cond (eqb (idIn index m) id) (At m (placeIn index m)) Nowhere
+toldBy index id m = saidBy (getD index m 0) id m
 
 -- what an index says of an ID, an entry or none: held against the bytes of any table, it is what is sought there
 abbrev pub heldTo : List ℕ → ℕ → Sought → Sought
 heldTo t id (At m p) = borne t id m p
 heldTo t id Nowhere = Nowhere
+
+abbrev pub middle : ℕ → ℕ → ℕ
+middle base size = base + size / 2
+
+-- the lower end after a look at the middle: there, unless the ID in the middle is above the one that is sought
+abbrev pub raised : List ℕ → ℕ → ℕ → ℕ → ℕ
+raised index id base size = cond (leb (idIn index (middle base size)) id) (middle base size) base
+
+-- the ID among so many entries from base on, in at most n looks: at the middle, while there are several, and at the last one. How
+-- many are left goes by how many there were alone
+unfoldable pub halved : List ℕ → List ℕ → ℕ → ℕ → ℕ → ℕ → Sought
+halved t index id zero base size = Nowhere
+halved t index id (suc n) base size =
+    cond (ltb 1 size) (halved t index id n (raised index id base size) (size - size / 2)) (cond (ltb 0 size) (heldTo t id (toldBy index id base)) Nowhere)
+
+-- a count has 16 bits, so that 16 looks leave one entry, and one more tells
+abbrev pub mostLooks : ℕ
+mostLooks = 17
+
+unfoldable pub soughtIn : List ℕ → List ℕ → ℕ → ℕ → Sought
+soughtIn t index count id = halved t index id mostLooks 0 count
 
 abbrev pub Says : List ℕ → ℕ → ℕ → Sought → Type 0
 Says index count id r = (t : List ℕ) → heldTo t id r ≡ soughtIn t index count id

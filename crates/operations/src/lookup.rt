@@ -4,9 +4,8 @@ use crate::entries;
 ghost use mathlib.Core.Path.{_≡_};
 ghost use mathlib.Core.Bool.{cond};
 ghost use Prim.Native.Nat.{_<_};
-ghost use lib.ListN.{length};
-ghost use Rattle.operations.specs.declared.Sought.the-variants.{At};
-ghost use Rattle.operations.specs.Search.{idIn, placeIn, borne, soughtIn, toldBy, Says};
+ghost use lib.ListN.{length, getD};
+ghost use Rattle.operations.specs.Search.{borne, soughtIn, saidBy, toldBy, Says};
 
 // An entry that bears the ID, or none; where the IDs rise and the index is the table's, it is the operation of that ID.
 pub fn find(table: &[u8], index: &[u64], count: u16, id: u32) -> Sought
@@ -19,30 +18,32 @@ pub fn find(table: &[u8], index: &[u64], count: u16, id: u32) -> Sought
 }
 
 // What the index says, in as many looks as the count alone asks for: no jump from one to the next hangs on the ID, so that a
-// processor foretells each, and the ends are chosen by moves. At a word that bears the ID both ends move, the lower past the
-// upper, and the middle of the two is that word from then on.
+// processor foretells each. The lower end is chosen by a move, and its word with it, so that the last look is at hand: the compiler
+// makes a jump of a move that waits for a load in a loop, unless what is moved was loaded too. A word is read at the lower end, among
+// those from half the size on: so the load waits for no sum of what hangs on the ID.
 fn said(index: &[u64], count: u16, id: u32) -> Sought
     ensures { λ r. ⌜ Says (now (index .entry)) count id r ⌝ }
 {
-    let mut low: usize = 0;
-    let mut high = count as usize;
-    // So many entries are left after the next look, or one fewer.
-    let mut left = high / 2;
-    while 0 < left {
-        let middle = (low + high) / 2;
+    if count == 0 {
+        return Sought::Nowhere;
+    }
+    let bound = id as u64 * 4294967296 + 4294967295;
+    let mut base: usize = 0;
+    let mut size = count as usize;
+    let mut word = first_word(index);
+    while 1 < size {
+        let half = size / 2;
+        let middle = base + half;
         if index.len() <= middle {
-            return told(index, id, middle);
+            return told_in(index, id, base + size - 1);
         }
-        let here = id_in(index, middle);
-        low = chosen(here <= id, middle + 1, low);
-        high = chosen(id <= here, middle, high);
-        left = left / 2;
+        let here = word_at(&index[half..], base);
+        let is = here <= bound;
+        word = chosen_word(is, here, word);
+        base = chosen(is, middle, base);
+        size = size - half;
     }
-    if low == high {
-        Sought::Nowhere
-    } else {
-        told(index, id, (low + high) / 2)
-    }
+    told(word, id, base)
 }
 
 fn chosen(is: bool, a: usize, b: usize) -> usize
@@ -51,37 +52,50 @@ fn chosen(is: bool, a: usize, b: usize) -> usize
     if is { a } else { b }
 }
 
-fn id_in(index: &[u64], i: usize) -> u32
-    requires { ⌜ i < length (now index) ⌝ }
-    ensures { λ r. ⌜ r ≡ idIn (now (index .entry)) i ⌝ }
+fn chosen_word(is: bool, a: u64, b: u64) -> u64
+    ensures { λ r. ⌜ r ≡ cond is a b ⌝ }
 {
-    (index[i] / 4294967296) as u32
+    if is { a } else { b }
 }
 
-// What one word says of an ID; one that is not there bears ID 0, at place 0.
-fn told(index: &[u64], id: u32, number: usize) -> Sought
-    requires { ⌜ number < 65536 ⌝ }
-    ensures { λ r. ⌜ r ≡ toldBy (now (index .entry)) id number ⌝ }
+fn word_at(words: &[u64], i: usize) -> u64
+    requires { ⌜ i < length (now words) ⌝ }
+    ensures { λ r. ⌜ r ≡ getD (now (words .entry)) i 0 ⌝ }
 {
-    if number < index.len() {
-        if id_in(index, number) == id {
-            return there(index, number as u16);
-        }
-        return Sought::Nowhere;
+    words[i]
+}
+
+fn first_word(index: &[u64]) -> u64
+    ensures { λ r. ⌜ r ≡ getD (now (index .entry)) 0 0 ⌝ }
+{
+    if 0 < index.len() {
+        word_at(index, 0)
+    } else {
+        0
     }
-    if id == 0 {
-        Sought::At(number as u16, 0)
+}
+
+// What one word says of an ID; one that is not there is 0.
+fn told(word: u64, id: u32, number: usize) -> Sought
+    requires { ⌜ number < 65536 ⌝ }
+    ensures { λ r. ⌜ r ≡ saidBy word id number ⌝ }
+{
+    if word / 4294967296 == id as u64 {
+        Sought::At(number as u16, (word % 4294967296) as usize)
     } else {
         Sought::Nowhere
     }
 }
 
-// What a word says that bears the ID.
-fn there(index: &[u64], number: u16) -> Sought
-    requires { ⌜ number < length (now index) ⌝ }
-    ensures { λ r. ⌜ r ≡ At number (placeIn (now (index .entry)) number) ⌝ }
+// The same of a word of the index, there or not.
+fn told_in(index: &[u64], id: u32, number: usize) -> Sought
+    requires { ⌜ number < 65536 ⌝ }
+    ensures { λ r. ⌜ r ≡ toldBy (now (index .entry)) id number ⌝ }
 {
-    Sought::At(number, (index[number as usize] % 4294967296) as usize)
+    if number < index.len() {
+        return told(word_at(index, number), id, number);
+    }
+    told(0, id, number)
 }
 
 // The index may be anybody's: the entry that it says is found only where all its bytes are there and bear the ID. Whether they are is
