@@ -5,10 +5,11 @@ ghost use Rattle.platform_words.specs.PendingCalls.{cancelCount, cancelWords, a
 use platform_words::AWAITED_WORDS;
 use platform_words::PLATFORM_WORDS;
 use platform_words::SENT_WORDS;
+use requests::Issue;
 use table::SECTIONS_WORDS;
 
-// Sends a request of this platform to platform `target`: 30 where the sections do not lie in the table, 62, 60, 5, 10, or 0 and how
-// many bytes were written at the output's start, and the request's number.
+// Sends a request of this platform to platform `target`, in Issue 6: 30 where the sections do not lie in the table, 62, 60, 5, 10, or
+// 0 and how many bytes were written at the output's start, and the request's number.
 #[no_mangle]
 pub extern "C" fn nyr_send(
     own: u8,
@@ -32,6 +33,7 @@ pub extern "C" fn nyr_send(
 {
     platform_words::send(
         own,
+        Issue::Six,
         platform,
         table,
         sections,

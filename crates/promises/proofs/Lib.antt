@@ -45,6 +45,7 @@ pub mod UniqueCalls
 pub mod UniqueRequests
 pub mod UniquePlatforms
 pub mod Halving
+mod SentFor
 pub mod Requests
 mod RequestTables
 mod RequestReceipts
