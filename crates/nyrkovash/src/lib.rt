@@ -16,6 +16,7 @@ mod version;
 pub use asking::nyr_cancel;
 pub use asking::nyr_pending;
 pub use asking::nyr_send;
+pub use asking::nyr_send_mixed;
 pub use issues::ANY_READING_WORDS;
 pub use issues::PARTNERS_WORDS;
 pub use issues::nyr_partners_set;
