@@ -103,3 +103,6 @@ mod ReadByIssue
 mod ReadAgain
 pub mod LinkedIssue3
 pub mod AsBefore
+pub mod MixedSending
+pub mod WrongAsking
+pub mod LinkedSending

@@ -73,3 +73,6 @@ pub mod AnyOrder
 pub mod UniqueMixed
 pub mod LinkedIssue3
 pub mod AsBefore
+pub mod MixedSending
+pub mod WrongAsking
+pub mod LinkedSending
