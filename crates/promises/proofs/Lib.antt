@@ -102,3 +102,7 @@ mod ReadByIssue
 mod ReadAgain
 pub mod LinkedIssue3
 pub mod AsBefore
+mod MixedCalls
+mod MixedRooms
+mod MixedNot0
+pub mod MixedRefusals
