@@ -10,7 +10,8 @@ use Rattle.requests.specs.declared.Issue.{Issue}
 use Rattle.requests.specs.declared.Issue.the-variants.{Six, Three}
 use Rattle.partners.specs.Threes.{isThree}
 use Rattle.platform_words.specs.SendCalls.{sendNumberFor, sendWordsFor, sendOutputFor, sendSentFor}
-use Rattle.mixed_words.specs.SendCalls.{issueFor, stampIn, mixedSendNumber, mixedSendWords, mixedSendOutput, mixedSendSent}
+use Rattle.mixed_words.specs.HeardWords.{stampIn}
+use Rattle.mixed_words.specs.SendCalls.{issueFor, mixedSendNumber, mixedSendWords, mixedSendOutput, mixedSendSent}
 
 -- `issue_for`
 module _ {b : Bool} (i st : List ℕ) (k : ℕ) (eb : b ≡ isThree i k) where

@@ -1,1 +1,6 @@
-pub mod ByTarget
+pub mod ToldWords
+mod Calling
+mod Straight
+mod OnSections
+mod ServiceAsked
+mod ByTarget

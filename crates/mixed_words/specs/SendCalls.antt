@@ -2,20 +2,16 @@
 use Prim.Native.Nat.{ℕ}
 use mathlib.Core.Bool.{cond}
 use mathlib.Core.List.{List}
-use lib.ListN.{getD}
 use Rattle.message3.specs.declared.Stamp.{Stamp}
 use Rattle.requests.specs.declared.Issue.{Issue}
 use Rattle.requests.specs.declared.Issue.the-variants.{Six, Three}
 use Rattle.partners.specs.Threes.{isThree}
 use Rattle.platform_words.specs.SendCalls.{sendNumberFor, sendWordsFor, sendOutputFor, sendSentFor}
+use Rattle.mixed_words.specs.HeardWords.{stampIn}
 
 -- "Issue 6 if unsaid": the issue of platform k, and the timestamp of what is written for Issue 3
 abbrev pub issueFor : List ℕ → Stamp → ℕ → Issue
 issueFor i t k = cond (isThree i k) (Three t) Six
-
--- the timestamp among the three numbers that stand beside a message of ours
-abbrev pub stampIn : List ℕ → Stamp
-stampIn st = record { seconds = getD st 0 0; nanoseconds = getD st 1 0 }
 
 -- the three numbers, who speaks Issue 3, the platform's words, the table, the sections' words, the ID, the target, the payload and the
 -- output, in this order; the own number stands before all, where it counts

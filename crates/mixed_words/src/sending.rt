@@ -1,7 +1,8 @@
 // A request written in its target's issue, with the platform and the answer in lent words: as the C interface has it.
 ghost use mathlib.Core.Path.{_≡_};
 ghost use lib.ListN.{length};
-ghost use Rattle.mixed_words.specs.SendCalls.{issueFor, stampIn, mixedSendNumber, mixedSendWords, mixedSendOutput, mixedSendSent};
+ghost use Rattle.mixed_words.specs.HeardWords.{stampIn};
+ghost use Rattle.mixed_words.specs.SendCalls.{issueFor, mixedSendNumber, mixedSendWords, mixedSendOutput, mixedSendSent};
 use crate::stamps;
 use crate::stamps::PARTNERS_WORDS;
 use crate::stamps::STAMP_NUMBERS;

@@ -1,7 +1,7 @@
 // What a message of ours says beside itself where it is written for Issue 3, in three numbers: its timestamp, and our composite's ID.
 ghost use mathlib.Core.Path.{_≡_};
-ghost use lib.ListN.{length};
-ghost use Rattle.mixed_words.specs.SendCalls.{stampIn};
+ghost use lib.ListN.{length, getD};
+ghost use Rattle.mixed_words.specs.HeardWords.{stampIn, ownComposite};
 use message3::Stamp;
 
 pub const STAMP_NUMBERS: usize = 3;
@@ -17,4 +17,11 @@ pub(crate) fn stamp_in(numbers: &[u32]) -> Stamp
         seconds: numbers[0],
         nanoseconds: numbers[1],
     }
+}
+
+pub(crate) fn composite_in(numbers: &[u32]) -> u32
+    requires { ⌜ length (now numbers) ≡ 3 ⌝ }
+    ensures { λ r. ⌜ r ≡ ownComposite (now (numbers .entry)) ⌝ }
+{
+    numbers[2]
 }

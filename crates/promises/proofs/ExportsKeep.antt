@@ -63,7 +63,8 @@ use Rattle.pending.specs.Free.{isPending}
 use Rattle.platform_words.specs.Words.{standingIn, pendingIn}
 use Rattle.platform_words.specs.HeardWords.{answerWords}
 use Rattle.requests.specs.declared.Issue.the-variants.{Six}
-use Rattle.mixed_words.specs.SendCalls.{issueFor, stampIn}
+use Rattle.mixed_words.specs.HeardWords.{stampIn}
+use Rattle.mixed_words.specs.SendCalls.{issueFor}
 use Rattle.platform_words.proofs.Kept.{receive-keeps, receive-in-keeps, send-keeps-words, send-keeps-output, send-keeps-sent, cancel-keeps}
 use Rattle.nyrkovash.specs.PieceCalls.{countLeft, madeLeft}
 use Rattle.nyrkovash.specs.MessageCalls.{readLeft, writeLeft}

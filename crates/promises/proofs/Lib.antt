@@ -103,6 +103,10 @@ mod ReadByIssue
 mod ReadAgain
 pub mod LinkedIssue3
 pub mod AsBefore
+mod MixedCalls
+mod MixedRooms
+mod MixedNot0
+pub mod MixedRefusals
 pub mod MixedSending
 pub mod WrongAsking
 pub mod LinkedSending

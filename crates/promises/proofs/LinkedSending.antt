@@ -29,7 +29,8 @@ use Rattle.requests.proofs.Sends.{sent-so}
 use Rattle.platform_words.specs.Words.{nextIn, pendingIn}
 use Rattle.platform_words.specs.SendCalls.{kindFound, kindOf, outcomeSentFor, requestBytes, wordsSent, sentWords}
 use Rattle.platform_words.specs.SendCalls.{sendNumberFor, sendWordsFor, sendOutputFor, sendSentFor}
-use Rattle.mixed_words.specs.SendCalls.{issueFor, stampIn}
+use Rattle.mixed_words.specs.HeardWords.{stampIn}
+use Rattle.mixed_words.specs.SendCalls.{issueFor}
 use Rattle.promises.specs.Checks.{_when_, Gives, this, next}
 use Rattle.promises.specs.LinkedReplies.{CheckLeft}
 use Rattle.promises.specs.Lookups.{laid}
