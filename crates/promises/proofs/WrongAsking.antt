@@ -2,21 +2,23 @@
 -- Assumes nothing.
 use Prim.Native.Nat.{ℕ}
 use mathlib.Core.Path.{_≡_, refl, ap}
-use mathlib.Core.List.{[], _∷_}
+use mathlib.Core.Bool.{Bool, true, false, true≢false}
+use mathlib.Core.List.{List, [], _∷_}
 use native.Mathlib.Omega.{arith}
 use lib.ListN.{length, replicate}
 use Rattle.message3.specs.declared.Reading3.{Reading3}
 use Rattle.message3.specs.declared.Reading3.the-variants.{Refused, Read}
 use Rattle.partners.specs.Threes.{bitIn, isThree, withThree, threeSet, listed}
 use Rattle.pending.specs.Places.{bearing}
-use Rattle.pending.specs.Free.{freeWithin}
+use Rattle.pending.specs.Free.{freeWithin, isPending}
 use Rattle.pending.specs.PlainMap.{freshList}
 use Rattle.requests.specs.declared.Sending.{Sending}
 use Rattle.requests.specs.declared.Sent.{Sent}
 use Rattle.requests.specs.declared.Sent.the-variants as sent
 use Rattle.promises.specs.Requests.{notSent}
 use Rattle.promises.specs.MixedSending.{ToSend, Asking, ourAsking, sentAs3, sendChecks3, Narrow, ToThree, SendsByIssue}
-use Rattle.promises.specs.WrongAsking.{sixForAll, byOwnBit, byLastByte, stampSwapped, twentyForBoth, drawsAtRefusal, NoWrongAsking}
+use Rattle.promises.specs.WrongAsking.{sixForAll, byOwnBit, byLastByte, stampSwapped, twentyForBoth, drawsAtRefusal}
+use Rattle.promises.specs.WrongAsking.{entersAtRefusal, NoWrongAsking}
 use Rattle.promises.proofs.Demand1.{demand-1}
 use Rattle.promises.proofs.MixedSending.{sends-by-issue}
 
@@ -96,6 +98,13 @@ draws-at-refusal s =
     let z : _≡_ {A = ℕ} 8 7 = ap (λ (y : Sending). y .next) (same drawsAtRefusal s (asks 2 23) (to-two 23)) in
     omega arith
 
+-- 10, and number 7 is pending
+enters-at-refusal : SendsByIssue entersAtRefusal → ⊥
+unfolding isThree bitIn listed threeSet withThree bearing freeWithin
+enters-at-refusal s =
+    let z : _≡_ {A = Bool} true false = ap (λ (l : List ℕ). isPending l 7) (s .list-kept (asks 2 23) (λ e. let y : _≡_ {A = ℕ} 10 0 = e in omega arith)) in
+    true≢false z
+
 pub no-wrong-asking : NoWrongAsking
 no-wrong-asking =
     record {
@@ -105,4 +114,5 @@ no-wrong-asking =
       stamp-swapped = stamp-swapped;
       twenty-for-both = twenty-for-both;
       draws-at-refusal = draws-at-refusal;
+      enters-at-refusal = enters-at-refusal;
     }

@@ -3,6 +3,7 @@
 use Prim.Native.Nat.{ℕ, _%_}
 use lib.ListN.{length}
 use Rattle.message3.specs.declared.Stamp.{Stamp}
+use Rattle.pending.specs.Places.{freePlace, enteredAt}
 use Rattle.pending.specs.Free.{drawn, nextFree}
 use Rattle.requests.specs.declared.Issue.{Issue}
 use Rattle.requests.specs.declared.Issue.the-variants.{Six}
@@ -63,6 +64,15 @@ drawsAtRefusal =
       outputs = ourAsking .outputs;
     }
 
+-- a request that is entered though it is refused
+abbrev pub entersAtRefusal : Asking
+entersAtRefusal =
+    record {
+      answers = ourAsking .answers;
+      lists = λ x. enteredAt (x .list) (freePlace (x .list)) (nextFree (x .list) (x .next)) (x .id) (x .target);
+      outputs = ourAsking .outputs;
+    }
+
 pub record NoWrongAsking : Type 1 where
   pub six-for-all : ¬ (SendsByIssue sixForAll)
   pub by-own-bit : ¬ (SendsByIssue byOwnBit)
@@ -70,3 +80,4 @@ pub record NoWrongAsking : Type 1 where
   pub stamp-swapped : ¬ (SendsByIssue stampSwapped)
   pub twenty-for-both : ¬ (SendsByIssue twentyForBoth)
   pub draws-at-refusal : ¬ (SendsByIssue drawsAtRefusal)
+  pub enters-at-refusal : ¬ (SendsByIssue entersAtRefusal)
