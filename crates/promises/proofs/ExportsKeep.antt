@@ -62,6 +62,9 @@ use Rattle.operations.specs.Search.{soughtIn}
 use Rattle.pending.specs.Free.{isPending}
 use Rattle.platform_words.specs.Words.{standingIn, pendingIn}
 use Rattle.platform_words.specs.HeardWords.{answerWords}
+use Rattle.requests.specs.declared.Issue.the-variants.{Six}
+use Rattle.mixed_words.specs.HeardWords.{stampIn}
+use Rattle.mixed_words.specs.SendCalls.{issueFor}
 use Rattle.platform_words.proofs.Kept.{receive-keeps, receive-in-keeps, send-keeps-words, send-keeps-output, send-keeps-sent, cancel-keeps}
 use Rattle.nyrkovash.specs.PieceCalls.{countLeft, madeLeft}
 use Rattle.nyrkovash.specs.MessageCalls.{readLeft, writeLeft}
@@ -278,14 +281,26 @@ exports-keep =
           (length (now (a .1 .1 .1 .1 .1 .0))) in
           by (p .0) (p .1 .1 .1) (heard-keeps _ (t .answer));
       send-platform = λ k a n e p. by (p .0) (p .1 .0)
-          (λ d. send-keeps-words (now (a .1 .0)) (now (a .1 .1 .0)) (now (a .1 .1 .1 .0)) (a .1 .1 .1 .1 .0) (now (a .1 .1 .1 .1 .1 .1 .0))
+          (λ d. send-keeps-words Six (now (a .1 .0)) (now (a .1 .1 .0)) (now (a .1 .1 .1 .0)) (a .1 .1 .1 .1 .0) (now (a .1 .1 .1 .1 .1 .1 .0))
           (now (a .1 .1 .1 .1 .1 .1 .1 .0)) d (a .1 .1 .1 .1 .1 .0));
       send-out = λ k a n e p. by (p .0) (p .1 .1 .0)
-          (λ d. send-keeps-output (now (a .1 .0)) (now (a .1 .1 .0)) (now (a .1 .1 .1 .0)) (a .1 .1 .1 .1 .0) (now (a .1 .1 .1 .1 .1 .1 .0))
+          (λ d. send-keeps-output Six (now (a .1 .0)) (now (a .1 .1 .0)) (now (a .1 .1 .1 .0)) (a .1 .1 .1 .1 .0) (now (a .1 .1 .1 .1 .1 .1 .0))
           (now (a .1 .1 .1 .1 .1 .1 .1 .0)) d (a .0));
       send-sent = λ k a n e p. by (p .0) (p .1 .1 .1)
-          (λ d. send-keeps-sent (now (a .1 .0)) (now (a .1 .1 .0)) (now (a .1 .1 .1 .0)) (a .1 .1 .1 .1 .0) (now (a .1 .1 .1 .1 .1 .1 .0))
+          (λ d. send-keeps-sent Six (now (a .1 .0)) (now (a .1 .1 .0)) (now (a .1 .1 .1 .0)) (a .1 .1 .1 .1 .0) (now (a .1 .1 .1 .1 .1 .1 .0))
           (now (a .1 .1 .1 .1 .1 .1 .1 .0)) d _);
+      send-mixed-platform = λ k a n e p. by (p .0) (p .1 .0)
+          (λ d. send-keeps-words (issueFor (now (a .1 .1 .0)) (stampIn (now (a .1 .0))) (a .1 .1 .1 .1 .1 .1 .1 .0))
+          (now (a .1 .1 .1 .0)) (now (a .1 .1 .1 .1 .0)) (now (a .1 .1 .1 .1 .1 .0)) (a .1 .1 .1 .1 .1 .1 .0) (now (a .1 .1 .1 .1 .1 .1 .1 .1 .0))
+          (now (a .1 .1 .1 .1 .1 .1 .1 .1 .1 .0)) d (a .1 .1 .1 .1 .1 .1 .1 .0));
+      send-mixed-out = λ k a n e p. by (p .0) (p .1 .1 .0)
+          (λ d. send-keeps-output (issueFor (now (a .1 .1 .0)) (stampIn (now (a .1 .0))) (a .1 .1 .1 .1 .1 .1 .1 .0))
+          (now (a .1 .1 .1 .0)) (now (a .1 .1 .1 .1 .0)) (now (a .1 .1 .1 .1 .1 .0)) (a .1 .1 .1 .1 .1 .1 .0) (now (a .1 .1 .1 .1 .1 .1 .1 .1 .0))
+          (now (a .1 .1 .1 .1 .1 .1 .1 .1 .1 .0)) d (a .0));
+      send-mixed-sent = λ k a n e p. by (p .0) (p .1 .1 .1)
+          (λ d. send-keeps-sent (issueFor (now (a .1 .1 .0)) (stampIn (now (a .1 .0))) (a .1 .1 .1 .1 .1 .1 .1 .0))
+          (now (a .1 .1 .1 .0)) (now (a .1 .1 .1 .1 .0)) (now (a .1 .1 .1 .1 .1 .0)) (a .1 .1 .1 .1 .1 .1 .0) (now (a .1 .1 .1 .1 .1 .1 .1 .1 .0))
+          (now (a .1 .1 .1 .1 .1 .1 .1 .1 .1 .0)) d _);
       cancel-none = λ k a n e p z.
           let ws = now (a .0) in
           p .1 .0 ∙ cancel-keeps ws (a .1 .0) (none-given-up (isPending (pendingIn ws) (a .1 .0)) _ (p .1 .1) z);

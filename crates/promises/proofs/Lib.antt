@@ -45,6 +45,7 @@ pub mod UniqueCalls
 pub mod UniqueRequests
 pub mod UniquePlatforms
 pub mod Halving
+mod SentFor
 pub mod Requests
 mod RequestTables
 mod RequestReceipts
@@ -103,3 +104,10 @@ mod ReadByIssue
 mod ReadAgain
 pub mod LinkedIssue3
 pub mod AsBefore
+mod MixedCalls
+mod MixedRooms
+mod MixedNot0
+pub mod MixedRefusals
+pub mod MixedSending
+pub mod WrongAsking
+pub mod LinkedSending

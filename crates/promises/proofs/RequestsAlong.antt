@@ -29,6 +29,7 @@ use Rattle.pending.proofs.Looking.{is-first, none-bears-it}
 use Rattle.pending.proofs.Drawing.{next-is-free}
 use Rattle.pending.proofs.AsMap.{response-by, full-counts, room-counts, same-taken, entered-like, cancelled-like}
 use Rattle.pending.proofs.Turning.{next-by}
+use Rattle.requests.specs.declared.Issue.the-variants.{Six}
 use Rattle.requests.specs.declared.Sending.{Sending}
 use Rattle.requests.specs.declared.Sent.the-variants as sent
 use Rattle.requests.specs.Sending.{sendRefusal, answeredBy, sentOf, numberGiven, leftBy}
@@ -107,7 +108,7 @@ module _ (own : ℕ) (p : Standing) (l : List ℕ) (m : Map) (same : LikeMap l m
 
     sent-along : sendRefusal l kind id payload (length out) ≡ 0 → Says (sentOn own p m id target payload out n) → Along
     sent-along q a =
-        let can : Sendable l kind id payload (length out) = sendable l kind id payload (length out) q in
+        let can : Sendable Six l kind id payload (length out) = sendable Six l kind id payload (length out) q in
         let long : 20 + length payload ≡ 0 + length (messageBytes own 1 id n payload) = omega arith in
         by-map (sentOn own p m id target payload out n) (sends free-on a)
         (ap
@@ -142,7 +143,7 @@ module _ (own : ℕ) (p : Standing) (l : List ℕ) (m : Map) (same : LikeMap l m
     sends-along =
         go (numberGiven (sentOf (p .next) l kind id payload (length out) .answer))
         (numbers (λ (x : Sending). numberGiven (x .answer)) (λ k. refl) refl (requests .order (p .next) kind id l payload (length out)))
-        (sym (given-is l kind id payload (length out) (p .next)))
+        (sym (given-is Six l kind id payload (length out) (p .next)))
       where
         go : (r : ℕ) → Gives (sendChecks l kind payload (length out)) r → sendRefusal l kind id payload (length out) ≡ r → Along
         go r (this h) q = refused-along 61 q (this (no-request t s e words room id h))

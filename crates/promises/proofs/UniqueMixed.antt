@@ -25,4 +25,8 @@ unique-mixed =
       receive-list = λ k a z z′ e e′ p q. p .1 .1 .0 ∙ sym (q .1 .1 .0);
       receive-blocks = λ k a z z′ e e′ p q. p .1 .1 .1 ∙ sym (q .1 .1 .1);
       receive-out = λ k a z z′ e e′ p q. p .1 .0 ∙ sym (q .1 .0);
+      send = λ k a z z′ e e′ p q. p .0 ∙ sym (q .0);
+      send-platform = λ k a z z′ e e′ p q. p .1 .0 ∙ sym (q .1 .0);
+      send-out = λ k a z z′ e e′ p q. p .1 .1 .0 ∙ sym (q .1 .1 .0);
+      send-sent = λ k a z z′ e e′ p q. p .1 .1 .1 ∙ sym (q .1 .1 .1);
     }

@@ -74,3 +74,8 @@ pub mod AnyOrder
 pub mod UniqueMixed
 pub mod LinkedIssue3
 pub mod AsBefore
+pub mod MixedCalls
+pub mod MixedRefusals
+pub mod MixedSending
+pub mod WrongAsking
+pub mod LinkedSending

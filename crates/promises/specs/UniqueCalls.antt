@@ -25,6 +25,7 @@ use Rattle.nyrkovash.proofs.nyr_start.Reads.{Post as nyrkovash-nyr-start}
 use Rattle.nyrkovash.proofs.nyr_receive.Reads.{Post as nyrkovash-nyr-receive}
 use Rattle.nyrkovash.proofs.nyr_receive_in.Reads.{Post as nyrkovash-nyr-receive-in}
 use Rattle.nyrkovash.proofs.nyr_send.Reads.{Post as nyrkovash-nyr-send}
+use Rattle.nyrkovash.proofs.nyr_send_mixed.Reads.{Post as nyrkovash-nyr-send-mixed}
 use Rattle.nyrkovash.proofs.nyr_cancel.Reads.{Post as nyrkovash-nyr-cancel}
 use Rattle.nyrkovash.proofs.nyr_pending.Reads.{Post as nyrkovash-nyr-pending}
 use Rattle.nyrkovash.proofs.nyr_is_up.Reads.{Post as nyrkovash-nyr-is-up}
@@ -95,6 +96,10 @@ pub record UniqueCalls : Type 0 where
   pub nyr-send-platform : Lent nyrkovash-nyr-send (λ k e. now (e .1 .0))
   pub nyr-send-out : Lent nyrkovash-nyr-send (λ k e. now (e .1 .1 .1 .1 .1 .1 .1 .0))
   pub nyr-send-sent : Lent nyrkovash-nyr-send (λ k e. now (e .1 .1 .1 .1 .1 .1 .1 .1 .0))
+  pub nyr-send-mixed : Answer nyrkovash-nyr-send-mixed
+  pub nyr-send-mixed-platform : Lent nyrkovash-nyr-send-mixed (λ k e. now (e .1 .1 .1 .0))
+  pub nyr-send-mixed-out : Lent nyrkovash-nyr-send-mixed (λ k e. now (e .1 .1 .1 .1 .1 .1 .1 .1 .1 .0))
+  pub nyr-send-mixed-sent : Lent nyrkovash-nyr-send-mixed (λ k e. now (e .1 .1 .1 .1 .1 .1 .1 .1 .1 .1 .0))
   pub nyr-cancel : Answer nyrkovash-nyr-cancel
   pub nyr-cancel-platform : Lent nyrkovash-nyr-cancel (λ k e. now (e .0))
   pub nyr-cancel-cancelled : Lent nyrkovash-nyr-cancel (λ k e. now (e .1 .1 .0))

@@ -1,5 +1,6 @@
--- 01, "What the promises have to say": two outcomes that one promise allows are equal, for messages among partners of both issues, and for
--- what `platform` and `message3` made public for them, over their very contracts. The theorem is in proofs/UniqueMixed.antt.
+-- 01, "What the promises have to say": two outcomes that one promise allows are equal, for messages among partners of both issues, for what
+-- `platform` and `message3` made public for them, and for a request sent in its target's issue, over their very contracts. The theorem is
+-- in proofs/UniqueMixed.antt.
 use denote.Ref.{now}
 use Rattle.promises.specs.Unique.{Same, Answer, Lent}
 use Rattle.message3.proofs.put_platform_header.Reads.{Post as message3-put-platform-header}
@@ -12,6 +13,7 @@ use Rattle.mixed.proofs.payload.Reads.{Post as mixed-payload}
 use Rattle.mixed.proofs.receive_within.Reads.{Post as mixed-receive-within}
 use Rattle.mixed.proofs.receive_checked.Reads.{Post as mixed-receive-checked}
 use Rattle.mixed.proofs.receive.Reads.{Post as mixed-receive}
+use Rattle.mixed_words.proofs.send.Reads.{Post as mixed-words-send}
 
 pub record UniqueMixed : Type 0 where
   pub put-platform-header : Lent message3-put-platform-header (λ k e. now (e .1 .1 .1 .1 .1 .0))
@@ -33,3 +35,7 @@ pub record UniqueMixed : Type 0 where
   pub receive-list : Lent mixed-receive (λ k e. now (e .1 .1 .1 .1 .1 .1 .1 .0))
   pub receive-blocks : Lent mixed-receive (λ k e. now (e .1 .1 .1 .1 .1 .1 .1 .1 .0))
   pub receive-out : Lent mixed-receive (λ k e. now (e .1 .1 .1 .1 .1 .1 .1 .1 .1 .1 .0))
+  pub send : Answer mixed-words-send
+  pub send-platform : Lent mixed-words-send (λ k e. now (e .1 .1 .1 .0))
+  pub send-out : Lent mixed-words-send (λ k e. now (e .1 .1 .1 .1 .1 .1 .1 .1 .1 .0))
+  pub send-sent : Lent mixed-words-send (λ k e. now (e .1 .1 .1 .1 .1 .1 .1 .1 .1 .1 .0))

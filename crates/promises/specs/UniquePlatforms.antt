@@ -43,9 +43,9 @@ pub record PlatformWordsUnique : Type 0 where
   pub receive-in-out : Lent platform-words-receive-in (λ k e. now (e .1 .1 .1 .1 .1 .0))
   pub receive-in-heard : Lent platform-words-receive-in (λ k e. now (e .1 .1 .1 .1 .1 .1 .0))
   pub send : Answer platform-words-send
-  pub send-platform : Lent platform-words-send (λ k e. now (e .1 .0))
-  pub send-out : Lent platform-words-send (λ k e. now (e .1 .1 .1 .1 .1 .1 .1 .0))
-  pub send-sent : Lent platform-words-send (λ k e. now (e .1 .1 .1 .1 .1 .1 .1 .1 .0))
+  pub send-platform : Lent platform-words-send (λ k e. now (e .1 .1 .0))
+  pub send-out : Lent platform-words-send (λ k e. now (e .1 .1 .1 .1 .1 .1 .1 .1 .0))
+  pub send-sent : Lent platform-words-send (λ k e. now (e .1 .1 .1 .1 .1 .1 .1 .1 .1 .0))
   pub cancel : Answer platform-words-cancel
   pub cancel-platform : Lent platform-words-cancel (λ k e. now (e .0))
   pub cancel-cancelled : Lent platform-words-cancel (λ k e. now (e .1 .1 .0))
