@@ -102,3 +102,9 @@ mod ReadByIssue
 mod ReadAgain
 pub mod LinkedIssue3
 pub mod AsBefore
+mod ReplyBytes3
+mod OneOfOurs
+mod Reacting3
+mod Reporting3
+mod Replying3
+pub mod Replies3

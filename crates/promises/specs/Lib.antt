@@ -73,3 +73,6 @@ pub mod AnyOrder
 pub mod UniqueMixed
 pub mod LinkedIssue3
 pub mod AsBefore
+pub mod Reports3
+pub mod Owed3
+pub mod Replies3
