@@ -106,5 +106,7 @@ mod ReplyBytes3
 mod OneOfOurs
 mod Reacting3
 mod Reporting3
+mod Received3
 mod Replying3
 pub mod Replies3
+pub mod ServicesAcross

@@ -1,15 +1,14 @@
 -- What a message of Issue 3 comes to at a platform: the replies that are owed for it, the next own number and the states after it, and
 -- whether it changes what is known of services.
 -- Assumes nothing.
-use Prim.Native.Nat.{ℕ, _^_, _<_, _≤_}
+use Prim.Native.Nat.{ℕ, _^_, _<_}
 use mathlib.Core.Path.{_≡_, refl, sym, ap, _∙_}
-use mathlib.Core.Bool.{Bool, true, false, cond, true≢false}
+use mathlib.Core.Bool.{Bool, true, false, true≢false}
 use mathlib.Core.List.{List, [], _∷_}
-use native.Mathlib.Omega.{arith}
 use borrow.Author.Tests.{lt-leb, eqb-true}
 use lib.Dec.{eqb}
 use lib.ListN.{length, drop}
-use Rattle.wire.proofs.Cond.{yes-le, yes-if}
+use Rattle.wire.proofs.Cond.{yes-le}
 use Rattle.table.specs.declared.Sections.{Sections}
 use Rattle.operations.specs.declared.Sought.{Sought}
 use Rattle.operations.specs.declared.Sought.the-variants as sought
@@ -21,15 +20,14 @@ use Rattle.message3.specs.declared.Message3.the-variants.{PlatformStatus, Platf
 use Rattle.message3.specs.declared.Message3.the-variants.{UnknownOperation, ServiceNotAvailable, VersionedDataPull, CompositeChangeRequest}
 use Rattle.message3.specs.declared.Message3.the-variants.{CompositeChangeRequestAck, Operation}
 use Rattle.states.specs.States.{isUp}
+use Rattle.platform.specs.Replies.{allData}
 use Rattle.platform.specs.Reaction.{foundData, onPull, onPullOne, onOperation, reactionTo}
 use Rattle.mixed.specs.declared.reactions.Reaction3.{Reaction3}
 use Rattle.mixed.specs.Keeping.{noteNumber, markNumber, keptNumber, keptWords}
 use Rattle.mixed.specs.Reaction.{allServices, operationFor3, commonly, onPull3, cameUp3, onStatus3, onServicesRequest, reaction3}
-use Rattle.mixed.specs.Ours.{oursAvailable}
-use Rattle.mixed.specs.Replies.{stateTold}
 use Rattle.mixed.proofs.Deeds.{tooMany}
 use Rattle.promises.specs.Platforms.{operationWith}
-use Rattle.promises.specs.Owed3.{MixedCall, OwedReply3, tellsThese, upBefore, owedFor3, stateAfter3, nextAfter3}
+use Rattle.promises.specs.Owed3.{MixedCall, tellsThese, upBefore, owedFor3, stateAfter3, nextAfter3}
 use Rattle.promises.specs.Replies3.{movesServices, BlockTakes, Countable}
 use Rattle.promises.proofs.Reacting.{Finds, Pull, all-of-none, all-of-some, one-entry, no-entry, pulled, as-it-was, now-turned}
 use Rattle.promises.proofs.OneOfOurs.{its-state}
@@ -170,9 +168,20 @@ module _ (c : MixedCall) (s : Sections) (index : List ℕ) (h : Header3) (start 
       unfolding reaction3 operationFor3 onPull3 commonly reactionTo onPull onPullOne foundData keptNumber keptWords
       on-pull3 id l = go (pulled (c .table) s index id (scan id))
         where
+          of-all : eqb id allData ≡ true → Reacts3 (VersionedDataPull id)
+          of-all e = record {
+            owed-is = rw e;
+            wide = rw e tt;
+            next = rw e;
+            states = λ k l. rw e refl;
+            kept = λ z. rw e;
+            stay = λ z. rw e;
+            few = λ z. rw e;
+          }
+
           go : Pull (c .table) s index id → Reacts3 (VersionedDataPull id)
-          go (all-of-none e d) = record { owed-is = rw e; wide = rw e tt; next = rw e; states = λ k l. rw e refl; kept = λ z. rw e; stay = λ z. rw e; few = λ z. rw e }
-          go (all-of-some e d) = record { owed-is = rw e; wide = rw e tt; next = rw e; states = λ k l. rw e refl; kept = λ z. rw e; stay = λ z. rw e; few = λ z. rw e }
+          go (all-of-none e d) = of-all e
+          go (all-of-some e d) = of-all e
           go (one-entry i q e f g true d) = record {
             owed-is = rw (e, g, f, d);
             wide = rw (e, g, f, d) tt;

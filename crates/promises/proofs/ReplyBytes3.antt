@@ -1,9 +1,9 @@
 -- Replies of Issue 3, one behind another, as a reader that has their sender set up as Issue 3 reads them.
 -- Assumes nothing.
 use Prim.{Unit}
-use Prim.Native.Nat.{ℕ, zero, suc, _+_, _-_, _*_, _/_, _^_, _<_}
+use Prim.Native.Nat.{ℕ, zero, suc, _+_, _-_, _/_, _^_, _<_}
 use mathlib.Core.Path.{_≡_, refl, sym, ap, ap₂, subst, _∙_}
-use mathlib.Core.Bool.{Bool, true, false, cond}
+use mathlib.Core.Bool.{Bool, true, false}
 use mathlib.Core.List.{List, [], _∷_, _++_, append-nil}
 use native.Mathlib.Nat.{mod-lt}
 use native.Mathlib.Omega.{arith}
@@ -21,27 +21,23 @@ use Rattle.message3.specs.declared.Message3.{Message3}
 use Rattle.message3.specs.declared.Message3.the-variants.{PlatformStatus, PlatformStatusRequest, AvailabilityStatus, AvailabilityStatusRequest}
 use Rattle.message3.specs.declared.Message3.the-variants.{UnknownOperation, ServiceNotAvailable, VersionedDataPull, CompositeChangeRequest}
 use Rattle.message3.specs.declared.Message3.the-variants.{CompositeChangeRequestAck, Operation}
-use Rattle.message3.specs.declared.Reading3.the-variants.{Read}
 use Rattle.message3.specs.Header.{headerLength3, headerOf3}
 use Rattle.message3.specs.Platform.{agreementValue, messageOf3, servicesBytes}
 use Rattle.message3.specs.Refusal.{contentsRefusal3, writeRefusal3}
-use Rattle.message3.specs.Reading.{readOf3}
 use Rattle.message3.specs.Writing.{headerFor3, messageBytes3}
 use Rattle.message3.proofs.Accepted.{admits}
 use Rattle.message3.proofs.RoundTrip.{Fields, reads-back}
 use Rattle.message3.proofs.Told.{Good, how-many, length-services, services-written, service-told, state-told}
 use Rattle.platform.specs.declared.reactions.Reply.the-variants.{StatusUp, PullAll, Unknown}
-use Rattle.platform.specs.Replies.{allData}
 use Rattle.mixed.specs.declared.AnyReading.the-variants.{Three}
 use Rattle.mixed.specs.declared.reactions.Deed.{Deed}
 use Rattle.mixed.specs.declared.reactions.Deed.the-variants.{Nothing, One, StartUp, TellAll, TellOne, Note, MarkAll}
-use Rattle.mixed.specs.Reaction.{allServices}
 use Rattle.mixed.specs.Replies.{fieldMessage, statusMessage, replyBytes3, startUpBytes, stateTold, pairOf, pairsOf, servicesMessage, deedBytes}
 use Rattle.mixed.proofs.NoCrossing.{all-of-three}
 use Rattle.mixed.proofs.Deeds.{deedLength, tooMany}
 use Rattle.promises.specs.Issue3Messages.{Tells}
-use Rattle.promises.specs.Owed3.{MixedCall, idOf, stateOf, allOurs, OwedReply3, saysUp, asksForAll, pullsAll, unknownHere, tellsThese}
-use Rattle.promises.specs.Owed3.{idInTable3, lengthOf3, bytesOwed, replyHeader3, HeardAs3, AreReplies3}
+use Rattle.promises.specs.Owed3.{MixedCall, allOurs, OwedReply3, saysUp, asksForAll, pullsAll, unknownHere, tellsThese}
+use Rattle.promises.specs.Owed3.{idInTable3, lengthOf3, bytesOwed, HeardAs3, AreReplies3}
 
 -- a reply in bytes
 abbrev pub payloadFor : Message3 → List (ℕ × ℕ) → List ℕ
@@ -115,7 +111,7 @@ module _ (n : ℕ) (hn : n < 2 ^ 32) where
   unknown-sound : (id : ℕ) → id < 2 ^ 32 → Sound (unknownHere n id)
   unknown-sound id h = id-sound UnknownOperation id h (omega arith) refl refl (λ x y. refl) refl
 
-  tells-sound : (ps : List (ℕ × ℕ)) → Good ps → length ps < 2 ^ 29 → Sound (tellsThese n ps)
+  pub tells-sound : (ps : List (ℕ × ℕ)) → Good ps → length ps < 2 ^ 29 → Sound (tellsThese n ps)
   tells-sound ps g few =
       record {
         number-fits = hn;
@@ -129,7 +125,7 @@ module _ (n : ℕ) (hn : n < 2 ^ 32) where
 
 -- as they are read
 module _ (c : MixedCall) (reader : ℕ) (hs : c .stamp .seconds < 2 ^ 32) (hn : c .stamp .nanoseconds < 2 ^ 32) (other : c .own ≡ reader → ⊥) where
-  reads-reply : (o : OwedReply3) → Sound o → HeardAs3 reader c (laidReply c o) o
+  pub reads-reply : (o : OwedReply3) → Sound o → HeardAs3 reader c (laidReply c o) o
   reads-reply o k =
       let id : ℕ = idInTable3 (o .means) in
       let P : List ℕ = payloadFor (o .means) (o .tells) in

@@ -76,3 +76,4 @@ pub mod AsBefore
 pub mod Reports3
 pub mod Owed3
 pub mod Replies3
+pub mod ServicesAcross

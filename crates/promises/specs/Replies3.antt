@@ -56,14 +56,18 @@ ourWords c =
 abbrev pub ourReceiving3 : Receiving3
 ourReceiving3 = record { outcome = ourOutcome; left = ourOutput; list = ourList; words = ourWords }
 
--- a call that reads a message of Issue 3 with this header and of this kind. A domain 1 message with a kind 2 ID is a response, or is refused
--- with 61
-pub record Receives3 (c : MixedCall) (s : Sections) (h : Header3) (kind : Message3) : Type 0 where
+-- the numbers that a call is handed are as wide as their arguments
+pub record Widths (c : MixedCall) : Type 0 where
   pub platform : c .own < 256
   pub next : c .standing .next < 2 ^ 32
   pub seconds : c .stamp .seconds < 2 ^ 32
   pub nanoseconds : c .stamp .nanoseconds < 2 ^ 32
   pub composite : c .composite < 2 ^ 32
+
+-- a call that reads a message of Issue 3 with this header and of this kind. A domain 1 message with a kind 2 ID is a response, or is refused
+-- with 61
+pub record Receives3 (c : MixedCall) (s : Sections) (h : Header3) (kind : Message3) : Type 0 where
+  pub widths : Widths c
   pub bytes : Octets (c .message)
   pub table : checked (c .table) ≡ Table s
   pub start : ℕ
