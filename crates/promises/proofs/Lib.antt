@@ -110,3 +110,5 @@ mod Received3
 mod Replying3
 pub mod Replies3
 pub mod ServicesAcross
+pub mod WorkedReplies3
+pub mod WrongReplies3

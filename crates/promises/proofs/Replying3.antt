@@ -71,7 +71,8 @@ module _ (c : MixedCall) (s : Sections) (h : Header3) (kind : Message3) (r : Rec
       let i = indexOf (c .table) s in
       ap (λ (x : Checked). outIf x (c .own) (c .stamp) (c .composite) (c .partners) (c .ours) (c .table) (c .standing) (c .services) (c .message) (c .output))
       (r .table)
-      ∙ ap (anyOutputOf (c .own) (c .stamp) (c .composite) (c .partners) (c .ours) (c .table) s i (c .standing) (c .services) (c .message) (c .output)) (r .read)
+      ∙ ap (anyOutputOf (c .own) (c .stamp) (c .composite) (c .partners) (c .ours) (c .table) s i (c .standing) (c .services) (c .message) (c .output))
+      (r .read)
       ∙ no-if (c .output) _ no-answer
 
   pub list-is : ourList c ≡ c .pending

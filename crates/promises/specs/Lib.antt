@@ -77,3 +77,5 @@ pub mod Reports3
 pub mod Owed3
 pub mod Replies3
 pub mod ServicesAcross
+pub mod WorkedReplies3
+pub mod WrongReplies3
