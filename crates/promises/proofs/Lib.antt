@@ -112,3 +112,7 @@ pub mod Replies3
 pub mod ServicesAcross
 pub mod WorkedReplies3
 pub mod WrongReplies3
+mod MixedCalls
+mod MixedRooms
+mod MixedNot0
+pub mod MixedRefusals

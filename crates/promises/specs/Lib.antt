@@ -79,3 +79,5 @@ pub mod Replies3
 pub mod ServicesAcross
 pub mod WorkedReplies3
 pub mod WrongReplies3
+pub mod MixedCalls
+pub mod MixedRefusals
