@@ -116,3 +116,5 @@ mod MixedCalls
 mod MixedRooms
 mod MixedNot0
 pub mod MixedRefusals
+pub mod MixedOnSections
+pub mod LinkedReplies3

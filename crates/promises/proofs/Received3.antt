@@ -122,6 +122,9 @@ module _ (c : MixedCall) (s : Sections) (h : Header3) (kind : Message3) (r : Rec
   pub len-is : r .len ≡ length (c .message) - 24
   len-is = sym (ap lenRead heard-as) ∙ seen .size
 
+  pub size-is : h .«payload_size» ≡ length (c .message) - 24
+  size-is = sym (ap (λ (x : Header3). x .«payload_size») header-is) ∙ seen .size
+
   pub sender-lt : h .platform < platforms
   sender-lt = subst (λ (x : Header3). x .platform < platforms) header-is (number-lt 0 (c .message) 3 (r .bytes))
 

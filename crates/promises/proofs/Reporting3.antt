@@ -53,28 +53,30 @@ pulled-one t s id x n (none-of-all e none q) = absurd (n e)
 pulled-one t s id x n (one d i k v q) = three.one d i k v (ap heard3.Common q)
 pulled-one t s id x n (not-versioned d none q) = three.not-versioned d none (ap heard3.Common q)
 
-module _ (c : MixedCall) (s : Sections) (accepted : checked (c .table) ≡ Table s) (h : Header3) (start len : ℕ) (long : 24 ≤ length (c .message))
-    (at : start ≡ 24) (rest : len ≡ length (c .message) - 24) where
-  abbrev its : Message3 → Heard3
-  its kind = X3 c s (indexOf (c .table) s) h start len kind .heard
-
-  of-up : (composite : ℕ) → its (PlatformStatus Up composite) ≡ heard3.Status Up composite
+-- a status is heard as what it says
+module _ (c : MixedCall) (s : Sections) (index : List ℕ) (h : Header3) (start len : ℕ) where
+  pub up-heard : (composite : ℕ) → X3 c s index h start len (PlatformStatus Up composite) .heard ≡ heard3.Status Up composite
   unfolding reaction3 onStatus3 cameUp3
-  of-up composite = go (upBefore c h)
+  up-heard composite = go (upBefore c h)
     where
       go : (b : Bool) → cond b (silent3 (c .standing) (heard3.Status Up composite)) (cameUp3 (c .standing) (h .platform) composite) .heard
           ≡ heard3.Status Up composite
       go true = refl
       go false = refl
 
-  of-down : (composite : ℕ) → its (PlatformStatus Down composite) ≡ heard3.Status Down composite
+  pub down-heard : (composite : ℕ) → X3 c s index h start len (PlatformStatus Down composite) .heard ≡ heard3.Status Down composite
   unfolding reaction3 onStatus3
-  of-down composite = go (upBefore c h)
+  down-heard composite = go (upBefore c h)
     where
       go : (b : Bool) → cond b (wentDown (c .standing) (h .platform) composite) (silent3 (c .standing) (heard3.Status Down composite)) .heard
           ≡ heard3.Status Down composite
       go true = refl
       go false = refl
+
+module _ (c : MixedCall) (s : Sections) (accepted : checked (c .table) ≡ Table s) (h : Header3) (start len : ℕ) (long : 24 ≤ length (c .message))
+    (at : start ≡ 24) (rest : len ≡ length (c .message) - 24) where
+  abbrev its : Message3 → Heard3
+  its kind = X3 c s (indexOf (c .table) s) h start len kind .heard
 
   of-pull : (id : ℕ) → Pulled3 (c .table) s id (its (VersionedDataPull id))
   unfolding reaction3 operationFor3 operationFor onPull3 commonly reactionTo
@@ -111,8 +113,8 @@ module _ (c : MixedCall) (s : Sections) (accepted : checked (c .table) ≡ Table
 
   pub reports3 : (kind : Message3) → Reports3 (c .table) s h (c .message) kind (its kind)
   unfolding reaction3 commonly reactionTo onServicesRequest
-  reports3 (PlatformStatus Up composite) = of-up composite
-  reports3 (PlatformStatus Down composite) = of-down composite
+  reports3 (PlatformStatus Up composite) = up-heard c s (indexOf (c .table) s) h start len composite
+  reports3 (PlatformStatus Down composite) = down-heard c s (indexOf (c .table) s) h start len composite
   reports3 PlatformStatusRequest = refl
   reports3 (AvailabilityStatus n) = refl
   reports3 (AvailabilityStatusRequest id) = refl

@@ -81,3 +81,5 @@ pub mod WorkedReplies3
 pub mod WrongReplies3
 pub mod MixedCalls
 pub mod MixedRefusals
+pub mod MixedOnSections
+pub mod LinkedReplies3

@@ -6,6 +6,10 @@ use mathlib.Core.Path.{_≡_}
 use mathlib.Core.Bool.{true, false}
 use mathlib.Core.List.{List, [], _∷_}
 use lib.ListN.{replicate}
+use Rattle.table.specs.declared.Sections.{Sections}
+use Rattle.table.specs.declared.Checked.the-variants.{Table}
+use Rattle.types.specs.Table.{checked}
+use Rattle.message3.specs.declared.Header3.{Header3}
 use Rattle.states.specs.States.{isUp}
 use Rattle.services.specs.declared.Availability.the-variants.{Unheard, Unavailable, Available}
 use Rattle.services.specs.Block.{availabilityIn}
@@ -14,7 +18,8 @@ use Rattle.platform.specs.declared.reactions.Standing.{Standing}
 use Rattle.platform.specs.Receiving.{freshStanding}
 use Rattle.mixed.specs.declared.AnyAnswer.the-variants.{Refused}
 use Rattle.promises.specs.Owed3.{MixedCall}
-use Rattle.promises.specs.Replies3.{ourOutcome, ourOutput, ourWords, blockAt}
+use Rattle.promises.specs.Replies3.{ourReceiving3, ourOutcome, ourOutput, ourWords, blockAt}
+use Rattle.promises.specs.ServicesAcross.{Hears}
 
 -- a type table with one type and no operation
 abbrev pub bareTable : List ℕ
@@ -95,6 +100,10 @@ atTwo =
       output = [];
     }
 
+-- the header of the request for all
+abbrev pub asksHeader : Header3
+asksHeader = record { domain = 0; platform = 2; id = 4; seconds = 5; nanoseconds = 6; «payload_size» = 4; sequence = 1 }
+
 pub record WorkedReplies3 : Type 0 where
   pub start-up : ourOutput (atOne [] (freshStanding 1) upOf2 88) ≡ startUp88
   pub next-is-3 : ourOutcome (atOne [] (freshStanding 1) upOf2 88) .standing .next ≡ 3
@@ -105,7 +114,8 @@ pub record WorkedReplies3 : Type 0 where
   pub still-down : isUp 1 (ourOutcome (atOne [] (freshStanding 1) upOf2 87) .standing .states) 2 ≡ false
   pub all-told : ourOutput (atOne ours2122 (freshStanding 1) asksForAllOf1 44) ≡ tells2122
   pub one-told : ourOutput (atOne ours2122 (freshStanding 1) asksFor5 36) ≡ tells5
-  -- and heard
+  -- and heard: such a pair of calls is one of specs/ServicesAcross
+  pub hears : (s : Sections) → checked bareTable ≡ Table s → Hears ourReceiving3 (atOne ours2122 (freshStanding 1) asksForAllOf1 44) atTwo s asksHeader
   pub service-21 : availabilityIn (blockAt atTwo 1 (ourWords atTwo)) 21 ≡ Available
   pub service-22 : availabilityIn (blockAt atTwo 1 (ourWords atTwo)) 22 ≡ Unavailable
   pub service-23 : availabilityIn (blockAt atTwo 1 (ourWords atTwo)) 23 ≡ Unheard
