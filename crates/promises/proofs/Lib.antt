@@ -109,6 +109,7 @@ mod Reporting3
 mod Received3
 mod Replying3
 pub mod Replies3
+mod BlockAnew
 pub mod ServicesAcross
 pub mod WorkedReplies3
 pub mod WrongReplies3
@@ -117,4 +118,6 @@ mod MixedRooms
 mod MixedNot0
 pub mod MixedRefusals
 pub mod MixedOnSections
+mod LinkedReplying3
+mod LinkedAcross
 pub mod LinkedReplies3

@@ -8,7 +8,6 @@ use native.Mathlib.Omega.{arith}
 use borrow.Author.Tests.{le-leb, ltb-true, ltb-false}
 use lib.Dec.{eqb, ltb, leb}
 use lib.ListN.{length, getD, take, drop, replicate, length-append, take-append-drop}
-use lib.Seq.{length-take-le, take-at, drop-at, take-take, drop-drop, take-add}
 use Rattle.wire.specs.Bytes.{Octets, number}
 use Rattle.wire.proofs.Numbers.{octets-drop, octets-take}
 use Rattle.wire.proofs.Cond.{yes-le}
@@ -37,53 +36,10 @@ use Rattle.mixed.specs.Keeping.{withNoted, keptWords}
 use Rattle.promises.specs.Owed3.{MixedCall, idOf, stateOf, allOurs, OwedReply3, tellsThese, owedFor3, bytesOwed, replyHeader3, HeardAs3}
 use Rattle.promises.specs.Replies3.{ourOutput, ourWords, ourOutcome, ourReceiving3, Receives3, blockAt, Countable}
 use Rattle.promises.specs.ServicesAcross.{wordAt, Hears, Learns, ServicesAcross}
+use Rattle.promises.proofs.BlockAnew.{anew, front-same, block-new, rest-same, before-it, behind-it}
 use Rattle.promises.proofs.ReplyBytes3.{laidReply, tells-sound, reads-reply, length-all, good-ours}
 use Rattle.promises.proofs.Received3.{sequence-lt, from-another}
 use Rattle.promises.proofs.Replying3.{list-is, front-is, taken-is, output-left, words-left}
-
--- a part of a list by what stands in front of its end
-middle : (n m : ℕ) (l : List ℕ) → n ≤ length l → drop n (take (n + m) l) ≡ take m (drop n l)
-middle n m l h = ap (drop n) (take-add n m l) ∙ drop-at (take n l) (take m (drop n l)) n (length-take-le n l h)
-
--- a block in the middle of words that is written anew
-module _ (ws b : List ℕ) (at : ℕ) (h : at + 256 ≤ length ws) (l : length b ≡ 256) where
-  abbrev anew : List ℕ
-  anew = take at ws ++ (b ++ drop 256 (drop at ws))
-
-  front-long : length (take at ws) ≡ at
-  front-long = length-take-le at ws (omega arith)
-
-  front-same : take at anew ≡ take at ws
-  front-same = take-at (take at ws) (b ++ drop 256 (drop at ws)) at front-long
-
-  from-block : drop at anew ≡ b ++ drop 256 (drop at ws)
-  from-block = drop-at (take at ws) (b ++ drop 256 (drop at ws)) at front-long
-
-  block-new : take 256 (drop at anew) ≡ b
-  block-new = ap (take 256) from-block ∙ take-at b (drop 256 (drop at ws)) 256 l
-
-  rest-same : drop (at + 256) anew ≡ drop (at + 256) ws
-  rest-same =
-      sym (drop-drop 256 at anew) ∙ ap (drop 256) from-block ∙ drop-at b (drop 256 (drop at ws)) 256 l ∙ drop-drop 256 at ws
-
-  long-same : at ≤ length anew
-  long-same =
-      let n : length anew ≡ length (take at ws) + length (b ++ drop 256 (drop at ws)) = length-append (take at ws) (b ++ drop 256 (drop at ws)) in
-      omega (arith, front-long)
-
-  before-it : (k : ℕ) → k + 256 ≤ at → take 256 (drop k anew) ≡ take 256 (drop k ws)
-  before-it k z =
-      sym (middle k 256 anew (omega (arith, long-same)))
-      ∙ ap (drop k) (sym (take-take (k + 256) at anew z) ∙ ap (take (k + 256)) front-same ∙ take-take (k + 256) at ws z)
-      ∙ middle k 256 ws (omega arith)
-
-  behind-it : (k : ℕ) → at + 256 ≤ k → take 256 (drop k anew) ≡ take 256 (drop k ws)
-  behind-it k z =
-      let n : ℕ = k - (at + 256) in
-      let q : at + 256 + n ≡ k = omega arith in
-      ap (take 256)
-      (ap (λ (x : ℕ). drop x anew) (sym q) ∙ sym (drop-drop n (at + 256) anew) ∙ ap (drop n) rest-same ∙ drop-drop n (at + 256) ws
-      ∙ ap (λ (x : ℕ). drop x ws) q)
 
 -- one of our services, and how many pairs tell of them
 all-at : (ws : List ℕ) (k : ℕ) → k < length ws → pairAt (allOurs ws) k ≡ (idOf (getD ws k 0), stateOf (getD ws k 0))
