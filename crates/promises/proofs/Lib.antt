@@ -121,3 +121,4 @@ pub mod MixedOnSections
 mod LinkedReplying3
 mod LinkedAcross
 pub mod LinkedReplies3
+pub mod WrongReports3

@@ -83,3 +83,4 @@ pub mod MixedCalls
 pub mod MixedRefusals
 pub mod MixedOnSections
 pub mod LinkedReplies3
+pub mod WrongReports3
