@@ -26,6 +26,7 @@ use Rattle.mixed.specs.declared.AnyAnswer.the-variants.{Three}
 use Rattle.mixed.specs.declared.AnyReceived.{AnyReceived}
 use Rattle.mixed.specs.Reaction.{operationFor3, commonly, onPull3, onServicesRequest, reaction3}
 use Rattle.mixed.specs.Tables.{sectionsAnswer, sectionsOut, sectionsPending, sectionsWords}
+use Rattle.mixed_words.specs.SectionCalls.{mixedInNumber, mixedInWords, mixedInServices, mixedInOutput, mixedInHeard}
 use Rattle.mixed_words.specs.HeardWords.{heardWords3, anyAnswerWords, anyNumber, anyPlatformAfter, anyHeardAfter}
 use Rattle.promises.specs.Platforms.{operationWith}
 use Rattle.promises.specs.Owed3.{MixedCall, owedFor3, stateAfter3, bytesOwed}
@@ -33,7 +34,7 @@ use Rattle.promises.specs.Replies3.{ourOutcome, ourOutput, ourList, ourW
 use Rattle.promises.specs.Lookups.{laid}
 use Rattle.promises.specs.LinkedReplies.{CheckLeft}
 use Rattle.promises.specs.MixedOnSections.{AsOnBytes3}
-use Rattle.promises.specs.LinkedReplies3.{callOf, heardFor3, Comes3, Says3, Refuses3, Answered3}
+use Rattle.promises.specs.LinkedReplies3.{callOf, heardFor3, Comes3, Says3, Refuses3, Answered3, AsOnTable}
 use Rattle.promises.proofs.ByID.{looked}
 use Rattle.promises.proofs.Reacting.{Finds, Pull, all-of-none, all-of-some, one-entry, no-entry, pulled}
 use Rattle.promises.proofs.Reacting3.{X3}
@@ -179,17 +180,30 @@ module _ (own : ℕ) (st i ours ws sv t ss m out : List ℕ) (s : Sections) (wor
   index-back : indexIn ss ≡ laid t s words
   index-back = ap indexIn (f .0)
 
-  pub outcome-same : sectionsAnswer own i ours t (sectionsIn ss) (indexIn ss) (standingIn ws) (pendingIn ws) sv m (length out) ≡ ourOutcome d
+  outcome-same : sectionsAnswer own i ours t (sectionsIn ss) (indexIn ss) (standingIn ws) (pendingIn ws) sv m (length out) ≡ ourOutcome d
   outcome-same =
       ap₂ (λ (x : Sections) (j : List ℕ). sectionsAnswer own i ours t x j (standingIn ws) (pendingIn ws) sv m (length out)) back index-back ∙ on .answer
 
-  pub output-same : sectionsOut own (d .stamp) (d .composite) i ours t (sectionsIn ss) (indexIn ss) (standingIn ws) sv m out ≡ ourOutput d
+  output-same : sectionsOut own (d .stamp) (d .composite) i ours t (sectionsIn ss) (indexIn ss) (standingIn ws) sv m out ≡ ourOutput d
   output-same =
       ap₂ (λ (x : Sections) (j : List ℕ). sectionsOut own (d .stamp) (d .composite) i ours t x j (standingIn ws) sv m out) back index-back ∙ on .output
 
-  pub list-same : sectionsPending own i t (sectionsIn ss) (indexIn ss) (pendingIn ws) m ≡ ourList d
+  list-same : sectionsPending own i t (sectionsIn ss) (indexIn ss) (pendingIn ws) m ≡ ourList d
   list-same = ap₂ (λ (x : Sections) (j : List ℕ). sectionsPending own i t x j (pendingIn ws) m) back index-back ∙ on .list
 
-  pub services-same : sectionsWords own i ours t (sectionsIn ss) (indexIn ss) (standingIn ws) sv m (length out) ≡ ourWords d
+  services-same : sectionsWords own i ours t (sectionsIn ss) (indexIn ss) (standingIn ws) sv m (length out) ≡ ourWords d
   services-same =
       ap₂ (λ (x : Sections) (j : List ℕ). sectionsWords own i ours t x j (standingIn ws) sv m (length out)) back index-back ∙ on .services
+
+  -- whatever the message, what the call on these words gives back and leaves
+  pub as-on-table : (was : List ℕ) (n : ℕ) (after kept left heard : List ℕ) → n ≡ mixedInNumber own i ours ws sv t ss m out
+      → after ≡ mixedInWords own i ours ws sv t ss m out → kept ≡ mixedInServices own i ours ws sv t ss m out
+      → left ≡ mixedInOutput own st i ours ws sv t ss m out → heard ≡ mixedInHeard own i ours ws sv t ss m out was
+      → AsOnTable own st i ours ws sv t m out was n after kept left heard
+  as-on-table was n after kept left heard en ea ek el eh = (
+    en ∙ ap (λ (x : AnyReceived). anyNumber (x .answer)) outcome-same,
+    ea ∙ ap₂ (λ (x : AnyReceived) (y : List ℕ). anyPlatformAfter x ws y) outcome-same list-same,
+    ek ∙ services-same,
+    el ∙ output-same,
+    eh ∙ ap (λ (x : AnyReceived). anyHeardAfter x was) outcome-same,
+  )

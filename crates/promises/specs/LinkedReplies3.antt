@@ -24,6 +24,7 @@ use Rattle.platform.specs.Reaction.{foundData}
 use Rattle.platform_words.specs.Words.{standingIn, pendingIn}
 use Rattle.mixed.specs.declared.AnyReading.the-variants as reading
 use Rattle.mixed.specs.Reading.{anyOf}
+use Rattle.mixed_words.specs.TableCalls.{mixedNumber, mixedWords, mixedServices, mixedOutput, mixedHeard}
 use Rattle.mixed_words.specs.ServiceCalls.{serviceNumber}
 use Rattle.nyrkovash.proofs.nyr_receive_mixed.Reads.{Post as nyr-receive-mixed}
 use Rattle.nyrkovash.proofs.nyr_receive_mixed_in.Reads.{Post as nyr-receive-mixed-in}
@@ -157,6 +158,13 @@ pub record KnowsOurs (c d : MixedCall) (ws : List ℕ) (n : ℕ) (after words le
   pub next : getD after 4 0 ≡ d .standing .next
   pub pending : drop 5 after ≡ drop 5 ws
 
+-- as `nyr_receive_mixed` has it
+abbrev pub AsOnTable : ℕ → List ℕ → List ℕ → List ℕ → List ℕ → List ℕ → List ℕ → List ℕ → List ℕ → List ℕ → ℕ → List ℕ → List ℕ → List ℕ → List ℕ → Type 0
+AsOnTable own st i ours ws sv t m out was n after words left heard =
+    (n ≡ mixedNumber own i ours ws sv t m out) × (after ≡ mixedWords own i ours ws sv t m out)
+    × (words ≡ mixedServices own i ours ws sv t m out) × (left ≡ mixedOutput own st i ours ws sv t m out)
+    × (heard ≡ mixedHeard own i ours ws sv t m out was)
+
 pub record LinkedReplies3 : Type 0 where
   pub receive : (s : Sections) (h : Header3) (kind : Message3) → Whenever nyr-receive-mixed (λ k a n e.
       Comes3 (callOf (a .0) (now (a .1 .0)) (now (a .1 .1 .0)) (now (a .1 .1 .1 .0)) (now (a .1 .1 .1 .1 .0)) (now (a .1 .1 .1 .1 .1 .0))
@@ -173,6 +181,13 @@ pub record LinkedReplies3 : Type 0 where
       Answered3 (callOf (a .0) (now (a .1 .0)) (now (a .1 .1 .0)) (now (a .1 .1 .1 .0)) (now (a .1 .1 .1 .1 .0))
       (now (a .1 .1 .1 .1 .1 .0)) (now (a .1 .1 .1 .1 .1 .1 .0)) (now (a .1 .1 .1 .1 .1 .1 .1 .1 .0)) (now (a .1 .1 .1 .1 .1 .1 .1 .1 .1 .0)))
       (now (a .1 .1 .1 .1 .0)) (now (a .1 .1 .1 .1 .1 .1 .1 .1 .1 .1 .0)) s h kind n
+      (now (e .1 .1 .1 .1 .0)) (now (e .1 .1 .1 .1 .1 .0)) (now (e .1 .1 .1 .1 .1 .1 .1 .1 .1 .0)) (now (e .1 .1 .1 .1 .1 .1 .1 .1 .1 .1 .0)))
+  -- whatever the message, of either issue, the call on those words gives back and leaves what the call on table bytes does
+  pub alike : (s : Sections) (words : List ℕ) → Whenever nyr-receive-mixed-in (λ k a n e.
+      checked (now (a .1 .1 .1 .1 .1 .1 .0)) ≡ Table s → CheckLeft (now (a .1 .1 .1 .1 .1 .1 .0)) s words (now (a .1 .1 .1 .1 .1 .1 .1 .0)) →
+      AsOnTable (a .0) (now (a .1 .0)) (now (a .1 .1 .0)) (now (a .1 .1 .1 .0)) (now (a .1 .1 .1 .1 .0)) (now (a .1 .1 .1 .1 .1 .0))
+      (now (a .1 .1 .1 .1 .1 .1 .0)) (now (a .1 .1 .1 .1 .1 .1 .1 .1 .0)) (now (a .1 .1 .1 .1 .1 .1 .1 .1 .1 .0))
+      (now (a .1 .1 .1 .1 .1 .1 .1 .1 .1 .1 .0)) n
       (now (e .1 .1 .1 .1 .0)) (now (e .1 .1 .1 .1 .1 .0)) (now (e .1 .1 .1 .1 .1 .1 .1 .1 .1 .0)) (now (e .1 .1 .1 .1 .1 .1 .1 .1 .1 .1 .0)))
   -- our services, asked for in one call and heard of in another
   pub across : (s : Sections) (h : Header3) → Whenever nyr-receive-mixed (λ k a n e. Whenever nyr-receive-mixed (λ j b m f.
