@@ -122,3 +122,4 @@ mod LinkedReplying3
 mod LinkedAcross
 pub mod LinkedReplies3
 pub mod WrongReports3
+pub mod WrongAcross

@@ -84,3 +84,4 @@ pub mod MixedRefusals
 pub mod MixedOnSections
 pub mod LinkedReplies3
 pub mod WrongReports3
+pub mod WrongAcross

@@ -1,7 +1,8 @@
 -- 02, request 8, theorem 6, from end to end: a partner asks us for all our services, and hears what we answer. Where it has us set up as
 -- Issue 3 and its block of our services takes them, it has for each ID of ours the state that our words have, of two words the last one's;
 -- and nothing else of its own moved. Ruled out: services told in part, or with another one's state; a status that is answered; states, own
--- numbers, pending requests or other platforms' services that change by it. The theorem is in proofs/ServicesAcross.antt.
+-- numbers, pending requests or other platforms' services that change by it. Partners that do otherwise are in specs/WrongAcross. The theorem is in
+-- proofs/ServicesAcross.antt.
 use Prim.Native.Nat.{ℕ, _+_, _*_, _/_, _^_, _≤_, _<_}
 use mathlib.Core.Path.{_≡_}
 use mathlib.Core.Bool.{true, cond}

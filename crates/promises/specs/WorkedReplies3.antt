@@ -97,7 +97,7 @@ atTwo =
       pending = [];
       services = replicate 256 0;
       message = tells2122;
-      output = [];
+      output = replicate 28 0;
     }
 
 -- the header of the request for all
