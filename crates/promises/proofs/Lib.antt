@@ -104,6 +104,17 @@ mod ReadByIssue
 mod ReadAgain
 pub mod LinkedIssue3
 pub mod AsBefore
+mod ReplyBytes3
+mod OneOfOurs
+mod Reacting3
+mod Reporting3
+mod Received3
+mod Replying3
+pub mod Replies3
+mod BlockAnew
+pub mod ServicesAcross
+pub mod WorkedReplies3
+pub mod WrongReplies3
 mod MixedCalls
 mod MixedRooms
 mod MixedNot0
@@ -111,3 +122,9 @@ pub mod MixedRefusals
 pub mod MixedSending
 pub mod WrongAsking
 pub mod LinkedSending
+pub mod MixedOnSections
+mod LinkedReplying3
+mod LinkedAcross
+pub mod LinkedReplies3
+pub mod WrongReports3
+pub mod WrongAcross
