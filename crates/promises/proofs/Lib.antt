@@ -102,3 +102,14 @@ mod ReadByIssue
 mod ReadAgain
 pub mod LinkedIssue3
 pub mod AsBefore
+mod MixedByTable
+mod MixedMeasure
+mod MixedWeights
+mod MixedReplies
+mod MixedHeld
+mod MixedThrees
+mod MixedSixes
+mod MixedArrivals
+mod MixedRuns
+pub mod MixedExchange
+pub mod WrongMixedExchange

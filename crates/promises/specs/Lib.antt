@@ -73,3 +73,5 @@ pub mod AnyOrder
 pub mod UniqueMixed
 pub mod LinkedIssue3
 pub mod AsBefore
+pub mod MixedExchange
+pub mod WrongMixedExchange
