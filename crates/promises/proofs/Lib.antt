@@ -102,6 +102,10 @@ mod ReadByIssue
 mod ReadAgain
 pub mod LinkedIssue3
 pub mod AsBefore
+mod MixedCalls
+mod MixedRooms
+mod MixedNot0
+pub mod MixedRefusals
 mod MixedByTable
 mod MixedMeasure
 mod MixedWeights

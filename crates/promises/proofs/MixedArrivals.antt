@@ -20,7 +20,7 @@ use Rattle.mixed.specs.Reading.{anyOf}
 use Rattle.mixed.specs.Reaction.{operationFor3}
 use Rattle.mixed.specs.Receiving.{fromReceived, anyOutcomeOf, anyOutputOf}
 use Rattle.mixed.proofs.NoCrossing.{six-is-six, three-is-three}
-use Rattle.promises.specs.MixedExchange.{Table, Lent, answerOn, outputOn}
+use Rattle.promises.specs.MixedExchange.{Lent, answerTo, outputTo}
 use Rattle.promises.proofs.MixedByTable.{by-table}
 use Rattle.promises.proofs.MixedWeights.{cost6, cost, cost-pos, Bears}
 use Rattle.promises.proofs.MixedHeld.{After, nothing-sent}
@@ -49,10 +49,10 @@ module _ (own other : ℕ) (i j : List ℕ) (p : Standing) (small : own < 256) (
         (six-lighter own other i j p small hp d t s (operationIn t s index (Read h k start len)) h b (ap (isThree i) (sym b) ∙ z .0) start len l out k)
 
   -- and by any table
-  pub arrival-lighter : (c : Lent) (m : List ℕ) → Bears other (anyOf i own m) → (x : Table)
-      → After own other i j p (cost (anyOf i own m)) (answerOn x own i c p m) (outputOn x own i c p m)
-  arrival-lighter c m b x =
+  pub arrival-lighter : (c : Lent) (m : List ℕ) → Bears other (anyOf i own m)
+      → After own other i j p (cost (anyOf i own m)) (answerTo own i c p m) (outputTo own i c p m)
+  arrival-lighter c m b =
       by-table own i c p m (λ (r : AnyReceived) (o : List ℕ). After own other i j p (cost (anyOf i own m)) r o)
       (λ (n : ℕ). nothing-sent own other i j p (cost (anyOf i own m)) (cost-pos (anyOf i own m)))
       (λ (t : List ℕ) (s : Sections) (index : List ℕ).
-      any-lighter (c .stamp) (c .composite) (c .ours) t s index (c .list) (c .services) m (c .output) (anyOf i own m) refl b) x
+      any-lighter (c .stamp) (c .composite) (c .ours) t s index (c .list) (c .services) m (c .output) (anyOf i own m) refl b)

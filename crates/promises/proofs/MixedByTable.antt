@@ -1,21 +1,15 @@
--- Whichever call takes a message, and by whichever table: it is a refusal, by which nothing changes, or what the message comes to by some sections
--- and some index.
+-- Whichever way a table is handed over: what a message comes to is a refusal, by which nothing changes, or goes by some sections and some index.
 -- Assumes nothing.
 use Prim.Native.Nat.{ℕ}
-use mathlib.Core.Bool.{Bool, true, false, cond}
+use mathlib.Core.Path.{_≡_, sym, subst}
 use mathlib.Core.List.{List}
 use lib.ListN.{length}
 use Rattle.table.specs.declared.Sections.{Sections}
-use Rattle.table.specs.declared.Checked.{Checked}
-use Rattle.table.specs.declared.Checked.the-variants as checked
-use Rattle.table.specs.Layout.{cutShort, within}
-use Rattle.types.specs.Table.{checked as checkedIs}
 use Rattle.platform.specs.declared.reactions.Standing.{Standing}
-use Rattle.platform.specs.Receiving.{indexOf}
 use Rattle.mixed.specs.declared.AnyReceived.{AnyReceived}
 use Rattle.mixed.specs.Receiving.{refusedAny, anyOutcome, anyOutput}
-use Rattle.mixed.specs.Tables.{sectionsAnswer, sectionsOut, answerIf, outIf}
-use Rattle.promises.specs.MixedExchange.{Table, on-bytes, on-sections, Lent, answerOn, outputOn}
+use Rattle.promises.specs.MixedExchange.{Lent, answerTo, outputTo}
+use Rattle.promises.proofs.MixedCalls.{Way, refused, goes, way}
 
 module _ (own : ℕ) (i : List ℕ) (c : Lent) (p : Standing) (m : List ℕ) where
   abbrev pub answerBy : List ℕ → Sections → List ℕ → AnyReceived
@@ -24,19 +18,18 @@ module _ (own : ℕ) (i : List ℕ) (c : Lent) (p : Standing) (m : List ℕ) whe
   abbrev pub outputBy : List ℕ → Sections → List ℕ → List ℕ
   outputBy t s index = anyOutput own (c .stamp) (c .composite) i (c .ours) t s index p (c .services) m (c .output)
 
-  module _ (P : AnyReceived → List ℕ → Type 0) (refused : (n : ℕ) → P (refusedAny p n) (c .output))
-      (taken : (t : List ℕ) (s : Sections) (index : List ℕ) → P (answerBy t s index) (outputBy t s index)) where
-    by-checked : (t : List ℕ) (x : Checked) → P (answerIf x own i (c .ours) t p (c .list) (c .services) m (length (c .output)))
-        (outIf x own (c .stamp) (c .composite) i (c .ours) t p (c .services) m (c .output))
-    unfolding answerIf outIf
-    by-checked t (checked.Refused n) = refused n
-    by-checked t (checked.Table s) = taken t s (indexOf t s)
+  pub by-table : (P : AnyReceived → List ℕ → Type 0) → ((n : ℕ) → P (refusedAny p n) (c .output))
+      → ((t : List ℕ) (s : Sections) (index : List ℕ) → P (answerBy t s index) (outputBy t s index)) → P (answerTo own i c p m) (outputTo own i c p m)
+  by-table P refusal result = go (way (c .table))
+    where
+      both : (a : AnyReceived) (o : List ℕ) → answerTo own i c p m ≡ a → outputTo own i c p m ≡ o → P a o → P (answerTo own i c p m) (outputTo own i c p m)
+      both a o e f x =
+          subst (λ (r : AnyReceived). P r (outputTo own i c p m)) (sym e) (subst (λ (out : List ℕ). P a out) (sym f) x)
 
-    pub by-table : (x : Table) → P (answerOn x own i c p m) (outputOn x own i c p m)
-    unfolding sectionsAnswer sectionsOut
-    by-table (on-bytes t) = by-checked t (checkedIs t)
-    by-table (on-sections t s index) = go (within t s)
-      where
-        go : (b : Bool) → P (cond b (answerBy t s index) (refusedAny p cutShort)) (cond b (outputBy t s index) (c .output))
-        go true = taken t s index
-        go false = refused cutShort
+      go : Way (c .table) → P (answerTo own i c p m) (outputTo own i c p m)
+      go (refused n w) =
+          both (refusedAny p n) (c .output) (w .answer own i (c .ours) p (c .list) (c .services) m (length (c .output)))
+          (w .output own (c .stamp) (c .composite) i (c .ours) p (c .services) m (c .output)) (refusal n)
+      go (goes t s index w) =
+          both (answerBy t s index) (outputBy t s index) (w .answer own i (c .ours) p (c .list) (c .services) m (length (c .output)))
+          (w .output own (c .stamp) (c .composite) i (c .ours) p (c .services) m (c .output)) (result t s index)

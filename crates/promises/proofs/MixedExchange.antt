@@ -28,7 +28,8 @@ use Rattle.mixed.specs.Replies.{fieldMessage, statusMessage, startUpBytes, pair
 use Rattle.mixed.specs.Keeping.{noteNumber, keptNumber}
 use Rattle.mixed.specs.Receiving.{isAnswer3, settled3, laid3, anyOutcomeOf, anyOutputOf}
 use Rattle.mixed.specs.Tables.{sectionsAnswer, sectionsOut}
-use Rattle.promises.specs.MixedExchange.{Table, on-sections, Lent, answerOn, outputOn, messagesSent, ourAnswering, Two, Pair, Exchange, both}
+use Rattle.promises.specs.MixedCalls.{sections}
+use Rattle.promises.specs.MixedExchange.{Lent, answerTo, outputTo, messagesSent, ourAnswering, Two, Pair, Exchange, both}
 use Rattle.promises.specs.MixedExchange.{Status, firstStatus, startsFromA, startsFromB, statusesOf}
 use Rattle.promises.specs.MixedExchange.{startsFromBoth, Apart, SilentAfter, StatusSilentAfter, FallSilentBy, Reached, speakThree, speakSix, MixedSilence}
 use Rattle.promises.proofs.MixedMeasure.{Shrinks, AtA, AtB, silent-after}
@@ -49,10 +50,10 @@ module _ (own : ℕ) (i : List ℕ) (c : Lent) (p : Standing) (m : List ℕ) whe
   refused-unanswered t s index (reading.Six h l start len) q = absurd q
   refused-unanswered t s index (reading.Three h l start len) q = absurd q
 
-  unanswered : IsRefused (anyOf i own m) → (x : Table) → messagesSent (answerOn x own i c p m) (outputOn x own i c p m) ≡ []
-  unanswered r x =
+  unanswered : IsRefused (anyOf i own m) → messagesSent (answerTo own i c p m) (outputTo own i c p m) ≡ []
+  unanswered r =
       by-table own i c p m (λ (a : AnyReceived) (out : List ℕ). messagesSent a out ≡ []) (λ (n : ℕ). refl)
-      (λ (t : List ℕ) (s : Sections) (index : List ℕ). refused-unanswered t s index (anyOf i own m) r) x
+      (λ (t : List ℕ) (s : Sections) (index : List ℕ). refused-unanswered t s index (anyOf i own m) r)
 
 nothing-back : (f g : List ℕ → ℕ) {G : List ℕ → Type 0} {p : Standing} {m : List ℕ} {sent : List (List ℕ)} (q : Standing) → sent ≡ [] → 1 ≤ f m
     → Shrinks f g (λ (x : Standing). 0) G p m q sent
@@ -92,12 +93,12 @@ module _ (w : Two) (k : Apart w) where
 
   at-a : AtA ourAnswering w fA fB kA kB GA GB
   at-a c p m g =
-      let l = arrival-lighter (w .a) (w .b) (w .threesOfA) (w .threesOfB) p (k .one) (k .other) (λ e. k .two (sym e)) c m g (c .table) in
+      let l = arrival-lighter (w .a) (w .b) (w .threesOfA) (w .threesOfB) p (k .one) (k .other) (λ e. k .two (sym e)) c m g in
       record { sum = l .sum; good = l .bear }
 
   at-b : AtB ourAnswering w fA fB kA kB GA GB
   at-b c p m g =
-      let l = arrival-lighter (w .b) (w .a) (w .threesOfB) (w .threesOfA) p (k .other) (k .one) (k .two) c m g (c .table) in
+      let l = arrival-lighter (w .b) (w .a) (w .threesOfB) (w .threesOfA) p (k .other) (k .one) (k .two) c m g in
       record { sum = l .sum; good = l .bear }
 
   module _ (p q : Standing) (u : Status) (three : Bool) (most : ℕ)
@@ -144,10 +145,10 @@ module _ (w : Two) (k : Apart w) where
   RB m = IsRefused (anyOf (w .threesOfB) (w .b) m)
 
   refused-a : AtA ourAnswering w fA fB none-kept none-kept RA RB
-  refused-a c p m g = nothing-back fA fB (ourAnswering .kept (w .a) (w .threesOfA) c p m) (unanswered (w .a) (w .threesOfA) c p m g (c .table)) (posA m)
+  refused-a c p m g = nothing-back fA fB (ourAnswering .kept (w .a) (w .threesOfA) c p m) (unanswered (w .a) (w .threesOfA) c p m g) (posA m)
 
   refused-b : AtB ourAnswering w fA fB none-kept none-kept RA RB
-  refused-b c p m g = nothing-back fB fA (ourAnswering .kept (w .b) (w .threesOfB) c p m) (unanswered (w .b) (w .threesOfB) c p m g (c .table)) (posB m)
+  refused-b c p m g = nothing-back fB fA (ourAnswering .kept (w .b) (w .threesOfB) c p m) (unanswered (w .b) (w .threesOfB) c p m g) (posB m)
 
   module _ (p q : Standing) (u : Status) (three : Bool) where
     at-odds-a : isThree (w .threesOfB) (w .a) ≡ not three → SilentAfter ourAnswering w (startsFromA w p q three u) 1
@@ -197,7 +198,7 @@ empty = record { at = 0; count = 0 }
 abbrev pub bare : Lent
 bare =
     record {
-      table = on-sections [] (record { types = empty; members = empty; values = empty; operations = empty }) [];
+      table = sections [] (record { types = empty; members = empty; values = empty; operations = empty }) [];
       ours = [];
       list = [];
       services = replicate 512 0;

@@ -73,5 +73,7 @@ pub mod AnyOrder
 pub mod UniqueMixed
 pub mod LinkedIssue3
 pub mod AsBefore
+pub mod MixedCalls
+pub mod MixedRefusals
 pub mod MixedExchange
 pub mod WrongMixedExchange

@@ -11,8 +11,6 @@ use mathlib.Core.List.{List, [], _∷_, _++_}
 use lib.Dec.{eqb}
 use lib.ListN.{length, take, drop}
 use Rattle.wire.specs.Bytes.{number}
-use Rattle.table.specs.declared.Sections.{Sections}
-use Rattle.types.specs.Table.{checked}
 use Rattle.message3.specs.declared.Stamp.{Stamp}
 use Rattle.partners.specs.Threes.{isThree}
 use Rattle.platform.specs.declared.reactions.Standing.{Standing}
@@ -23,15 +21,11 @@ use Rattle.mixed.specs.declared.AnyAnswer.{AnyAnswer}
 use Rattle.mixed.specs.declared.AnyAnswer.the-variants.{Refused, Six, SixResponse, Three, ThreeResponse}
 use Rattle.mixed.specs.declared.AnyReceived.{AnyReceived}
 use Rattle.mixed.specs.Replies.{statusMessage}
-use Rattle.mixed.specs.Tables.{sectionsAnswer, sectionsOut, answerIf, outIf}
+use Rattle.promises.specs.MixedCalls.{TableGiven, answerOn, outputOn}
 
--- what is lent when a message arrives: table bytes, or table bytes with the sections and the index of a check of before
-pub data Table : Type 0 where
-  on-bytes : List ℕ → Table
-  on-sections : List ℕ → Sections → List ℕ → Table
-
+-- what is lent when a message arrives
 pub record Lent : Type 0 where
-  pub table : Table
+  pub table : TableGiven
   pub ours : List ℕ
   pub list : List ℕ
   pub services : List ℕ
@@ -39,15 +33,12 @@ pub record Lent : Type 0 where
   pub composite : ℕ
   pub output : List ℕ
 
--- what the call answers, `mixed::receive` or `mixed::receive_checked`, and what it leaves in the output: own number, who speaks Issue 3, what
--- is lent, what is kept, the message
-abbrev pub answerOn : Table → ℕ → List ℕ → Lent → Standing → List ℕ → AnyReceived
-answerOn (on-bytes t) own i c p m = answerIf (checked t) own i (c .ours) t p (c .list) (c .services) m (length (c .output))
-answerOn (on-sections t s index) own i c p m = sectionsAnswer own i (c .ours) t s index p (c .list) (c .services) m (length (c .output))
+-- what the call then answers, and what it leaves in the output: own number, who speaks Issue 3, what is lent, what is kept, the message
+abbrev pub answerTo : ℕ → List ℕ → Lent → Standing → List ℕ → AnyReceived
+answerTo own i c p m = answerOn (c .table) own i (c .ours) p (c .list) (c .services) m (length (c .output))
 
-abbrev pub outputOn : Table → ℕ → List ℕ → Lent → Standing → List ℕ → List ℕ
-outputOn (on-bytes t) own i c p m = outIf (checked t) own (c .stamp) (c .composite) i (c .ours) t p (c .services) m (c .output)
-outputOn (on-sections t s index) own i c p m = sectionsOut own (c .stamp) (c .composite) i (c .ours) t s index p (c .services) m (c .output)
+abbrev pub outputTo : ℕ → List ℕ → Lent → Standing → List ℕ → List ℕ
+outputTo own i c p m = outputOn (c .table) own (c .stamp) (c .composite) i (c .ours) p (c .services) m (c .output)
 
 -- how many bytes of replies it says it wrote
 abbrev pub writtenBy : AnyAnswer → ℕ
@@ -77,8 +68,8 @@ pub record Answering : Type 0 where
 abbrev pub ourAnswering : Answering
 ourAnswering =
     record {
-      kept = λ own i c p m. answerOn (c .table) own i c p m .standing;
-      sent = λ own i c p m. messagesSent (answerOn (c .table) own i c p m) (outputOn (c .table) own i c p m);
+      kept = λ own i c p m. answerTo own i c p m .standing;
+      sent = λ own i c p m. messagesSent (answerTo own i c p m) (outputTo own i c p m);
     }
 
 -- two of them: their numbers, and who speaks Issue 3 to each

@@ -22,7 +22,8 @@ use Rattle.mixed.specs.declared.AnyReading.{AnyReading}
 use Rattle.mixed.specs.declared.AnyReading.the-variants as reading
 use Rattle.mixed.specs.Reading.{anyOf}
 use Rattle.mixed.specs.Replies.{fieldMessage, statusMessage}
-use Rattle.promises.specs.MixedExchange.{Table, on-bytes, on-sections, Lent, Answering, ourAnswering, both, speakThree, speakSix, startsFromA}
+use Rattle.promises.specs.MixedCalls.{TableGiven, bytes, sections}
+use Rattle.promises.specs.MixedExchange.{Lent, Answering, ourAnswering, both, speakThree, speakSix, startsFromA}
 use Rattle.promises.specs.MixedExchange.{firstStatus, SilentAfter, FallSilentBy}
 
 -- in the place of what ours keeps and sends for some messages of Issue 3, by own number, what is lent and kept, header and kind: what another
@@ -100,9 +101,9 @@ abbrev pub dataIn : List ℕ → Checked → Bool
 dataIn t (checked.Refused n) = true
 dataIn t (checked.Table s) = someData t s
 
-abbrev pub providesData : Table → Bool
-providesData (on-bytes t) = dataIn t (checkedIs t)
-providesData (on-sections t s index) = someData t s
+abbrev pub providesData : TableGiven → Bool
+providesData (bytes t) = dataIn t (checkedIs t)
+providesData (sections t s index) = someData t s
 
 abbrev pub pullOfAllAnswered : Change
 pullOfAllAnswered =
