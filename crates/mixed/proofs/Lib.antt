@@ -9,6 +9,7 @@ pub mod ToldLaws
 mod Rooms
 mod Kept
 mod Receipts
+pub mod Deeds
 pub mod Settling
 mod Calls
 mod OnTables
