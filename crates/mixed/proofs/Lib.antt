@@ -10,6 +10,7 @@ mod Rooms
 mod Kept
 mod Receipts
 pub mod Deeds
+pub mod Settling
 mod Calls
 mod OnTables
 pub mod AsBefore

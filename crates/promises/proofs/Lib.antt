@@ -128,3 +128,14 @@ mod LinkedAcross
 pub mod LinkedReplies3
 pub mod WrongReports3
 pub mod WrongAcross
+mod MixedByTable
+mod MixedMeasure
+mod MixedWeights
+mod MixedReplies
+mod MixedHeld
+mod MixedThrees
+mod MixedSixes
+mod MixedArrivals
+mod MixedRuns
+pub mod MixedExchange
+pub mod WrongMixedExchange

@@ -89,3 +89,5 @@ pub mod MixedOnSections
 pub mod LinkedReplies3
 pub mod WrongReports3
 pub mod WrongAcross
+pub mod MixedExchange
+pub mod WrongMixedExchange
