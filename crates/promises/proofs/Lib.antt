@@ -106,3 +106,7 @@ mod MixedCalls
 mod MixedRooms
 mod MixedNot0
 pub mod MixedRefusals
+mod MixedChains
+mod MixedThree
+mod MixedSix
+pub mod MixedOrder

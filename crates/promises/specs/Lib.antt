@@ -75,3 +75,4 @@ pub mod LinkedIssue3
 pub mod AsBefore
 pub mod MixedCalls
 pub mod MixedRefusals
+pub mod MixedOrder
