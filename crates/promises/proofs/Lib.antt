@@ -107,6 +107,11 @@ mod MixedRooms
 mod MixedNot0
 pub mod MixedRefusals
 mod MixedChains
+mod MixedRead
 mod MixedThree
 mod MixedSix
 pub mod MixedOrder
+mod MixedBlocks
+mod MixedWords
+mod MixedChanges
+pub mod MixedServices

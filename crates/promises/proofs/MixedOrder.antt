@@ -6,10 +6,10 @@ use mathlib.Core.Path.{_≡_, refl, sym, ap, subst, _∙_}
 use mathlib.Core.Bool.{Bool, true, false, not, cond}
 use mathlib.Core.List.{List, _++_}
 use native.Mathlib.Omega.{arith}
-use borrow.Author.Tests.{eq-eqb, lt-ltb, ltb-true, leb-true}
+use borrow.Author.Tests.{eq-eqb, lt-ltb, ltb-true}
 use lib.Dec.{eqb}
-use lib.ListN.{length, drop, length-drop}
-use lib.Seq.{length-take-le, getD-drop}
+use lib.ListN.{length, drop}
+use lib.Seq.{getD-drop}
 use Rattle.wire.specs.Bytes.{Octets}
 use Rattle.wire.specs.All.{allBelow}
 use Rattle.wire.proofs.AllBelow.{at-below, all-below}
@@ -60,6 +60,7 @@ use Rattle.promises.proofs.PayloadOrder.{lie-decides}
 use Rattle.promises.proofs.Kind2.{found-decides, answer-decides}
 use Rattle.promises.proofs.ByID.{looked}
 use Rattle.promises.proofs.AnyOrder.{form-decides, any-order}
+use Rattle.promises.proofs.MixedBlocks.{is-there, block-long}
 use Rattle.promises.proofs.MixedThree.{three-behind}
 use Rattle.promises.proofs.MixedSix.{six-behind}
 
@@ -146,12 +147,6 @@ module _ (own : ℕ) (i ours : List ℕ) (p : Standing) (l ws m : List ℕ) (roo
   on (bytes t) = on-bytes t
   on (sections t s index) = on-sections t s index
 
--- the sender's words, where they are there
-block-long : (i : List ℕ) (k : ℕ) (ws : List ℕ) → isThere i k ws ≡ true → length (blockOf i k ws) ≡ 256
-block-long i k ws e =
-    let h : blockStart i k + 256 ≤ length ws = leb-true (blockStart i k + services) (length ws) e in
-    length-take-le 256 (drop (blockStart i k) ws) (omega (arith, length-drop (blockStart i k) ws))
-
 -- in any words
 places-decide : (b s : List ℕ) → length b ≡ 256 → Decides (not (statusFits b s)) (FindsNoPlace b s)
 unfolding statusFits allHavePlaces hasPlace pairHasPlace
@@ -175,7 +170,7 @@ more-decides b s o k =
     subst (λ (c : Bool). Decides (not c) (NeedsMore b s)) (sym (fits-exactly b s o (k .packed) (k .whole)))
     (above-decides (length (knownWith (known b) s (pairsIn s))) services)
 
-octets-behind : (m : List ℕ) → Octets m → Octets (drop 24 m)
+pub octets-behind : (m : List ℕ) → Octets m → Octets (drop 24 m)
 octets-behind m o j = subst (λ (n : ℕ). n < 256) (sym (getD-drop 24 m j 0)) (o (24 + j))
 
 pub mixed-order : MixedOrder
@@ -191,5 +186,5 @@ mixed-order =
   where
     there : (i m ws : List ℕ) → isThere i (senderIn3 m) ws ≡ true → ¬ (NoWords i ws m)
     there i m ws e n =
-        let h : blockStart i (senderIn3 m) + 256 ≤ length ws = leb-true (blockStart i (senderIn3 m) + services) (length ws) e in
+        let h : blockStart i (senderIn3 m) + 256 ≤ length ws = is-there i (senderIn3 m) ws e in
         omega arith

@@ -8,11 +8,9 @@ use mathlib.Core.List.{List, [], _∷_}
 use native.Mathlib.Omega.{arith}
 use borrow.Author.Tests.{eqb-true, eqb-false, le-ltb}
 use lib.Dec.{eqb, leb, ltb}
-use lib.ListN.{length, drop, length-drop}
-use lib.Seq.{take-all}
+use lib.ListN.{length, drop}
 use Rattle.wire.specs.Bytes.{part}
-use Rattle.wire.proofs.Cond.{clash, and-left, passed, no-if, yes-eq, no-eq}
-use Rattle.wire.proofs.Runs.{part-in}
+use Rattle.wire.proofs.Cond.{clash, and-left, yes-eq, no-eq}
 use Rattle.table.specs.declared.Sections.{Sections}
 use Rattle.operations.specs.declared.Sought.{Sought}
 use Rattle.operations.specs.declared.Sought.the-variants as sought
@@ -23,32 +21,27 @@ use Rattle.message3.specs.declared.Header3.{Header3}
 use Rattle.message3.specs.declared.Message3.{Message3}
 use Rattle.message3.specs.declared.Message3.the-variants as message3
 use Rattle.message3.specs.Header.{domainIn3, senderIn3, idIn3, payloadSizeIn3, payloadIn3, headerIn3}
-use Rattle.message3.specs.Platform.{firstIn, secondIn, reservedID3, platformMessage3, messageOf3}
-use Rattle.message3.specs.Refusal.{contentsRefusal3}
+use Rattle.message3.specs.Platform.{firstIn}
 use Rattle.message3.specs.Reading.{readOut3, readOf3}
-use Rattle.message3.proofs.Accepted.{Readable}
 use Rattle.services.specs.Block.{services, statusFits}
 use Rattle.partners.specs.Threes.{blockStart}
 use Rattle.states.specs.States.{isUp}
 use Rattle.platform.specs.declared.reactions.Standing.{Standing}
 use Rattle.platform.specs.Reaction.{foundData}
 use Rattle.platform.specs.Receiving.{notAwaited, isSent}
-use Rattle.mixed.specs.declared.AnyReceived.{AnyReceived}
 use Rattle.mixed.specs.Reaction.{operationFor3, reaction3}
 use Rattle.mixed.specs.Keeping.{isThere, blockOf}
-use Rattle.mixed.specs.Receiving.{refusedAny, isAnswer3, delivered3, responseTo3, settled3}
-use Rattle.mixed.proofs.Issues.{three-readable}
-use Rattle.promises.specs.Checks.{Check, _when_, Answers, Outside, none, this, next}
+use Rattle.mixed.specs.Receiving.{refusedAny, isAnswer3, delivered3, responseTo3}
+use Rattle.promises.specs.Checks.{Check, _when_, Answers, none, this, next}
 use Rattle.promises.specs.Platforms.{isThere as isFound}
 use Rattle.promises.specs.AnyOrder.{ThreeForm, byForm}
 use Rattle.promises.specs.MixedCalls.{givenBy}
 use Rattle.promises.specs.MixedOrder.{NotAwaited3, NotAwaited6, TellsServices, GoesDown, NoWords, AsksForAll, owed3, owed6, behindReading}
-use Rattle.promises.proofs.Checks.{Decides, lt-decides, le-decides, eq-decides, or-decides, and-decides, decides-same, where-is, by, by-then}
+use Rattle.promises.proofs.Checks.{Decides, lt-decides, le-decides, eq-decides, or-decides, and-decides, decides-same, by, by-then}
 use Rattle.promises.proofs.Order.{above-decides}
 use Rattle.promises.proofs.Kind2.{awaited-decides}
-use Rattle.promises.proofs.Issue3Messages.{nine}
-use Rattle.promises.proofs.Issue3Order.{reserved-decides}
-use Rattle.promises.proofs.MixedChains.{settled-number, needs, owedTo, chain, by-id, of-operation}
+use Rattle.promises.proofs.MixedRead.{seen, payload-is, Given, kind, given-is}
+use Rattle.promises.proofs.MixedChains.{settled-number, needs, owedTo, of-operation}
 
 -- what is sent is found
 pub sent-is-found : (t : List ℕ) (f : Sought) → isSent t f ≡ true → isFound f ≡ true
@@ -85,60 +78,14 @@ module _ (own : ℕ) (i ours t : List ℕ) (s : Sections) (index : List ℕ) (p 
   abbrev look : ℕ → Sought
   look id = soughtIn t index (s .operations .count) id
 
-  seen : Readable own m
-  seen = three-readable own m h (messageOf3 D ID field (secondIn (payloadIn3 m))) 24 len e
+  abbrev pub numberOf : Message3 → ℕ
+  numberOf = Given own i ours t s index p l ws m room e
 
-  payload-is : payload ≡ drop 24 m
-  payload-is =
-      let a = seen .long in
-      let z = seen .size in
-      part-in m 24 len (omega arith) ∙ take-all len (drop 24 m) (omega (arith, length-drop 24 m))
-
-  -- what a message of this kind gives
-  abbrev pub Given : Message3 → ℕ
-  Given k =
-      givenBy (cond (isAnswer3 t (operationFor3 t s index h k) k) (responseTo3 l (operationFor3 t s index h k) p h 24 len)
-      (settled3 i ours p h (reaction3 own ours t s (operationFor3 t s index h k) p h k 24 len) payload ws room) .answer)
-
-  abbrev pub kind : Message3
-  kind = messageOf3 D ID field (secondIn (payloadIn3 m))
+  abbrev pub itsKind : Message3
+  itsKind = kind own i ours t s index p l ws m room e
 
   -- a platform message
   module _ (d : D ≡ 0) where
-    not-reserved : ¬ (Outside 1 9 ID)
-    not-reserved =
-        let c : contentsRefusal3 0 ID (payloadIn3 m) ≡ 0 = ap (λ (n : ℕ). contentsRefusal3 n ID (payloadIn3 m)) (sym d) ∙ seen .contents in
-        reserved-decides ID .no-is (passed (reservedID3 ID) 6 _ c .0)
-
-    bounds : (1 ≤ ID) × (ID ≤ 9)
-    bounds = ⊎-elim (λ o. absurd (not-reserved o)) (λ b. b) (where-is 1 9 ID)
-
-    no-answer : (id : ℕ) → 1 ≤ id → id ≤ 9 → (f : Sought) (a b : ℕ) → isAnswer3 t f (platformMessage3 id a b) ≡ false
-    unfolding isAnswer3
-    no-answer =
-        nine (λ (n : ℕ). (f : Sought) (a b : ℕ) → isAnswer3 t f (platformMessage3 n a b) ≡ false) (
-          λ f a b. refl,
-          λ f a b. refl,
-          λ f a b. refl,
-          λ f a b. refl,
-          λ f a b. refl,
-          λ f a b. refl,
-          λ f a b. refl,
-          λ f a b. refl,
-          λ f a b. refl,
-        )
-
-    kind-is : kind ≡ platformMessage3 ID field (secondIn (payloadIn3 m))
-    kind-is = yes-eq {A = Message3} _ _ D 0 d
-
-    given-is : Given kind ≡ chain own i ours t s index p h payload ws len room ID field
-    given-is =
-        ap Given kind-is
-        ∙ ap (λ (x : AnyReceived). givenBy (x .answer))
-        (no-if {A = AnyReceived} _ _ (no-answer ID (bounds .0) (bounds .1) _ field (secondIn (payloadIn3 m))))
-        ∙ settled-number own i ours t s index p h payload ws len room _
-        ∙ by-id own i ours t s index p h payload ws len room ID (bounds .0) (bounds .1) field (secondIn (payloadIn3 m))
-
     in-domain : {C : Type 0} {b : Bool} → Decides b C → Decides b ((D ≡ 0) × C)
     in-domain c = decides-same c (λ x. (d, x)) (λ x. x .1)
 
@@ -166,7 +113,7 @@ module _ (own : ℕ) (i ours t : List ℕ) (s : Sections) (index : List ℕ) (p 
             → Decides (eqb ID 3 && not (statusFits (blockOf i (senderIn3 m) ws) payload)) (TellsServices m × Full)
         go true ea true eb =
             and-decides (eqb ID 3) (not (statusFits (blockOf i (senderIn3 m) ws) payload)) (in-domain (eq-decides ID 3))
-            (subst (λ (v : List ℕ). Decides (not (statusFits (blockOf i (senderIn3 m) ws) v)) Full) (sym payload-is) (full eb))
+            (subst (λ (v : List ℕ). Decides (not (statusFits (blockOf i (senderIn3 m) ws) v)) Full) (sym (payload-is own i ours t s index p l ws m room e)) (full eb))
         go true ea false eb = absurd (clash q (rw (ea, eb) refl))
         go false ea b eb =
             record {
@@ -202,9 +149,9 @@ module _ (own : ℕ) (i ours t : List ℕ) (s : Sections) (index : List ℕ) (p 
     not-61 (inl x) = let z = x .1 .0 in omega arith
     not-61 (inr x) = x .0 tf
 
-    platform-in-order : Answers (λ (n : ℕ). n) 0 behind (Given kind)
+    platform-in-order : Answers (λ (n : ℕ). n) 0 behind (numberOf itsKind)
     platform-in-order =
-        subst (Answers (λ (n : ℕ). n) 0 behind) (sym given-is)
+        subst (Answers (λ (n : ℕ). n) 0 behind) (sym (given-is own i ours t s index p l ws m room e d))
         (next not-61
         (by-then (λ n. n) 0 (needs own i ours t s index p h payload ws len room ID field && not (isThere i (senderIn3 m) ws)) 10
         (of-form (and-decides (needs own i ours t s index p h payload ws len room ID field) (not (isThere i (senderIn3 m) ws)) needs-decides no-words))
@@ -215,9 +162,9 @@ module _ (own : ℕ) (i ours t : List ℕ) (s : Sections) (index : List ℕ) (p 
   -- an operation
   module _ (d : ¬ (D ≡ 0)) where
     is-1 : D ≡ 1
-    is-1 = omega (arith, seen .domain, d)
+    is-1 = omega (arith, seen own i ours t s index p l ws m room e .domain, d)
 
-    operation-is : kind ≡ message3.Operation
+    operation-is : itsKind ≡ message3.Operation
     operation-is = no-eq {A = Message3} _ _ D 0 d
 
     owed-for : cond (isFound (look ID)) 0 28 ≡ owed3 t F own ours p m
@@ -229,7 +176,7 @@ module _ (own : ℕ) (i ours t : List ℕ) (s : Sections) (index : List ℕ) (p 
     awaited : Decides matched (awaitedOf l (h .sequence) ≡ Of (h .id) (h .platform))
     awaited = awaited-decides (h .id) (h .platform) l (h .sequence)
 
-    of-response : isSent t (look ID) ≡ true → Given message3.Operation ≡ cond matched 0 61
+    of-response : isSent t (look ID) ≡ true → numberOf message3.Operation ≡ cond matched 0 61
     unfolding isAnswer3 operationFor3 responseTo3
     of-response a = rw a (go matched)
       where
@@ -237,7 +184,7 @@ module _ (own : ℕ) (i ours t : List ℕ) (s : Sections) (index : List ℕ) (p 
         go true = refl
         go false = refl
 
-    of-other : isSent t (look ID) ≡ false → Given message3.Operation ≡ cond (ltb room (cond (isFound (look ID)) 0 28)) 10 0
+    of-other : isSent t (look ID) ≡ false → numberOf message3.Operation ≡ cond (ltb room (cond (isFound (look ID)) 0 28)) 10 0
     unfolding isAnswer3 operationFor3
     of-other a =
         rw a (settled-number own i ours t s index p h payload ws len room (reaction3 own ours t s (look ID) p h message3.Operation 24 len)
@@ -266,8 +213,8 @@ module _ (own : ℕ) (i ours t : List ℕ) (s : Sections) (index : List ℕ) (p 
         (λ x. inl (tf, subst (λ (n : ℕ). room < n) owed-for x))
         (λ o. ⊎-elim (λ x. subst (λ (n : ℕ). room < n) (sym owed-for) (x .1)) (λ x. absurd (x .0 tf)) o)
 
-    operation-in-order : Answers (λ (n : ℕ). n) 0 behind (Given kind)
-    operation-in-order = subst (Answers (λ (n : ℕ). n) 0 behind) (sym (ap Given operation-is)) (go (isSent t (look ID)) refl matched refl)
+    operation-in-order : Answers (λ (n : ℕ). n) 0 behind (numberOf itsKind)
+    operation-in-order = subst (Answers (λ (n : ℕ). n) 0 behind) (sym (ap numberOf operation-is)) (go (isSent t (look ID)) refl matched refl)
       where
         last : isSent t (look ID) ≡ true
             → Answers (λ (n : ℕ). n) 0 (10 when byForm i m (room < owed3 t F own ours p m) (room < owed6 t s F own p m) ∷ []) 0
@@ -282,7 +229,7 @@ module _ (own : ℕ) (i ours t : List ℕ) (s : Sections) (index : List ℕ) (p 
         not-sent a (inl x) = sent ID .no-is a (x .1 .1 .0)
         not-sent a (inr x) = x .0 tf
 
-        go : (a : Bool) → isSent t (look ID) ≡ a → (b : Bool) → matched ≡ b → Answers (λ (n : ℕ). n) 0 behind (Given message3.Operation)
+        go : (a : Bool) → isSent t (look ID) ≡ a → (b : Bool) → matched ≡ b → Answers (λ (n : ℕ). n) 0 behind (numberOf message3.Operation)
         go true ea true eb =
             subst (Answers (λ (n : ℕ). n) 0 behind) (sym (of-response ea ∙ ap (λ (b : Bool). cond b 0 61) eb)) (next (not-awaited eb) (past (last ea)))
         go true ea false eb =
@@ -292,9 +239,9 @@ module _ (own : ℕ) (i ours t : List ℕ) (s : Sections) (index : List ℕ) (p 
             subst (Answers (λ (n : ℕ). n) 0 behind) (sym (of-other ea))
             (next (not-sent ea) (past (by (λ n. n) 0 (ltb room (cond (isFound (look ID)) 0 28)) 10 fits-decides none)))
 
-  pub three-behind : Answers (λ (n : ℕ). n) 0 behind (Given kind)
+  pub three-behind : Answers (λ (n : ℕ). n) 0 behind (numberOf itsKind)
   three-behind = go (eqb D 0) refl
     where
-      go : (b : Bool) → eqb D 0 ≡ b → Answers (λ (n : ℕ). n) 0 behind (Given kind)
+      go : (b : Bool) → eqb D 0 ≡ b → Answers (λ (n : ℕ). n) 0 behind (numberOf itsKind)
       go true q = platform-in-order (eqb-true D 0 q)
       go false q = operation-in-order (eqb-false D 0 q)

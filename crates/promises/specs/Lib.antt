@@ -76,3 +76,4 @@ pub mod AsBefore
 pub mod MixedCalls
 pub mod MixedRefusals
 pub mod MixedOrder
+pub mod MixedServices
