@@ -115,3 +115,5 @@ mod MixedBlocks
 mod MixedWords
 mod MixedChanges
 pub mod MixedServices
+pub mod WorkedMixed
+pub mod WrongMixed

@@ -134,7 +134,8 @@ module _ (own : ℕ) (i ours t : List ℕ) (s : Sections) (index : List ℕ) (p 
     goes-down : ID ≡ 1 → first-field ≡ 0 → isUp own (p .states) (senderIn3 m) ≡ true → Change G own i p ws m (numberOf itsKind) (After itsKind)
     goes-down q f u =
         went-down tf (d, (q, (f, u)))
-        (after-is ∙ ap (λ (n : ℕ). changed own i ours t s index p head (drop 24 m) ws size room n first-field) q ∙ yes-if _ _ (and-true _ _ (eq-eqb first-field 0 f) u))
+        (after-is ∙ ap (λ (n : ℕ). changed own i ours t s index p head (drop 24 m) ws size room n first-field) q
+        ∙ yes-if _ _ (and-true _ _ (eq-eqb first-field 0 f) u))
         (λ z. go (isThere i (senderIn3 m) ws) (eqb first-field 0 && isUp own (p .states) (senderIn3 m)) (and-true _ _ (eq-eqb first-field 0 f) u)
         (sym (given-as ∙ ap (λ (n : ℕ). chain own i ours t s index p head (drop 24 m) ws size room n first-field) q) ∙ z))
       where

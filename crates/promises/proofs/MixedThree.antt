@@ -113,7 +113,8 @@ module _ (own : ℕ) (i ours t : List ℕ) (s : Sections) (index : List ℕ) (p 
             → Decides (eqb ID 3 && not (statusFits (blockOf i (senderIn3 m) ws) payload)) (TellsServices m × Full)
         go true ea true eb =
             and-decides (eqb ID 3) (not (statusFits (blockOf i (senderIn3 m) ws) payload)) (in-domain (eq-decides ID 3))
-            (subst (λ (v : List ℕ). Decides (not (statusFits (blockOf i (senderIn3 m) ws) v)) Full) (sym (payload-is own i ours t s index p l ws m room e)) (full eb))
+            (subst (λ (v : List ℕ). Decides (not (statusFits (blockOf i (senderIn3 m) ws) v)) Full)
+            (sym (payload-is own i ours t s index p l ws m room e)) (full eb))
         go true ea false eb = absurd (clash q (rw (ea, eb) refl))
         go false ea b eb =
             record {

@@ -77,3 +77,5 @@ pub mod MixedCalls
 pub mod MixedRefusals
 pub mod MixedOrder
 pub mod MixedServices
+pub mod WorkedMixed
+pub mod WrongMixed
