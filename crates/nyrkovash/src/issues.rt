@@ -7,9 +7,7 @@ use message::Own;
 use message::Writing;
 use message3::Stamp;
 use mixed::AnyReading;
-
-// A set-up: platform k is bit k % 64 of word k / 64, set where it speaks Issue 3.
-pub const PARTNERS_WORDS: usize = 4;
+use mixed_words::PARTNERS_WORDS;
 
 // How many words a message of either issue is that was read.
 pub const ANY_READING_WORDS: usize = 10;

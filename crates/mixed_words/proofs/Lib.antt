@@ -1,0 +1,5 @@
+pub mod ToldWords
+mod Calling
+mod Straight
+mod OnSections
+mod ServiceAsked
