@@ -139,3 +139,14 @@ mod MixedArrivals
 mod MixedRuns
 pub mod MixedExchange
 pub mod WrongMixedExchange
+mod MixedChains
+mod MixedRead
+mod MixedThree
+mod MixedSix
+pub mod MixedOrder
+mod MixedBlocks
+mod MixedWords
+mod MixedChanges
+pub mod MixedServices
+pub mod WorkedMixed
+pub mod WrongMixed

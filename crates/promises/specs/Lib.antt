@@ -91,3 +91,7 @@ pub mod WrongReports3
 pub mod WrongAcross
 pub mod MixedExchange
 pub mod WrongMixedExchange
+pub mod MixedOrder
+pub mod MixedServices
+pub mod WorkedMixed
+pub mod WrongMixed
