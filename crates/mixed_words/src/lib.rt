@@ -2,6 +2,7 @@
 // that the caller keeps: a message noted and answered by a table's bytes (`on_table`) or by the sections that a check gave
 // (`on_sections`), a request sent in its target's issue (`sending`), and what is known of a partner's service (`asking`).
 mod asking;
+mod from_bytes;
 mod heard_words;
 mod on_sections;
 mod on_table;

@@ -4,17 +4,15 @@ ghost use mathlib.Core.List.{_++_};
 ghost use Prim.Native.Nat.{_≤_};
 ghost use lib.ListN.{length, take};
 ghost use Rattle.mixed.specs.Receiving.{anyList};
-ghost use Rattle.platform_words.specs.Words.{standingLength, standingIn, pendingIn, standingWords};
-ghost use Rattle.platform_words.specs.Within.{kindHeard, listHeard};
+ghost use Rattle.platform_words.specs.Words.{standingLength, pendingIn};
 ghost use Rattle.mixed_words.specs.SectionCalls.{mixedInNumber, mixedInWords, mixedInServices, mixedInOutput, mixedInHeard};
 ghost use Rattle.mixed_words.specs.Within.{outcomeWithin, numberWithin, wordsWithin, servicesWithin, outputWithin, heardWithin};
-ghost use Rattle.mixed_words.specs.Within.{sixOperation, sixWords, straightNumber, straightPlatform, straightHeard};
+use crate::from_bytes;
 use crate::heard_words;
 use crate::heard_words::ANY_HEARD_WORDS;
 use crate::stamps;
 use crate::stamps::PARTNERS_WORDS;
 use crate::stamps::STAMP_NUMBERS;
-use message::Header;
 use message::Own;
 use mixed::AnyReceived;
 use operations::Sought;
@@ -112,8 +110,15 @@ fn received(
         ≡ heardWithin (own .platform) (now (partners .entry)) (now (ours .entry)) (now (words .entry)) (now (services .entry))
         (now (table .entry)) s (now (index .entry)) (now (message .entry)) (now (out .entry)) (now (heard .entry)) ⌝ }
 {
-    match six_operation(own, partners, table, s, index, message) {
-        Sought::At(entry, place) => straight(words, table, place, entry, message, heard),
+    match from_bytes::six_operation(own, partners, table, s, index, message) {
+        Sought::At(entry, place) => from_bytes::straight(
+            words,
+            table,
+            place,
+            entry,
+            message,
+            heard,
+        ),
         Sought::Nowhere => answered(
             own,
             numbers,
@@ -128,30 +133,6 @@ fn received(
             out,
             heard,
         ),
-    }
-}
-
-// An operation or a response: 61 where no pending request asked for it.
-fn straight(
-    words: &mut [u64],
-    table: &[u8],
-    place: usize,
-    entry: u16,
-    message: &[u8],
-    heard: &mut [u64; ANY_HEARD_WORDS],
-) -> u32
-    requires { ⌜ standingLength ≤ length (now words) ⌝ }
-    ensures { λ r. ⌜ r ≡ straightNumber (now (words .entry)) (now (table .entry)) place (now (message .entry)) ⌝ }
-    ensures { λ _. ⌜ now (words .exit) ≡ straightPlatform (now (words .entry)) (now (table .entry)) place (now (message .entry)) ⌝ }
-    ensures { λ _. ⌜ now (heard .exit)
-        ≡ straightHeard (now (words .entry)) (now (table .entry)) place (now (message .entry)) entry (now (heard .entry)) ⌝ }
-{
-    let kind = kind_in(words, table, place, message);
-    if kind == platform_words::NOTHING {
-        platform::NOT_AWAITED
-    } else {
-        tell_straight(words, message, kind, entry, heard);
-        0
     }
 }
 
@@ -251,70 +232,4 @@ fn taken(
         message,
         out,
     )
-}
-
-// The operation of the table that a message of Issue 6 is, where nothing refuses it.
-fn six_operation(
-    own: Own,
-    partners: &[u64],
-    table: &[u8],
-    s: Sections,
-    index: &[u64],
-    message: &[u8],
-) -> Sought
-    ensures { λ r. ⌜ r
-        ≡ sixOperation (own .platform) (now (partners .entry)) (now (table .entry)) s (now (index .entry)) (now (message .entry)) ⌝ }
-{
-    if partners::is_three(partners, wire::u32_at(message, Header::PLATFORM_AT)) {
-        Sought::Nowhere
-    } else {
-        platform_words::operation_heard(own, table, s, index, message)
-    }
-}
-
-// The list is lent by itself, and the platform's first words are still as they were.
-fn kind_in(words: &mut [u64], table: &[u8], place: usize, message: &[u8]) -> u64
-    requires { ⌜ standingLength ≤ length (now words) ⌝ }
-    ensures { λ r. ⌜ r ≡ kindHeard (pendingIn (now (words .entry))) (now (table .entry)) place (now (message .entry)) ⌝ }
-    ensures { λ _. ⌜ now (words .exit)
-        ≡ take standingLength (now (words .entry)) ++ listHeard (pendingIn (now (words .entry))) (now (table .entry)) place (now (message .entry)) ⌝ }
-{
-    platform_words::kind_heard(&mut words[PENDING_AT..], table, place, message)
-}
-
-// What was heard, and the platform's words with the own number that they mean.
-fn tell_straight(
-    words: &mut [u64],
-    message: &[u8],
-    kind: u64,
-    entry: u16,
-    heard: &mut [u64; ANY_HEARD_WORDS],
-)
-    requires { ⌜ standingLength ≤ length (now words) ⌝ }
-    ensures { λ _. ⌜ now (words .exit) ≡ standingWords (standingIn (now (words .entry))) ++ pendingIn (now (words .entry)) ⌝ }
-    ensures { λ _. ⌜ now (heard .exit) ≡ sixWords kind (now (message .entry)) entry ⌝ }
-{
-    let standing = platform_words::standing_in(words);
-    platform_words::keep_standing(words, standing);
-    put_straight(heard, message, kind, entry);
-}
-
-// Nothing is owed for an operation or a response.
-fn put_straight(words: &mut [u64; ANY_HEARD_WORDS], message: &[u8], kind: u64, entry: u16)
-    ensures { λ _. ⌜ now (words .exit) ≡ sixWords kind (now (message .entry)) entry ⌝ }
-{
-    *words = [
-        kind,
-        wire::u32_at(message, Header::ID_AT) as u64,
-        wire::u32_at(message, Header::PLATFORM_AT) as u64,
-        wire::u32_at(message, Header::SEQUENCE_AT) as u64,
-        entry as u64,
-        Header::LENGTH as u64,
-        wire::u32_at(message, Header::PAYLOAD_SIZE_AT) as u64,
-        0,
-        heard_words::ISSUE_6,
-        0,
-        0,
-        0,
-    ];
 }

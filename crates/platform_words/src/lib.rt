@@ -19,8 +19,6 @@ pub use heard_words::RESPONSE;
 pub use heard_words::STATUS;
 pub use heard_words::UNKNOWN_OPERATION;
 pub use on_sections::NOTHING;
-pub use on_sections::kind_heard;
-pub use on_sections::operation_heard;
 pub use on_sections::receive_in;
 pub use on_table::receive;
 pub use pending_words::AWAITED;

@@ -137,7 +137,7 @@ fn taken(
 }
 
 // The operation of the table that the message is, where nothing refuses it.
-pub fn operation_heard(own: Own, table: &[u8], s: Sections, index: &[u64], message: &[u8]) -> Sought
+fn operation_heard(own: Own, table: &[u8], s: Sections, index: &[u64], message: &[u8]) -> Sought
     ensures { λ r. ⌜ r ≡ operationHeard (own .platform) (now (table .entry)) s (now (index .entry)) (now (message .entry)) ⌝ }
 {
     if wire::u8_at(message, Header::DOMAIN_AT) == Header::PLATFORM_DOMAIN {
@@ -163,7 +163,7 @@ fn kind_in(words: &mut [u64], table: &[u8], place: usize, message: &[u8]) -> u64
 
 // What a message of domain 1 is told as, by its operation's entry: under the ID of a request that we send it is the response to one
 // that is pending in the list, which then is so no more, or nothing (02, 1).
-pub fn kind_heard(list: &mut [u64], table: &[u8], place: usize, message: &[u8]) -> u64
+fn kind_heard(list: &mut [u64], table: &[u8], place: usize, message: &[u8]) -> u64
     ensures { λ r. ⌜ r ≡ kindHeard (now (list .entry)) (now (table .entry)) place (now (message .entry)) ⌝ }
     ensures { λ _. ⌜ now (list .exit) ≡ listHeard (now (list .entry)) (now (table .entry)) place (now (message .entry)) ⌝ }
 {

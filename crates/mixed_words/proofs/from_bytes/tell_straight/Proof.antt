@@ -1,9 +1,9 @@
--- `mixed_words::on_sections::tell_straight` meets its contract.
+-- `mixed_words::from_bytes::tell_straight` meets its contract.
 -- Assumes nothing.
 use borrow.Author.Needs.{needs}
 use Rattle.mixed_words.proofs.Straight.{standing-again}
-use Rattle.mixed_words.proofs.on_sections.tell_straight.Statement.{statement}
-use Rattle.mixed_words.proofs.on_sections.tell_straight.Tie as tie
+use Rattle.mixed_words.proofs.from_bytes.tell_straight.Statement.{statement}
+use Rattle.mixed_words.proofs.from_bytes.tell_straight.Tie as tie
 
 pub tell-straight-spec : {M : Type 1} → statement M
 tell-straight-spec =

@@ -1,9 +1,9 @@
--- `mixed_words::on_sections::put_straight` meets its contract: each word in its place.
+-- `mixed_words::from_bytes::put_straight` meets its contract: each word in its place.
 -- Assumes nothing.
 use borrow.Author.Needs.{needs}
 use Rattle.mixed_words.proofs.Straight.{six-bytes}
-use Rattle.mixed_words.proofs.on_sections.put_straight.Statement.{statement}
-use Rattle.mixed_words.proofs.on_sections.put_straight.Tie as tie
+use Rattle.mixed_words.proofs.from_bytes.put_straight.Statement.{statement}
+use Rattle.mixed_words.proofs.from_bytes.put_straight.Tie as tie
 
 pub put-straight-spec : {M : Type 1} → statement M
 put-straight-spec =

@@ -1,9 +1,9 @@
--- `mixed_words::on_sections::straight` meets its contract: by what it is told as.
+-- `mixed_words::from_bytes::straight` meets its contract: by what it is told as.
 -- Assumes nothing.
 use borrow.Author.Needs.{needs}
 use Rattle.mixed_words.proofs.Straight.{nothing-number, nothing-words, nothing-heard, told-number, told-platform, told-heard}
-use Rattle.mixed_words.proofs.on_sections.straight.Statement.{statement}
-use Rattle.mixed_words.proofs.on_sections.straight.Tie as tie
+use Rattle.mixed_words.proofs.from_bytes.straight.Statement.{statement}
+use Rattle.mixed_words.proofs.from_bytes.straight.Tie as tie
 
 pub straight-spec : {M : Type 1} → statement M
 straight-spec =
