@@ -106,3 +106,4 @@ mod MixedCalls
 mod MixedRooms
 mod MixedNot0
 pub mod MixedRefusals
+mod MixedKept

@@ -1,4 +1,4 @@
--- 01, "What the promises have to say": two outcomes that one promise allows are equal, for messages among partners of both issues, and for
+-- 01, "What the promises have to say": two outcomes that one promise allows are equal, for messages among partners of both issues, by value and in lent words, and for
 -- what `platform` and `message3` made public for them, over their very contracts. The theorem is in proofs/UniqueMixed.antt.
 use denote.Ref.{now}
 use Rattle.promises.specs.Unique.{Same, Answer, Lent}
@@ -12,6 +12,9 @@ use Rattle.mixed.proofs.payload.Reads.{Post as mixed-payload}
 use Rattle.mixed.proofs.receive_within.Reads.{Post as mixed-receive-within}
 use Rattle.mixed.proofs.receive_checked.Reads.{Post as mixed-receive-checked}
 use Rattle.mixed.proofs.receive.Reads.{Post as mixed-receive}
+use Rattle.mixed_words.proofs.receive.Reads.{Post as mixed-words-receive}
+use Rattle.mixed_words.proofs.receive_in.Reads.{Post as mixed-words-receive-in}
+use Rattle.mixed_words.proofs.service.Reads.{Post as mixed-words-service}
 
 pub record UniqueMixed : Type 0 where
   pub put-platform-header : Lent message3-put-platform-header (λ k e. now (e .1 .1 .1 .1 .1 .0))
@@ -33,3 +36,14 @@ pub record UniqueMixed : Type 0 where
   pub receive-list : Lent mixed-receive (λ k e. now (e .1 .1 .1 .1 .1 .1 .1 .0))
   pub receive-blocks : Lent mixed-receive (λ k e. now (e .1 .1 .1 .1 .1 .1 .1 .1 .0))
   pub receive-out : Lent mixed-receive (λ k e. now (e .1 .1 .1 .1 .1 .1 .1 .1 .1 .1 .0))
+  pub words-receive : Answer mixed-words-receive
+  pub words-receive-platform : Lent mixed-words-receive (λ k e. now (e .1 .1 .1 .1 .0))
+  pub words-receive-services : Lent mixed-words-receive (λ k e. now (e .1 .1 .1 .1 .1 .0))
+  pub words-receive-out : Lent mixed-words-receive (λ k e. now (e .1 .1 .1 .1 .1 .1 .1 .1 .0))
+  pub words-receive-heard : Lent mixed-words-receive (λ k e. now (e .1 .1 .1 .1 .1 .1 .1 .1 .1 .0))
+  pub words-receive-in : Answer mixed-words-receive-in
+  pub words-receive-in-platform : Lent mixed-words-receive-in (λ k e. now (e .1 .1 .1 .1 .0))
+  pub words-receive-in-services : Lent mixed-words-receive-in (λ k e. now (e .1 .1 .1 .1 .1 .0))
+  pub words-receive-in-out : Lent mixed-words-receive-in (λ k e. now (e .1 .1 .1 .1 .1 .1 .1 .1 .1 .0))
+  pub words-receive-in-heard : Lent mixed-words-receive-in (λ k e. now (e .1 .1 .1 .1 .1 .1 .1 .1 .1 .1 .0))
+  pub words-service : Answer mixed-words-service
