@@ -75,11 +75,13 @@ use Rattle.nyrkovash.specs.PlanCalls.{lengthLeft}
 use Rattle.promises.specs.Checks.{Keeps, Outside}
 use Rattle.promises.specs.Demand1.{ChangesNothing}
 use Rattle.promises.specs.ExportsKeep.{WordsKept, ExportsKeep}
+use Rattle.promises.specs.MixedCalls.{bytes, sections}
 use Rattle.promises.proofs.Checks.{not-outside}
 use Rattle.promises.proofs.Numbered.{Numbered, in-numbered, by-numbered, bytes-numbered}
 use Rattle.promises.proofs.Demand1.{demand-1}
 use Rattle.promises.proofs.Plans.{the-plans}
 use Rattle.promises.proofs.Issue3Order.{issue3-order}
+use Rattle.promises.proofs.MixedKept.{mixed-words-keep, mixed-services-keep, mixed-output-keeps, mixed-heard-keeps}
 
 -- what was lent for an answer
 count-keeps : (was : ℕ) (x : Counted) → Keeps (countNumber x) was (countLeft was x)
@@ -280,6 +282,38 @@ exports-keep =
           let t = sectionsOutcome (a .0) (now (a .1 .1 .0)) (sectionsIn ss) (indexIn ss) (standingIn ws) (pendingIn ws) (now (a .1 .1 .1 .1 .0))
           (length (now (a .1 .1 .1 .1 .1 .0))) in
           by (p .0) (p .1 .1 .1) (heard-keeps _ (t .answer));
+      receive-mixed-platform = λ k a n e p. by (p .0) (p .1 .0)
+          (mixed-words-keep (bytes (now (a .1 .1 .1 .1 .1 .1 .0))) (a .0) (now (a .1 .0)) (now (a .1 .1 .0)) (now (a .1 .1 .1 .0))
+          (now (a .1 .1 .1 .1 .0)) (now (a .1 .1 .1 .1 .1 .0)) (now (a .1 .1 .1 .1 .1 .1 .1 .0)) (now (a .1 .1 .1 .1 .1 .1 .1 .1 .0)));
+      receive-mixed-services = λ k a n e p. by (p .0) (p .1 .1 .0)
+          (mixed-services-keep (bytes (now (a .1 .1 .1 .1 .1 .1 .0))) (a .0) (now (a .1 .0)) (now (a .1 .1 .0)) (now (a .1 .1 .1 .0))
+          (now (a .1 .1 .1 .1 .0)) (now (a .1 .1 .1 .1 .1 .0)) (now (a .1 .1 .1 .1 .1 .1 .1 .0)) (now (a .1 .1 .1 .1 .1 .1 .1 .1 .0)));
+      receive-mixed-out = λ k a n e p. by (p .0) (p .1 .1 .1 .0)
+          (mixed-output-keeps (bytes (now (a .1 .1 .1 .1 .1 .1 .0))) (a .0) (now (a .1 .0)) (now (a .1 .1 .0)) (now (a .1 .1 .1 .0))
+          (now (a .1 .1 .1 .1 .0)) (now (a .1 .1 .1 .1 .1 .0)) (now (a .1 .1 .1 .1 .1 .1 .1 .0)) (now (a .1 .1 .1 .1 .1 .1 .1 .1 .0)));
+      receive-mixed-heard = λ k a n e p. by (p .0) (p .1 .1 .1 .1)
+          (mixed-heard-keeps (bytes (now (a .1 .1 .1 .1 .1 .1 .0))) (a .0) (now (a .1 .0)) (now (a .1 .1 .0)) (now (a .1 .1 .1 .0))
+          (now (a .1 .1 .1 .1 .0)) (now (a .1 .1 .1 .1 .1 .0)) (now (a .1 .1 .1 .1 .1 .1 .1 .0)) (now (a .1 .1 .1 .1 .1 .1 .1 .1 .0)) _);
+      receive-mixed-in-platform = λ k a n e p.
+          let ss = now (a .1 .1 .1 .1 .1 .1 .1 .0) in
+          by (p .0) (p .1 .0)
+          (mixed-words-keep (sections (now (a .1 .1 .1 .1 .1 .1 .0)) (sectionsIn ss) (indexIn ss)) (a .0) (now (a .1 .0)) (now (a .1 .1 .0)) (now (a .1 .1 .1 .0))
+          (now (a .1 .1 .1 .1 .0)) (now (a .1 .1 .1 .1 .1 .0)) (now (a .1 .1 .1 .1 .1 .1 .1 .1 .0)) (now (a .1 .1 .1 .1 .1 .1 .1 .1 .1 .0)));
+      receive-mixed-in-services = λ k a n e p.
+          let ss = now (a .1 .1 .1 .1 .1 .1 .1 .0) in
+          by (p .0) (p .1 .1 .0)
+          (mixed-services-keep (sections (now (a .1 .1 .1 .1 .1 .1 .0)) (sectionsIn ss) (indexIn ss)) (a .0) (now (a .1 .0)) (now (a .1 .1 .0)) (now (a .1 .1 .1 .0))
+          (now (a .1 .1 .1 .1 .0)) (now (a .1 .1 .1 .1 .1 .0)) (now (a .1 .1 .1 .1 .1 .1 .1 .1 .0)) (now (a .1 .1 .1 .1 .1 .1 .1 .1 .1 .0)));
+      receive-mixed-in-out = λ k a n e p.
+          let ss = now (a .1 .1 .1 .1 .1 .1 .1 .0) in
+          by (p .0) (p .1 .1 .1 .0)
+          (mixed-output-keeps (sections (now (a .1 .1 .1 .1 .1 .1 .0)) (sectionsIn ss) (indexIn ss)) (a .0) (now (a .1 .0)) (now (a .1 .1 .0)) (now (a .1 .1 .1 .0))
+          (now (a .1 .1 .1 .1 .0)) (now (a .1 .1 .1 .1 .1 .0)) (now (a .1 .1 .1 .1 .1 .1 .1 .1 .0)) (now (a .1 .1 .1 .1 .1 .1 .1 .1 .1 .0)));
+      receive-mixed-in-heard = λ k a n e p.
+          let ss = now (a .1 .1 .1 .1 .1 .1 .1 .0) in
+          by (p .0) (p .1 .1 .1 .1)
+          (mixed-heard-keeps (sections (now (a .1 .1 .1 .1 .1 .1 .0)) (sectionsIn ss) (indexIn ss)) (a .0) (now (a .1 .0)) (now (a .1 .1 .0)) (now (a .1 .1 .1 .0))
+          (now (a .1 .1 .1 .1 .0)) (now (a .1 .1 .1 .1 .1 .0)) (now (a .1 .1 .1 .1 .1 .1 .1 .1 .0)) (now (a .1 .1 .1 .1 .1 .1 .1 .1 .1 .0)) _);
       send-platform = λ k a n e p. by (p .0) (p .1 .0)
           (λ d. send-keeps-words Six (now (a .1 .0)) (now (a .1 .1 .0)) (now (a .1 .1 .1 .0)) (a .1 .1 .1 .1 .0) (now (a .1 .1 .1 .1 .1 .1 .0))
           (now (a .1 .1 .1 .1 .1 .1 .1 .0)) d (a .1 .1 .1 .1 .1 .0));

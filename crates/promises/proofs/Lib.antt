@@ -150,3 +150,4 @@ mod MixedChanges
 pub mod MixedServices
 pub mod WorkedMixed
 pub mod WrongMixed
+mod MixedKept

@@ -29,4 +29,15 @@ unique-mixed =
       send-platform = λ k a z z′ e e′ p q. p .1 .0 ∙ sym (q .1 .0);
       send-out = λ k a z z′ e e′ p q. p .1 .1 .0 ∙ sym (q .1 .1 .0);
       send-sent = λ k a z z′ e e′ p q. p .1 .1 .1 ∙ sym (q .1 .1 .1);
+      words-receive = λ k a z z′ e e′ p q. p .0 ∙ sym (q .0);
+      words-receive-platform = λ k a z z′ e e′ p q. p .1 .0 ∙ sym (q .1 .0);
+      words-receive-services = λ k a z z′ e e′ p q. p .1 .1 .0 ∙ sym (q .1 .1 .0);
+      words-receive-out = λ k a z z′ e e′ p q. p .1 .1 .1 .0 ∙ sym (q .1 .1 .1 .0);
+      words-receive-heard = λ k a z z′ e e′ p q. p .1 .1 .1 .1 ∙ sym (q .1 .1 .1 .1);
+      words-receive-in = λ k a z z′ e e′ p q. p .0 ∙ sym (q .0);
+      words-receive-in-platform = λ k a z z′ e e′ p q. p .1 .0 ∙ sym (q .1 .0);
+      words-receive-in-services = λ k a z z′ e e′ p q. p .1 .1 .0 ∙ sym (q .1 .1 .0);
+      words-receive-in-out = λ k a z z′ e e′ p q. p .1 .1 .1 .0 ∙ sym (q .1 .1 .1 .0);
+      words-receive-in-heard = λ k a z z′ e e′ p q. p .1 .1 .1 .1 ∙ sym (q .1 .1 .1 .1);
+      words-service = λ k a z z′ e e′ p q. p ∙ sym q;
     }

@@ -1,6 +1,6 @@
--- 01, "What the promises have to say": two outcomes that one promise allows are equal, for messages among partners of both issues, for what
--- `platform` and `message3` made public for them, and for a request sent in its target's issue, over their very contracts. The theorem is
--- in proofs/UniqueMixed.antt.
+-- 01, "What the promises have to say": two outcomes that one promise allows are equal, for messages among partners of both issues, by value
+-- and in lent words, for what `platform` and `message3` made public for them, and for a request sent in its target's issue, over their very
+-- contracts. The theorem is in proofs/UniqueMixed.antt.
 use denote.Ref.{now}
 use Rattle.promises.specs.Unique.{Same, Answer, Lent}
 use Rattle.message3.proofs.put_platform_header.Reads.{Post as message3-put-platform-header}
@@ -14,6 +14,9 @@ use Rattle.mixed.proofs.receive_within.Reads.{Post as mixed-receive-within}
 use Rattle.mixed.proofs.receive_checked.Reads.{Post as mixed-receive-checked}
 use Rattle.mixed.proofs.receive.Reads.{Post as mixed-receive}
 use Rattle.mixed_words.proofs.send.Reads.{Post as mixed-words-send}
+use Rattle.mixed_words.proofs.receive.Reads.{Post as mixed-words-receive}
+use Rattle.mixed_words.proofs.receive_in.Reads.{Post as mixed-words-receive-in}
+use Rattle.mixed_words.proofs.service.Reads.{Post as mixed-words-service}
 
 pub record UniqueMixed : Type 0 where
   pub put-platform-header : Lent message3-put-platform-header (λ k e. now (e .1 .1 .1 .1 .1 .0))
@@ -39,3 +42,14 @@ pub record UniqueMixed : Type 0 where
   pub send-platform : Lent mixed-words-send (λ k e. now (e .1 .1 .1 .0))
   pub send-out : Lent mixed-words-send (λ k e. now (e .1 .1 .1 .1 .1 .1 .1 .1 .1 .0))
   pub send-sent : Lent mixed-words-send (λ k e. now (e .1 .1 .1 .1 .1 .1 .1 .1 .1 .1 .0))
+  pub words-receive : Answer mixed-words-receive
+  pub words-receive-platform : Lent mixed-words-receive (λ k e. now (e .1 .1 .1 .1 .0))
+  pub words-receive-services : Lent mixed-words-receive (λ k e. now (e .1 .1 .1 .1 .1 .0))
+  pub words-receive-out : Lent mixed-words-receive (λ k e. now (e .1 .1 .1 .1 .1 .1 .1 .1 .0))
+  pub words-receive-heard : Lent mixed-words-receive (λ k e. now (e .1 .1 .1 .1 .1 .1 .1 .1 .1 .0))
+  pub words-receive-in : Answer mixed-words-receive-in
+  pub words-receive-in-platform : Lent mixed-words-receive-in (λ k e. now (e .1 .1 .1 .1 .0))
+  pub words-receive-in-services : Lent mixed-words-receive-in (λ k e. now (e .1 .1 .1 .1 .1 .0))
+  pub words-receive-in-out : Lent mixed-words-receive-in (λ k e. now (e .1 .1 .1 .1 .1 .1 .1 .1 .1 .0))
+  pub words-receive-in-heard : Lent mixed-words-receive-in (λ k e. now (e .1 .1 .1 .1 .1 .1 .1 .1 .1 .1 .0))
+  pub words-service : Answer mixed-words-service
