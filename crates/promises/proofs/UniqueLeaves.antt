@@ -16,10 +16,10 @@ same-words z z′ h g = ap₂ (λ (n m : ℕ). record { count = n; bytes = m }) 
 unpack : UnpackLeavesUnique
 unpack =
     record {
+      leaf-at = λ k a z z′ e e′ p q. p ∙ sym q;
       word-at = λ k a z z′ e e′ p q. p ∙ sym q;
       judge-run = λ k a z z′ e e′ p q. p ∙ sym q;
       store-run-words = λ k a z z′ e e′ p q. p ∙ sym q;
-      store-leaves-words = λ k a z z′ e e′ p q. p ∙ sym q;
       are-among = λ k a z z′ e e′ p q. p ∙ sym q;
       judge-codes = λ k a z z′ e e′ p q. same-passed z z′ (p .0 ∙ sym (q .0)) (p .1 ∙ sym (q .1));
       store-codes-words = λ k a z z′ e e′ p q. p ∙ sym q;

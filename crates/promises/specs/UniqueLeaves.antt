@@ -2,10 +2,10 @@
 -- behind another, over their very contracts. The theorem is in proofs/UniqueLeaves.antt.
 use denote.Ref.{now}
 use Rattle.promises.specs.Unique.{Answer, Lent}
+use Rattle.unpack_leaves.proofs.leaf_at.Reads.{Post as unpack-leaf-at}
 use Rattle.unpack_leaves.proofs.word_at.Reads.{Post as unpack-word-at}
 use Rattle.unpack_leaves.proofs.judge_run.Reads.{Post as unpack-judge-run}
 use Rattle.unpack_leaves.proofs.store_run.Reads.{Post as unpack-store-run}
-use Rattle.unpack_leaves.proofs.store_leaves.Reads.{Post as unpack-store-leaves}
 use Rattle.unpack_leaves.proofs.are_among.Reads.{Post as unpack-are-among}
 use Rattle.unpack_leaves.proofs.judge_codes.Reads.{Post as unpack-judge-codes}
 use Rattle.unpack_leaves.proofs.store_codes.Reads.{Post as unpack-store-codes}
@@ -16,10 +16,10 @@ use Rattle.pack_leaves.proofs.store_codes.Reads.{Post as pack-store-codes}
 
 -- leaves of a payload, and their words
 pub record UnpackLeavesUnique : Type 0 where
+  pub leaf-at : Answer unpack-leaf-at
   pub word-at : Answer unpack-word-at
   pub judge-run : Answer unpack-judge-run
   pub store-run-words : Lent unpack-store-run (λ k e. now (e .1 .0))
-  pub store-leaves-words : Lent unpack-store-leaves (λ k e. now (e .1 .0))
   pub are-among : Answer unpack-are-among
   pub judge-codes : Answer unpack-judge-codes
   pub store-codes-words : Lent unpack-store-codes (λ k e. now (e .1 .0))

@@ -4,19 +4,41 @@ use Prim.Native.Nat.{ℕ, min, _+_, _-_, _*_, _^_, _≤_, _<_}
 use mathlib.Core.Path.{_≡_, refl, ap, _∙_}
 use mathlib.Core.Bool.{cond}
 use mathlib.Core.List.{List}
+use native.Mathlib.Nat.{zero-mul, add-zero}
 use native.Mathlib.Numerals.{add-one}
 use native.Mathlib.Omega.{arith}
 use mir.Syntax.{w64}
 use mir.Val.{Fits}
 use lib.Dec.{leb}
-use lib.ListN.{length, getD}
+use lib.ListN.{length, take, drop, getD, set}
 use Rattle.wire.proofs.Cond.{yes-le}
 use Rattle.table.specs.Leaf.{width}
 use Rattle.walk.specs.declared.Place.{Place}
 use Rattle.walk.specs.Runs.{codeIn, manyIn}
+use Rattle.unpack_leaves.specs.Leaves.{wholeWord}
 use Rattle.unpack_leaves.specs.OneCode.{along, filled}
 use Rattle.unpack.specs.RunByRun.{placeAt, storedUpto, Within}
+use Rattle.unpack_leaves.proofs.OneLeaf.{stored-word, part-word}
 use Rattle.unpack_leaves.proofs.WholeRuns.{bytes-fit}
+
+-- leaves of one code that have their bytes: one, and several
+pub one-room : (l from n code : ℕ) → n ≡ 1 → from + n * width code ≤ l → from + width code ≤ l
+one-room l from n code e h = let g : n * width code ≡ width code = rw e (omega arith) in omega arith
+
+module _ (b : List ℕ) (code : ℕ) (p : Place) (x : List ℕ) where
+  pub leaf-stored : (at w n : ℕ) → at ≡ p .to → at < length x → n ≡ width code → p .from + width code ≤ length b
+      → w ≡ wholeWord code (take (p .from + n - p .from) (drop (p .from) b)) 0 → set x at w ≡ filled b code p 1 x
+  unfolding filled
+  leaf-stored at w n e h is room r =
+      stored-word x at w b (p .from) code h (part-word b (p .from) n code w is room r)
+      ∙ rw (e, zero-mul (width code), add-zero (p .from), add-zero (p .to)) refl
+
+  pub one-stored : (n : ℕ) (y : List ℕ) → n ≡ 1 → y ≡ filled b code p 1 x → y ≡ filled b code p n x
+  one-stored n y e h = rw e h
+
+  pub run-stored : (n : ℕ) (y : List ℕ) → p .from + n * width code ≤ length b
+      → y ≡ cond (leb (p .from + n * width code) (length b)) (filled b code p n x) x → y ≡ filled b code p n x
+  run-stored n y h e = e ∙ yes-le (filled b code p n x) x (p .from + n * width code) (length b) h
 
 -- behind no run, and behind all
 pub place-start : (runs : List ℕ) (p : Place) (upto : ℕ) → p ≡ placeAt runs p upto 0
@@ -53,8 +75,7 @@ module _ (runs : List ℕ) (p : Place) (upto k from to : ℕ) (at : _≡_ {A = P
     from-fits w is few = rw is (record { fits = omega (arith, bytes-in) })
 
     pub stored-next : (x y z : List ℕ) → y ≡ storedUpto b runs p upto k x
-        → z ≡ cond (leb (from + n * width code) (length b)) (filled b code (record { from = from; to = to }) n y) y → z ≡ storedUpto b runs p upto (k + 1) x
+        → z ≡ filled b code (record { from = from; to = to }) n y → z ≡ storedUpto b runs p upto (k + 1) x
     unfolding storedUpto
     stored-next x y z h e =
-        e ∙ yes-le (filled b code (record { from = from; to = to }) n y) y (from + n * width code) (length b) bytes-in
-        ∙ rw (add-one k, ← at, ← code-is, ← many-is, ← least, ← h) refl
+        e ∙ rw (add-one k, ← at, ← code-is, ← many-is, ← least, ← h) refl

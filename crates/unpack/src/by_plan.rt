@@ -13,6 +13,7 @@ ghost use Rattle.walk.specs.Runs.{codeIn, manyIn, takenBy, runTree, runsTree};
 ghost use Rattle.walk.specs.Walk.{on, start, answer, left, through, walk};
 ghost use Rattle.walk.specs.Planned.{planTree};
 ghost use Rattle.walk.specs.Whole.{allOrNothing};
+ghost use Rattle.unpack_leaves.specs.OneCode.{filled};
 ghost use Rattle.unpack.specs.Reading.{reader, Reading};
 ghost use Rattle.unpack.specs.RunByRun.{isTaken, isAny, runGood, leafRead, runRead, wordsOf, storedUpto, Within};
 
@@ -167,10 +168,34 @@ pub(crate) fn store_runs(payload: &[u8], words: &mut [u64], runs: &[u64], p: Pla
         let run = runs[k];
         let code = walk::plans::code_in(run);
         let many = wire::least(walk::plans::many_in(run) as usize, upto - to);
-        unpack_leaves::store_leaves(payload, words, code, many as u32, Place { from, to });
+        store_leaves(payload, words, code, many as u32, Place { from, to });
         from = from + many * leaf::width(code);
         to = to + many;
         k += 1;
+    }
+}
+
+// The words of so many leaves of one code, each where there is room for it; of one leaf with no loop.
+fn store_leaves(payload: &[u8], words: &mut [u64], code: u16, count: u32, p: Place)
+    requires { ⌜ p .from + count * width code ≤ length (now payload) ⌝ }
+    ensures { λ _. ⌜ now (words .exit) ≡ filled (now (payload .entry)) code p count (now (words .entry)) ⌝ }
+{
+    if count == 1 {
+        store_leaf(payload, words, code, p);
+    } else {
+        unpack_leaves::store_run(payload, words, code, count, p);
+    }
+}
+
+fn store_leaf(payload: &[u8], words: &mut [u64], code: u16, p: Place)
+    requires { ⌜ p .from + width code ≤ length (now payload) ⌝ }
+    ensures { λ _. ⌜ now (words .exit) ≡ filled (now (payload .entry)) code p 1 (now (words .entry)) ⌝ }
+{
+    let to = p.to;
+    if to < words.len() {
+        let from = p.from;
+        let end = from + leaf::width(code);
+        words[to] = unpack_leaves::leaf_at(&payload[from..end], 0, code);
     }
 }
 

@@ -74,25 +74,6 @@ module _ (b : List ℕ) (code n : ℕ) (p : Place) (x : List ℕ) where
     pub run-left : h ≡ false → x ≡ cond (leb (p .from + n * width code) (length b)) (filled b code p n x) x
     run-left f = sym (no-if (filled b code p n x) x (sym (has b code (p .from) n w is h room) ∙ f))
 
-  -- one leaf, by what the test of its bytes said, and where there is no room for its word
-  pub one-stored : (y : List ℕ) → n ≡ 1 → y ≡ cond (leb (p .from + width code) (length b)) (filled b code p 1 x) x → y
-      ≡ cond (leb (p .from + n * width code) (length b)) (filled b code p n x) x
-  one-stored y e h = rw (e, one-mul (width code)) h
-
-  pub one-no-room : length x ≤ p .to → x ≡ cond (leb (p .from + width code) (length b)) (filled b code p 1 x) x
-  one-no-room h = either-way (leb (p .from + width code) (length b)) (no-room-left b code p x 1 h)
-
-  module _ (w : ℕ) (is : w ≡ width code) (h : Bool) (room : h ≡ leb (p .from + w) (length b)) where
-    pub leaf-stored : (at v : ℕ) → h ≡ true → at ≡ p .to → at < length x → v ≡ wordAt code b (p .from) → set x at v
-        ≡ cond (leb (p .from + width code) (length b)) (filled b code p 1 x) x
-    unfolding filled
-    leaf-stored at v t e l r =
-        stored-word x at v b (p .from) code l r ∙ rw (e, zero-mul (width code), add-zero (p .from), add-zero (p .to)) refl
-        ∙ sym (yes-if (filled b code p 1 x) x (fits-is b (p .from) w code h is room ∙ t))
-
-    pub leaf-left : h ≡ false → x ≡ cond (leb (p .from + width code) (length b)) (filled b code p 1 x) x
-    leaf-left f = sym (no-if (filled b code p 1 x) x (fits-is b (p .from) w code h is room ∙ f))
-
   pub arm-stored : (m : ℕ) (y : List ℕ) → y ≡ cond (leb (p .from + n * width m) (length b)) (filled b m p n x) x → code ≡ m → y
       ≡ cond (leb (p .from + n * width code) (length b)) (filled b code p n x) x
   arm-stored m y e c = e ∙ ap (λ (k : ℕ). cond (leb (p .from + n * width k) (length b)) (filled b k p n x) x) (sym c)

@@ -67,7 +67,18 @@ pub(crate) fn word_in(s: &[u8], at: usize, code: u16) -> u64
     }
 }
 
-// The same for one leaf among leaves of other codes: of those wider than a byte by tests of its width, since where the codes are mixed
+// `word_at` for one leaf among leaves of other codes. Over a part of just its bytes the compiler sees that they are there.
+pub fn leaf_at(s: &[u8], at: usize, code: u16) -> u64
+    ensures { λ r. ⌜ r ≡ wholeWord code (now (s .entry)) at ⌝ }
+{
+    if wire::has_room(s.len(), at, leaf::width(code)) {
+        leaf_in(s, at, code)
+    } else {
+        0
+    }
+}
+
+// The word of a leaf that is there, among leaves of other codes: of those wider than a byte by tests of its width, since where the codes are mixed
 // a jump by the code is foretold wrong.
 pub(crate) fn leaf_in(s: &[u8], at: usize, code: u16) -> u64
     requires { ⌜ at + width code ≤ length (now s) ⌝ }

@@ -5,10 +5,10 @@ mod by_codes;
 mod enums;
 mod runs;
 
+pub use bases::leaf_at;
 pub use bases::word_at;
 pub use by_codes::judge_codes;
 pub use by_codes::store_codes;
 pub use enums::are_among;
 pub use runs::judge_run;
-pub use runs::store_leaves;
 pub use runs::store_run;

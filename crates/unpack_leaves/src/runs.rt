@@ -87,33 +87,6 @@ fn refused(code: u16, word: u64) -> u32
     if leaf::allowed(code, word) { 0 } else { 1 }
 }
 
-// The same of a run as `store_run` has it, and of one leaf with no loop: by a plan most runs are of one. A call of its own for plans
-// alone, so that the compiler lays it out in their loop, with the tests of a width that `leaf_in` has.
-pub fn store_leaves(payload: &[u8], words: &mut [u64], code: u16, count: u32, p: Place)
-    ensures { λ _. ⌜ now (words .exit)
-        ≡ cond (leb (p .from + count * width code) (length (now (payload .entry))))
-        (filled (now (payload .entry)) code p count (now (words .entry))) (now (words .entry)) ⌝ }
-{
-    if count == 1 {
-        store_leaf(payload, words, code, p);
-    } else {
-        store_run(payload, words, code, count, p);
-    }
-}
-
-fn store_leaf(payload: &[u8], words: &mut [u64], code: u16, p: Place)
-    ensures { λ _. ⌜ now (words .exit)
-        ≡ cond (leb (p .from + width code) (length (now (payload .entry))))
-        (filled (now (payload .entry)) code p 1 (now (words .entry))) (now (words .entry)) ⌝ }
-{
-    let to = p.to;
-    if to < words.len() {
-        if wire::has_room(payload.len(), p.from, leaf::width(code)) {
-            words[to] = bases::leaf_in(payload, p.from, code);
-        }
-    }
-}
-
 // Stores the words of so many leaves of one code where all their bytes are there, each word where there is room for it.
 pub fn store_run(payload: &[u8], words: &mut [u64], code: u16, count: u32, p: Place)
     ensures { λ _. ⌜ now (words .exit)

@@ -6,7 +6,7 @@ use mathlib.Core.Path.{_≡_, refl}
 use lib.ListN.{length}
 use Rattle.walk.specs.declared.Place.{Place}
 use Rattle.unpack.specs.RunByRun.{placeAt, storedUpto}
-use Rattle.unpack.proofs.StoredRuns.{place-start, stored-start, stored-end, some-fit, place-next, from-fits, stored-next}
+use Rattle.unpack.proofs.StoredRuns.{place-start, stored-start, stored-end, some-fit, place-next, bytes-in, from-fits, stored-next}
 use Rattle.unpack.proofs.Upto.{none-stored}
 use Rattle.unpack.proofs.by_plan.store_runs.Statement.{statement}
 use Rattle.unpack.proofs.by_plan.store_runs.Tie as tie
@@ -36,7 +36,7 @@ store-runs-spec =
     (λ c. search needs)
     (λ c κs. search needs)
     (λ c. search needs)
-    (λ c κs. search needs)
+    (λ c κs. search bytes-in)
     (λ c κs. search needs)
     (λ c. search some-fit)
     (λ c. search from-fits)
