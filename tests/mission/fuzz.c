@@ -40,7 +40,8 @@ int main(int argc, char **argv)
         fuzz_receive,      fuzz_pack,       fuzz_pack,       fuzz_unpack,  fuzz_unpack,  fuzz_table,
         fuzz_table,        fuzz_table,      fuzz_pending,    fuzz_plans,   fuzz_plans,   fuzz_plans,
         fuzz_partners_set, fuzz_read_mixed, fuzz_read_mixed, fuzz_write_3, fuzz_receive_mixed, fuzz_receive_mixed,
-        fuzz_receive_mixed, fuzz_receive_mixed, fuzz_receive_mixed, fuzz_send_mixed, fuzz_send_mixed, fuzz_service};
+        fuzz_receive_mixed, fuzz_receive_mixed, fuzz_receive_mixed, fuzz_receive_mixed, fuzz_receive_mixed,
+        fuzz_receive_mixed, fuzz_send_mixed, fuzz_send_mixed, fuzz_table, fuzz_table, fuzz_service};
     uint64_t most = argc > 1 ? strtoull(argv[1], NULL, 10) : 0, from = argc > 2 ? strtoull(argv[2], NULL, 10) : 1;
     if (most == 0) {
         fprintf(stderr, "usage: %s CALLS [SEED]\n", argv[0]);

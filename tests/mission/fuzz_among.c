@@ -4,7 +4,7 @@
 #include <string.h>
 
 /* Partners and their services are kept from call to call. */
-static nyr_partners partners;
+static nyr_partners partners = {{21, 0, 0, 0}};
 static uint64_t services[BLOCKS * NYR_SERVICES_WORDS];
 static uint8_t payload[MOST_MESSAGE];
 
@@ -15,7 +15,7 @@ static void renew_services(void)
     switch (below(60)) {
     case 0:
         memset(&partners, 0, sizeof partners);
-        for (size_t i = below(BLOCKS + 1); i > 0; i--) {
+        for (size_t i = one_in(6) ? 0 : 1 + below(BLOCKS); i > 0; i--) {
             size_t three = one_in(3) ? below(256) : below(5);
             partners.words[three / 64] |= N(three % 64);
         }
@@ -54,8 +54,8 @@ static size_t make_any(const Handed *h)
     int three = !one_in(3);
     size_t response = one_in(6) ? make_response_3(h) : 0;
     uint32_t sender = make_sender(h->own, one_in(3) ? 256 : 5);
-    while (speaks_3(&h->partners, sender) != three && sender < 512 && !one_in(64))
-        sender++;
+    for (int i = one_in(16) ? 256 : 0; i < 256 && speaks_3(&h->partners, sender) != three; i++)
+        sender = (sender + 1) % 256;
     if (response > 0)
         return response;
     if (three)
@@ -75,7 +75,7 @@ static Handed *hand(void)
     h.platform = make_platform();
     h.ours_words = below(one_in(4) ? MOST_OURS : 4);
     for (size_t k = 0; k < h.ours_words; k++) {
-        uint64_t id = below(300), state = one_in(12) ? narrow() : 1 + below(2);
+        uint64_t id = below(one_in(2) ? 3 : 300), state = one_in(12) ? narrow() : 1 + below(2);
         h.ours[k] = NYR_SERVICE_WORD(id, state);
     }
     copy(h.services, services, sizeof services);

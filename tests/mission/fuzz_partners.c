@@ -72,14 +72,16 @@ static uint32_t make_id_3(uint8_t domain)
 size_t make_message_3(const Table *table, const nyr_platform *state, uint8_t sender)
 {
     uint8_t domain = (uint8_t)(one_in(12) ? below(16) : below(2));
-    uint32_t id = make_id_3(domain), sequence = one_in(3) ? make_sequence(state) : (uint32_t)any();
+    uint32_t often = one_in(2) ? NYR_STATUS_3 : NYR_SERVICES_3, id = one_in(2) && domain == 0 ? often : make_id_3(domain);
+    uint32_t sequence = one_in(3) ? make_sequence(state) : (uint32_t)any();
     size_t length = make_payload(domain, id, message + NYR_MESSAGE_HEADER_3), k = place_of(state, sequence);
     unsigned kind = (unsigned)below(4);
     uint32_t other = one_in(4) ? NYR_ALL_DATA : one_in(3) ? (uint32_t)below(300) : make_id_of(table, NYR_VERSIONED_DATA);
     if (domain == 1 && !one_in(4))
         id = k < NYR_MOST_PENDING ? (uint32_t)state->pending[k] : make_id_of(table, kind);
+    uint32_t asked = one_in(3) ? NYR_ALL_SERVICES : (uint32_t)below(one_in(2) ? 3 : 300);
     if (domain == 0 && length == 4 && (id == NYR_PULL_3 || id == NYR_SERVICES_REQUEST_3))
-        put32(message + NYR_MESSAGE_HEADER_3, other);
+        put32(message + NYR_MESSAGE_HEADER_3, id == NYR_PULL_3 ? other : asked);
     message[0] = 0xEC;
     message[1] = 0x0A;
     message[2] = (uint8_t)((one_in(16) ? below(16) : 1) << 4 | domain);
