@@ -106,3 +106,6 @@ pub mod AsBefore
 pub mod MixedSending
 pub mod WrongAsking
 pub mod LinkedSending
+mod MixedReceipts
+mod AnyReceipts
+pub mod MixedResponses

@@ -76,3 +76,4 @@ pub mod AsBefore
 pub mod MixedSending
 pub mod WrongAsking
 pub mod LinkedSending
+pub mod MixedResponses
