@@ -109,3 +109,4 @@ pub mod LinkedSending
 mod MixedReceipts
 mod AnyReceipts
 pub mod MixedResponses
+pub mod MixedAsked

@@ -77,3 +77,4 @@ pub mod MixedSending
 pub mod WrongAsking
 pub mod LinkedSending
 pub mod MixedResponses
+pub mod MixedAsked
