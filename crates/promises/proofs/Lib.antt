@@ -110,3 +110,4 @@ mod MixedReceipts
 mod AnyReceipts
 pub mod MixedResponses
 pub mod MixedAsked
+pub mod WrongMixedResponses

@@ -77,7 +77,7 @@ part-is Six own id n payload = part-in (messageBytes own 1 id n payload) 20 (len
 part-is (Three t) own id n payload = part-in (messageBytes3 own t 1 id n payload) 24 (length payload) (omega arith) ∙ take-length payload
 
 -- a message is read at another platform as it was written, where that one has its sender in its issue
-crosses-in : (issue : Issue) (x y id n : ℕ) (payload i : List ℕ) → x < 256 → ¬ (x ≡ y) → id < 2 ^ 32 → n < 2 ^ 32 → length payload < 2 ^ 32
+pub crosses-in : (issue : Issue) (x y id n : ℕ) (payload i : List ℕ) → x < 256 → ¬ (x ≡ y) → id < 2 ^ 32 → n < 2 ^ 32 → length payload < 2 ^ 32
     → StampFits issue → isThree i x ≡ inThree issue → anyOf i y (bytesFor issue x id n payload) ≡ readAs (headerIn issue x id n payload) (length payload)
 crosses-in Six x y id n payload i o d small q size fits f =
     all-of-six i y (messageBytes x 1 id n payload) (headerFor x 1 id n payload) message.Operation 20 (length payload)

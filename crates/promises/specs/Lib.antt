@@ -78,3 +78,4 @@ pub mod WrongAsking
 pub mod LinkedSending
 pub mod MixedResponses
 pub mod MixedAsked
+pub mod WrongMixedResponses
