@@ -111,3 +111,4 @@ mod AnyReceipts
 pub mod MixedResponses
 pub mod MixedAsked
 pub mod WrongMixedResponses
+pub mod MixedTurns

@@ -79,3 +79,4 @@ pub mod LinkedSending
 pub mod MixedResponses
 pub mod MixedAsked
 pub mod WrongMixedResponses
+pub mod MixedTurns
