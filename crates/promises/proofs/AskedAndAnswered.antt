@@ -88,16 +88,16 @@ in-front own id n payload out =
     let e : length (messageBytes own 1 id n payload) ≡ 20 + length payload = omega arith in
     take-at (messageBytes own 1 id n payload) (drop (0 + length (messageBytes own 1 id n payload)) out) (20 + length payload) e
 
-writes : (id : ℕ) (payload : List ℕ) (room : ℕ) → length payload < 2 ^ 32 → 20 + length payload ≤ room → writeRefusal 1 id payload room ≡ 0
+pub writes : (id : ℕ) (payload : List ℕ) (room : ℕ) → length payload < 2 ^ 32 → 20 + length payload ≤ room → writeRefusal 1 id payload room ≡ 0
 writes id payload room h r = admits 1 id payload room (record { domain = omega arith; size = h; contents = refl; fits = r })
 
 -- a message is read at another platform as it was written
-abbrev Crosses : ℕ → ℕ → ℕ → ℕ → List ℕ → Type 0
+abbrev pub Crosses : ℕ → ℕ → ℕ → ℕ → List ℕ → Type 0
 Crosses x y id n payload =
     (readOf y (messageBytes x 1 id n payload) ≡ Read (headerFor x 1 id n payload) message.Operation 20 (length payload))
     × (part (messageBytes x 1 id n payload) 20 (length payload) ≡ payload)
 
-crosses : (x y id n : ℕ) (payload : List ℕ) → x < 256 → ¬ (x ≡ y) → id < 2 ^ 32 → n < 2 ^ 32 → length payload < 2 ^ 32 → Crosses x y id n payload
+pub crosses : (x y id n : ℕ) (payload : List ℕ) → x < 256 → ¬ (x ≡ y) → id < 2 ^ 32 → n < 2 ^ 32 → length payload < 2 ^ 32 → Crosses x y id n payload
 crosses x y id n payload o d i q size =
     let w : writeRefusal 1 id payload (20 + length payload) ≡ 0 = writes id payload (20 + length payload) size (omega arith) in
     let r : readOf y (messageBytes x 1 id n payload) ≡ Read (headerFor x 1 id n payload) message.Operation 20 (length payload) =

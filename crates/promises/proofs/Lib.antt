@@ -151,3 +151,9 @@ pub mod MixedServices
 pub mod WorkedMixed
 pub mod WrongMixed
 mod MixedKept
+mod MixedReceipts
+mod AnyReceipts
+pub mod MixedResponses
+pub mod MixedAsked
+pub mod WrongMixedResponses
+pub mod MixedTurns

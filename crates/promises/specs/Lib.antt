@@ -95,3 +95,7 @@ pub mod MixedOrder
 pub mod MixedServices
 pub mod WorkedMixed
 pub mod WrongMixed
+pub mod MixedResponses
+pub mod MixedAsked
+pub mod WrongMixedResponses
+pub mod MixedTurns
