@@ -16,7 +16,6 @@ same-words z z′ h g = ap₂ (λ (n m : ℕ). record { count = n; bytes = m }) 
 unpack : UnpackLeavesUnique
 unpack =
     record {
-      leaf-at = λ k a z z′ e e′ p q. p ∙ sym q;
       word-at = λ k a z z′ e e′ p q. p ∙ sym q;
       judge-run = λ k a z z′ e e′ p q. p ∙ sym q;
       store-run-words = λ k a z z′ e e′ p q. p ∙ sym q;

@@ -2,7 +2,6 @@
 -- behind another, over their very contracts. The theorem is in proofs/UniqueLeaves.antt.
 use denote.Ref.{now}
 use Rattle.promises.specs.Unique.{Answer, Lent}
-use Rattle.unpack_leaves.proofs.leaf_at.Reads.{Post as unpack-leaf-at}
 use Rattle.unpack_leaves.proofs.word_at.Reads.{Post as unpack-word-at}
 use Rattle.unpack_leaves.proofs.judge_run.Reads.{Post as unpack-judge-run}
 use Rattle.unpack_leaves.proofs.store_run.Reads.{Post as unpack-store-run}
@@ -16,7 +15,6 @@ use Rattle.pack_leaves.proofs.store_codes.Reads.{Post as pack-store-codes}
 
 -- leaves of a payload, and their words
 pub record UnpackLeavesUnique : Type 0 where
-  pub leaf-at : Answer unpack-leaf-at
   pub word-at : Answer unpack-word-at
   pub judge-run : Answer unpack-judge-run
   pub store-run-words : Lent unpack-store-run (λ k e. now (e .1 .0))

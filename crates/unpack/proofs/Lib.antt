@@ -6,6 +6,7 @@ pub mod GoodRuns
 pub mod Among
 pub mod LeafByLeaf
 pub mod Upto
+pub mod ByWidth
 pub mod StoredRuns
 pub mod PlannedRuns
 pub mod WholePlan

@@ -10,15 +10,15 @@ use native.Mathlib.Omega.{arith}
 use mir.Syntax.{w64}
 use mir.Val.{Fits}
 use lib.Dec.{leb}
-use lib.ListN.{length, take, drop, getD, set}
+use lib.ListN.{length, getD, set}
 use Rattle.wire.proofs.Cond.{yes-le}
 use Rattle.table.specs.Leaf.{width}
+use Rattle.leaf.specs.Forms.{wordAt}
 use Rattle.walk.specs.declared.Place.{Place}
 use Rattle.walk.specs.Runs.{codeIn, manyIn}
-use Rattle.unpack_leaves.specs.Leaves.{wholeWord}
 use Rattle.unpack_leaves.specs.OneCode.{along, filled}
 use Rattle.unpack.specs.RunByRun.{placeAt, storedUpto, Within}
-use Rattle.unpack_leaves.proofs.OneLeaf.{stored-word, part-word}
+use Rattle.unpack_leaves.proofs.OneLeaf.{stored-word}
 use Rattle.unpack_leaves.proofs.WholeRuns.{bytes-fit}
 
 -- leaves of one code that have their bytes: one, and several
@@ -26,12 +26,9 @@ pub one-room : (l from n code : ℕ) → n ≡ 1 → from + n * width code ≤ l
 one-room l from n code e h = let g : n * width code ≡ width code = rw e (omega arith) in omega arith
 
 module _ (b : List ℕ) (code : ℕ) (p : Place) (x : List ℕ) where
-  pub leaf-stored : (at w n : ℕ) → at ≡ p .to → at < length x → n ≡ width code → p .from + width code ≤ length b
-      → w ≡ wholeWord code (take (p .from + n - p .from) (drop (p .from) b)) 0 → set x at w ≡ filled b code p 1 x
+  pub leaf-stored : (at w : ℕ) → at ≡ p .to → at < length x → w ≡ wordAt code b (p .from) → set x at w ≡ filled b code p 1 x
   unfolding filled
-  leaf-stored at w n e h is room r =
-      stored-word x at w b (p .from) code h (part-word b (p .from) n code w is room r)
-      ∙ rw (e, zero-mul (width code), add-zero (p .from), add-zero (p .to)) refl
+  leaf-stored at w e h r = stored-word x at w b (p .from) code h r ∙ rw (e, zero-mul (width code), add-zero (p .from), add-zero (p .to)) refl
 
   pub one-stored : (n : ℕ) (y : List ℕ) → n ≡ 1 → y ≡ filled b code p 1 x → y ≡ filled b code p n x
   one-stored n y e h = rw e h

@@ -1,5 +1,6 @@
 // The leaves of a payload by the runs of a plan (02, request 13): judged run by run, with no table but for an enum's values, then
 // stored.
+use crate::bases;
 use walk::Place;
 use walk::Walked;
 ghost use mathlib.Core.Path.{_≡_};
@@ -193,9 +194,7 @@ fn store_leaf(payload: &[u8], words: &mut [u64], code: u16, p: Place)
 {
     let to = p.to;
     if to < words.len() {
-        let from = p.from;
-        let end = from + leaf::width(code);
-        words[to] = unpack_leaves::leaf_at(&payload[from..end], 0, code);
+        words[to] = bases::leaf_in(payload, p.from, code);
     }
 }
 

@@ -6,5 +6,4 @@ mod Ascii
 mod Pairs
 pub mod WholeRuns
 pub mod Loops
-pub mod ByWidth
 pub mod AmongValues

@@ -1,6 +1,6 @@
 -- A leaf of a base code that is there: its word, each arm being the rule of its code, and that the word is allowed.
 -- Assumes nothing.
-use Prim.Native.Nat.{ℕ, _+_, _-_, _*_, _/_, _^_, _≤_, _<_}
+use Prim.Native.Nat.{ℕ, _+_, _-_, _*_, _^_, _≤_, _<_}
 use mathlib.Core.Path.{_≡_, refl, sym, ap, _∙_}
 use mathlib.Core.Bool.{Bool, true, false}
 use mathlib.Core.List.{List, [], _∷_}
@@ -8,11 +8,10 @@ use native.Mathlib.Nat.{add-zero}
 use native.Mathlib.Omega.{arith}
 use borrow.Author.Tests.{le-leb, lt-leb, leb-true}
 use lib.Dec.{ltb, leb}
-use lib.ListN.{length, take, drop, set, length-take, length-drop}
-use Rattle.wire.specs.Bytes.{span, number, written, Octets}
+use lib.ListN.{length, set}
+use Rattle.wire.specs.Bytes.{number, written, Octets}
 use Rattle.wire.proofs.Cond.{and-left, and-right, yes-if, no-if}
-use Rattle.wire.proofs.Numbers.{number-take, number-drop}
-use Rattle.table.specs.Leaf.{Leaf, boolean, signed, unsigned, float, none, bytesOf, base, width, allowed}
+use Rattle.table.specs.Leaf.{Leaf, base, width, allowed}
 use Rattle.table.proofs.Leaves.{none-of}
 use Rattle.leaf.specs.declared.codes.Range.{Range}
 use Rattle.leaf.specs.Limits.{rangeOf}
@@ -43,28 +42,6 @@ module _ (b : List ℕ) (from n code : ℕ) (h : Bool) (is : n ≡ width code) (
 
   pub word-cut : h ≡ false → 0 ≡ wholeWord code b from
   word-cut f = sym (no-if (wordAt code b from) 0 (fits-is ∙ f))
-
--- and where it was asked for over a part of just its bytes
-in-part : (k n : ℕ) (s : List ℕ) (p : ℕ) → 2 ^ k ≤ n → number k (take n (drop p s)) 0 ≡ number k s p
-in-part k n s p h = number-take k n (drop p s) 0 (omega arith) ∙ number-drop k p s 0 ∙ ap (number k s) (add-zero p)
-
-of-part : (l : Leaf) (s : List ℕ) (p n : ℕ) → bytesOf l ≤ n → wordOf l (take n (drop p s)) 0 ≡ wordOf l s p
-unfolding wordOf bytesOf
-of-part boolean s p n h = ap truth (in-part 0 n s p h)
-of-part (signed k) s p n h = ap (extended (span k / 2)) (in-part k n s p h)
-of-part (unsigned k m) s p n h = in-part k n s p h
-of-part (float k a f) s p n h = in-part k n s p h
-of-part none s p n h = refl
-
-pub part-word : (b : List ℕ) (from n code w : ℕ) → n ≡ width code → from + width code ≤ length b
-    → w ≡ wholeWord code (take (from + n - from) (drop from b)) 0 → w ≡ wordAt code b from
-unfolding wordAt width
-part-word b from n code w is room e =
-    let some : from + n - from ≡ width code = omega arith in
-    let s : List ℕ = take (width code) (drop from b) in
-    let long : length s ≡ width code = omega (arith, length-take (width code) (drop from b), length-drop from b) in
-    e ∙ ap (λ (m : ℕ). wholeWord code (take m (drop from b)) 0) some
-    ∙ yes-if (wordAt code s 0) 0 (le-leb (0 + width code) (length s) (omega arith)) ∙ of-part (base code) b from (width code) (omega arith)
 
 -- reading: the arm of code n
 pub at-truth : (s : List ℕ) (p x r code : ℕ) → x ≡ number 0 s p → r ≡ truth x → code ≡ 0 → r ≡ wordAt code s p

@@ -67,51 +67,6 @@ pub(crate) fn word_in(s: &[u8], at: usize, code: u16) -> u64
     }
 }
 
-// `word_at` for one leaf among leaves of other codes. Over a part of just its bytes the compiler sees that they are there.
-pub fn leaf_at(s: &[u8], at: usize, code: u16) -> u64
-    ensures { λ r. ⌜ r ≡ wholeWord code (now (s .entry)) at ⌝ }
-{
-    if wire::has_room(s.len(), at, leaf::width(code)) {
-        leaf_in(s, at, code)
-    } else {
-        0
-    }
-}
-
-// The word of a leaf that is there, among leaves of other codes: of those wider than a byte by tests of its width, since where the codes are mixed
-// a jump by the code is foretold wrong.
-pub(crate) fn leaf_in(s: &[u8], at: usize, code: u16) -> u64
-    requires { ⌜ at + width code ≤ length (now s) ⌝ }
-    ensures { λ r. ⌜ r ≡ wordAt code (now (s .entry)) at ⌝ }
-{
-    match leaf::width(code) {
-        4 => of_four(s, at, code),
-        8 => u64_in(s, at),
-        2 => of_two(s, at, code),
-        _ => word_in(s, at, code),
-    }
-}
-
-fn of_four(s: &[u8], at: usize, code: u16) -> u64
-    requires { ⌜ (at + 4 ≤ length (now s)) × (width code ≡ 4) ⌝ }
-    ensures { λ r. ⌜ r ≡ wordAt code (now (s .entry)) at ⌝ }
-{
-    if code == leaf::INT32 {
-        return leaf::signed32(u32_in(s, at));
-    }
-    u32_in(s, at) as u64
-}
-
-fn of_two(s: &[u8], at: usize, code: u16) -> u64
-    requires { ⌜ (at + 2 ≤ length (now s)) × (width code ≡ 2) ⌝ }
-    ensures { λ r. ⌜ r ≡ wordAt code (now (s .entry)) at ⌝ }
-{
-    if code == leaf::INT16 {
-        return leaf::signed16(u16_in(s, at));
-    }
-    u16_in(s, at) as u64
-}
-
 fn u8_in(s: &[u8], at: usize) -> u8
     requires { ⌜ at + 1 ≤ length (now s) ⌝ }
     ensures { λ r. ⌜ r ≡ number 0 (now (s .entry)) at ⌝ }

@@ -5,7 +5,6 @@ mod by_codes;
 mod enums;
 mod runs;
 
-pub use bases::leaf_at;
 pub use bases::word_at;
 pub use by_codes::judge_codes;
 pub use by_codes::store_codes;

@@ -1,9 +1,9 @@
--- `unpack_leaves::bases::leaf_in` meets its contract: by the leaf's width.
+-- `unpack::bases::leaf_in` meets its contract: by the leaf's width.
 -- Assumes nothing.
 use borrow.Author.Needs.{needs}
-use Rattle.unpack_leaves.proofs.ByWidth.{room-of-width, width-is, of-eight}
-use Rattle.unpack_leaves.proofs.bases.leaf_in.Statement.{statement}
-use Rattle.unpack_leaves.proofs.bases.leaf_in.Tie as tie
+use Rattle.unpack.proofs.ByWidth.{room-of-width, width-is, of-eight, of-one}
+use Rattle.unpack.proofs.bases.leaf_in.Statement.{statement}
+use Rattle.unpack.proofs.bases.leaf_in.Tie as tie
 
 pub leaf-in-spec : {M : Type 1} → statement M
 leaf-in-spec =
@@ -17,4 +17,4 @@ leaf-in-spec =
     (λ c. search needs)
     (λ c. search of-eight)
     (λ c. search needs)
-    (λ c. search needs))
+    (λ c. search of-one))

@@ -1,13 +1,13 @@
--- `unpack_leaves::bases::of_two` meets its contract: int16, and the codes whose word is the number.
+-- `unpack::bases::of_two` meets its contract: int16, and the codes whose word is the number.
 -- Assumes nothing.
 use borrow.Author.Needs.{needs}
 use mathlib.Core.Path.{refl}
 use Rattle.table.specs.Leaf.{base}
 use Rattle.leaf.specs.Forms.{wordAt, wordOf}
 use Rattle.unpack_leaves.proofs.OneLeaf.{at-extended}
-use Rattle.unpack_leaves.proofs.ByWidth.{of-two}
-use Rattle.unpack_leaves.proofs.bases.of_two.Statement.{statement}
-use Rattle.unpack_leaves.proofs.bases.of_two.Tie as tie
+use Rattle.unpack.proofs.ByWidth.{of-two}
+use Rattle.unpack.proofs.bases.of_two.Statement.{statement}
+use Rattle.unpack.proofs.bases.of_two.Tie as tie
 
 pub of-two-spec : {M : Type 1} → statement M
 unfolding base wordAt wordOf

@@ -4,11 +4,14 @@ use Prim.Native.Nat.{ℕ, _+_, _≤_}
 use mathlib.Core.Path.{_≡_, refl, sym, ap, _∙_}
 use mathlib.Core.List.{List}
 use native.Mathlib.Omega.{arith}
+use lib.ListN.{length}
 use Rattle.wire.specs.Bytes.{number}
+use Rattle.wire.proofs.Cond.{yes-le}
 use Rattle.table.specs.Leaf.{Leaf, base, bytesOf, width}
 use Rattle.table.proofs.Leaves.{Each, any, no-base}
 use Rattle.leaf.specs.Forms.{wordAt, wordOf}
+use Rattle.unpack_leaves.specs.Leaves.{wholeWord}
 use Rattle.unpack_leaves.proofs.OneLeaf.{all-bits}
 
 -- a width that was met
 pub width-is : (m n code : ℕ) → m ≡ width code → m ≡ n → width code ≡ n
@@ -16,6 +19,10 @@ width-is m n code e h = sym e ∙ h
 
 pub room-of-width : (m n l at code : ℕ) → m ≡ width code → m ≡ n → at + width code ≤ l → at + n ≤ l
 room-of-width m n l at code e h r = rw (← h, e) r
+
+-- a word that was asked for of a leaf that is there
+pub of-one : (s : List ℕ) (p code w : ℕ) → p + width code ≤ length s → w ≡ wholeWord code s p → w ≡ wordAt code s p
+of-one s p code w h e = e ∙ yes-le (wordAt code s p) 0 (p + width code) (length s) h
 
 -- a code that is none has no bytes
 no-width : (n code : ℕ) → 13 ≤ code → width code ≡ n → n ≡ 0
