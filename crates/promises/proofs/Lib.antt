@@ -123,3 +123,14 @@ mod LinkedAcross
 pub mod LinkedReplies3
 pub mod WrongReports3
 pub mod WrongAcross
+mod MixedChains
+mod MixedRead
+mod MixedThree
+mod MixedSix
+pub mod MixedOrder
+mod MixedBlocks
+mod MixedWords
+mod MixedChanges
+pub mod MixedServices
+pub mod WorkedMixed
+pub mod WrongMixed

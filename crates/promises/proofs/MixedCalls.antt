@@ -2,7 +2,7 @@
 -- changes; or the sections that its operations are looked up in lie in the table's bytes.
 -- Assumes nothing.
 use Prim.Native.Nat.{ℕ}
-use mathlib.Core.Path.{_≡_, refl, ap}
+use mathlib.Core.Path.{_≡_, refl, sym, ap, _∙_}
 use mathlib.Core.Bool.{Bool, true, false}
 use mathlib.Core.List.{List}
 use native.Mathlib.Omega.{arith}
@@ -19,10 +19,14 @@ use Rattle.platform.specs.Receiving.{indexOf}
 use Rattle.mixed.specs.declared.AnyReceived.{AnyReceived}
 use Rattle.mixed.specs.Receiving.{refusedAny, anyOutcome, anyOutput, anyList, anyWords}
 use Rattle.mixed.specs.Tables.{sectionsAnswer, sectionsOut, sectionsPending, sectionsWords, answerIf, outIf, pendingIf, wordsIf}
+use Rattle.promises.specs.TableOrder.{sectionsIn}
+use Rattle.promises.specs.MixedServices.{GoodTable}
 use Rattle.promises.specs.MixedCalls.{TableGiven, bytes, sections, answerOn, outputOn, listOn, servicesOn}
+use Rattle.promises.proofs.PayloadOrder.{lie-decides}
 use Rattle.promises.proofs.Numbered.{TableNumbered, table-numbered}
 
 pub record Refuses (g : TableGiven) (n : ℕ) : Type 0 where
+  pub bad : ¬ (GoodTable g)
   pub number : ¬ (n ≡ 0)
   pub answer : (own : ℕ) (i ours : List ℕ) (p : Standing) (l ws m : List ℕ) (room : ℕ) → answerOn g own i ours p l ws m room ≡ refusedAny p n
   pub output : (own : ℕ) (st : Stamp) (c : ℕ) (i ours : List ℕ) (p : Standing) (ws m out : List ℕ) → outputOn g own st c i ours p ws m out ≡ out
@@ -47,6 +51,10 @@ on-bytes : (t : List ℕ) (x : Checked) → checked t ≡ x → TableNumbered x 
 unfolding answerIf outIf pendingIf wordsIf
 on-bytes t (check.Refused n) e h =
     refused n (record {
+      bad = λ (f : checked t ≡ check.Table (sectionsIn t)).
+          let q : check.Refused n ≡ check.Table (sectionsIn t) = sym e ∙ f in
+          let z : _≡_ {A = ℕ} 0 1 = cc in
+          omega arith;
       number = λ z. omega (arith, h .0);
       answer = λ own i ours p l ws m room. ap (λ (x : Checked). answerIf x own i ours t p l ws m room) e;
       output = λ own st c i ours p ws m out. ap (λ (x : Checked). outIf x own st c i ours t p ws m out) e;
@@ -74,6 +82,7 @@ on-sections t s index true e =
     })
 on-sections t s index false e =
     refused 30 (record {
+      bad = lie-decides t s .no-is e;
       number = λ z. omega arith;
       answer = λ own i ours p l ws m room. no-if {A = AnyReceived} _ _ e;
       output = λ own st c i ours p ws m out. no-if _ _ e;

@@ -84,7 +84,7 @@ other-not-0 (suc (suc (suc n))) e = omega arith
 same-number : {a b : ℕ} → reading.Refused a ≡ reading.Refused b → a ≡ b
 same-number e = cc
 
-any-not-0 : (i : List ℕ) (own : ℕ) (m : List ℕ) (k : ℕ) → anyOf i own m ≡ reading.Refused k → ¬ (k ≡ 0)
+pub any-not-0 : (i : List ℕ) (own : ℕ) (m : List ℕ) (k : ℕ) → anyOf i own m ≡ reading.Refused k → ¬ (k ≡ 0)
 any-not-0 i own m k e = go (threeForm i m) refl (isThree i (senderIn m)) refl
   where
     of-six : (x : Reading) → readOf own m ≡ x → fromSix x ≡ reading.Refused k → ¬ (k ≡ 0)

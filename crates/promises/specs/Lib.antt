@@ -85,3 +85,7 @@ pub mod MixedOnSections
 pub mod LinkedReplies3
 pub mod WrongReports3
 pub mod WrongAcross
+pub mod MixedOrder
+pub mod MixedServices
+pub mod WorkedMixed
+pub mod WrongMixed
