@@ -134,3 +134,4 @@ mod MixedChanges
 pub mod MixedServices
 pub mod WorkedMixed
 pub mod WrongMixed
+pub mod LinkedMixed

@@ -89,3 +89,4 @@ pub mod MixedOrder
 pub mod MixedServices
 pub mod WorkedMixed
 pub mod WrongMixed
+pub mod LinkedMixed
