@@ -134,4 +134,5 @@ mod MixedChanges
 pub mod MixedServices
 pub mod WorkedMixed
 pub mod WrongMixed
+mod SomeMixed
 pub mod LinkedMixed

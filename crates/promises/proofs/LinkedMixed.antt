@@ -3,7 +3,7 @@
 use Prim.Native.Nat.{ℕ}
 use mathlib.Core.Path.{_≡_, refl, sym, ap, ap₂, subst, _∙_}
 use mathlib.Core.Bool.{Bool, true, false, cond}
-use mathlib.Core.Logic.{_⊎_, inl, inr}
+use mathlib.Core.Logic.{inl, inr}
 use mathlib.Core.List.{List}
 use native.Mathlib.Omega.{arith}
 use lib.Dec.{eqb}
@@ -13,6 +13,7 @@ use Rattle.message3.specs.Header.{senderIn3}
 use Rattle.services.specs.declared.Availability.{Availability}
 use Rattle.services.specs.declared.Availability.the-variants.{Unheard, Unavailable, Available}
 use Rattle.services.specs.Block.{availabilityIn}
+use Rattle.services.specs.Known.{known, isIn}
 use Rattle.partners.specs.Threes.{isThree}
 use Rattle.platform.specs.declared.reactions.Standing.{Standing}
 use Rattle.platform_words.specs.Words.{standingIn, pendingIn}
@@ -29,10 +30,12 @@ use Rattle.promises.specs.MixedServices.{ourCall, wordsOf, stateOf, Aris
 use Rattle.promises.specs.LinkedReplies3.{ServiceIs}
 use Rattle.promises.specs.LinkedMixed.{MixedLent, Receives, checksOf, itsBlock, LedTo, fresh, later, AllThere, AllKempt, Kept, WhoAsks, Stays}
 use Rattle.promises.specs.LinkedMixed.{ServicesAfter, LinkedMixed}
+use Rattle.promises.proofs.Services.{services as one-platform}
 use Rattle.promises.proofs.MixedOrder.{mixed-order}
 use Rattle.promises.proofs.MixedBlocks.{is-there}
 use Rattle.promises.proofs.MixedChanges.{Change, noted, went-down, nothing, Good, change}
 use Rattle.promises.proofs.MixedServices.{mixed-services}
+use Rattle.promises.proofs.SomeMixed.{some-call, some-call-in}
 
 -- 0, or the number of the refusal
 same-number : (x : AnyAnswer) → anyNumber x ≡ givenBy x
@@ -187,10 +190,39 @@ module _ (c : MixedLent) (n : ℕ) (words : List ℕ) (r : Receives c n words) w
             ∙ ap (λ (v : List ℕ). availabilityIn v x) (mixed-services .others (c .table) (c .own) i (c .ours) p was m room j t nt nd));
       }
 
+-- a service that is known is one of which something was heard
+known-told : (b : List ℕ) (x : ℕ) → isIn x (known b) ≡ cond (eqb (availabilityNumber (availabilityIn b x)) 0) false true
+known-told b x = go (isIn x (known b)) refl (availabilityIn b x) refl
+  where
+    go : (q : Bool) → isIn x (known b) ≡ q → (y : Availability) → availabilityIn b x ≡ y → q ≡ cond (eqb (availabilityNumber y) 0) false true
+    go true e Unheard f = absurd (one-platform .heard b x e f)
+    go true e Unavailable f = refl
+    go true e Available f = refl
+    go false e Unheard f = refl
+    go false e Unavailable f =
+        let a : _≡_ {A = ℕ} 1 0 = ap availabilityNumber (sym f ∙ one-platform .unheard b x e) in
+        absurd (omega arith)
+    go false e Available f =
+        let a : _≡_ {A = ℕ} 2 0 = ap availabilityNumber (sym f ∙ one-platform .unheard b x e) in
+        absurd (omega arith)
+
 pub linked-mixed : LinkedMixed
 linked-mixed =
     record {
+      some = some-call;
+      some-in = some-call-in;
       order = in-order;
       kempt = are-kempt;
       services = services-after;
+      exactly = λ c n words r k g rd j w h.
+          gives c n words r
+          ∙ mixed-services .exactly (c .table) (c .own) (c .partners) (c .ours) (standingIn (c .platform)) (pendingIn (c .platform)) (c .services)
+          (c .message) (length (c .output)) j (k .0) g rd w (k .1 j (its-three c n words r j w) h);
+      order-kept = λ c n words r k.
+          rw (gives c n words r)
+          (mixed-order .kempt-words (c .table) (c .own) (c .partners) (c .ours) (standingIn (c .platform)) (pendingIn (c .platform)) (c .services)
+          (c .message) (length (c .output)) (k .0) (λ tf there. k .1 (senderIn3 (c .message)) (tf .1) (omega (arith, there))));
+      known-are = λ i ws j x t.
+          asked i ws j x (λ (n : ℕ). isIn x (known (wordsOf i j ws)) ≡ cond (eqb n 0) false true)
+          (known-told (wordsOf i j ws) x ∙ ap (λ (n : ℕ). cond (eqb n 0) false true) (sym (of-three i ws j x t)));
     }

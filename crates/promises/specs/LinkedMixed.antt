@@ -4,16 +4,18 @@
 -- proofs/LinkedMixed.antt. Wrong programs that the order rules out are in specs/MixedOrder; those that keep services wrongly, beside each line.
 use Prim.Native.Nat.{ℕ, _+_, _*_, _≤_, _<_}
 use mathlib.Core.Path.{_≡_}
-use mathlib.Core.Bool.{true, cond}
+use mathlib.Core.Bool.{true, false, cond}
 use mathlib.Core.Logic.{_⊎_}
 use mathlib.Core.List.{List}
-use lib.Dec.{eqb}
+use lib.Dec.{eqb, leb}
 use lib.ListN.{length, drop, replicate}
 use denote.Ref.{now}
 use Rattle.wire.specs.Bytes.{Octets}
 use Rattle.table.specs.Words.{sectionsIn, indexIn}
+use Rattle.services.specs.Known.{known, isIn, knownWith}
 use Rattle.partners.specs.Threes.{isThree, threesBefore}
 use Rattle.platform_words.specs.Words.{standingIn, pendingIn}
+use Rattle.mixed.specs.Reading.{anyOf, numberGiven}
 use Rattle.nyrkovash.proofs.nyr_receive_mixed.Reads.{Post as nyr-receive-mixed}
 use Rattle.nyrkovash.proofs.nyr_receive_mixed_in.Reads.{Post as nyr-receive-mixed-in}
 use Rattle.nyrkovash.proofs.nyr_service.Reads.{Post as nyr-service}
@@ -23,8 +25,8 @@ use Rattle.promises.specs.LinkedPayloads.{Whenever}
 use Rattle.promises.specs.LinkedReplies3.{ServiceIs}
 use Rattle.promises.specs.Services.{pairCount, namedBy, saidBy, KemptBlock}
 use Rattle.promises.specs.MixedCalls.{TableGiven, bytes, sections}
-use Rattle.promises.specs.MixedOrder.{senderBlock, FindsNoPlace, mixedChecks}
-use Rattle.promises.specs.MixedServices.{wordsOf, TellsOf, DownOf}
+use Rattle.promises.specs.MixedOrder.{senderBlock, FindsNoPlace, NeedsMore, mixedChecks}
+use Rattle.promises.specs.MixedServices.{wordsOf, TellsOf, DownOf, GoodTable}
 
 -- what a call is handed: own number, who speaks Issue 3, our services, the platform's words, those of the partners' services, the table,
 -- the message and the output
@@ -85,7 +87,8 @@ itsBlock c = senderBlock (c .partners) (c .services) (c .message)
 -- words of services that such calls lead to from words of 0, with one set-up, whatever else each of them is handed and gives back
 pub data LedTo (i : List ℕ) : List ℕ → Type 0 where
   fresh : (n : ℕ) → LedTo i (replicate n 0)
-  later : {c : MixedLent} {n : ℕ} {words : List ℕ} → c .partners ≡ i → Octets (c .message) → Receives c n words → LedTo i (c .services) → LedTo i words
+  later : {c : MixedLent} {n : ℕ} {words : List ℕ} → c .partners ≡ i → Octets (c .message) → Receives c n words → LedTo i (c .services)
+      → LedTo i words
 
 -- 256 words for each that speaks Issue 3, in the order of their numbers: those that are there have no service behind a free word, and none twice
 abbrev pub AllThere : List ℕ → List ℕ → ℕ → Type 0
@@ -125,8 +128,26 @@ pub record ServicesAfter (c : MixedLent) (n : ℕ) (words : List ℕ) : Type 0 w
   pub others : (j x : ℕ) → ¬ (TellsOf (c .partners) (c .message) j) → ¬ (DownOf (c .own) (c .partners) (standingIn (c .platform)) (c .message) j) →
       Stays (c .partners) (c .services) words j x
 
+-- those known of a platform, with those that the message names, each counted once
+abbrev pub wouldBeKnown : MixedLent → ℕ → ℕ
+wouldBeKnown c j = length (knownWith (known (wordsOf (c .partners) j (c .services))) (drop 24 (c .message)) (pairCount (drop 24 (c .message))))
+
 pub record LinkedMixed : Type 1 where
+  -- the contracts allow a call, whatever it is handed
+  pub some : (c : MixedLent) (t : List ℕ) → c .table ≡ bytes t → (n : ℕ) × ((words : List ℕ) × ReceivesOn c n words)
+  pub some-in : (c : MixedLent) (t ss : List ℕ) → c .table ≡ sections t (sectionsIn ss) (indexIn ss) → (n : ℕ) × ((words : List ℕ) × ReceivesIn c n words)
   -- the first check that applies, and 0 where none does
   pub order : (c : MixedLent) (n : ℕ) (words : List ℕ) → Receives c n words → Gives (checksOf c (FindsNoPlace (itsBlock c) (drop 24 (c .message)))) n
+  -- over any calls
   pub kempt : (i ws : List ℕ) → LedTo i ws → AllKempt i ws
   pub services : (c : MixedLent) (n : ℕ) (words : List ℕ) → Receives c n words → ServicesAfter c n words
+  -- 63 exactly, for a status that is read and whose sender's words are there: where more than 256 would be known; and the order with it. Ruled
+  -- out: the 257th dropped and the rest noted; one count for all platforms
+  pub exactly : (c : MixedLent) (n : ℕ) (words : List ℕ) → Receives c n words → Kept c → GoodTable (c .table) →
+      numberGiven (anyOf (c .partners) (c .own) (c .message)) ≡ 0 → (j : ℕ) → TellsOf (c .partners) (c .message) j → AllThere (c .partners) (c .services) j →
+      n ≡ cond (leb (wouldBeKnown c j) 256) 0 63
+  pub order-kept : (c : MixedLent) (n : ℕ) (words : List ℕ) → Receives c n words → Kept c →
+      Gives (checksOf c (NeedsMore (itsBlock c) (drop 24 (c .message)))) n
+  -- those that are known, which 63 counts, are those of which 1 or 2 is told
+  pub known-are : (i ws : List ℕ) (j x : ℕ) → isThree i j ≡ true →
+      WhoAsks i ws j x (λ n. isIn x (known (wordsOf i j ws)) ≡ cond (eqb n 0) false true)
