@@ -136,3 +136,4 @@ pub mod WorkedMixed
 pub mod WrongMixed
 mod SomeMixed
 pub mod LinkedMixed
+pub mod WrongLinkedMixed

@@ -90,3 +90,4 @@ pub mod MixedServices
 pub mod WorkedMixed
 pub mod WrongMixed
 pub mod LinkedMixed
+pub mod WrongLinkedMixed
