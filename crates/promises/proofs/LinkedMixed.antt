@@ -30,6 +30,7 @@ use Rattle.promises.specs.MixedServices.{ourCall, wordsOf, stateOf, Aris
 use Rattle.promises.specs.LinkedReplies3.{ServiceIs}
 use Rattle.promises.specs.LinkedMixed.{MixedLent, Receives, checksOf, itsBlock, LedTo, fresh, later, AllThere, AllKempt, Kept, WhoAsks, Stays}
 use Rattle.promises.specs.LinkedMixed.{ServicesAfter, LinkedMixed}
+use Rattle.promises.proofs.LinkedAcross.{in-numbers, service-is}
 use Rattle.promises.proofs.Services.{services as one-platform}
 use Rattle.promises.proofs.MixedOrder.{mixed-order}
 use Rattle.promises.proofs.MixedBlocks.{is-there}
@@ -87,22 +88,15 @@ asked : (i ws : List ℕ) (j x : ℕ) (So : ℕ → Type 0) → So (serviceNumbe
 asked i ws j x So h y a n f p ei ew ej ex =
     subst So (sym (p ∙ ap₂ (λ (v w : List ℕ). serviceNumber v w (a .1 .1 .0) (a .1 .1 .1 .0)) ei ew ∙ ap₂ (serviceNumber i ws) ej ex)) h
 
-told : (i ws : List ℕ) (j x s : ℕ) → serviceNumber i ws j x ≡ s → ServiceIs i ws j x s
-told i ws j x s e = asked i ws j x (λ (n : ℕ). n ≡ s) e
-
 of-three : (i ws : List ℕ) (j x : ℕ) → isThree i j ≡ true → serviceNumber i ws j x ≡ availabilityNumber (stateOf i j ws x)
 of-three i ws j x t = yes-if (availabilityNumber (stateOf i j ws x)) 0 t
 
 stays : (i was ws : List ℕ) (j x : ℕ) → (isThree i j ≡ true → stateOf i j ws x ≡ stateOf i j was x) → Stays i was ws j x
-stays i was ws j x same = asked i was j x (λ (n : ℕ). ServiceIs i ws j x n) (told i ws j x (serviceNumber i was j x) (go (isThree i j) refl))
+stays i was ws j x same = asked i was j x (λ (n : ℕ). ServiceIs i ws j x n) (service-is i ws j x (serviceNumber i was j x) (go (isThree i j) refl))
   where
     go : (b : Bool) → isThree i j ≡ b → serviceNumber i ws j x ≡ serviceNumber i was j x
     go true t = of-three i ws j x t ∙ ap availabilityNumber (same t) ∙ sym (of-three i was j x t)
     go false t = no-if (availabilityNumber (stateOf i j ws x)) 0 t ∙ sym (no-if (availabilityNumber (stateOf i j was x)) 0 t)
-
-in-numbers : (b : Bool) → availabilityNumber (cond b Available Unavailable) ≡ cond {A = ℕ} b 2 1
-in-numbers true = refl
-in-numbers false = refl
 
 -- a call, and what is told after it
 module _ (c : MixedLent) (n : ℕ) (words : List ℕ) (r : Receives c n words) where
@@ -171,7 +165,7 @@ module _ (c : MixedLent) (n : ℕ) (words : List ℕ) (r : Receives c n words) w
             ∙ ap (λ (v : List ℕ). stateOf i j v x)
             (mixed-services .refused (c .table) (c .own) i (c .ours) p l was m room (λ q. f (gives c n words r ∙ q))));
         last-pair = λ k z j w a h last.
-            told i words j (namedBy (drop 24 m) a) _
+            service-is i words j (namedBy (drop 24 m) a) _
             (of-three i words j (namedBy (drop 24 m) a) (its-three j w)
             ∙ ap availabilityNumber (state-now j (namedBy (drop 24 m) a)
             ∙ mixed-services .last-pair (c .table) (c .own) i (c .ours) p l was m room j (k .0) (zero-given z) w (its-kempt k j (zero-given z) w) a h last)
@@ -182,7 +176,7 @@ module _ (c : MixedLent) (n : ℕ) (words : List ℕ) (r : Receives c n words) w
         went-down = λ z j d x.
             let t : isThree i j ≡ true = subst (λ (q : ℕ). isThree i q ≡ true) (d .1 .1) (d .0 .1) in
             asked i was j x (λ (q : ℕ). ServiceIs i words j x (cond (eqb q 0) 0 1))
-            (told i words j x _
+            (service-is i words j x _
             (of-three i words j x t ∙ ap availabilityNumber (state-now j x) ∙ goes-down j x (zero-given z) d (stateOf i j was x) refl
             ∙ ap (λ (q : ℕ). cond {A = ℕ} (eqb q 0) 0 1) (sym (of-three i was j x t))));
         others = λ j x nt nd.

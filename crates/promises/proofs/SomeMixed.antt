@@ -10,11 +10,9 @@ use Rattle.mixed_words.specs.SectionCalls.{mixedInNumber, mixedInWords, mixedIn
 use Rattle.mixed_words.specs.ServiceCalls.{serviceNumber}
 use Rattle.promises.specs.MixedCalls.{TableGiven, bytes, sections}
 use Rattle.promises.specs.LinkedMixed.{MixedLent, ReceivesOn, ReceivesIn, WhoAsks}
+use Rattle.promises.proofs.Linked.{lent}
 
 -- nothing is said here of the stamp and of what was heard before
-abbrev lent : List ℕ → RefT (List ℕ)
-lent xs = record { ptr = (0, 0); name = 0; now = xs }
-
 module _ (own : ℕ) (i ours ws sv t m out : List ℕ) where
   one-call : ReceivesOn
       (record { own = own; partners = i; ours = ours; platform = ws; services = sv; table = bytes t; message = m; output = out })
