@@ -157,3 +157,6 @@ pub mod MixedResponses
 pub mod MixedAsked
 pub mod WrongMixedResponses
 pub mod MixedTurns
+mod SomeMixed
+pub mod LinkedMixed
+pub mod WrongLinkedMixed

@@ -35,11 +35,11 @@ use Rattle.promises.proofs.ServicesAcross.{services-across}
 use Rattle.promises.proofs.LinkedReplying3.{receives}
 
 -- a service that is asked for
-in-numbers : (b : Bool) → availabilityNumber (cond b Available Unavailable) ≡ cond {A = ℕ} b 2 1
+pub in-numbers : (b : Bool) → availabilityNumber (cond b Available Unavailable) ≡ cond {A = ℕ} b 2 1
 in-numbers true = refl
 in-numbers false = refl
 
-service-is : (i ws : List ℕ) (k id x : ℕ) → serviceNumber i ws k id ≡ x → ServiceIs i ws k id x
+pub service-is : (i ws : List ℕ) (k id x : ℕ) → serviceNumber i ws k id ≡ x → ServiceIs i ws k id x
 service-is i ws k id x e y a n f p ei ew ek ed =
     p ∙ ap₂ (λ (v w : List ℕ). serviceNumber v w (a .1 .1 .0) (a .1 .1 .1 .0)) ei ew ∙ ap₂ (serviceNumber i ws) ek ed ∙ e
 

@@ -28,24 +28,24 @@ use Rattle.promises.proofs.Services.{services}
 use Rattle.promises.proofs.WrongServices.{numbered, five, twice, more, kempt}
 
 -- platforms 7 and 8 speak Issue 3, and 7 is UP; we are platform 1, and the table is empty
-abbrev both : List ℕ
+abbrev pub both : List ℕ
 both = 0x180 ∷ 0 ∷ 0 ∷ 0 ∷ []
 
 abbrev up : Standing
 up = record { states = record { w0 = 0x80; w1 = 0; w2 = 0; w3 = 0 }; next = 0 }
 
-abbrev telling : ℕ → List ℕ → List ℕ
+abbrev pub telling : ℕ → List ℕ → List ℕ
 telling k payload = messageFrom k 3 payload
 
-abbrev goingDown : ℕ → List ℕ
+abbrev pub goingDown : ℕ → List ℕ
 goingDown k = messageFrom k 1 (bytes 2 0 ++ bytes 2 0)
 
 -- platform 7 tells of services
-tells7 : (payload : List ℕ) → TellsOf both (telling 7 payload) 7
+pub tells7 : (payload : List ℕ) → TellsOf both (telling 7 payload) 7
 unfolding isThree bitIn
 tells7 payload = ((λ e. omega arith, refl), ((refl, refl), refl))
 
-down7 : DownOf 1 both up (goingDown 7) 7
+pub down7 : DownOf 1 both up (goingDown 7) 7
 unfolding isThree bitIn isUp bitOf wordOf
 down7 = ((λ e. omega arith, refl), ((refl, (refl, (refl, refl))), refl))
 
@@ -63,7 +63,7 @@ no-drops h =
     omega arith
 
 -- one place left and two new services: 63, and the first is noted
-abbrev almost : List ℕ
+abbrev pub almost : List ℕ
 almost = full 255 ++ (0 ∷ [])
 
 no-notes-some : ¬ (KeepsServices (callBy notingSome))
@@ -98,7 +98,7 @@ no-one-block h =
     omega arith
 
 -- platform 7 goes DOWN: service 5 of platform 8 is marked
-abbrev five-of-8 : List ℕ
+abbrev pub five-of-8 : List ℕ
 five-of-8 = replicate 256 0 ++ (wordFor 5 1 ∷ replicate 255 0)
 
 no-marks-all : ¬ (KeepsServices (callBy markingAll))
@@ -110,7 +110,7 @@ no-marks-all h =
     omega arith
 
 -- platform 7 goes DOWN: its service 5 is not known any more
-abbrev five-of-7 : List ℕ
+abbrev pub five-of-7 : List ℕ
 five-of-7 = wordFor 5 1 ∷ replicate 255 0
 
 no-forgets : ¬ (KeepsServices (callBy forgetting))

@@ -99,3 +99,5 @@ pub mod MixedResponses
 pub mod MixedAsked
 pub mod WrongMixedResponses
 pub mod MixedTurns
+pub mod LinkedMixed
+pub mod WrongLinkedMixed
