@@ -1,5 +1,5 @@
-mod Readings
 pub mod Issues
+mod Readings
 pub mod NoCrossing
 pub mod ByByteTwo
 mod OursLaws
@@ -14,3 +14,6 @@ pub mod Settling
 mod Calls
 mod OnTables
 pub mod AsBefore
+mod Calls
+mod CallsThree
+mod OnTables

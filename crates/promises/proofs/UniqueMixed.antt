@@ -11,6 +11,7 @@ unique-mixed =
       is-sent = λ k a z z′ e e′ p q. p ∙ sym q;
       noted = λ k a z z′ e e′ p q. p ∙ sym q;
       reaction-to = λ k a z z′ e e′ p q. p ∙ sym q;
+      form-of = λ k a z z′ e e′ p q. p ∙ sym q;
       read = λ k a z z′ e e′ p q. p ∙ sym q;
       payload = λ k a z z′ e e′ p q. p ∙ sym q;
       receive-within = λ k a z z′ e e′ p q. p .0 ∙ sym (q .0);

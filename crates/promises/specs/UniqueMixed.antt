@@ -8,6 +8,7 @@ use Rattle.platform.proofs.entry_of.Reads.{Post as platform-entry-of}
 use Rattle.platform.proofs.is_sent.Reads.{Post as platform-is-sent}
 use Rattle.platform.proofs.noted.Reads.{Post as platform-noted}
 use Rattle.platform.proofs.reaction_to.Reads.{Post as platform-reaction-to}
+use Rattle.mixed.proofs.form_of.Reads.{Post as mixed-form-of}
 use Rattle.mixed.proofs.read.Reads.{Post as mixed-read}
 use Rattle.mixed.proofs.payload.Reads.{Post as mixed-payload}
 use Rattle.mixed.proofs.receive_within.Reads.{Post as mixed-receive-within}
@@ -24,6 +25,7 @@ pub record UniqueMixed : Type 0 where
   pub is-sent : Answer platform-is-sent
   pub noted : Answer platform-noted
   pub reaction-to : Answer platform-reaction-to
+  pub form-of : Answer mixed-form-of
   pub read : Answer mixed-read
   pub payload : Same mixed-payload (λ k z e. now z)
   pub receive-within : Answer mixed-receive-within
