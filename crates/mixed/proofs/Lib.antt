@@ -11,8 +11,6 @@ mod Kept
 mod Receipts
 pub mod Deeds
 pub mod Settling
-mod Calls
-mod OnTables
 pub mod AsBefore
 mod Calls
 mod CallsThree
