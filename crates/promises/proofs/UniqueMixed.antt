@@ -10,7 +10,6 @@ unique-mixed =
       entry-of = λ k a z z′ e e′ p q. p ∙ sym q;
       is-sent = λ k a z z′ e e′ p q. p ∙ sym q;
       noted = λ k a z z′ e e′ p q. p ∙ sym q;
-      reaction-to = λ k a z z′ e e′ p q. p ∙ sym q;
       form-of = λ k a z z′ e e′ p q. p ∙ sym q;
       read = λ k a z z′ e e′ p q. p ∙ sym q;
       payload = λ k a z z′ e e′ p q. p ∙ sym q;

@@ -7,7 +7,6 @@ use Rattle.message3.proofs.put_platform_header.Reads.{Post as message3-put-plat
 use Rattle.platform.proofs.entry_of.Reads.{Post as platform-entry-of}
 use Rattle.platform.proofs.is_sent.Reads.{Post as platform-is-sent}
 use Rattle.platform.proofs.noted.Reads.{Post as platform-noted}
-use Rattle.platform.proofs.reaction_to.Reads.{Post as platform-reaction-to}
 use Rattle.mixed.proofs.form_of.Reads.{Post as mixed-form-of}
 use Rattle.mixed.proofs.read.Reads.{Post as mixed-read}
 use Rattle.mixed.proofs.payload.Reads.{Post as mixed-payload}
@@ -24,7 +23,6 @@ pub record UniqueMixed : Type 0 where
   pub entry-of : Answer platform-entry-of
   pub is-sent : Answer platform-is-sent
   pub noted : Answer platform-noted
-  pub reaction-to : Answer platform-reaction-to
   pub form-of : Answer mixed-form-of
   pub read : Answer mixed-read
   pub payload : Same mixed-payload (λ k z e. now z)
