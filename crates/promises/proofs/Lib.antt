@@ -160,3 +160,8 @@ pub mod MixedTurns
 mod SomeMixed
 pub mod LinkedMixed
 pub mod WrongLinkedMixed
+mod MixedNextFits
+mod SendsAlong
+mod MixedRequestsAlong
+mod OneMixedRun
+pub mod MixedRequestRuns

@@ -40,7 +40,7 @@ runs-along own p l m (c ∷ cs) same fits h =
 from-fresh : (own : ℕ) (cs : List RequestCall) → AllFair cs → RunsAlong own (freshStanding own) freshList emptyMap cs
 from-fresh own cs h = runs-along own (freshStanding own) freshList emptyMap cs fresh-like (omega arith) h
 
-like-same : (l : List ℕ) (m w : Map) → SameMap m w → LikeMap l m → LikeMap l w
+pub like-same : (l : List ℕ) (m w : Map) → SameMap m w → LikeMap l m → LikeMap l w
 like-same l m w same like =
     record { whole = like .whole; once = like .once; looked = λ n. like .looked n ∙ same .everywhere n; counted = like .counted ∙ same .counts }
 
@@ -51,20 +51,20 @@ same-runs own cs xs m h r =
     (from-fresh own cs h .goes) r
 
 -- each call does one turn with the list, or none
-record TurnsOf (l after : List ℕ) : Type 0 where
-  turns : List Turn
-  narrow : AllNarrow turns
-  makes : after ≡ listAfterAll l turns
+pub record TurnsOf (l after : List ℕ) : Type 0 where
+  pub turns : List Turn
+  pub narrow : AllNarrow turns
+  pub makes : after ≡ listAfterAll l turns
 
-more-narrow : (ts us : List Turn) → AllNarrow ts → AllNarrow us → AllNarrow (ts ++ us)
+pub more-narrow : (ts us : List Turn) → AllNarrow ts → AllNarrow us → AllNarrow (ts ++ us)
 more-narrow [] us a b = b
 more-narrow (t ∷ ts) us a b = (a .0, more-narrow ts us (a .1) b)
 
-after-more : (l : List ℕ) (ts us : List Turn) → listAfterAll (listAfterAll l ts) us ≡ listAfterAll l (ts ++ us)
+pub after-more : (l : List ℕ) (ts us : List Turn) → listAfterAll (listAfterAll l ts) us ≡ listAfterAll l (ts ++ us)
 after-more l [] us = refl
 after-more l (t ∷ ts) us = after-more (turnAfter l t) ts us
 
-turn-of : (own : ℕ) (p : Standing) (l : List ℕ) (c : RequestCall) → p .next < 2 ^ 32 → Fair c → TurnsOf l (ourLeaves own p l c)
+pub turn-of : (own : ℕ) (p : Standing) (l : List ℕ) (c : RequestCall) → p .next < 2 ^ 32 → Fair c → TurnsOf l (ourLeaves own p l c)
 turn-of own p l (send t s words id target payload out) fits h =
     go (sendRefusal l (kindIn t s words id) id payload (length out))
   where

@@ -60,7 +60,7 @@ by-map {own} {p} {l} {m} {c} x g e k =
     record { after = x .after; goes = subst (λ (y : Shown). MapCall own p m c (record { seen = y; after = x .after })) e g; like = k }
 
 -- what a map says is asked under a number
-asks-it : (a : Asked) (id sender : ℕ) → asks a id sender ≡ true → a ≡ Of id sender
+pub asks-it : (a : Asked) (id sender : ℕ) → asks a id sender ≡ true → a ≡ Of id sender
 asks-it (Of i t) id sender e =
     let h : (eqb i id ≡ true) × (eqb t sender ≡ true) = both (eqb i id) (eqb t sender) e in
     ap₂ Of (eqb-true i id (h .0)) (eqb-true t sender (h .1))

@@ -101,3 +101,5 @@ pub mod WrongMixedResponses
 pub mod MixedTurns
 pub mod LinkedMixed
 pub mod WrongLinkedMixed
+pub mod MixedRequestCalls
+pub mod MixedRequestRuns
