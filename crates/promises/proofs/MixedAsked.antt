@@ -1,6 +1,6 @@
 -- A request asked in the issue that the other speaks, heard there, and answered.
 -- Assumes nothing.
-use Prim.Native.Nat.{ℕ, _+_, _%_, _^_, _≤_, _<_}
+use Prim.Native.Nat.{ℕ, _+_, _^_, _≤_, _<_}
 use mathlib.Core.Path.{_≡_, refl, sym, ap, subst, _∙_}
 use mathlib.Core.Bool.{Bool, true, false, cond}
 use mathlib.Core.List.{List}
@@ -13,15 +13,15 @@ use Rattle.wire.proofs.Runs.{part-in}
 use Rattle.table.specs.declared.Sections.{Sections}
 use Rattle.table.specs.declared.Checked.the-variants.{Table}
 use Rattle.types.specs.Table.{checked}
+use Rattle.operations.specs.Entries.{opPlace, kindAt}
 use Rattle.message.specs.declared.Message.the-variants as message
 use Rattle.message.specs.Writing.{headerFor, messageBytes, leftBy, answered}
 use Rattle.message3.specs.declared.Stamp.{Stamp}
-use Rattle.message3.specs.declared.Header3.{Header3}
 use Rattle.message3.specs.declared.Message3.the-variants as message3
 use Rattle.message3.specs.Refusal.{writeRefusal3}
 use Rattle.message3.specs.Writing.{headerFor3, messageBytes3}
 use Rattle.message3.proofs.Accepted as issue3
-use Rattle.message3.proofs.RoundTrip.{Fields, reads-back, front}
+use Rattle.message3.proofs.RoundTrip.{reads-back, front}
 use Rattle.partners.specs.Threes.{isThree}
 use Rattle.mixed.specs.Reading.{anyOf}
 use Rattle.mixed.proofs.NoCrossing.{all-of-six, all-of-three}
@@ -42,14 +42,16 @@ use Rattle.requests.proofs.Sends.{given-is, sent-so, entered-so}
 use Rattle.platform.specs.declared.reactions.Standing.{Standing}
 use Rattle.promises.specs.RequestCalls.{HasKind}
 use Rattle.promises.specs.MixedSending.{ToSend, ourAsking, issueIn}
-use Rattle.promises.specs.MixedResponses.{ToReceive, ourAnyReceiving, idOf, numberOf, senderOf, readAs, ComesAs, DeliversAny, RefusesAny, IsPending}
-use Rattle.promises.specs.MixedAsked.{headOf, inThree, StampFits, headerIn, replyIn, CanAskAny, itsNumber, askedBytes, waitingFor, AskedInIssue}
+use Rattle.promises.specs.MixedResponses.{ToReceive, ourAnyReceiving, AnyHeader, idOf, numberOf, readAs, ComesAs, DeliversAny, RefusesAny, IsPending}
+use Rattle.promises.specs.MixedAsked.{headOf, inThree, StampFits, headerIn, replyIn, CanAskAny, askedBytes, waitingFor, AskedInIssue}
 use Rattle.promises.specs.MixedAsked.{MixedAsked}
 use Rattle.promises.proofs.SentFor.{number-small, in-front}
-use Rattle.promises.proofs.AskedAndAnswered.{Crosses, crosses, writes}
+use Rattle.promises.proofs.AskedAndAnswered.{crosses, writes}
 use Rattle.promises.proofs.NewRequest.{is-awaited, no-longer}
 use Rattle.promises.proofs.MixedReceipts.{heard-as}
 use Rattle.promises.proofs.MixedResponses.{mixed-responses}
+use Rattle.promises.proofs.RequestTables.{one-entry}
+use Rattle.promises.proofs.OneMixedRun.{one-reading}
 
 -- writing, by the issue
 writes-3 : (id : ℕ) (payload : List ℕ) (room : ℕ) → length payload < 2 ^ 32 → 24 + length payload ≤ room → writeRefusal3 1 id payload room ≡ 0
@@ -104,6 +106,17 @@ pending-is (Three t) own id n payload l e = e
 is-pending : (issue : Issue) (own id n : ℕ) (payload l : List ℕ) → IsPending l (headerIn issue own id n payload) → awaitedOf l n ≡ Of id own
 is-pending Six own id n payload l e = e
 is-pending (Three t) own id n payload l e = e
+
+-- what is served is no response
+no-response : (y : ToReceive) (r : Sections) (g : AnyHeader) (j len : ℕ) → ComesAs y r g 3 j len
+    → (h : AnyHeader) (i size : ℕ) → ¬ (ComesAs y r h 2 i size)
+no-response y r g j len c h i size d =
+    let same : g ≡ h = one-reading g h len size (sym (c .read) ∙ d .read) .0 in
+    let entry : j ≡ i =
+    one-entry (y .table) r (c .is-table) j i (c .has .there) (d .has .there) (c .has .named ∙ ap idOf same ∙ sym (d .has .named)) in
+    let z : _≡_ {A = ℕ} 3 2 =
+    sym (c .has .kinded) ∙ ap (λ (k : ℕ). kindAt (y .table) (opPlace (y .table) (r .operations .at) k)) entry ∙ d .has .kinded in
+    omega arith
 
 -- the issue that the target speaks
 issue-by : (b : Bool) (t : Stamp) → inThree (cond b (Three t) Six) ≡ b
@@ -216,6 +229,8 @@ module _ (x : ToSend) (c : CanAskAny x) where
             ∙ ap (Under n) (length-is (issueIn x) (x .payload));
         hears = λ y r j q l a b f e k.
             heard-as y r (headerIn (issueIn x) (x .own) (x .id) n (x .payload)) 3 j (length (x .payload)) (hears y r j a b f e k) (λ z. omega arith) q l;
+        unlisted = λ y r j q l a b f e k.
+            mixed-responses .stays y r q l l e (no-response y r _ j (length (x .payload)) (hears y r j a b f e k)) .0;
         handed =
             ap (λ (m : List ℕ). part m (headOf (issueIn x)) (length (x .payload))) asked-is ∙ part-is (issueIn x) (x .own) (x .id) n (x .payload);
         answers = λ issue y r j p response outB a b f fits e k size room. answers issue y r j response outB a b f fits e k size room p;

@@ -210,12 +210,6 @@ module _ (x : ToReceive) (s : Sections) (e : checked (x .table) ≡ Table s) whe
           (x .services) (length (x .out)))
           its-entry
 
-      pub three-unlisted : (p : Standing) (l : List ℕ) → ourAnyReceiving .list x p l ≡ l
-      unfolding anyListOf
-      three-unlisted p l =
-          list-is p l ∙ ap (anyListOf (x .own) (x .table) s index l (x .bytes)) r
-          ∙ no-if (responded l (h .sequence) (h .id) (h .platform)) l no
-
 -- of either issue
 module _ (x : ToReceive) (s : Sections) where
   by-issue : (b : Bool) (p : Standing) (h : Header) (i len : ℕ)

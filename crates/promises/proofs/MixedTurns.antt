@@ -1,7 +1,7 @@
 -- What a mixed call does with the list of pending requests is a turn of request 1's, or nothing.
 -- Assumes nothing.
 use Prim.Native.Nat.{ℕ}
-use mathlib.Core.Path.{_≡_, refl, sym, ap, subst, _∙_}
+use mathlib.Core.Path.{_≡_, refl, sym, subst}
 use mathlib.Core.Bool.{Bool, true, false, cond}
 use mathlib.Core.List.{List}
 use Rattle.table.specs.declared.Sections.{Sections}
@@ -10,9 +10,8 @@ use Rattle.types.specs.Table.{checked}
 use Rattle.pending.specs.Answers.{isResponse}
 use Rattle.pending.specs.Turns.{whether}
 use Rattle.platform.specs.declared.reactions.Standing.{Standing}
-use Rattle.mixed.specs.declared.AnyReceived.{AnyReceived}
 use Rattle.mixed.specs.Receiving.{refusedAny}
-use Rattle.promises.specs.MixedResponses.{ToReceive, ourAnyReceiving, AnyHeader, idOf, numberOf, senderOf, responseAs}
+use Rattle.promises.specs.MixedResponses.{ToReceive, AnyHeader, idOf, numberOf, senderOf, responseAs}
 use Rattle.promises.specs.MixedTurns.{AnsweredBy, delivered, not-awaited, ReceiveTurn, arrives, passes, MixedTurns}
 use Rattle.promises.proofs.MixedReceipts.{judged, listed-by}
 use Rattle.promises.proofs.AnyReceipts.{AnyReceipt, response, other, receipt-of}

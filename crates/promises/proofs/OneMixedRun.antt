@@ -25,7 +25,7 @@ abbrev SameOnAny : OnMapAny → OnMapAny → Type 0
 SameOnAny x y = (x .seen ≡ y .seen) × SameMap (x .after) (y .after)
 
 -- a message is read in one way, of either issue
-one-reading : (h k : AnyHeader) (len size : ℕ) → readAs h len ≡ readAs k size → (h ≡ k) × (len ≡ size)
+pub one-reading : (h k : AnyHeader) (len size : ℕ) → readAs h len ≡ readAs k size → (h ≡ k) × (len ≡ size)
 one-reading (ofSix h) (ofSix k) len size e =
     let a : h ≡ k = cc in
     let b : len ≡ size = cc in

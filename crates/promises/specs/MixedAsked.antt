@@ -21,7 +21,7 @@ use Rattle.requests.specs.declared.Sent.the-variants.{Under}
 use Rattle.platform.specs.declared.reactions.Standing.{Standing}
 use Rattle.promises.specs.RequestCalls.{HasKind}
 use Rattle.promises.specs.MixedSending.{ToSend, ourAsking, issueIn, Narrow}
-use Rattle.promises.specs.MixedResponses.{ToReceive, ourAnyReceiving, AnyHeader, ofSix, ofThree, startOf, operationAs, DeliversAny, RefusesAny}
+use Rattle.promises.specs.MixedResponses.{ToReceive, ourAnyReceiving, AnyHeader, ofSix, ofThree, operationAs, DeliversAny, RefusesAny}
 
 -- 000 and 001, Table 2: how long the header is; whether it is Issue 3; its timestamp is as wide as its fields
 abbrev pub headOf : Issue → ℕ
@@ -89,6 +89,9 @@ pub record AskedInIssue (x : ToSend) : Type 0 where
       → isThree (y .partners) (x .own) ≡ isThree (x .partners) (x .target) → checked (y .table) ≡ Table r → HasKind (y .table) r (x .id) 3 j
       → ourAnyReceiving .outcome y q l
       ≡ record { standing = q; answer = operationAs (headerIn (issueIn x) (x .own) (x .id) (itsNumber x) (x .payload)) j (length (x .payload)) }
+  pub unlisted : (y : ToReceive) (r : Sections) (j : ℕ) (q : Standing) (l : List ℕ) → y .own ≡ x .target → y .bytes ≡ askedBytes x
+      → isThree (y .partners) (x .own) ≡ isThree (x .partners) (x .target) → checked (y .table) ≡ Table r → HasKind (y .table) r (x .id) 3 j
+      → ourAnyReceiving .list y q l ≡ l
   pub handed : part (askedBytes x) (headOf (issueIn x)) (length (x .payload)) ≡ x .payload
   -- the answer comes in an issue that the asker has the other in: it is the response, and a second copy is 61; the asker may have another
   -- table, and another set-up, by then

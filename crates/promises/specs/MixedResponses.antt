@@ -1,6 +1,6 @@
 -- 02, request 8, and request 1's responses: what a domain 1 message with a kind 2 ID comes to among partners of both issues, whichever it came
 -- in: it is the response to a request that is pending, or is refused with 61. It is said of any program that receives, so that wrong ones can be
--- shown not to meet it (WrongMixedRuns). The theorem is in proofs/MixedResponses.antt.
+-- shown not to meet it (WrongMixedResponses). The theorem is in proofs/MixedResponses.antt.
 use Prim.Native.Nat.{ℕ, _-_}
 use mathlib.Core.Path.{_≡_}
 use mathlib.Core.List.{List}

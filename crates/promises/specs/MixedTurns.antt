@@ -1,14 +1,14 @@
 -- 02, requests 1 and 8: what a mixed call does with the list of pending requests is a turn of request 1's, or nothing. "Over any calls the list
--- answers as a plain map does" is said of any such turns (`Requests .as-map`, `.map-runs`, `.kempt`). The theorem is in proofs/MixedTurns.antt.
+-- answers as a plain map does" is said of any such turns (`Requests .as-map`, `.map-runs`, `.kempt`), and of any calls in specs/MixedRequestRuns. The
+-- theorem is in proofs/MixedTurns.antt.
 use Prim.Native.Nat.{ℕ}
 use mathlib.Core.Path.{_≡_}
-use mathlib.Core.Bool.{Bool, true, false, cond}
+use mathlib.Core.Bool.{true, false}
 use mathlib.Core.List.{List}
 use Rattle.table.specs.declared.Sections.{Sections}
 use Rattle.table.specs.declared.Checked.the-variants.{Table}
 use Rattle.types.specs.Table.{checked}
 use Rattle.pending.specs.Turns.{Told, whether, request, arrival, listAfter, listTells}
-use Rattle.requests.specs.declared.Sent.the-variants.{Refused, Under}
 use Rattle.requests.specs.Sending.{leftBy}
 use Rattle.platform.specs.declared.reactions.Standing.{Standing}
 use Rattle.mixed.specs.declared.AnyReceived.{AnyReceived}
