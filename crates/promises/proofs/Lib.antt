@@ -165,3 +165,4 @@ mod SendsAlong
 mod MixedRequestsAlong
 mod OneMixedRun
 pub mod MixedRequestRuns
+pub mod WrongMixedListings

@@ -138,7 +138,8 @@ module _ (own : ℕ) (p : Standing) (l : List ℕ) (m : Map) (same : LikeMap l m
     responds-along : (h : AnyHeader) (i len : ℕ) → ComesAs x s h 2 i len → AlongAny own p l m call
     responds-along h i len r = go (isResponse l (numberOf h) (idOf h) (senderOf h)) refl
       where
-        seen : (y : AnyReceived) → ourAnyReceiving .outcome x p l ≡ y → shownAny (ofAny (y .answer)) out services (y .standing) ≡ shownReceived p l x
+        seen : (y : AnyReceived) → ourAnyReceiving .outcome x p l ≡ y
+            → shownAny (ofAny (y .answer)) out services (y .standing) ≡ shownReceived ourAnyReceiving p l x
         seen y q =
             ap (λ (z : AnyReceived). shownAny (ofAny (z .answer)) out services (z .standing)) (sym q)
             ∙ ap₂
@@ -165,7 +166,7 @@ module _ (own : ℕ) (p : Standing) (l : List ℕ) (m : Map) (same : LikeMap l m
         go : AnyReceipt x s → AlongAny own p l m call
         go (response h i len r) = responds-along h i len r
         go (other absent quiet stays) =
-            by-map (record { seen = shownReceived p freshList x; after = m }) (passes absent)
+            by-map (record { seen = shownReceived ourAnyReceiving p freshList x; after = m }) (passes absent)
             (ap
             (λ (y : AnyReceived). shownAny (ofAny (y .answer)) (ourAnyReceiving .output x p l) (ourAnyReceiving .kept x p l) (y .standing))
             (quiet p freshList l))

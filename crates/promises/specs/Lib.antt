@@ -103,3 +103,4 @@ pub mod LinkedMixed
 pub mod WrongLinkedMixed
 pub mod MixedRequestCalls
 pub mod MixedRequestRuns
+pub mod WrongMixedListings

@@ -13,8 +13,8 @@ use Rattle.message3.specs.declared.Stamp.{Stamp}
 use Rattle.platform.specs.declared.reactions.Standing.{Standing}
 use Rattle.mixed.specs.declared.AnyAnswer.{AnyAnswer}
 use Rattle.promises.specs.RequestCalls.{kindIn, RequestCall, Fair, Said, ofSend, Shown, ourShows, ourLeaves}
-use Rattle.promises.specs.MixedSending.{ToSend, ourAsking}
-use Rattle.promises.specs.MixedResponses.{ToReceive, ourAnyReceiving}
+use Rattle.promises.specs.MixedSending.{ToSend, Asking, ourAsking}
+use Rattle.promises.specs.MixedResponses.{ToReceive, AnyReceiving, ourAnyReceiving}
 
 -- a call of request 1's; a request in its target's issue: the timestamp, who speaks Issue 3, and the rest as in request 1; any bytes as a message
 -- in its sender's issue
@@ -81,38 +81,44 @@ arriving own stamp composite partners ours t services message out =
       out = out;
     }
 
--- what is seen of sending and receiving so
-abbrev pub shownSent : Standing → ToSend → ShownAny
-shownSent p x =
-    shownAny (asBefore (ofSend (ourAsking .answers x .answer))) (ourAsking .outputs x) []
-    (record { states = p .states; next = ourAsking .answers x .next })
+-- what is seen of sending and receiving so, by a program, ours or any other
+abbrev pub shownSent : Asking → Standing → ToSend → ShownAny
+shownSent P p x =
+    shownAny (asBefore (ofSend (P .answers x .answer))) (P .outputs x) [] (record { states = p .states; next = P .answers x .next })
 
-abbrev pub shownReceived : Standing → List ℕ → ToReceive → ShownAny
-shownReceived p l x =
-    shownAny (ofAny (ourAnyReceiving .outcome x p l .answer)) (ourAnyReceiving .output x p l) (ourAnyReceiving .kept x p l)
-    (ourAnyReceiving .outcome x p l .standing)
+abbrev pub shownReceived : AnyReceiving → Standing → List ℕ → ToReceive → ShownAny
+shownReceived R p l x = shownAny (ofAny (R .outcome x p l .answer)) (R .output x p l) (R .kept x p l) (R .outcome x p l .standing)
 
--- a program that keeps requests in a list, ours or any other: what is seen of a call, and the list after it
+-- a program that keeps requests in a list: what is seen of a call, and the list after it
 pub record AnyListing : Type 0 where
   pub shows : ℕ → Standing → List ℕ → MixedCall → ShownAny
   pub leaves : ℕ → Standing → List ℕ → MixedCall → List ℕ
 
+abbrev pub showsOf : Asking → AnyReceiving → ℕ → Standing → List ℕ → MixedCall → ShownAny
+showsOf P R own p l (plain c) = fromShown (ourShows own p l c)
+showsOf P R own p l (sendAny stamp partners t s words id target payload out) =
+    shownSent P p (asking own p l stamp partners (kindIn t s words id) id target payload out)
+showsOf P R own p l (receiveAny stamp composite partners ours t s services message out) =
+    shownReceived R p l (arriving own stamp composite partners ours t services message out)
+
+abbrev pub leavesOf : Asking → AnyReceiving → ℕ → Standing → List ℕ → MixedCall → List ℕ
+leavesOf P R own p l (plain c) = ourLeaves own p l c
+leavesOf P R own p l (sendAny stamp partners t s words id target payload out) =
+    P .lists (asking own p l stamp partners (kindIn t s words id) id target payload out)
+leavesOf P R own p l (receiveAny stamp composite partners ours t s services message out) =
+    R .list (arriving own stamp composite partners ours t services message out) p l
+
+abbrev pub listingOf : Asking → AnyReceiving → AnyListing
+listingOf P R = record { shows = showsOf P R; leaves = leavesOf P R }
+
 abbrev pub ourAnyShows : ℕ → Standing → List ℕ → MixedCall → ShownAny
-ourAnyShows own p l (plain c) = fromShown (ourShows own p l c)
-ourAnyShows own p l (sendAny stamp partners t s words id target payload out) =
-    shownSent p (asking own p l stamp partners (kindIn t s words id) id target payload out)
-ourAnyShows own p l (receiveAny stamp composite partners ours t s services message out) =
-    shownReceived p l (arriving own stamp composite partners ours t services message out)
+ourAnyShows = showsOf ourAsking ourAnyReceiving
 
 abbrev pub ourAnyLeaves : ℕ → Standing → List ℕ → MixedCall → List ℕ
-ourAnyLeaves own p l (plain c) = ourLeaves own p l c
-ourAnyLeaves own p l (sendAny stamp partners t s words id target payload out) =
-    ourAsking .lists (asking own p l stamp partners (kindIn t s words id) id target payload out)
-ourAnyLeaves own p l (receiveAny stamp composite partners ours t s services message out) =
-    ourAnyReceiving .list (arriving own stamp composite partners ours t services message out) p l
+ourAnyLeaves = leavesOf ourAsking ourAnyReceiving
 
 abbrev pub ourAnyListing : AnyListing
-ourAnyListing = record { shows = ourAnyShows; leaves = ourAnyLeaves }
+ourAnyListing = listingOf ourAsking ourAnyReceiving
 
 -- over any calls
 abbrev pub showsAllAny : AnyListing → ℕ → Standing → List ℕ → List MixedCall → List ShownAny

@@ -23,7 +23,7 @@ use Rattle.mixed_words.specs.SendCalls.{issueFor}
 use Rattle.promises.specs.Checks.{Check, _when_, Answers}
 use Rattle.promises.specs.RequestCalls.{HasKind, RequestCall, ofSend}
 use Rattle.promises.specs.RequestRuns.{OnMap, Full, MapCall}
-use Rattle.promises.specs.MixedResponses.{AnyHeader, idOf, numberOf, senderOf, responseAs, ComesAs}
+use Rattle.promises.specs.MixedResponses.{ourAnyReceiving, AnyHeader, idOf, numberOf, senderOf, responseAs, ComesAs}
 use Rattle.promises.specs.MixedAsked.{headOf}
 use Rattle.promises.specs.MixedRequestCalls.{MixedCall, plain, sendAny, receiveAny, AllFairAny, asBefore, ofAny, ShownAny, shownAny, fromShown}
 use Rattle.promises.specs.MixedRequestCalls.{arriving, shownReceived, AnyListing, ourAnyListing, showsAllAny, leavesAllAny}
@@ -88,7 +88,7 @@ pub data MixedMapCall (own : ℕ) (p : Standing) (m : Map) : MixedCall → OnMap
   passes : {stamp : Stamp} {composite : ℕ} {partners ours t : List ℕ} {s : Sections} {services bytes out : List ℕ}
       → ((h : AnyHeader) (i len : ℕ) → ¬ (ComesAs (arriving own stamp composite partners ours t services bytes out) s h 2 i len))
       → MixedMapCall own p m (receiveAny stamp composite partners ours t s services bytes out)
-      (record { seen = shownReceived p freshList (arriving own stamp composite partners ours t services bytes out); after = m })
+      (record { seen = shownReceived ourAnyReceiving p freshList (arriving own stamp composite partners ours t services bytes out); after = m })
 
 -- over any calls: what is seen of each, and the map at the end
 pub data MixedMapCalls (own : ℕ) : Standing → Map → List MixedCall → List ShownAny → Map → Type 1 where
