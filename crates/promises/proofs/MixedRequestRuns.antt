@@ -1,18 +1,15 @@
 -- Over any calls, mixed ones among them, the list shows what the plain map shows, and stays like it.
 -- Assumes nothing.
-use Prim.Native.Nat.{ℕ, zero, suc, _^_, _<_}
+use Prim.Native.Nat.{ℕ, _^_, _<_}
 use mathlib.Core.Path.{_≡_, refl, ap, _∙_}
 use mathlib.Core.List.{List, [], _∷_, _++_}
 use native.Mathlib.Omega.{arith}
 use lib.ListN.{length}
-use Rattle.pending.specs.Places.{freePlace, enteredAt}
-use Rattle.pending.specs.Free.{nextFree}
 use Rattle.pending.specs.PlainMap.{Map, emptyMap, freshList, LikeMap}
-use Rattle.pending.specs.Turns.{request, arrival, listAfterAll, Kempt}
+use Rattle.pending.specs.Turns.{arrival, listAfterAll, Kempt}
 use Rattle.pending.proofs.AsMap.{fresh-like}
 use Rattle.pending.proofs.Turning.{kempt}
 use Rattle.pending.proofs.OneMap.{SameMap}
-use Rattle.requests.specs.Sending.{lengthFor, sendRefusalFor, answeredBy, leftBy}
 use Rattle.platform.specs.declared.reactions.Standing.{Standing}
 use Rattle.platform.specs.Receiving.{freshStanding}
 use Rattle.mixed_words.specs.SendCalls.{issueFor}
@@ -21,7 +18,7 @@ use Rattle.promises.specs.MixedResponses.{ToReceive, ourAnyReceiving, id
 use Rattle.promises.specs.MixedRequestCalls.{MixedCall, plain, sendAny, receiveAny, FairAny, AllFairAny, ShownAny, arriving, ourAnyShows}
 use Rattle.promises.specs.MixedRequestCalls.{ourAnyLeaves, ourAnyListing, showsAllAny, leavesAllAny}
 use Rattle.promises.specs.MixedRequestRuns.{MixedMapCalls, ended, then, MixedFromFresh, MixedRequestRuns}
-use Rattle.promises.proofs.RequestRuns.{like-same, TurnsOf, more-narrow, after-more, turn-of}
+use Rattle.promises.proofs.RequestRuns.{like-same, TurnsOf, more-narrow, after-more, turn-sent, turn-of}
 use Rattle.promises.proofs.MixedReceipts.{listed-by}
 use Rattle.promises.proofs.AnyReceipts.{AnyReceipt, response, other, receipt-of}
 use Rattle.promises.proofs.MixedRequestsAlong.{AlongAny, along-any, any-fits}
@@ -55,12 +52,7 @@ same-runs own cs xs m h r =
 any-turn : (own : ℕ) (p : Standing) (l : List ℕ) (c : MixedCall) → p .next < 2 ^ 32 → FairAny c → TurnsOf l (ourAnyLeaves own p l c)
 any-turn own p l (plain c) fits h = turn-of own p l c fits h
 any-turn own p l (sendAny stamp partners t s words id target payload out) fits h =
-    go (sendRefusalFor (issueFor partners stamp target) l (kindIn t s words id) id payload (length out))
-  where
-    go : (r : ℕ) → TurnsOf l (leftBy (answeredBy r (p .next) (nextFree l (p .next)) (lengthFor (issueFor partners stamp target) payload) .answer) l
-        (enteredAt l (freePlace l) (nextFree l (p .next)) id target))
-    go zero = record { turns = request (p .next) id target ∷ []; narrow = ((fits, (h .1 .1 .0, h .1 .1 .1)), tt); makes = refl }
-    go (suc r) = record { turns = []; narrow = tt; makes = refl }
+    turn-sent (issueFor partners stamp target) (p .next) l (kindIn t s words id) id target payload (length out) (fits, (h .1 .1 .0, h .1 .1 .1))
 any-turn own p l (receiveAny stamp composite partners ours t s services bytes out) fits h =
     go (arriving own stamp composite partners ours t services bytes out)
     (receipt-of (arriving own stamp composite partners ours t services bytes out) s h)

@@ -12,12 +12,11 @@ use Rattle.table.specs.declared.Sections.{Sections}
 use Rattle.table.specs.declared.Checked.the-variants.{Table}
 use Rattle.types.specs.Table.{checked}
 use Rattle.message3.specs.declared.Stamp.{Stamp}
-use Rattle.pending.specs.declared.Asked.{Asked}
 use Rattle.pending.specs.Places.{freePlace, enteredAt}
 use Rattle.pending.specs.Free.{nextFree}
 use Rattle.pending.specs.Answers.{cancelled, isResponse}
-use Rattle.pending.specs.PlainMap.{Map, asks, inserted, deleted, freshList, LikeMap}
-use Rattle.pending.proofs.AsMap.{response-by, cancelled-like}
+use Rattle.pending.specs.PlainMap.{Map, inserted, deleted, freshList, LikeMap}
+use Rattle.pending.proofs.AsMap.{cancelled-like}
 use Rattle.requests.specs.declared.Issue.{Issue}
 use Rattle.requests.specs.declared.Issue.the-variants.{Six, Three}
 use Rattle.requests.specs.declared.Sent.the-variants as sent
@@ -36,7 +35,7 @@ use Rattle.promises.specs.MixedRequestCalls.{arriving, shownReceived, ou
 use Rattle.promises.specs.MixedRequestRuns.{OnMapAny, mapChecksAny, refusedOnAny, bytesIn, sentOnAny}
 use Rattle.promises.specs.MixedRequestRuns.{MixedMapCall, as-one, sends, delivers, refuses, passes}
 use Rattle.promises.proofs.Requests.{requests}
-use Rattle.promises.proofs.RequestsAlong.{AlongCall, along-call, asks-it, call-fits}
+use Rattle.promises.proofs.RequestsAlong.{AlongCall, along-call, asks-it, asked-same, sent-fits, call-fits}
 use Rattle.promises.proofs.SendsAlong.{byNumber, free-on, order-for, like-sent}
 use Rattle.promises.proofs.MixedReceipts.{judged, out-stays, listed-by, words-stay}
 use Rattle.promises.proofs.AnyReceipts.{AnyReceipt, response, other, receipt-of}
@@ -124,9 +123,6 @@ module _ (own : ℕ) (p : Standing) (l : List ℕ) (m : Map) (same : LikeMap l m
                   (like-sent l m same (p .next) t s e words room id payload (length out) issue target fits small q);
             }
 
-  asked-same : (x id sender : ℕ) → isResponse l x id sender ≡ asks (m .under x) id sender
-  asked-same x id sender = response-by l x id sender ∙ ap (λ (a : Asked). asks a id sender) (same .looked x)
-
   -- a message arrives
   module _ (stamp : Stamp) (composite : ℕ) (partners ours t : List ℕ) (s : Sections) (services bytes out : List ℕ) (e : checked t ≡ Table s) where
     abbrev x : ToReceive
@@ -149,7 +145,7 @@ module _ (own : ℕ) (p : Standing) (l : List ℕ) (m : Map) (same : LikeMap l m
         go : (b : Bool) → isResponse l (numberOf h) (idOf h) (senderOf h) ≡ b → AlongAny own p l m call
         go true q =
             by-map (record { seen = shownAny (ofAny (responseAs h i len)) out services p; after = deleted m (numberOf h) })
-            (delivers r (asks-it (m .under (numberOf h)) (idOf h) (senderOf h) (sym (asked-same (numberOf h) (idOf h) (senderOf h)) ∙ q)))
+            (delivers r (asks-it (m .under (numberOf h)) (idOf h) (senderOf h) (sym (asked-same own p l m same (numberOf h) (idOf h) (senderOf h)) ∙ q)))
             (seen (record { standing = p; answer = responseAs h i len }) (judged x s i len h r p l ∙ yes-if {A = AnyReceived} _ (refusedAny p 61) q))
             (subst (λ (y : List ℕ). LikeMap y (deleted m (numberOf h))) (sym (listed-by x s i len h r p l ∙ yes-if (cancelled l (numberOf h)) l q))
             (cancelled-like l m same (numberOf h)))
@@ -187,10 +183,6 @@ module _ (own : ℕ) (p : Standing) (l : List ℕ) (m : Map) (same : LikeMap l m
 pub any-fits : (own : ℕ) (p : Standing) (l : List ℕ) (c : MixedCall) → p .next < 2 ^ 32 → FairAny c → ourAnyShows own p l c .standing .next < 2 ^ 32
 any-fits own p l (plain c) fits h = call-fits own p l c fits h
 any-fits own p l (sendAny stamp partners t s words id target payload out) fits h =
-    go (sendRefusalFor (issueFor partners stamp target) l (kindIn t s words id) id payload (length out))
-  where
-    go : (r : ℕ) → answeredBy r (p .next) (nextFree l (p .next)) (lengthFor (issueFor partners stamp target) payload) .next < 2 ^ 32
-    go zero = omega arith
-    go (suc r) = fits
+    sent-fits (issueFor partners stamp target) (p .next) l (kindIn t s words id) id payload (length out) fits
 any-fits own p l (receiveAny stamp composite partners ours t s services bytes out) fits h =
     mixed-next-fits (arriving own stamp composite partners ours t services bytes out) s h p l fits
