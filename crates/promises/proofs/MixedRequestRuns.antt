@@ -15,7 +15,7 @@ use Rattle.platform.specs.Receiving.{freshStanding}
 use Rattle.mixed_words.specs.SendCalls.{issueFor}
 use Rattle.promises.specs.RequestCalls.{kindIn}
 use Rattle.promises.specs.MixedResponses.{ToReceive, ourAnyReceiving, idOf, numberOf, senderOf}
-use Rattle.promises.specs.MixedRequestCalls.{MixedCall, plain, sendAny, receiveAny, FairAny, AllFairAny, ShownAny, arriving, ourAnyShows}
+use Rattle.promises.specs.MixedRequestCalls.{AnyCall, plain, sendAny, receiveAny, FairAny, AllFairAny, ShownAny, arriving, ourAnyShows}
 use Rattle.promises.specs.MixedRequestCalls.{ourAnyLeaves, ourAnyListing, showsAllAny, leavesAllAny}
 use Rattle.promises.specs.MixedRequestRuns.{MixedMapCalls, ended, then, MixedFromFresh, MixedRequestRuns}
 use Rattle.promises.proofs.RequestRuns.{like-same, TurnsOf, more-narrow, after-more, turn-sent, turn-of}
@@ -25,12 +25,12 @@ use Rattle.promises.proofs.MixedRequestsAlong.{AlongAny, along-any, any
 use Rattle.promises.proofs.OneMixedRun.{one-mixed-run}
 
 -- the map that goes along with a run
-record RunsAlong (own : ℕ) (p : Standing) (l : List ℕ) (m : Map) (cs : List MixedCall) : Type 1 where
+record RunsAlong (own : ℕ) (p : Standing) (l : List ℕ) (m : Map) (cs : List AnyCall) : Type 1 where
   last : Map
   goes : MixedMapCalls own p m cs (showsAllAny ourAnyListing own p l cs) last
   like : LikeMap (leavesAllAny ourAnyListing own p l cs) last
 
-runs-along : (own : ℕ) (p : Standing) (l : List ℕ) (m : Map) (cs : List MixedCall) → LikeMap l m → p .next < 2 ^ 32 → AllFairAny cs
+runs-along : (own : ℕ) (p : Standing) (l : List ℕ) (m : Map) (cs : List AnyCall) → LikeMap l m → p .next < 2 ^ 32 → AllFairAny cs
     → RunsAlong own p l m cs
 runs-along own p l m [] same fits h = record { last = m; goes = ended; like = same }
 runs-along own p l m (c ∷ cs) same fits h =
@@ -39,17 +39,17 @@ runs-along own p l m (c ∷ cs) same fits h =
     runs-along own (ourAnyShows own p l c .standing) (ourAnyLeaves own p l c) (a .after) cs (a .like) (any-fits own p l c fits (h .0)) (h .1) in
     record { last = r .last; goes = then (a .goes) (r .goes); like = r .like }
 
-from-fresh : (own : ℕ) (cs : List MixedCall) → AllFairAny cs → RunsAlong own (freshStanding own) freshList emptyMap cs
+from-fresh : (own : ℕ) (cs : List AnyCall) → AllFairAny cs → RunsAlong own (freshStanding own) freshList emptyMap cs
 from-fresh own cs h = runs-along own (freshStanding own) freshList emptyMap cs fresh-like (omega arith) h
 
-same-runs : (own : ℕ) (cs : List MixedCall) (xs : List ShownAny) (m : Map) (h : AllFairAny cs) → MixedFromFresh own cs xs m
+same-runs : (own : ℕ) (cs : List AnyCall) (xs : List ShownAny) (m : Map) (h : AllFairAny cs) → MixedFromFresh own cs xs m
     → (showsAllAny ourAnyListing own (freshStanding own) freshList cs ≡ xs) × SameMap (from-fresh own cs h .last) m
 same-runs own cs xs m h r =
     one-mixed-run own (freshStanding own) (freshStanding own) emptyMap emptyMap cs refl (record { everywhere = λ n. refl; counts = refl }) h
     (from-fresh own cs h .goes) r
 
 -- each call does one turn with the list, or none
-any-turn : (own : ℕ) (p : Standing) (l : List ℕ) (c : MixedCall) → p .next < 2 ^ 32 → FairAny c → TurnsOf l (ourAnyLeaves own p l c)
+any-turn : (own : ℕ) (p : Standing) (l : List ℕ) (c : AnyCall) → p .next < 2 ^ 32 → FairAny c → TurnsOf l (ourAnyLeaves own p l c)
 any-turn own p l (plain c) fits h = turn-of own p l c fits h
 any-turn own p l (sendAny stamp partners t s words id target payload out) fits h =
     turn-sent (issueFor partners stamp target) (p .next) l (kindIn t s words id) id target payload (length out) (fits, (h .1 .1 .0, h .1 .1 .1))
@@ -66,7 +66,7 @@ any-turn own p l (receiveAny stamp composite partners ours t s services bytes ou
         }
     go x (other absent quiet stays) = record { turns = []; narrow = tt; makes = stays p l }
 
-any-turns : (own : ℕ) (p : Standing) (l : List ℕ) (cs : List MixedCall) → p .next < 2 ^ 32 → AllFairAny cs
+any-turns : (own : ℕ) (p : Standing) (l : List ℕ) (cs : List AnyCall) → p .next < 2 ^ 32 → AllFairAny cs
     → TurnsOf l (leavesAllAny ourAnyListing own p l cs)
 any-turns own p l [] fits h = record { turns = []; narrow = tt; makes = refl }
 any-turns own p l (c ∷ cs) fits h =
@@ -79,7 +79,7 @@ any-turns own p l (c ∷ cs) fits h =
       makes = r .makes ∙ ap (λ (x : List ℕ). listAfterAll x (r .turns)) (a .makes) ∙ after-more l (a .turns) (r .turns);
     }
 
-stays-kempt : (own : ℕ) (cs : List MixedCall) → AllFairAny cs → Kempt (leavesAllAny ourAnyListing own (freshStanding own) freshList cs)
+stays-kempt : (own : ℕ) (cs : List AnyCall) → AllFairAny cs → Kempt (leavesAllAny ourAnyListing own (freshStanding own) freshList cs)
 stays-kempt own cs h =
     let a : TurnsOf freshList (leavesAllAny ourAnyListing own (freshStanding own) freshList cs) =
     any-turns own (freshStanding own) freshList cs (omega arith) h in

@@ -30,7 +30,7 @@ use Rattle.promises.specs.Checks.{Answers}
 use Rattle.promises.specs.RequestCalls.{kindIn, ofSend}
 use Rattle.promises.specs.MixedResponses.{ToReceive, ourAnyReceiving, AnyHeader, idOf, numberOf, senderOf, responseAs, ComesAs}
 use Rattle.promises.specs.MixedAsked.{headOf}
-use Rattle.promises.specs.MixedRequestCalls.{MixedCall, plain, sendAny, receiveAny, FairAny, asBefore, ofAny, ShownAny, shownAny}
+use Rattle.promises.specs.MixedRequestCalls.{AnyCall, plain, sendAny, receiveAny, FairAny, asBefore, ofAny, ShownAny, shownAny}
 use Rattle.promises.specs.MixedRequestCalls.{arriving, shownReceived, ourAnyShows, ourAnyLeaves}
 use Rattle.promises.specs.MixedRequestRuns.{OnMapAny, mapChecksAny, refusedOnAny, bytesIn, sentOnAny}
 use Rattle.promises.specs.MixedRequestRuns.{MixedMapCall, as-one, sends, delivers, refuses, passes}
@@ -42,12 +42,12 @@ use Rattle.promises.proofs.AnyReceipts.{AnyReceipt, response, other, re
 use Rattle.promises.proofs.MixedNextFits.{mixed-next-fits}
 
 -- the map that goes along with a list
-pub record AlongAny (own : ℕ) (p : Standing) (l : List ℕ) (m : Map) (c : MixedCall) : Type 1 where
+pub record AlongAny (own : ℕ) (p : Standing) (l : List ℕ) (m : Map) (c : AnyCall) : Type 1 where
   pub after : Map
   pub goes : MixedMapCall own p m c (record { seen = ourAnyShows own p l c; after = after })
   pub like : LikeMap (ourAnyLeaves own p l c) after
 
-by-map : {own : ℕ} {p : Standing} {l : List ℕ} {m : Map} {c : MixedCall} (x : OnMapAny) → MixedMapCall own p m c x → x .seen ≡ ourAnyShows own p l c
+by-map : {own : ℕ} {p : Standing} {l : List ℕ} {m : Map} {c : AnyCall} (x : OnMapAny) → MixedMapCall own p m c x → x .seen ≡ ourAnyShows own p l c
     → LikeMap (ourAnyLeaves own p l c) (x .after) → AlongAny own p l m c
 by-map {own} {p} {l} {m} {c} x g e k =
     record { after = x .after; goes = subst (λ (y : ShownAny). MixedMapCall own p m c (record { seen = y; after = x .after })) e g; like = k }
@@ -128,7 +128,7 @@ module _ (own : ℕ) (p : Standing) (l : List ℕ) (m : Map) (same : LikeMap l m
     abbrev x : ToReceive
     x = arriving own stamp composite partners ours t services bytes out
 
-    abbrev call : MixedCall
+    abbrev call : AnyCall
     call = receiveAny stamp composite partners ours t s services bytes out
 
     responds-along : (h : AnyHeader) (i len : ℕ) → ComesAs x s h 2 i len → AlongAny own p l m call
@@ -169,7 +169,7 @@ module _ (own : ℕ) (p : Standing) (l : List ℕ) (m : Map) (same : LikeMap l m
             (subst (λ (y : List ℕ). LikeMap y m) (sym (stays p l)) same)
 
   -- any call
-  pub along-any : p .next < 2 ^ 32 → (c : MixedCall) → FairAny c → AlongAny own p l m c
+  pub along-any : p .next < 2 ^ 32 → (c : AnyCall) → FairAny c → AlongAny own p l m c
   along-any fits (plain c) h =
       let a : AlongCall own p l m c = along-call own p l m same fits c h in
       record { after = a .after; goes = as-one (a .goes); like = a .like }
@@ -180,7 +180,7 @@ module _ (own : ℕ) (p : Standing) (l : List ℕ) (m : Map) (same : LikeMap l m
       receives-along stamp composite partners ours t s services bytes out h
 
 -- the next own number stays one of 32 bits
-pub any-fits : (own : ℕ) (p : Standing) (l : List ℕ) (c : MixedCall) → p .next < 2 ^ 32 → FairAny c → ourAnyShows own p l c .standing .next < 2 ^ 32
+pub any-fits : (own : ℕ) (p : Standing) (l : List ℕ) (c : AnyCall) → p .next < 2 ^ 32 → FairAny c → ourAnyShows own p l c .standing .next < 2 ^ 32
 any-fits own p l (plain c) fits h = call-fits own p l c fits h
 any-fits own p l (sendAny stamp partners t s words id target payload out) fits h =
     sent-fits (issueFor partners stamp target) (p .next) l (kindIn t s words id) id payload (length out) fits

@@ -14,7 +14,7 @@ use Rattle.platform.specs.declared.reactions.Standing.{Standing}
 use Rattle.mixed.specs.Reading.{issueIn}
 use Rattle.mixed_words.specs.SendCalls.{issueFor}
 use Rattle.promises.specs.MixedResponses.{ToReceive, AnyHeader, ofSix, ofThree, idOf, numberOf, senderOf, readAs, responseAs, ComesAs}
-use Rattle.promises.specs.MixedRequestCalls.{MixedCall, plain, sendAny, receiveAny, FairAny, AllFairAny, ofAny, ShownAny, shownAny, fromShown}
+use Rattle.promises.specs.MixedRequestCalls.{AnyCall, plain, sendAny, receiveAny, FairAny, AllFairAny, ofAny, ShownAny, shownAny, fromShown}
 use Rattle.promises.specs.MixedRequestCalls.{arriving}
 use Rattle.promises.specs.MixedRequestRuns.{OnMapAny, sentOnAny, MixedMapCall, as-one, sends, delivers, refuses, passes}
 use Rattle.promises.specs.MixedRequestRuns.{MixedMapCalls, ended, then}
@@ -59,7 +59,7 @@ module _ (own : ℕ) (p : Standing) (m w : Map) (same : SameMap m w) where
     under-same u =
         subst (λ (y : AnyHeader). m .under (numberOf y) ≡ Of (idOf y) (senderOf y)) (sym (both .0)) (same .everywhere (numberOf k) ∙ u)
 
-  one-any : (c : MixedCall) {x y : OnMapAny} → FairAny c → MixedMapCall own p m c x → MixedMapCall own p w c y → SameOnAny x y
+  one-any : (c : AnyCall) {x y : OnMapAny} → FairAny c → MixedMapCall own p m c x → MixedMapCall own p w c y → SameOnAny x y
   one-any (plain c) fair (as-one {x = x} a) (as-one {x = y} b) =
       let o : SameOn x y = one-seen own p m w same c fair a b in
       (ap fromShown (o .0), o .1)
@@ -95,7 +95,7 @@ module _ (own : ℕ) (p : Standing) (m w : Map) (same : SameMap m w) where
   one-any (receiveAny stamp composite partners ours t s services bytes out) fair (passes u) (passes v) = (refl, same)
 
 -- over any calls
-pub one-mixed-run : (own : ℕ) (p q : Standing) (m w : Map) (cs : List MixedCall) {xs ys : List ShownAny} {v z : Map} → p ≡ q → SameMap m w
+pub one-mixed-run : (own : ℕ) (p q : Standing) (m w : Map) (cs : List AnyCall) {xs ys : List ShownAny} {v z : Map} → p ≡ q → SameMap m w
     → AllFairAny cs → MixedMapCalls own p m cs xs v → MixedMapCalls own q w cs ys z → (xs ≡ ys) × SameMap v z
 one-mixed-run own p q m w [] e same fair ended ended = (refl, same)
 one-mixed-run own p q m w (c ∷ cs) e same fair (then {x = x} a r) (then {x = y} b s) =

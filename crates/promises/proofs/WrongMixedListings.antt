@@ -37,7 +37,7 @@ use Rattle.promises.specs.MixedSending.{ourAsking}
 use Rattle.promises.specs.MixedResponses.{ourAnyReceiving}
 use Rattle.promises.specs.WrongAsking.{sixForAll}
 use Rattle.promises.specs.WrongMixedResponses.{anySender3, leftTaken}
-use Rattle.promises.specs.MixedRequestCalls.{MixedCall, plain, sendAny, receiveAny, FairAny, AllFairAny, SaidAny, asBefore, ofAny, ShownAny}
+use Rattle.promises.specs.MixedRequestCalls.{AnyCall, plain, sendAny, receiveAny, FairAny, AllFairAny, SaidAny, asBefore, ofAny, ShownAny}
 use Rattle.promises.specs.MixedRequestCalls.{AnyListing, listingOf, ourAnyListing, showsAllAny}
 use Rattle.promises.specs.MixedRequestRuns.{AsMapByAny}
 use Rattle.promises.specs.WrongMixedListings.{countedApart, NoWrongMixedListing}
@@ -64,11 +64,11 @@ last [] = 0
 last (x ∷ []) = told (x .said)
 last (x ∷ (y ∷ ys)) = last (y ∷ ys)
 
-abbrev run : AnyListing → List MixedCall → ℕ
+abbrev run : AnyListing → List AnyCall → ℕ
 run X cs = last (showsAllAny X 1 (freshStanding 1) freshList cs)
 
 -- what a wrong list says last is not what ours says
-differs : (X : AnyListing) (cs : List MixedCall) (m n : ℕ) → AllFairAny cs → run X cs ≡ m → run ourAnyListing cs ≡ n → ¬ (m ≡ n) → ¬ (AsMapByAny X)
+differs : (X : AnyListing) (cs : List AnyCall) (m n : ℕ) → AllFairAny cs → run X cs ≡ m → run ourAnyListing cs ≡ n → ¬ (m ≡ n) → ¬ (AsMapByAny X)
 differs X cs m n fair a b d by =
     d (sym a ∙ ap last (by 1 cs _ (mixed-request-runs .map-goes 1 cs fair .0) fair (mixed-request-runs .map-goes 1 cs fair .1)) ∙ b)
 
@@ -76,23 +76,23 @@ differs X cs m n fair a b d by =
 abbrev stamp : Stamp
 stamp = record { seconds = 5; nanoseconds = 6 }
 
-abbrev asked : ℕ → MixedCall
+abbrev asked : ℕ → AnyCall
 asked room = sendAny stamp (12 ∷ 0 ∷ 0 ∷ 0 ∷ []) one (with 1) (0 ∷ []) 7 2 [] (replicate room 0)
 
-abbrev comes : ℕ → MixedCall
+abbrev comes : ℕ → AnyCall
 comes sender = receiveAny stamp 0 (12 ∷ 0 ∷ 0 ∷ 0 ∷ []) [] one (with 1) [] (messageBytes3 sender stamp 1 7 1 []) []
 
 -- number 1 is drawn for Issue 6 and given up; room for 20 bytes; a response twice; a message from another platform
-abbrev drawn-before : List MixedCall
+abbrev drawn-before : List AnyCall
 drawn-before = plain (send one (with 1) (0 ∷ []) 7 4 [] (replicate 20 0)) ∷ plain (cancel 1) ∷ asked 24 ∷ []
 
-abbrev short : List MixedCall
+abbrev short : List AnyCall
 short = asked 20 ∷ []
 
-abbrev twice : List MixedCall
+abbrev twice : List AnyCall
 twice = asked 24 ∷ comes 2 ∷ comes 2 ∷ []
 
-abbrev other-sender : List MixedCall
+abbrev other-sender : List AnyCall
 other-sender = asked 24 ∷ comes 3 ∷ []
 
 runs-sent : (run ourAnyListing drawn-before ≡ 2) × (run (listingOf countedApart ourAnyReceiving) drawn-before ≡ 1) × (run ourAnyListing short ≡ 10)

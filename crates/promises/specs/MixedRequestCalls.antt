@@ -18,18 +18,18 @@ use Rattle.promises.specs.MixedResponses.{ToReceive, AnyReceiving, ourAn
 
 -- a call of request 1's; a request in its target's issue: the timestamp, who speaks Issue 3, and the rest as in request 1; any bytes as a message
 -- in its sender's issue
-pub data MixedCall : Type 0 where
-  plain : RequestCall → MixedCall
-  sendAny : (stamp : Stamp) (partners t : List ℕ) (s : Sections) (words : List ℕ) (id target : ℕ) (payload out : List ℕ) → MixedCall
-  receiveAny : (stamp : Stamp) (composite : ℕ) (partners ours t : List ℕ) (s : Sections) (services message out : List ℕ) → MixedCall
+pub data AnyCall : Type 0 where
+  plain : RequestCall → AnyCall
+  sendAny : (stamp : Stamp) (partners t : List ℕ) (s : Sections) (words : List ℕ) (id target : ℕ) (payload out : List ℕ) → AnyCall
+  receiveAny : (stamp : Stamp) (composite : ℕ) (partners ours t : List ℕ) (s : Sections) (services message out : List ℕ) → AnyCall
 
-abbrev pub FairAny : MixedCall → Type 0
+abbrev pub FairAny : AnyCall → Type 0
 FairAny (plain c) = Fair c
 FairAny (sendAny stamp partners t s words id target payload out) =
     (checked t ≡ Table s) × ((s .operations .count ≤ length words) × ((id < 2 ^ 32) × (target < 2 ^ 32)))
 FairAny (receiveAny stamp composite partners ours t s services message out) = checked t ≡ Table s
 
-abbrev pub AllFairAny : List MixedCall → Type 0
+abbrev pub AllFairAny : List AnyCall → Type 0
 AllFairAny [] = Unit {0}
 AllFairAny (c ∷ cs) = FairAny c × AllFairAny cs
 
@@ -91,17 +91,17 @@ shownReceived R p l x = shownAny (ofAny (R .outcome x p l .answer)) (R .output x
 
 -- a program that keeps requests in a list: what is seen of a call, and the list after it
 pub record AnyListing : Type 0 where
-  pub shows : ℕ → Standing → List ℕ → MixedCall → ShownAny
-  pub leaves : ℕ → Standing → List ℕ → MixedCall → List ℕ
+  pub shows : ℕ → Standing → List ℕ → AnyCall → ShownAny
+  pub leaves : ℕ → Standing → List ℕ → AnyCall → List ℕ
 
-abbrev pub showsOf : Asking → AnyReceiving → ℕ → Standing → List ℕ → MixedCall → ShownAny
+abbrev pub showsOf : Asking → AnyReceiving → ℕ → Standing → List ℕ → AnyCall → ShownAny
 showsOf P R own p l (plain c) = fromShown (ourShows own p l c)
 showsOf P R own p l (sendAny stamp partners t s words id target payload out) =
     shownSent P p (asking own p l stamp partners (kindIn t s words id) id target payload out)
 showsOf P R own p l (receiveAny stamp composite partners ours t s services message out) =
     shownReceived R p l (arriving own stamp composite partners ours t services message out)
 
-abbrev pub leavesOf : Asking → AnyReceiving → ℕ → Standing → List ℕ → MixedCall → List ℕ
+abbrev pub leavesOf : Asking → AnyReceiving → ℕ → Standing → List ℕ → AnyCall → List ℕ
 leavesOf P R own p l (plain c) = ourLeaves own p l c
 leavesOf P R own p l (sendAny stamp partners t s words id target payload out) =
     P .lists (asking own p l stamp partners (kindIn t s words id) id target payload out)
@@ -111,20 +111,20 @@ leavesOf P R own p l (receiveAny stamp composite partners ours t s services mess
 abbrev pub listingOf : Asking → AnyReceiving → AnyListing
 listingOf P R = record { shows = showsOf P R; leaves = leavesOf P R }
 
-abbrev pub ourAnyShows : ℕ → Standing → List ℕ → MixedCall → ShownAny
+abbrev pub ourAnyShows : ℕ → Standing → List ℕ → AnyCall → ShownAny
 ourAnyShows = showsOf ourAsking ourAnyReceiving
 
-abbrev pub ourAnyLeaves : ℕ → Standing → List ℕ → MixedCall → List ℕ
+abbrev pub ourAnyLeaves : ℕ → Standing → List ℕ → AnyCall → List ℕ
 ourAnyLeaves = leavesOf ourAsking ourAnyReceiving
 
 abbrev pub ourAnyListing : AnyListing
 ourAnyListing = listingOf ourAsking ourAnyReceiving
 
 -- over any calls
-abbrev pub showsAllAny : AnyListing → ℕ → Standing → List ℕ → List MixedCall → List ShownAny
+abbrev pub showsAllAny : AnyListing → ℕ → Standing → List ℕ → List AnyCall → List ShownAny
 showsAllAny X own p l [] = []
 showsAllAny X own p l (c ∷ cs) = X .shows own p l c ∷ showsAllAny X own (X .shows own p l c .standing) (X .leaves own p l c) cs
 
-abbrev pub leavesAllAny : AnyListing → ℕ → Standing → List ℕ → List MixedCall → List ℕ
+abbrev pub leavesAllAny : AnyListing → ℕ → Standing → List ℕ → List AnyCall → List ℕ
 leavesAllAny X own p l [] = l
 leavesAllAny X own p l (c ∷ cs) = leavesAllAny X own (X .shows own p l c .standing) (X .leaves own p l c) cs

@@ -25,7 +25,7 @@ use Rattle.promises.specs.RequestCalls.{HasKind, RequestCall, ofSend}
 use Rattle.promises.specs.RequestRuns.{OnMap, Full, MapCall}
 use Rattle.promises.specs.MixedResponses.{ourAnyReceiving, AnyHeader, idOf, numberOf, senderOf, responseAs, ComesAs}
 use Rattle.promises.specs.MixedAsked.{headOf}
-use Rattle.promises.specs.MixedRequestCalls.{MixedCall, plain, sendAny, receiveAny, AllFairAny, asBefore, ofAny, ShownAny, shownAny, fromShown}
+use Rattle.promises.specs.MixedRequestCalls.{AnyCall, plain, sendAny, receiveAny, AllFairAny, asBefore, ofAny, ShownAny, shownAny, fromShown}
 use Rattle.promises.specs.MixedRequestCalls.{arriving, shownReceived, AnyListing, ourAnyListing, showsAllAny, leavesAllAny}
 
 -- what is seen of a call on the map, and the map after it
@@ -63,7 +63,7 @@ sentOnAny issue own p m id target payload out n =
       after = inserted m n id target;
     }
 
-pub data MixedMapCall (own : ℕ) (p : Standing) (m : Map) : MixedCall → OnMapAny → Type 1 where
+pub data MixedMapCall (own : ℕ) (p : Standing) (m : Map) : AnyCall → OnMapAny → Type 1 where
   -- request 1's calls, as specs/RequestRuns has them
   as-one : {c : RequestCall} {x : OnMap} → MapCall own p m c x → MixedMapCall own p m (plain c) (record { seen = fromShown (x .seen); after = x .after })
   -- "a sequence number counts on for all partners": the next one free, in either issue
@@ -91,18 +91,18 @@ pub data MixedMapCall (own : ℕ) (p : Standing) (m : Map) : MixedCall → OnMap
       (record { seen = shownReceived ourAnyReceiving p freshList (arriving own stamp composite partners ours t services bytes out); after = m })
 
 -- over any calls: what is seen of each, and the map at the end
-pub data MixedMapCalls (own : ℕ) : Standing → Map → List MixedCall → List ShownAny → Map → Type 1 where
+pub data MixedMapCalls (own : ℕ) : Standing → Map → List AnyCall → List ShownAny → Map → Type 1 where
   ended : {p : Standing} {m : Map} → MixedMapCalls own p m [] [] m
-  then : {p : Standing} {m w : Map} {c : MixedCall} {cs : List MixedCall} {x : OnMapAny} {xs : List ShownAny} → MixedMapCall own p m c x
+  then : {p : Standing} {m w : Map} {c : AnyCall} {cs : List AnyCall} {x : OnMapAny} {xs : List ShownAny} → MixedMapCall own p m c x
       → MixedMapCalls own (x .seen .standing) (x .after) cs xs w → MixedMapCalls own p m (c ∷ cs) (x .seen ∷ xs) w
 
-abbrev pub MixedFromFresh : ℕ → List MixedCall → List ShownAny → Map → Type 1
+abbrev pub MixedFromFresh : ℕ → List AnyCall → List ShownAny → Map → Type 1
 MixedFromFresh own cs xs m = MixedMapCalls own (freshStanding own) emptyMap cs xs m
 
 -- whatever is seen on the map is seen on the list
 abbrev pub AsMapByAny : AnyListing → Type 1
 AsMapByAny X =
-    (own : ℕ) (cs : List MixedCall) (xs : List ShownAny) (m : Map) → AllFairAny cs → MixedFromFresh own cs xs m
+    (own : ℕ) (cs : List AnyCall) (xs : List ShownAny) (m : Map) → AllFairAny cs → MixedFromFresh own cs xs m
     → showsAllAny X own (freshStanding own) freshList cs ≡ xs
 
 -- Ruled out: a list or a next own number for each issue; a response of Issue 3 that is matched by its number alone, or without its sender; one
@@ -110,9 +110,9 @@ AsMapByAny X =
 pub record MixedRequestRuns : Type 1 where
   pub as-map : AsMapByAny ourAnyListing
   -- and the map goes along with any calls
-  pub map-goes : (own : ℕ) (cs : List MixedCall) → AllFairAny cs
+  pub map-goes : (own : ℕ) (cs : List AnyCall) → AllFairAny cs
       → (m : Map) × MixedFromFresh own cs (showsAllAny ourAnyListing own (freshStanding own) freshList cs) m
   -- the list stays like its map, with no number twice, as many places used as the map counts, and every target a platform's number
-  pub like-map : (own : ℕ) (cs : List MixedCall) (xs : List ShownAny) (m : Map) → AllFairAny cs → MixedFromFresh own cs xs m
+  pub like-map : (own : ℕ) (cs : List AnyCall) (xs : List ShownAny) (m : Map) → AllFairAny cs → MixedFromFresh own cs xs m
       → LikeMap (leavesAllAny ourAnyListing own (freshStanding own) freshList cs) m
-  pub kempt : (own : ℕ) (cs : List MixedCall) → AllFairAny cs → Kempt (leavesAllAny ourAnyListing own (freshStanding own) freshList cs)
+  pub kempt : (own : ℕ) (cs : List AnyCall) → AllFairAny cs → Kempt (leavesAllAny ourAnyListing own (freshStanding own) freshList cs)
