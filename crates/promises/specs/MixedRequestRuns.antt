@@ -107,6 +107,8 @@ AsMapByAny X =
 
 -- Ruled out: a list or a next own number for each issue; a response of Issue 3 that is matched by its number alone, or without its sender; one
 -- that frees another place, or none; 10 by 20 bytes of header for Issue 3; a mixed refusal that enters or draws.
+-- Not said here: a table that `check` refuses, which is no fair call; the call on sections, which gives the same (specs/MixedOnSections); what is
+-- known of services over a run, as each call is lent any words of them (specs/MixedServices).
 pub record MixedRequestRuns : Type 1 where
   pub as-map : AsMapByAny ourAnyListing
   -- and the map goes along with any calls
