@@ -20,8 +20,8 @@ package Nyrkovash is
    type Nyr_Ids is array (Nyr_Size range <>) of Unsigned_16 with Convention => C;
    type Nyr_Words is array (Nyr_Size range <>) of Unsigned_64 with Convention => C;
 
-   Nyr_Library_Version : constant := 40_200;
-   Nyr_Library_Version_Text : constant String := "4.2.0";
+   Nyr_Library_Version : constant := 40_300;
+   Nyr_Library_Version_Text : constant String := "4.3.0";
 
    function Nyr_Linked_Version return Unsigned_32
      with Import, Convention => C, External_Name => "nyr_library_version";
@@ -59,6 +59,7 @@ package Nyrkovash is
    Nyr_List_Full : constant := 60;
    Nyr_Not_Awaited : constant := 61;
    Nyr_No_Request : constant := 62;
+   Nyr_Services_Full : constant := 63;
 
    --  Limits and sizes.
 
@@ -73,7 +74,9 @@ package Nyrkovash is
    Nyr_Largest_Message : constant := 65_560;
    Nyr_Reply_Bytes : constant := 24;
    Nyr_Replies_Bytes : constant := 48;
+   Nyr_Replies_3_Bytes : constant := 88;
    Nyr_Most_Pending : constant := 64;
+   Nyr_Services_Words : constant := 256;
    Nyr_Plans_Words : constant := 131_329;
 
    --  Joining.
@@ -467,5 +470,86 @@ package Nyrkovash is
                          Output : in out Nyr_Bytes; Output_Length : Nyr_Size;
                          Written : in out Nyr_Size) return Unsigned_32
      with Import, Convention => C, External_Name => "nyr_write_3";
+
+   type Nyr_Stamp is record
+      Seconds     : Unsigned_32;
+      Nanoseconds : Unsigned_32;
+      Composite   : Unsigned_32;
+   end record with Convention => C;
+   for Nyr_Stamp use record
+      Seconds     at 0 range 0 .. 31;
+      Nanoseconds at 4 range 0 .. 31;
+      Composite   at 8 range 0 .. 31;
+   end record;
+   for Nyr_Stamp'Size use 96;
+
+   type Nyr_Any_Heard is record
+      Kind           : Unsigned_64;
+      Value          : Unsigned_64;
+      Sender         : Unsigned_64;
+      Sequence       : Unsigned_64;
+      Number         : Unsigned_64;
+      Payload_Start  : Unsigned_64;
+      Payload_Length : Unsigned_64;
+      Replies        : Unsigned_64;
+      Issue          : Unsigned_64;
+      Seconds        : Unsigned_64;
+      Nanoseconds    : Unsigned_64;
+      Composite      : Unsigned_64;
+   end record with Convention => C;
+   for Nyr_Any_Heard use record
+      Kind           at 0 range 0 .. 63;
+      Value          at 8 range 0 .. 63;
+      Sender         at 16 range 0 .. 63;
+      Sequence       at 24 range 0 .. 63;
+      Number         at 32 range 0 .. 63;
+      Payload_Start  at 40 range 0 .. 63;
+      Payload_Length at 48 range 0 .. 63;
+      Replies        at 56 range 0 .. 63;
+      Issue          at 64 range 0 .. 63;
+      Seconds        at 72 range 0 .. 63;
+      Nanoseconds    at 80 range 0 .. 63;
+      Composite      at 88 range 0 .. 63;
+   end record;
+   for Nyr_Any_Heard'Size use 768;
+
+   Nyr_Heard_Services : constant := 10;
+   Nyr_Heard_Services_Request : constant := 11;
+   Nyr_Heard_Not_Available : constant := 12;
+   Nyr_Heard_Composite_Change : constant := 13;
+   Nyr_Heard_Composite_Ack : constant := 14;
+
+   Nyr_Unheard : constant := 0;
+   Nyr_Unavailable : constant := 1;
+   Nyr_Available : constant := 2;
+
+   function Nyr_Service_Word (Id : Unsigned_32; State : Unsigned_32) return Unsigned_64 is
+     (Shift_Left (Unsigned_64 (State), 32) or Unsigned_64 (Id));
+
+   function Nyr_Receive_Mixed (Own : Unsigned_8; Stamp : Nyr_Stamp; Partners : Nyr_Partners; Ours : Nyr_Words;
+                               Ours_Words : Nyr_Size; Platform : in out Nyr_Platform; Services : in out Nyr_Words;
+                               Services_Words : Nyr_Size; Table : Nyr_Bytes; Table_Length : Nyr_Size;
+                               Message : Nyr_Bytes; Message_Length : Nyr_Size; Output : in out Nyr_Bytes;
+                               Output_Length : Nyr_Size; Heard : in out Nyr_Any_Heard) return Unsigned_32
+     with Import, Convention => C, External_Name => "nyr_receive_mixed";
+
+   function Nyr_Receive_Mixed_In (Own : Unsigned_8; Stamp : Nyr_Stamp; Partners : Nyr_Partners; Ours : Nyr_Words;
+                                  Ours_Words : Nyr_Size; Platform : in out Nyr_Platform; Services : in out Nyr_Words;
+                                  Services_Words : Nyr_Size; Table : Nyr_Bytes; Table_Length : Nyr_Size;
+                                  Sections : Nyr_Sections; Message : Nyr_Bytes; Message_Length : Nyr_Size;
+                                  Output : in out Nyr_Bytes; Output_Length : Nyr_Size;
+                                  Heard : in out Nyr_Any_Heard) return Unsigned_32
+     with Import, Convention => C, External_Name => "nyr_receive_mixed_in";
+
+   function Nyr_Send_Mixed (Own : Unsigned_8; Stamp : Nyr_Stamp; Partners : Nyr_Partners;
+                            Platform : in out Nyr_Platform; Table : Nyr_Bytes; Table_Length : Nyr_Size;
+                            Sections : Nyr_Sections; Id : Unsigned_32; Target : Unsigned_32; Payload : Nyr_Bytes;
+                            Payload_Length : Nyr_Size; Output : in out Nyr_Bytes; Output_Length : Nyr_Size;
+                            Sent : in out Nyr_Sent) return Unsigned_32
+     with Import, Convention => C, External_Name => "nyr_send_mixed";
+
+   function Nyr_Service (Partners : Nyr_Partners; Services : Nyr_Words; Services_Words : Nyr_Size;
+                         Platform : Unsigned_32; Id : Unsigned_32) return Unsigned_32
+     with Import, Convention => C, External_Name => "nyr_service";
 
 end Nyrkovash;

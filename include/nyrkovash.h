@@ -1,8 +1,8 @@
 /*
  * nyrkovash: UDP datagrams joined into ECOA ELI messages (Part 6, Issue 6), messages read and written, payloads
  * unpacked and packed by a type table or by plans of its types, the replies of platform start-up, requests that await
- * their responses, and messages of partners that speak Issue 3 read and written. Link libnyrkovash.a (x86-64), which
- * needs no library but C's.
+ * their responses, and the same among partners that speak Issue 3, with what they tell of their services. Link
+ * libnyrkovash.a (x86-64), which needs no library but C's.
  *
  * Every call is total: no length, number, byte or state, right or wrong, makes it read or write outside what it was
  * lent. A call answers 0, or the number that refuses it, and then it has changed nothing; but where 40 to 43 refuse a
@@ -36,8 +36,8 @@ extern "C" {
  * neither is so. So a program asks at its start, and goes on where the archive's first number is that of its header and
  * the whole is not less than its header's.
  */
-#define NYR_LIBRARY_VERSION 40200
-#define NYR_LIBRARY_VERSION_TEXT "4.2.0"
+#define NYR_LIBRARY_VERSION 40300
+#define NYR_LIBRARY_VERSION_TEXT "4.3.0"
 
 /* The version of the archive that was linked.  Stack 256. */
 uint32_t nyr_library_version(void);
@@ -80,7 +80,9 @@ enum {
     /* Requests. */
     NYR_LIST_FULL = 60,        /* 64 requests are pending */
     NYR_NOT_AWAITED = 61,      /* a request's ID, and no request with that ID, number and sender is pending */
-    NYR_NO_REQUEST = 62        /* the ID is not that of an operation whose requests we send */
+    NYR_NO_REQUEST = 62,       /* the ID is not that of an operation whose requests we send */
+    /* Services. */
+    NYR_SERVICES_FULL = 63     /* a status of services that would need a 257th service of its sender */
 };
 
 /* Limits and sizes. */
@@ -96,7 +98,10 @@ enum {
     NYR_LARGEST_MESSAGE = 65560, /* that is cut */
     NYR_REPLY_BYTES = 24,        /* one reply */
     NYR_REPLIES_BYTES = 48,      /* the most that one message is owed */
+    NYR_REPLIES_3_BYTES = 88,    /* the most that one of Issue 3 is owed, but where our services are asked for: 28, and
+                                  * 8 for each of them */
     NYR_MOST_PENDING = 64,       /* requests that await their responses */
+    NYR_SERVICES_WORDS = 256,    /* for the services of each partner that speaks Issue 3 */
     NYR_PLANS_WORDS = 131329     /* enough for the plans of any table */
 };
 
@@ -454,7 +459,8 @@ uint32_t nyr_pending(const nyr_platform *platform, uint32_t sequence, nyr_awaite
 
 /* ---- Partners of Issue 3. Their messages have a header of 24 bytes with a timestamp, a status tells a composite ID
  * too, and some messages tell of services. The caller says who speaks Issue 3; all others speak Issue 6. nyr_read,
- * nyr_write and the calls on platforms and requests know Issue 6 alone; all else is the same for both. */
+ * nyr_write, nyr_receive, nyr_receive_in and nyr_send know Issue 6 alone; the calls below are these for both, on the
+ * same nyr_platform, and all else is the same for both. */
 
 typedef struct {
     uint64_t words[4];         /* platform k speaks Issue 3 where bit k % 64 of words[k / 64] is 1 */
@@ -519,6 +525,94 @@ uint32_t nyr_read_mixed(uint8_t own, const nyr_partners *partners, const uint8_t
 uint32_t nyr_write_3(uint8_t own, uint32_t seconds, uint32_t nanoseconds, uint8_t domain, uint32_t id,
                      uint32_t sequence, const uint8_t *payload, size_t payload_length, uint8_t *output,
                      size_t output_length, size_t *written);
+
+/* What our messages say beside themselves where they are written for Issue 3. */
+typedef struct {
+    uint32_t seconds;          /* the timestamp */
+    uint32_t nanoseconds;
+    uint32_t composite;        /* the ID of our composite, which our status tells */
+} nyr_stamp;                   /* any values are one */
+
+typedef struct {
+    uint64_t kind;             /* these eight as of nyr_heard; of Issue 3 a payload starts at byte 24 */
+    uint64_t value;
+    uint64_t sender;
+    uint64_t sequence;
+    uint64_t number;
+    uint64_t payload_start;
+    uint64_t payload_length;
+    uint64_t replies;
+    uint64_t issue;            /* the sender's: NYR_ISSUE_3 or NYR_ISSUE_6 */
+    uint64_t seconds;          /* the message's timestamp, of Issue 6 0 */
+    uint64_t nanoseconds;
+    uint64_t composite;        /* of a status of Issue 3 its composite ID, else 0 */
+} nyr_any_heard;
+
+/* What a message was, behind the nine of nyr_heard; of Issue 3 alone. */
+enum {
+    NYR_HEARD_SERVICES = 10,   /* value: of how many services it told, which are noted; the payload is given, as of
+                                * NYR_SERVICES. Nothing is owed */
+    NYR_HEARD_SERVICES_REQUEST = 11, /* value: the ID of a service, or NYR_ALL_SERVICES; answered with ours */
+    NYR_HEARD_NOT_AVAILABLE = 12,    /* value: an operation's ID; nothing is owed, nor for the two below */
+    NYR_HEARD_COMPOSITE_CHANGE = 13, /* value: the composite ID */
+    NYR_HEARD_COMPOSITE_ACK = 14     /* value: 0 DISAGREE, 1 AGREE */
+};
+
+/* What is known of a service. */
+enum { NYR_UNHEARD = 0, NYR_UNAVAILABLE = 1, NYR_AVAILABLE = 2 };
+
+/* A service in a word: its ID, and above it one of these. */
+#define NYR_SERVICE_WORD(id, state) ((uint64_t)(state) << 32 | (uint32_t)(id))
+
+/*
+ * nyr_receive and nyr_receive_in among partners of both issues. A message of Issue 6 is noted and answered as by these,
+ * one of Issue 3 in its issue's messages: DOWN to UP with three, under the next three own numbers, a status, a request
+ * for all services and a pull of all data. A pull of all data is owed nothing, also where there is none. Own numbers
+ * and the list of requests are one for both issues. `stamp` goes into all replies of Issue 3.
+ * `ours` are our services, a word for each; what is not NYR_AVAILABLE in it is told as UNAVAILABLE. Asked for all, they
+ * are told in their order; asked for one, the last of that ID is, and one that is not there as UNAVAILABLE.
+ * `services` is what the partners of Issue 3 told of theirs: a block of NYR_SERVICES_WORDS for each, in the order of
+ * their numbers. In a block stand the services in the order in which they were first told, a word for each, up to the
+ * first word with NYR_UNHEARD; so words of 0 are a fresh state, and any words are one. A status of services is noted
+ * pair by pair, the last one of an ID counts, and what it does not name stays; UP to DOWN makes all that are known of
+ * its sender UNAVAILABLE. With partners set up otherwise the blocks are others, and are to be made fresh.
+ *   30 to 33 for the table (_in: 30 where the sections do not lie in it); then 1 to 9 as of nyr_read_mixed; then 61;
+ *   then 10 where a status of services, or UP to DOWN, finds its sender's block not whole in the lent words; then 63;
+ *   then 5 where all of ours are asked for and these are 2^29 or more; then 10 where the replies do not fit.
+ * Writes in services no word but of the sender's block. With nobody set up it does what nyr_receive does, and services
+ * stay.
+ * Stack 16384, _in 8192; time: as of nyr_receive and nyr_receive_in; the services that a message tells of, times those
+ * known of its sender; and ours, where they are asked for.
+ */
+uint32_t nyr_receive_mixed(uint8_t own, const nyr_stamp *stamp, const nyr_partners *partners, const uint64_t *ours,
+                           size_t ours_words, nyr_platform *platform, uint64_t *services, size_t services_words,
+                           const uint8_t *table, size_t table_length, const uint8_t *message, size_t message_length,
+                           uint8_t *output, size_t output_length, nyr_any_heard *heard);
+
+uint32_t nyr_receive_mixed_in(uint8_t own, const nyr_stamp *stamp, const nyr_partners *partners, const uint64_t *ours,
+                              size_t ours_words, nyr_platform *platform, uint64_t *services, size_t services_words,
+                              const uint8_t *table, size_t table_length, const nyr_sections *sections,
+                              const uint8_t *message, size_t message_length, uint8_t *output, size_t output_length,
+                              nyr_any_heard *heard);
+
+/*
+ * nyr_send in the target's issue: with a header of 24 bytes and the stamp's timestamp where the target is set up as
+ * Issue 3, else as nyr_send writes it; a target above 255 is in no set-up. The stamp's composite is not looked at.
+ *   30, 62, 60, 5, 10 as of nyr_send; 10 where output is shorter than that header and the payload.
+ * Stack 1024; time as of nyr_send.
+ */
+uint32_t nyr_send_mixed(uint8_t own, const nyr_stamp *stamp, const nyr_partners *partners, nyr_platform *platform,
+                        const uint8_t *table, size_t table_length, const nyr_sections *sections, uint32_t id,
+                        uint32_t target, const uint8_t *payload, size_t payload_length, uint8_t *output,
+                        size_t output_length, nyr_sent *sent);
+
+/*
+ * What is known of a partner's service: NYR_UNHEARD, NYR_UNAVAILABLE or NYR_AVAILABLE. Of one that is not set up as
+ * Issue 3, or above 255, NYR_UNHEARD; words of its block that are not there count as 0.
+ * Stack 256; time: the services known of it.
+ */
+uint32_t nyr_service(const nyr_partners *partners, const uint64_t *services, size_t services_words, uint32_t platform,
+                     uint32_t id);
 
 #ifdef __cplusplus
 }

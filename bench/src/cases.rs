@@ -6,6 +6,7 @@
 mod joining;
 mod lookups;
 mod messages;
+mod mixed;
 pub mod payloads;
 mod requests;
 
@@ -15,8 +16,9 @@ use bench::plain::types;
 use joining::{cutting, joining};
 use lookups::{checking, finding};
 use messages::{reading, reading_mixed, receiving, receiving_any};
+use mixed::{beside_issue_6_alone, hearing, of_256_services, Known};
 use payloads::{packing, unpacking};
-use requests::{responding, sending};
+use requests::{responding, sending, sending_mixed};
 
 /// A case by name, made when it is measured.
 pub struct Named {
@@ -87,6 +89,7 @@ pub fn all() -> Vec<Named> {
         "platform call, operation, one of 1,000 at random, both widths",
         Box::new(|| receiving_any(&both(), heard_at_random())),
     );
+    add_mixed(&mut add);
     let last = || vec![id_of(999)];
     for (beside, plain) in [
         ("", types::find as lookups::Find),
@@ -103,6 +106,12 @@ pub fn all() -> Vec<Named> {
     }
     add("send a request, 63 pending", Box::new(|| sending(&both())));
     add("a response, 63 pending", Box::new(|| responding(&both())));
+    for (issue, target) in [(6, 2), (3, 3)] {
+        add(
+            &format!("send a request by issue, to Issue {issue}, 63 pending"),
+            Box::new(move || sending_mixed(&both(), target)),
+        );
+    }
     for (name, value) in values() {
         add(
             &format!("unpack {name}"),
@@ -123,6 +132,41 @@ pub fn all() -> Vec<Named> {
         Box::new(|| checking(tables::large_table(256, &tables::operations_of_both(1_024)))),
     );
     cases
+}
+
+/// The platform call among partners of both issues.
+fn add_mixed(add: &mut impl FnMut(&str, Box<dyn Fn() -> Case>)) {
+    let few = tables::record_of_all;
+    let operation_3 = || message_3(1, 3, id_of(3), 7, &[3; 32]);
+    let down_of_3 = || message_3(0, 3, 1, 7, &[0; 8]);
+    add(
+        "platform call by issue, operation of Issue 6, 16 in the table",
+        Box::new(move || hearing(&few(), &operation(3), Known::Kept)),
+    );
+    add(
+        "platform call by issue, operation of Issue 6, beside nyr_receive_in",
+        Box::new(move || beside_issue_6_alone(&few(), &operation(3))),
+    );
+    add(
+        "platform call by issue, operation of Issue 3, 16 in the table",
+        Box::new(move || hearing(&few(), &operation_3(), Known::Kept)),
+    );
+    add(
+        "platform call by issue, status of Issue 3 with no change",
+        Box::new(move || hearing(&few(), &down_of_3(), Known::Kept)),
+    );
+    add(
+        "platform call by issue, status request of Issue 3",
+        Box::new(move || hearing(&few(), &message_3(0, 3, 2, 7, &[]), Known::Kept)),
+    );
+    add(
+        "platform call by issue, 256 services told, all known",
+        Box::new(move || hearing(&few(), &of_256_services(), Known::Kept)),
+    );
+    add(
+        "platform call by issue, 256 services told, none known",
+        Box::new(move || hearing(&few(), &of_256_services(), Known::Fresh)),
+    );
 }
 
 /// What is unpacked and packed: a table, the number of a type in it, and the words of a value.

@@ -2,6 +2,7 @@
 //! So the plain program makes each check that the proved one makes.
 
 mod lookups;
+mod mixed;
 mod partners;
 mod platforms;
 mod state;
@@ -23,6 +24,7 @@ pub fn compare(count: usize, seed: u64) {
     tables::compare(count, random);
     lookups::compare(count, random);
     platforms::compare(count, random);
+    mixed::compare(count, random);
 }
 
 fn spoil(bytes: &mut Vec<u8>, random: &mut Random) {

@@ -1,6 +1,7 @@
 //! The proved library beside the plain program, in one process.
 //!
 //!     bench                     compare both, then measure both: a table
+//!     bench some PART           only the cases that have the part in their names, not compared before
 //!     bench compare COUNT SEED  compare both on so many inputs of each family
 //!     bench list                the cases, a line each
 //!     bench calls CASE SIDE N   N calls of one case (its number in the list) and nothing else measured: for a counter
@@ -23,7 +24,11 @@ fn main() {
     let words: Vec<&str> = arguments.iter().map(String::as_str).collect();
     let number = |word: &str| word.parse::<usize>().unwrap_or_else(|_| usage());
     match words.as_slice() {
-        [] => table(),
+        [] => {
+            compared();
+            table("");
+        }
+        ["some", part] => table(part),
         ["shapes"] => {
             compared();
             shapes::tables("");
@@ -60,7 +65,9 @@ fn main() {
 }
 
 fn usage() -> ! {
-    eprintln!("usage: bench [compare COUNT SEED | list | calls CASE ours|plain|bare N]");
+    eprintln!(
+        "usage: bench [some PART | compare COUNT SEED | list | calls CASE ours|plain|bare N]"
+    );
     eprintln!("       bench shapes [some PART | list | calls CASE walk|plan|rust|rust-plan N]");
     std::process::exit(2)
 }
@@ -70,11 +77,11 @@ fn compared() {
     println!("Both programs gave the same on {COMPARED} inputs of each family from seed {SEED}.\n");
 }
 
-fn table() {
-    compared();
+fn table(part: &str) {
     println!("| Case | Ours, ns | Rust, ns | Ours / Rust | Copy, ns | Ours / copy |");
     println!("|---|---:|---:|---:|---:|---:|");
-    for case in cases::all() {
+    let all = cases::all().into_iter();
+    for case in all.filter(|case| case.name.contains(part)) {
         let times = measure::measure((case.make)());
         let bare = times.bare.map_or("– | –".to_string(), |copy| {
             format!("{copy:.1} | {:.2}", times.ours / copy)

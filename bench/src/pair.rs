@@ -1,9 +1,12 @@
 //! The plain program's state and answers as the library's structs, and back, so that they can be compared.
 
+mod partners;
+
+pub use partners::*;
+
 use bench::plain::joiner::{Channel, Joiner, Outcome, Place};
 use bench::plain::message::{Kind, Message};
 use bench::plain::operations::{Operation, Place as Indexed};
-use bench::plain::partners::{AnyMessage, Kind as Kind3, Message3};
 use bench::plain::payload::Refused;
 use bench::plain::pending::{Pending, Request, Sent, PLACES};
 use bench::plain::platform::{Answer, Heard, Platform};
@@ -80,53 +83,6 @@ pub fn our_message(message: &Message) -> ours::Message {
         sequence: u64::from(message.sequence),
         payload_start: 20,
         payload_length: message.payload.len() as u64,
-    }
-}
-
-pub fn our_any_message(message: &AnyMessage) -> ours::AnyMessage {
-    match message {
-        AnyMessage::Six(six) => our_six(&our_message(six)),
-        AnyMessage::Three(three) => our_three(three),
-    }
-}
-
-fn our_six(six: &ours::Message) -> ours::AnyMessage {
-    ours::AnyMessage {
-        kind: six.kind,
-        value: six.value,
-        sender: six.sender,
-        sequence: six.sequence,
-        payload_start: six.payload_start,
-        payload_length: six.payload_length,
-        issue: 6,
-        ..ours::AnyMessage::default()
-    }
-}
-
-fn our_three(three: &Message3) -> ours::AnyMessage {
-    let (kind, value, composite) = match three.kind {
-        Kind3::Status { up, composite } => (1, u32::from(up), composite),
-        Kind3::Request => (2, 0, 0),
-        Kind3::Unknown(id) => (3, id, 0),
-        Kind3::Pull(id) => (4, id, 0),
-        Kind3::Operation(id) => (5, id, 0),
-        Kind3::Services(count) => (6, count, 0),
-        Kind3::ServicesRequest(id) => (7, id, 0),
-        Kind3::NotAvailable(id) => (8, id, 0),
-        Kind3::CompositeChange(id) => (9, id, 0),
-        Kind3::CompositeAck { agree } => (10, u32::from(agree), 0),
-    };
-    ours::AnyMessage {
-        kind,
-        value: u64::from(value),
-        sender: u64::from(three.sender),
-        sequence: u64::from(three.sequence),
-        payload_start: 24,
-        payload_length: three.payload.len() as u64,
-        issue: 3,
-        seconds: u64::from(three.seconds),
-        nanoseconds: u64::from(three.nanoseconds),
-        composite: u64::from(composite),
     }
 }
 

@@ -221,6 +221,14 @@ pub fn message_3(domain: u8, sender: u8, id: u32, sequence: u32, payload: &[u8])
     bytes
 }
 
+/// A status of services: of each its ID and its state.
+pub fn services_3(sender: u8, sequence: u32, pairs: &[[u32; 2]]) -> Vec<u8> {
+    let count = [pairs.len() as u32];
+    let fields = count.iter().chain(pairs.iter().flatten());
+    let payload: Vec<u8> = fields.flat_map(|field| field.to_be_bytes()).collect();
+    message_3(0, sender, 3, sequence, &payload)
+}
+
 pub fn put_binding_header(datagram: &mut [u8], part: u8, sender: u16, counter: u16) {
     let word = u32::from(part) << 28 | u32::from(sender) << 16 | u32::from(counter);
     datagram[..4].copy_from_slice(&word.to_be_bytes());

@@ -10,7 +10,7 @@
 #include <string.h>
 #include <unistd.h>
 
-enum { INPUT = 655360 }; /* the longest call, of code 6, has 594,324 bytes */
+enum { INPUT = 720896 }; /* the longest call, of code 87, has 664,364 bytes */
 
 static uint8_t input[INPUT];
 

@@ -53,13 +53,20 @@ typedef enum { OF_TABLE, IN_SECTIONS, BY_PLANS } Way;
 void unpack(const Argument *a, Way way);
 void pack(const Argument *a, Way way);
 
-/* A message that was read, whose bytes these are; messages among partners of Issue 3. */
+/* A message that was read, whose bytes these are; messages among partners of Issue 3, of which a byte each names one. */
 void put_message(const nyr_message *message, const uint8_t *bytes);
+nyr_partners set_up(const Argument *threes);
 void read_mixed(const Argument *a);
 void write_3(const Argument *a);
 
-/* The platform that the calls speak to, at first platform 0; and the calls that do, by their codes: 7 to 10 and 20 to 23. */
+/* The platform that the calls speak to, at first platform 0; and the calls that do, by their codes: 7 to 10 and 20 to 23, and
+ * among partners of Issue 3 83 to 88. */
+extern uint8_t own;
+extern nyr_platform platform;
 void start_platform(uint8_t number);
 void answer_platform(const Call *call);
+void answer_mixed(const Call *call);
+void put_heard(const nyr_heard *heard);
+void put_sent(const nyr_sent *sent);
 
 #endif

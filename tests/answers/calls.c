@@ -1,7 +1,7 @@
 /* The calls of a file: for each code its arguments, what an argument may be, and where the next call stands. */
 #include "answers.h"
 
-enum { HEAD = 4, LENGTH = 4, CODES = 83 };
+enum { HEAD = 4, LENGTH = 4, CODES = 89 };
 
 /* Numbers of 8, 16, 32 and 64 bits, an output's length in bytes and in words; bytes, words, a joiner's records, and the words of
  * requests that are pending. */
@@ -51,6 +51,12 @@ static const struct {
     {3, {N8, N32, LIST}},
     [81] = {3, {N8, BYTES, BYTES}},
     {8, {N8, N32, N32, N8, N32, N32, BYTES, ROOM}},
+    {2, {N8, BYTES}},
+    {7, {N32, N32, N32, WORDS, BYTES, BYTES, ROOM}},
+    {2, {N32, N32}},
+    {1, {N32}},
+    {8, {N32, N32, N32, WORDS, WORD_ROOM, BYTES, BYTES, ROOM}},
+    {7, {N32, N32, BYTES, N32, N32, BYTES, ROOM}},
 };
 
 /* 18, 19 and 24 to 80 are none. */

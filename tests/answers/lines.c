@@ -197,6 +197,6 @@ void answer(const Call *call)
     case 17: pack(a, BY_PLANS); break;
     case 81: read_mixed(a); break;
     case 82: write_3(a); break;
-    default: answer_platform(call); break;
+    default: call->code < 83 ? answer_platform(call) : answer_mixed(call); break;
     }
 }

@@ -3,8 +3,7 @@
 
 #include <stdio.h>
 
-/* A number for each platform that speaks Issue 3. */
-static nyr_partners set_up(const Argument *threes)
+nyr_partners set_up(const Argument *threes)
 {
     nyr_partners partners = {{0}};
     for (size_t k = 0; k < threes->length; k++)

@@ -4,8 +4,8 @@
 #include <inttypes.h>
 #include <stdio.h>
 
-static uint8_t own;
-static nyr_platform platform;
+uint8_t own;
+nyr_platform platform;
 
 void start_platform(uint8_t number)
 {
@@ -29,29 +29,40 @@ static void start_with(const Argument *a)
         platform.pending[k] = number_at(a[2].bytes + 8 * k, 8);
 }
 
-static void receive(const Argument *a)
+void put_heard(const nyr_heard *heard)
 {
     static const char *const names[] = {
         "",     "status",       "request",   "unknown",           "pull all",
         "pull", "pull unknown", "operation", "operation unknown", "response"};
-    nyr_heard heard;
-    if (refused(nyr_receive(own, &platform, a[0].bytes, a[0].length, a[1].bytes, a[1].length, output,
-                            (size_t)a[2].number, &heard)))
-        return;
-    printf("%s", names[heard.kind]);
-    if (heard.kind == NYR_HEARD_STATUS)
-        printf(heard.value ? " up" : " down");
-    else if (heard.kind != NYR_HEARD_REQUEST && heard.kind != NYR_HEARD_PULL_ALL)
-        put_number(heard.value);
+    printf("%s", names[heard->kind]);
+    if (heard->kind == NYR_HEARD_STATUS)
+        printf(heard->value ? " up" : " down");
+    else if (heard->kind != NYR_HEARD_REQUEST && heard->kind != NYR_HEARD_PULL_ALL)
+        put_number(heard->value);
     printf(" from");
-    put_number(heard.sender);
-    if (heard.kind == NYR_HEARD_RESPONSE) {
+    put_number(heard->sender);
+    if (heard->kind == NYR_HEARD_RESPONSE) {
         printf(" seq");
-        put_number(heard.sequence);
+        put_number(heard->sequence);
         return;
     }
     printf(" owed");
-    put_bytes(output, (size_t)heard.replies);
+    put_bytes(output, (size_t)heard->replies);
+}
+
+static void receive(const Argument *a)
+{
+    nyr_heard heard;
+    if (!refused(nyr_receive(own, &platform, a[0].bytes, a[0].length, a[1].bytes, a[1].length, output,
+                             (size_t)a[2].number, &heard)))
+        put_heard(&heard);
+}
+
+void put_sent(const nyr_sent *sent)
+{
+    printf("sent");
+    put_number(sent->sequence);
+    put_bytes(output, (size_t)sent->written);
 }
 
 static void send_request(const Argument *a)
@@ -62,9 +73,7 @@ static void send_request(const Argument *a)
         refused(nyr_send(own, &platform, a[0].bytes, a[0].length, &sections, (uint32_t)a[1].number,
                          (uint32_t)a[2].number, a[3].bytes, a[3].length, output, (size_t)a[4].number, &sent)))
         return;
-    printf("sent");
-    put_number(sent.sequence);
-    put_bytes(output, (size_t)sent.written);
+    put_sent(&sent);
 }
 
 static void cancel(const Argument *a)

@@ -46,5 +46,12 @@ function call(text, name, count, i, part, pair, line) {
 inside { sub(/;$/, ""); type = $0; sub(/.* : /, "", type); line = line " " field($1) ":" plain(type) }
 places { gsub(/[;_]/, "", $7); print "at " name " " field($1) " " $3 " (" $7 "+1)/8" }
 /^for .*'Size use / { sub(/'Size/, "", $2); gsub(/[;_]/, "", $4); print "size " tolower(substr($2, 5)) " " $4 "/8" }
+/^function .* return Unsigned_64 is$/ {
+    name = toupper(substr($2, 5))
+    gsub(/.*\(|\).*| : Unsigned_32/, "")
+    gsub(/; /, " ")
+    print "macro " name " " tolower($0)
+    next
+}
 /^function / { text = ""; calling = 1 }
 calling { text = text (text == "" ? "" : " ") $0; if (/;$/ && text ~ /External_Name/) { call(text); calling = 0 } }

@@ -2,6 +2,7 @@
 #   text NAME "TEXT"                 const NAME VALUE            size STRUCT BYTES
 #   fields STRUCT FIELD:TYPE..       at STRUCT FIELD PLACE BYTES
 #   call NAME PARAMETER:TYPE..       TYPE with `in` or `out` before it is behind a pointer
+#   macro NAME PARAMETER..
 function plain(type) {
     sub(/^uint/, "u", type)
     sub(/_t$/, "", type)
@@ -39,6 +40,14 @@ function call(text, name, count, i, part, out, line) {
     }
     print "call " name line
 }
+function macro(text, name, count, i, part, line) {
+    name = substr(text, match(text, /NYR_[A-Z0-9_]*/) + 4, RLENGTH - 4)
+    gsub(/.*[A-Z]\(|\)$/, "", text)
+    count = split(text, part, ", ")
+    for (i = 1; i <= count; i++)
+        line = line " " part[i]
+    print "macro " name line
+}
 function names(text, count, i, part) {
     gsub(/.*[{]|[}].*/, "", text)
     count = split(text, part, ",")
@@ -50,11 +59,13 @@ function names(text, count, i, part) {
 END {
     while (match(all, /\/\*([^*]|\*+[^*\/])*\*+\//))
         all = substr(all, 1, RSTART - 1) substr(all, RSTART + RLENGTH)
-    while (match(all, /#define NYR_[A-Z0-9_]* [^\n]*|enum [{][^}]*[}]|typedef struct [{][^}]*[}] nyr_[a-z0-9_]*|uint32_t nyr_[a-z0-9_]*\([^)]*\)/)) {
+    while (match(all, /#define NYR_[A-Z0-9_]*\([a-z, ]*\)|#define NYR_[A-Z0-9_]* [^\n]*|enum [{][^}]*[}]|typedef struct [{][^}]*[}] nyr_[a-z0-9_]*|uint32_t nyr_[a-z0-9_]*\([^)]*\)/)) {
         one = substr(all, RSTART, RLENGTH)
         all = substr(all, RSTART + RLENGTH)
         gsub(/[ \n]+/, " ", one)
-        if (one ~ /^#define/) {
+        if (one ~ /^#define NYR_[A-Z0-9_]*\(/)
+            macro(one)
+        else if (one ~ /^#define/) {
             split(one, word, " ")
             name = substr(word[2], 5)
             print word[3] ~ /"/ ? "text " name " " word[3] : "const " name " " word[2]

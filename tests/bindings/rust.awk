@@ -45,5 +45,12 @@ inside { sub(/,$/, ""); type = $0; sub(/^pub [a-z_]*: /, "", type); sub(/:/, "",
     sub(/\);/, "", $NF)
     print "size " lower(name) " " $NF
 }
+/^pub const fn / {
+    name = $4
+    sub(/\(.*/, "", name)
+    gsub(/.*\(|\).*|: u32/, "")
+    gsub(/, /, " ")
+    print "macro " toupper(name) " " $0
+}
 /^pub fn nyr_/ { text = ""; calling = 1 }
 calling { text = text (text == "" ? "" : " ") $0; if (/;$/) { call(text); calling = 0 } }

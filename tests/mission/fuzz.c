@@ -7,9 +7,9 @@
 /* Every number but 5 of writing (a payload of 4 GB) and every case of an answer, or how many are missing. */
 static int missing(void)
 {
-    uint64_t numbers = 0, lacks[6];
+    uint64_t numbers = 0, lacks[7];
     int count = 0;
-    static const int groups[][2] = {{1, 10}, {20, 23}, {30, 33}, {40, 45}, {50, 52}, {60, 62}};
+    static const int groups[][2] = {{1, 10}, {20, 23}, {30, 33}, {40, 45}, {50, 52}, {60, 63}};
     for (size_t g = 0; g < sizeof groups / sizeof *groups; g++)
         for (int number = groups[g][0]; number <= groups[g][1]; number++)
             numbers |= N(number);
@@ -19,10 +19,12 @@ static int missing(void)
     lacks[3] = 0x3FE & ~heard_met;
     lacks[4] = 0x7FF & ~plans_met;
     lacks[5] = UINT64_C(0x079003FE003E07FE) & ~mixed_met;
-    for (int i = 0; i < 6; i++)
+    lacks[6] = UINT64_C(0x1FF03FE7FFE) & ~among_met;
+    for (int i = 0; i < 7; i++)
         for (int bit = 0; bit < 64; bit++)
             if (lacks[i] >> bit & 1) {
-                static const char *const what[] = {"number", "outcome", "kind", "what was heard", "of plans", "of Issue 3"};
+                static const char *const what[] = {"number",   "outcome",    "kind",          "what was heard",
+                                                   "of plans", "of Issue 3", "among partners"};
                 printf("fuzz: never met: %s %d\n", what[i], bit);
                 count++;
             }
@@ -37,7 +39,9 @@ int main(int argc, char **argv)
         fuzz_cancel,       fuzz_write,      fuzz_receive,    fuzz_receive, fuzz_receive, fuzz_receive,
         fuzz_receive,      fuzz_pack,       fuzz_pack,       fuzz_unpack,  fuzz_unpack,  fuzz_table,
         fuzz_table,        fuzz_table,      fuzz_pending,    fuzz_plans,   fuzz_plans,   fuzz_plans,
-        fuzz_partners_set, fuzz_read_mixed, fuzz_read_mixed, fuzz_write_3};
+        fuzz_partners_set, fuzz_read_mixed, fuzz_read_mixed, fuzz_write_3, fuzz_receive_mixed, fuzz_receive_mixed,
+        fuzz_receive_mixed, fuzz_receive_mixed, fuzz_receive_mixed, fuzz_receive_mixed, fuzz_receive_mixed,
+        fuzz_receive_mixed, fuzz_send_mixed, fuzz_send_mixed, fuzz_table, fuzz_table, fuzz_service};
     uint64_t most = argc > 1 ? strtoull(argv[1], NULL, 10) : 0, from = argc > 2 ? strtoull(argv[2], NULL, 10) : 1;
     if (most == 0) {
         fprintf(stderr, "usage: %s CALLS [SEED]\n", argv[0]);

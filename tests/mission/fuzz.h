@@ -27,7 +27,8 @@ typedef struct {
     int tells;
 } Lent;
 
-enum { IDS, JOINER, ROOMS, DATAGRAM, ANSWER, MESSAGE, OUT, PAYLOAD, TABLE, SECTIONS, WORDS, PLANS, PLATFORM, PARTNERS, BUFFERS };
+enum { IDS, JOINER, ROOMS, DATAGRAM, ANSWER, MESSAGE, OUT, PAYLOAD, TABLE, SECTIONS, WORDS, PLANS, PLATFORM, PARTNERS, STAMP, OURS,
+       SERVICES, BUFFERS };
 
 void lent_start(void);
 /* A buffer of so many elements of that width, with these bytes, or any where they are null. Of no elements: null, or a place
@@ -49,8 +50,9 @@ void expect(int holds, const char *what);
 
 /* What was met, a bit each: numbers, outcomes of a take, kinds read, what was heard; of plans too few words and enough, 42 and 0 of
  * types without one and with one, unpacked and packed, and forged ones that matter; among partners kinds of Issue 3, from 16 on
- * those of Issue 6, from 32 on numbers of reading Issue 3, from 48 on those of writing it. A run that misses one says nothing. */
-extern uint64_t calls, accepted, numbers_met, outcomes_met, kinds_met, heard_met, plans_met, mixed_met;
+ * those of Issue 6, from 32 on numbers of reading Issue 3, from 48 on those of writing it; and what fuzz_mixed.h says. A run that
+ * misses one says nothing. */
+extern uint64_t calls, accepted, numbers_met, outcomes_met, kinds_met, heard_met, plans_met, mixed_met, among_met;
 
 /* A table that keeps every rule, made at random, and the words of a value of one of its types. Behind its index the words of its
  * sections are any. */
@@ -99,6 +101,11 @@ nyr_platform cleared(nyr_platform state, size_t place);
 /* A message that mostly is the response to a request that is pending. */
 size_t make_response(const nyr_platform *state, const Table *table);
 
+/* Whether a platform speaks Issue 3; and a message of one that does, mostly good, to this platform: now and then the response to a
+ * request that is pending. */
+int speaks_3(const nyr_partners *set_up, uint64_t platform_number);
+size_t make_message_3(const Table *table, const nyr_platform *state, uint8_t sender);
+
 /* Of a walk's three fields 0 writes the first, 40 to 43 the two others, and any other number none. */
 void check_fields(uint32_t number);
 
@@ -120,5 +127,8 @@ void fuzz_plans(void);
 void fuzz_partners_set(void);
 void fuzz_read_mixed(void);
 void fuzz_write_3(void);
+void fuzz_receive_mixed(void);
+void fuzz_send_mixed(void);
+void fuzz_service(void);
 
 #endif

@@ -49,7 +49,10 @@ size_t make_message(const Table *table, uint32_t sender)
     put32(message + 16, (uint32_t)any());
     fill(message + NYR_MESSAGE_HEADER, length);
     if (domain == 0 && !one_in(8))
-        put32(message + NYR_MESSAGE_HEADER, id == 1 ? (uint32_t)below(2) : one_in(3) ? NYR_ALL_DATA : make_id(table));
+        put32(message + NYR_MESSAGE_HEADER, id == 1     ? (uint32_t)below(2)
+                                            : one_in(3) ? NYR_ALL_DATA
+                                            : one_in(2) ? make_id(table)
+                                                        : make_id_of(table, NYR_VERSIONED_DATA));
     length += NYR_MESSAGE_HEADER;
     if (one_in(16))
         scramble(message, NYR_MESSAGE_HEADER);

@@ -11,9 +11,9 @@ static const uint64_t kinds[] = {
     0, NYR_STATUS, NYR_REQUEST, NYR_SERVICES, NYR_SERVICES_REQUEST, NYR_UNKNOWN_OPERATION,
     NYR_NOT_AVAILABLE, NYR_PULL, NYR_COMPOSITE_CHANGE, NYR_COMPOSITE_ACK};
 
-static int speaks_3(const nyr_partners *partners, uint64_t platform)
+int speaks_3(const nyr_partners *set_up, uint64_t platform_number)
 {
-    return platform < 256 && (partners->words[platform / 64] >> platform % 64 & 1);
+    return platform_number < 256 && (set_up->words[platform_number / 64] >> platform_number % 64 & 1);
 }
 
 /* Nobody, one, or any; and mostly this one. */
@@ -36,7 +36,7 @@ static size_t make_services(uint8_t *to)
 {
     uint32_t count = (uint32_t)below(one_in(20) ? 3000 : 6);
     for (uint32_t i = 0; i < count; i++) {
-        put32(to + 4 + 8 * i, (uint32_t)any());
+        put32(to + 4 + 8 * i, one_in(8) ? (uint32_t)any() : (uint32_t)below(300));
         put32(to + 8 + 8 * i, (uint32_t)below(2));
     }
     if (count > 0 && one_in(6)) {
@@ -69,12 +69,19 @@ static uint32_t make_id_3(uint8_t domain)
     return domain == 0 && !one_in(12) ? 1 + (uint32_t)below(9) : one_in(2) ? (uint32_t)below(12) : (uint32_t)any();
 }
 
-/* A message in Issue 3's form, mostly good. */
-static size_t make_message_3(uint8_t sender)
+size_t make_message_3(const Table *table, const nyr_platform *state, uint8_t sender)
 {
     uint8_t domain = (uint8_t)(one_in(12) ? below(16) : below(2));
-    uint32_t id = make_id_3(domain);
-    size_t length = make_payload(domain, id, message + NYR_MESSAGE_HEADER_3);
+    uint32_t often = one_in(2) ? NYR_STATUS_3 : NYR_SERVICES_3, id = one_in(2) && domain == 0 ? often : make_id_3(domain);
+    uint32_t sequence = one_in(3) ? make_sequence(state) : (uint32_t)any();
+    size_t length = make_payload(domain, id, message + NYR_MESSAGE_HEADER_3), k = place_of(state, sequence);
+    unsigned kind = (unsigned)below(4);
+    uint32_t other = one_in(4) ? NYR_ALL_DATA : one_in(3) ? (uint32_t)below(300) : make_id_of(table, NYR_VERSIONED_DATA);
+    if (domain == 1 && !one_in(4))
+        id = k < NYR_MOST_PENDING ? (uint32_t)state->pending[k] : make_id_of(table, kind);
+    uint32_t asked = one_in(3) ? NYR_ALL_SERVICES : (uint32_t)below(one_in(2) ? 3 : 300);
+    if (domain == 0 && length == 4 && (id == NYR_PULL_3 || id == NYR_SERVICES_REQUEST_3))
+        put32(message + NYR_MESSAGE_HEADER_3, id == NYR_PULL_3 ? other : asked);
     message[0] = 0xEC;
     message[1] = 0x0A;
     message[2] = (uint8_t)((one_in(16) ? below(16) : 1) << 4 | domain);
@@ -83,7 +90,7 @@ static size_t make_message_3(uint8_t sender)
     put32(message + 8, (uint32_t)any());
     put32(message + 12, (uint32_t)any());
     put32(message + 16, (uint32_t)(one_in(24) ? near(length) : length));
-    put32(message + 20, (uint32_t)any());
+    put32(message + 20, sequence);
     length += NYR_MESSAGE_HEADER_3;
     if (one_in(16))
         scramble(message, NYR_MESSAGE_HEADER_3);
@@ -162,7 +169,7 @@ void fuzz_read_mixed(void)
     static const nyr_partners nobody;
     uint8_t own = (uint8_t)any(), sender = (uint8_t)(one_in(16) ? own : any());
     size_t length = one_in(3) ? make_message(&platform_table, one_in(2) ? sender : make_sender(own, 256))
-                              : make_message_3(sender);
+                              : make_message_3(&platform_table, &platform, sender);
     nyr_partners partners = make_partners(sender);
     nyr_any_message got;
     uint32_t number;

@@ -209,8 +209,58 @@ static void partners_of_issue_3(void)
     measure(call_write_3, 0);
     make_message(0, NYR_REQUEST, NULL, 0);
     measure(call_read_mixed, NYR_VERSION);
+    measure(call_receive_mixed, NYR_VERSION);
     memset(&partners, 0, sizeof partners);
     measure(call_read_mixed, 0);
+}
+
+/* Both calls on a message that stands there. */
+static void heard_by_issue(uint32_t expected)
+{
+    measure(call_receive_mixed, expected);
+    measure(call_receive_mixed_in, expected);
+}
+
+/* Each platform message of Issue 3, DOWN to UP and UP to DOWN among them; operations, responses and requests of both issues. */
+static void among_partners(void)
+{
+    call_partners_set();
+    for (uint8_t id = NYR_STATUS_3; id <= NYR_COMPOSITE_ACK_3; id++) {
+        call_start();
+        make_message_3(id, 1);
+        heard_by_issue(0);
+    }
+    call_start();
+    platform.up[0] |= UINT64_C(1) << OTHER;
+    make_message_3(NYR_STATUS_3, 0);
+    heard_by_issue(0);
+    memset(message + NYR_MESSAGE_HEADER_3, 0xFF, 4);
+    message[7] = NYR_SERVICES_REQUEST_3;
+    message[19] = 4;
+    message_length = NYR_MESSAGE_HEADER_3 + 4;
+    heard_by_issue(0);
+    message[7] = NYR_PULL_3;
+    heard_by_issue(0);
+    measure(call_service, 0);
+    for (int issue = NYR_ISSUE_3; issue <= NYR_ISSUE_6; issue += 3) {
+        static const uint8_t each[] = {EVENT_ID, 8, REQUEST_ID};
+        nyr_partners_set(&partners, OTHER, (uint32_t)issue);
+        for (size_t i = 0; i < sizeof each; i++) {
+            make_message(1, each[i], NULL, 0);
+            if (issue == NYR_ISSUE_3) {
+                make_message_3(NYR_REQUEST_3, 0);
+                message[2] |= NYR_OPERATION_DOMAIN;
+                message[7] = each[i];
+            }
+            make_pending(NYR_MOST_PENDING);
+            measure(call_receive_mixed, 0);
+            make_pending(NYR_MOST_PENDING);
+            measure(call_receive_mixed_in, 0);
+        }
+        make_pending(NYR_MOST_PENDING - 1);
+        measure(call_send_mixed, 0);
+        measure(call_send_mixed, NYR_LIST_FULL);
+    }
 }
 
 int main(int argc, char **argv)
@@ -234,6 +284,7 @@ int main(int argc, char **argv)
     messages();
     requests();
     partners_of_issue_3();
+    among_partners();
     if (argc > 1 && strcmp(argv[1], "show") == 0)
         for (size_t b = 0; b < BOUNDS; b++)
             printf("%-20s %6zu of %6zu\n", bounds[b].name, taken[b], bounds[b].most);

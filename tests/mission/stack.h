@@ -50,6 +50,10 @@ void call_pending(void);
 void call_partners_set(void);
 void call_read_mixed(void);
 void call_write_3(void);
+void call_receive_mixed(void);
+void call_receive_mixed_in(void);
+void call_send_mixed(void);
+void call_service(void);
 void call_library_version(void);
 
 /* One uint8 within as many types as a table can nest, all of this kind or (0) of each kind in turn. */
@@ -72,7 +76,7 @@ typedef struct {
     size_t most;
 } Bound;
 
-enum { BOUNDS = 28 };
+enum { BOUNDS = 32 };
 extern const Bound bounds[BOUNDS];
 
 #endif

@@ -12,6 +12,10 @@ nyr_platform platform;
 nyr_partners partners;
 uint32_t number;
 
+enum { OURS = 8746 };
+static const nyr_stamp stamp = {2, 3, 4};
+static uint64_t services[NYR_SERVICES_WORDS];
+
 void call_setup(void)
 {
     number = nyr_setup(&joiner, ids, NYR_CHANNELS, NYR_LARGEST_ROOM, sizeof rooms);
@@ -163,6 +167,33 @@ void call_write_3(void)
                          message_length - NYR_MESSAGE_HEADER_3, output, sizeof output, &given);
 }
 
+/* Of our services there are as many as the output can tell. */
+void call_receive_mixed(void)
+{
+    nyr_any_heard heard;
+    number = nyr_receive_mixed(1, &stamp, &partners, words, OURS, &platform, services, NYR_SERVICES_WORDS, table,
+                               table_length, message, message_length, output, sizeof output, &heard);
+}
+
+void call_receive_mixed_in(void)
+{
+    nyr_any_heard heard;
+    number = nyr_receive_mixed_in(1, &stamp, &partners, words, OURS, &platform, services, NYR_SERVICES_WORDS, table,
+                                  table_length, &sections, message, message_length, output, sizeof output, &heard);
+}
+
+void call_send_mixed(void)
+{
+    nyr_sent sent;
+    number = nyr_send_mixed(1, &stamp, &partners, &platform, table, table_length, &sections, REQUEST_ID, OTHER, message,
+                            65536, output, sizeof output, &sent);
+}
+
+void call_service(void)
+{
+    number = nyr_service(&partners, services, NYR_SERVICES_WORDS, OTHER, 9) & 0;
+}
+
 void call_library_version(void)
 {
     number = nyr_library_version() & 0;
@@ -196,5 +227,9 @@ const Bound bounds[BOUNDS] = {
     {"nyr_partners_set", call_partners_set, 256},
     {"nyr_read_mixed", call_read_mixed, 512},
     {"nyr_write_3", call_write_3, 1024},
+    {"nyr_receive_mixed", call_receive_mixed, 16384},
+    {"nyr_receive_mixed_in", call_receive_mixed_in, 8192},
+    {"nyr_send_mixed", call_send_mixed, 1024},
+    {"nyr_service", call_service, 256},
     {"nyr_library_version", call_library_version, 256},
 };

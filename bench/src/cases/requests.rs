@@ -3,16 +3,30 @@
 
 use super::lookups::checked;
 use super::messages::Receive;
+use super::mixed::{STAMP, THREES};
 use crate::measure::{opaque, Case};
-use crate::pair::{our_heard, our_platform, our_sent, word, OWN};
+use crate::pair::{our_heard, our_platform, our_sent, our_stamp, word, OWN};
 use crate::tables::{id_of, message};
+use bench::plain::partners::Partners;
 use bench::plain::pending::{Request, Sent, PLACES};
 use bench::plain::platform::Platform;
+use bench::plain::replies::Stamp;
 use bench::plain::types::Sections;
 use nyrkovash as ours;
 use std::rc::Rc;
 
 type Send = fn(&mut Platform, &[u8], &Sections, u32, u32, &[u8], &mut [u8]) -> Result<Sent, u32>;
+type SendMixed = fn(
+    &mut Platform,
+    &Stamp,
+    &Partners,
+    &[u8],
+    &Sections,
+    u32,
+    u32,
+    &[u8],
+    &mut [u8],
+) -> Result<Sent, u32>;
 
 /// An operation whose requests we send, late in the table.
 const ENTRY: u32 = 998;
@@ -93,6 +107,68 @@ pub fn sending(table: &[u8]) -> Case {
                 );
                 assert!(sent.is_ok());
                 platform.pending.0[FREE] = Request::default();
+            }
+        }),
+        bare: None,
+    }
+}
+
+/// The same in the target's issue.
+pub fn sending_mixed(table: &[u8], target: u32) -> Case {
+    let (known, sections) = checked(table);
+    let (mut state, mut platform) = with_63_pending(table);
+    let (payload, mut out, mut plain_out) = ([3; 32], [0; 56], [0; 56]);
+    let (stamp, set_up) = (our_stamp(&STAMP), ours::Partners { words: THREES });
+    let plain_set_up = Partners { words: THREES };
+    let mut answer = ours::Sent::default();
+    let (table, plain_table) = (table.to_vec(), table.to_vec());
+    let id = opaque(id_of(ENTRY));
+    let mut ours_once = move || {
+        let number = ours::send_mixed(
+            OWN,
+            &stamp,
+            &set_up,
+            &mut state,
+            &table,
+            &known,
+            id,
+            target,
+            &payload,
+            &mut out,
+            &mut answer,
+        );
+        assert_eq!(number, 0);
+        state.pending[FREE] = 0;
+        state.pending[PLACES + FREE] = 0;
+        (answer, out)
+    };
+    let mut plain_once = move |send: SendMixed| {
+        let sent = send(
+            &mut platform,
+            &STAMP,
+            &plain_set_up,
+            &plain_table,
+            &sections,
+            id,
+            target,
+            &payload,
+            &mut plain_out,
+        );
+        platform.pending.0[FREE] = Request::default();
+        (sent.unwrap(), plain_out)
+    };
+    let (sent, bytes) = plain_once(Platform::send_mixed);
+    assert_eq!(ours_once(), (our_sent(&sent), bytes));
+    Case {
+        ours: Box::new(move |count| {
+            for _ in 0..count {
+                ours_once();
+            }
+        }),
+        plain: Box::new(move |count| {
+            let send = opaque(Platform::send_mixed as SendMixed);
+            for _ in 0..count {
+                plain_once(send);
             }
         }),
         bare: None,

@@ -6,7 +6,7 @@ use crate::tables::{message_3, Random};
 use bench::plain::partners::{self, Partners};
 use nyrkovash as ours;
 
-fn any_message_3(random: &mut Random) -> Vec<u8> {
+pub fn any_message_3(random: &mut Random) -> Vec<u8> {
     let id = random.below(11) as u32;
     let (domain, sender) = (random.below(2) as u8, random.below(5) as u8);
     let field = [0, 1, 2, u32::MAX][random.below(4)];

@@ -8,28 +8,33 @@ use crate::tables::{self, id_of, operations_of_both, Random};
 use bench::plain::types::{self, Sections};
 use nyrkovash as ours;
 
-pub fn compare(count: usize, random: &mut Random) {
+/// Tables with operations of all kinds, with no versioned data, with that at the end, and small ones.
+pub fn some_tables() -> [Checked; 5] {
     let of_both = operations_of_both(42);
     let (data, mut data_last): (Vec<_>, Vec<_>) = of_both.iter().partition(|o| o.1 == 1);
     let no_data = tables::large_table(1, &data_last);
     data_last.extend(data.last());
-    let tables = [
+    [
         tables::large_table(8, &of_both),
         no_data,
         tables::large_table(1, &data_last),
         tables::record_of_all(),
         tables::table(&[[0, 8, 0, 0]], &[], &[], &[(0x103, 0, 0xFFFF, 0)]),
     ]
-    .map(Checked::new);
-    // A table stays for some calls: else what is pending under it is seldom asked for under it.
+    .map(Checked::new)
+}
+
+/// Which of these a call goes by. A table stays for some calls: else what is pending under it is seldom asked for under it.
+pub fn turn(i: usize) -> usize {
     let turns = [0, 0, 1, 3, 0, 2, 0, 4];
+    turns[i / 40 % turns.len()]
+}
+
+pub fn compare(count: usize, random: &mut Random) {
+    let tables = some_tables();
     let mut both = Both::new();
     for i in 0..count {
-        let mut given = Given::new(&tables[turns[i / 40 % turns.len()]], random);
-        if random.below(32) == 0 {
-            forge(&mut given.known, random);
-            given.sections = plain_sections(&given.known);
-        }
+        let given = Given::forged(&tables[turn(i)], random);
         if random.below(48) == 0 {
             both.forge(random);
         }
@@ -44,28 +49,31 @@ pub fn compare(count: usize, random: &mut Random) {
 }
 
 /// A table, not always whole, and the sections of the whole one for both, not always as its check gave them.
-struct Given {
-    table: Vec<u8>,
-    known: ours::Sections,
-    sections: Sections,
+pub struct Given {
+    pub table: Vec<u8>,
+    pub known: ours::Sections,
+    pub sections: Sections,
 }
 
 impl Given {
-    fn new(whole: &Checked, random: &mut Random) -> Given {
-        let mut table = whole.table.clone();
+    pub fn forged(whole: &Checked, random: &mut Random) -> Given {
+        let (mut table, mut known) = (whole.table.clone(), whole.known);
         if random.below(16) == 0 {
             spoil(&mut table, random);
         }
+        if random.below(32) == 0 {
+            forge(&mut known, random);
+        }
         Given {
             table,
-            known: whole.known,
-            sections: plain_sections(&whole.known),
+            known,
+            sections: plain_sections(&known),
         }
     }
 
-    /// Whether both find the same for every number that the bytes could ask for.
-    fn found_alike(&self, bytes: &[u8]) -> bool {
-        [8, 20].iter().all(|at| {
+    /// Whether both find the same for every number that the bytes could ask for, in either issue's places.
+    pub fn found_alike(&self, bytes: &[u8]) -> bool {
+        [4, 8, 20, 24].iter().all(|at| {
             let id = bytes.get(*at..at + 4).map(|id| id.try_into().unwrap());
             id.map_or(true, |id| {
                 found_alike(&self.table, &self.sections, u32::from_be_bytes(id))
@@ -191,7 +199,7 @@ impl Both {
 }
 
 /// Mostly enough.
-fn any_room(enough: usize, random: &mut Random) -> usize {
+pub fn any_room(enough: usize, random: &mut Random) -> usize {
     if random.below(4) == 0 {
         random.below(enough + 2)
     } else {

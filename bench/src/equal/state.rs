@@ -2,7 +2,7 @@
 
 use super::{any_message, spoil};
 use crate::pair::{our_platform, plain_platform, word, OWN};
-use crate::tables::{id_of, message, Random};
+use crate::tables::{id_of, message, message_3, Random};
 use bench::plain::pending::{Request, PLACES};
 use bench::plain::platform::Platform;
 use nyrkovash as ours;
@@ -71,6 +71,22 @@ impl Both {
         let (before, from) = self.plain.pending.0.split_at(random.below(PLACES));
         let taken = from.iter().chain(before).find(|place| place.number != 0);
         *taken.unwrap_or(&from[0])
+    }
+
+    /// A response of Issue 3 to a request that is pending, or nearly one.
+    pub fn any_message_3(&self, random: &mut Random) -> Vec<u8> {
+        let request = self.any_request(random);
+        let sender = match random.below(4) {
+            0 => any_platform(random),
+            _ => request.target as u32,
+        };
+        let length = random.below(9);
+        let payload = random.bytes(length);
+        let mut bytes = message_3(1, sender as u8, request.id, request.number, &payload);
+        if random.below(8) == 0 {
+            spoil(&mut bytes, random);
+        }
+        bytes
     }
 
     /// A response to a request that is pending, or nearly one; or a status, or any other message.

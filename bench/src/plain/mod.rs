@@ -5,6 +5,7 @@
 pub mod binding;
 pub mod joiner;
 pub mod message;
+pub mod mixed;
 pub mod operations;
 mod packing;
 pub mod partners;
@@ -12,6 +13,8 @@ pub mod payload;
 pub mod pending;
 pub mod plans;
 pub mod platform;
+pub mod replies;
+pub mod services;
 pub mod types;
 mod unpacking;
 

@@ -53,14 +53,33 @@ pub enum AnyMessage<'a> {
 }
 
 impl Partners {
-    fn speaks_3(&self, platform: u32) -> bool {
+    pub fn speaks_3(&self, platform: u32) -> bool {
         let word = self.words.get(platform as usize / 64);
         word.is_some_and(|word| word >> (platform % 64) & 1 == 1)
+    }
+
+    /// How many below this one speak it.
+    pub fn before(&self, platform: u8) -> usize {
+        let (word, bit) = (usize::from(platform / 64), platform % 64);
+        let whole: u32 = self.words[..word]
+            .iter()
+            .map(|word| word.count_ones())
+            .sum();
+        (whole + (self.words[word] & ((1 << bit) - 1)).count_ones()) as usize
     }
 }
 
 #[inline(never)]
 pub fn read<'a>(own: u8, partners: &Partners, message: &'a [u8]) -> Result<AnyMessage<'a>, u32> {
+    read_any(own, partners, message)
+}
+
+#[inline(always)]
+pub(super) fn read_any<'a>(
+    own: u8,
+    partners: &Partners,
+    message: &'a [u8],
+) -> Result<AnyMessage<'a>, u32> {
     if message.len() < message::HEADER {
         return Err(1);
     }

@@ -75,6 +75,22 @@ impl Platform {
         payload: &[u8],
         out: &mut [u8],
     ) -> Result<Sent, u32> {
+        let own = self.own;
+        self.send_as(bytes, sections, id, target, |number| {
+            message::write(own, message::OPERATION, id, number, payload, out)
+        })
+    }
+
+    /// The same with the request written otherwise, under its number.
+    #[inline(always)]
+    pub(super) fn send_as(
+        &mut self,
+        bytes: &[u8],
+        sections: &Sections,
+        id: u32,
+        target: u32,
+        write: impl FnOnce(u32) -> Result<usize, u32>,
+    ) -> Result<Sent, u32> {
         let table = Table::within(bytes, sections)?;
         match table.operations.find(id) {
             Some((_, operation)) if operation.kind == SENT => {}
@@ -82,7 +98,7 @@ impl Platform {
         }
         let place = self.pending.first(0).ok_or(60u32)?;
         let number = self.pending.next_free(self.next);
-        let written = message::write(self.own, message::OPERATION, id, number, payload, out)?;
+        let written = write(number)?;
         self.pending.0[place] = Request {
             number,
             id,

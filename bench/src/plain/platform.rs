@@ -1,6 +1,6 @@
 //! Platform states and replies.
 
-use super::message::{self, Kind, ALL, PLATFORM, PULL, STATUS, UNKNOWN};
+use super::message::{self, Kind, Message, ALL, PLATFORM, PULL, STATUS, UNKNOWN};
 use super::operations::{DATA, SENT};
 use super::pending::Pending;
 use super::types::{Sections, Table};
@@ -83,6 +83,17 @@ impl Platform {
     ) -> Result<Answer<'m>, u32> {
         let table = Table::within(bytes, sections)?;
         let got = message::read(self.own, message)?;
+        self.hear(&table, got, out)
+    }
+
+    /// The same of a message that was read.
+    #[inline(always)]
+    pub(super) fn hear<'m>(
+        &mut self,
+        table: &Table,
+        got: Message<'m>,
+        out: &mut [u8],
+    ) -> Result<Answer<'m>, u32> {
         // Whose state changes: a platform above 255 has none.
         let turned = match got.kind {
             Kind::Status { up } => u8::try_from(got.sender)
@@ -145,7 +156,7 @@ impl Platform {
             )?;
         }
         if let Some(sender) = turned {
-            self.turn(sender);
+            self.turn(sender, 2);
         }
         Ok(Answer {
             heard,
@@ -155,10 +166,11 @@ impl Platform {
         })
     }
 
-    fn turn(&mut self, sender: u8) {
+    /// DOWN to UP has drawn so many own numbers.
+    pub(super) fn turn(&mut self, sender: u8, drawn: u32) {
         self.up[usize::from(sender / 64)] ^= 1 << (sender % 64);
         if self.is_up(sender) {
-            self.next = self.next.wrapping_add(2);
+            self.next = self.next.wrapping_add(drawn);
         }
     }
 }

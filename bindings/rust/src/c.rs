@@ -1,8 +1,8 @@
 //! The calls as C has them. The functions at the crate's root are these over slices, and safe.
 
 use crate::{
-    AnyMessage, Awaited, Heard, Joiner, Message, Operation, Partners, Platform, Sections, Sent,
-    Taken, Walked,
+    AnyHeard, AnyMessage, Awaited, Heard, Joiner, Message, Operation, Partners, Platform, Sections,
+    Sent, Stamp, Taken, Walked,
 };
 
 extern "C" {
@@ -202,5 +202,63 @@ extern "C" {
         output: *mut u8,
         output_length: usize,
         written: *mut usize,
+    ) -> u32;
+    pub fn nyr_receive_mixed(
+        own: u8,
+        stamp: *const Stamp,
+        partners: *const Partners,
+        ours: *const u64,
+        ours_words: usize,
+        platform: *mut Platform,
+        services: *mut u64,
+        services_words: usize,
+        table: *const u8,
+        table_length: usize,
+        message: *const u8,
+        message_length: usize,
+        output: *mut u8,
+        output_length: usize,
+        heard: *mut AnyHeard,
+    ) -> u32;
+    pub fn nyr_receive_mixed_in(
+        own: u8,
+        stamp: *const Stamp,
+        partners: *const Partners,
+        ours: *const u64,
+        ours_words: usize,
+        platform: *mut Platform,
+        services: *mut u64,
+        services_words: usize,
+        table: *const u8,
+        table_length: usize,
+        sections: *const Sections,
+        message: *const u8,
+        message_length: usize,
+        output: *mut u8,
+        output_length: usize,
+        heard: *mut AnyHeard,
+    ) -> u32;
+    pub fn nyr_send_mixed(
+        own: u8,
+        stamp: *const Stamp,
+        partners: *const Partners,
+        platform: *mut Platform,
+        table: *const u8,
+        table_length: usize,
+        sections: *const Sections,
+        id: u32,
+        target: u32,
+        payload: *const u8,
+        payload_length: usize,
+        output: *mut u8,
+        output_length: usize,
+        sent: *mut Sent,
+    ) -> u32;
+    pub fn nyr_service(
+        partners: *const Partners,
+        services: *const u64,
+        services_words: usize,
+        platform: u32,
+        id: u32,
     ) -> u32;
 }

@@ -1,7 +1,7 @@
 //! The names of `include/nyrkovash.h`, without their `NYR_`; what each means stands there.
 
-pub const LIBRARY_VERSION: u32 = 40_200;
-pub const LIBRARY_VERSION_TEXT: &str = "4.2.0";
+pub const LIBRARY_VERSION: u32 = 40_300;
+pub const LIBRARY_VERSION_TEXT: &str = "4.3.0";
 
 // The numbers that refuse.
 pub const OK: u32 = 0;
@@ -35,6 +35,7 @@ pub const DATAGRAM_ROOM: u32 = 52;
 pub const LIST_FULL: u32 = 60;
 pub const NOT_AWAITED: u32 = 61;
 pub const NO_REQUEST: u32 = 62;
+pub const SERVICES_FULL: u32 = 63;
 
 // Limits and sizes.
 pub const CHANNELS: usize = 32;
@@ -48,7 +49,9 @@ pub const LARGEST_DATAGRAM: usize = 65_507;
 pub const LARGEST_MESSAGE: usize = 65_560;
 pub const REPLY_BYTES: usize = 24;
 pub const REPLIES_BYTES: usize = 48;
+pub const REPLIES_3_BYTES: usize = 88;
 pub const MOST_PENDING: usize = 64;
+pub const SERVICES_WORDS: usize = 256;
 pub const PLANS_WORDS: usize = 131_329;
 
 // `Taken::outcome`.
@@ -100,7 +103,7 @@ pub const REQUEST_SENT: u64 = 2;
 pub const REQUEST_SERVED: u64 = 3;
 pub const NO_PAYLOAD: u64 = 0xFFFF;
 
-// `Heard::kind`.
+// `Heard::kind`, and with those at the end `AnyHeard::kind`.
 pub const HEARD_STATUS: u64 = 1;
 pub const HEARD_REQUEST: u64 = 2;
 pub const HEARD_UNKNOWN: u64 = 3;
@@ -111,7 +114,7 @@ pub const HEARD_OPERATION: u64 = 7;
 pub const HEARD_NOT_IN_TABLE: u64 = 8;
 pub const HEARD_RESPONSE: u64 = 9;
 
-// `AnyMessage::issue`, and what `partners_set` takes.
+// `AnyMessage::issue`, `AnyHeard::issue`, and what `partners_set` takes.
 pub const ISSUE_3: u32 = 3;
 pub const ISSUE_6: u32 = 6;
 
@@ -125,3 +128,20 @@ pub const NOT_AVAILABLE_3: u32 = 6;
 pub const PULL_3: u32 = 7;
 pub const COMPOSITE_CHANGE_3: u32 = 8;
 pub const COMPOSITE_ACK_3: u32 = 9;
+
+// `AnyHeard::kind` of Issue 3 alone.
+pub const HEARD_SERVICES: u64 = 10;
+pub const HEARD_SERVICES_REQUEST: u64 = 11;
+pub const HEARD_NOT_AVAILABLE: u64 = 12;
+pub const HEARD_COMPOSITE_CHANGE: u64 = 13;
+pub const HEARD_COMPOSITE_ACK: u64 = 14;
+
+// What `service` answers, and what `service_word` takes.
+pub const UNHEARD: u32 = 0;
+pub const UNAVAILABLE: u32 = 1;
+pub const AVAILABLE: u32 = 2;
+
+/// A service in a word: its ID, and above it one of these.
+pub const fn service_word(id: u32, state: u32) -> u64 {
+    (state as u64) << 32 | id as u64
+}

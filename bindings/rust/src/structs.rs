@@ -138,6 +138,31 @@ pub struct AnyMessage {
     pub composite: u64,
 }
 
+#[repr(C)]
+#[derive(Clone, Copy, Debug, Default, PartialEq, Eq)]
+pub struct Stamp {
+    pub seconds: u32,
+    pub nanoseconds: u32,
+    pub composite: u32,
+}
+
+#[repr(C)]
+#[derive(Clone, Copy, Debug, Default, PartialEq, Eq)]
+pub struct AnyHeard {
+    pub kind: u64,
+    pub value: u64,
+    pub sender: u64,
+    pub sequence: u64,
+    pub number: u64,
+    pub payload_start: u64,
+    pub payload_length: u64,
+    pub replies: u64,
+    pub issue: u64,
+    pub seconds: u64,
+    pub nanoseconds: u64,
+    pub composite: u64,
+}
+
 // The sizes that C has.
 const _: () = assert!(size_of::<Channel>() == 16);
 const _: () = assert!(size_of::<Joiner>() == 520);
@@ -152,3 +177,5 @@ const _: () = assert!(size_of::<Sent>() == 16);
 const _: () = assert!(size_of::<Awaited>() == 24);
 const _: () = assert!(size_of::<Partners>() == 32);
 const _: () = assert!(size_of::<AnyMessage>() == 80);
+const _: () = assert!(size_of::<Stamp>() == 12);
+const _: () = assert!(size_of::<AnyHeard>() == 96);

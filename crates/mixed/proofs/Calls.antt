@@ -1,120 +1,86 @@
--- What the call for one message comes to at its returns.
+-- What the call for one message comes to at its returns, by the form that was found.
 -- Assumes nothing.
 use Prim.Native.Nat.{ℕ}
-use mathlib.Core.Path.{_≡_, refl, sym, ap, _∙_}
-use mathlib.Core.Bool.{Bool, true, false}
+use mathlib.Core.Path.{_≡_, sym, ap, _∙_}
+use mathlib.Core.Bool.{false}
 use mathlib.Core.List.{List}
-use Rattle.wire.specs.Bytes.{part}
 use Rattle.table.specs.declared.Sections.{Sections}
-use Rattle.operations.specs.declared.Sought.{Sought}
-use Rattle.message.specs.declared.Header.{Header}
-use Rattle.message.specs.declared.Message.{Message}
+use Rattle.message.specs.Header.{senderIn}
 use Rattle.message3.specs.declared.Stamp.{Stamp}
-use Rattle.message3.specs.declared.Header3.{Header3}
-use Rattle.message3.specs.declared.Message3.{Message3}
+use Rattle.message3.specs.Reading.{readOf3}
+use Rattle.partners.specs.Threes.{isThree}
 use Rattle.platform.specs.declared.reactions.Standing.{Standing}
 use Rattle.platform.specs.declared.Received.{Received}
 use Rattle.platform.specs.Receiving.{outcomeIn, outputIn, listIn}
-use Rattle.mixed.specs.declared.AnyReading.{AnyReading}
-use Rattle.mixed.specs.declared.AnyReading.the-variants as reading
+use Rattle.mixed.specs.declared.Form.{Form}
+use Rattle.mixed.specs.declared.Form.the-variants as form
+use Rattle.mixed.specs.declared.AnyReading.the-variants.{Refused}
 use Rattle.mixed.specs.declared.AnyReceived.{AnyReceived}
-use Rattle.mixed.specs.Reading.{anyOf}
-use Rattle.mixed.specs.Reaction.{operationFor3, reaction3}
-use Rattle.mixed.specs.Receiving.{fromReceived, refusedAny, isAnswer3, responseTo3, listAnswered3, settled3, laid3, kept3}
-use Rattle.mixed.specs.Receiving.{anyOutcomeOf, anyOutputOf, anyListOf, anyWordsOf, anyOutcome, anyOutput, anyList, anyWords}
+use Rattle.mixed.specs.Form.{threeForm}
+use Rattle.mixed.specs.Reading.{formOf, fromThree, anyOf}
+use Rattle.mixed.specs.Receiving.{fromReceived, refusedAny, anyOutcomeOf, anyOutputOf, anyListOf, anyWordsOf, anyOutcome, anyOutput, anyList, anyWords}
+use Rattle.mixed.proofs.Issues.{six-tests}
+use Rattle.mixed.proofs.Readings.{its-reading}
+use Rattle.mixed.proofs.AsBefore.{outcome-before, output-before, list-before, words-before}
 
-module _ (own : ℕ) (i ours t : List ℕ) (s : Sections) (index : List ℕ) (p : Standing) (ws m : List ℕ) (x : AnyReading) (e : x ≡ anyOf i own m) where
-  -- a message that was refused
-  module _ (n : ℕ) (f : x ≡ reading.Refused n) where
-    pub unread : (l : List ℕ) (room : ℕ) (r : AnyReceived) → r ≡ refusedAny p n → r ≡ anyOutcome own i ours t s index p l ws m room
-    unfolding anyOutcomeOf
-    unread l room r d = d ∙ ap (anyOutcomeOf own i ours t s index p l ws m room) (sym f ∙ e)
+module _ (own : ℕ) (i ours t : List ℕ) (s : Sections) (index : List ℕ) (p : Standing) (ws m : List ℕ) where
+  -- by its form
+  module _ (x : Form) (e : x ≡ formOf i m) where
+    -- a message in the form of the issue that its sender does not speak
+    module _ (n : ℕ) (f : x ≡ form.Other n) where
+      not-read : Refused n ≡ anyOf i own m
+      not-read = its-reading i own m x e (form.Other n) f
 
-    pub unread-output : (st : Stamp) (c : ℕ) (out : List ℕ) → out ≡ anyOutput own st c i ours t s index p ws m out
-    unfolding anyOutputOf
-    unread-output st c out = ap (anyOutputOf own st c i ours t s index p ws m out) (sym f ∙ e)
-
-    pub unread-list : (l : List ℕ) → l ≡ anyList own i t s index l m
-    unfolding anyListOf
-    unread-list l = ap (anyListOf own t s index l m) (sym f ∙ e)
-
-    pub unread-words : (room : ℕ) → ws ≡ anyWords own i ours t s index p ws m room
-    unfolding anyWordsOf
-    unread-words room = ap (anyWordsOf own i ours t s index p ws m room) (sym f ∙ e)
-
-  -- one of Issue 6
-  module _ (h : Header) (k : Message) (start len : ℕ) (f : x ≡ reading.Six h k start len) where
-    pub of-six : (l : List ℕ) (room : ℕ) (q : Received) (r : AnyReceived) → q ≡ outcomeIn own t s index p l m room → r ≡ fromReceived q
-        → r ≡ anyOutcome own i ours t s index p l ws m room
-    unfolding anyOutcomeOf
-    of-six l room q r g d = d ∙ ap fromReceived g ∙ ap (anyOutcomeOf own i ours t s index p l ws m room) (sym f ∙ e)
-
-    pub of-six-output : (st : Stamp) (c : ℕ) (out o : List ℕ) → o ≡ outputIn own t s index p m out → o ≡ anyOutput own st c i ours t s index p ws m out
-    unfolding anyOutputOf
-    of-six-output st c out o d = d ∙ ap (anyOutputOf own st c i ours t s index p ws m out) (sym f ∙ e)
-
-    pub of-six-list : (l a : List ℕ) → a ≡ listIn own t s index l m → a ≡ anyList own i t s index l m
-    unfolding anyListOf
-    of-six-list l a d = d ∙ ap (anyListOf own t s index l m) (sym f ∙ e)
-
-    pub of-six-words : (room : ℕ) → ws ≡ anyWords own i ours t s index p ws m room
-    unfolding anyWordsOf
-    of-six-words room = ap (anyWordsOf own i ours t s index p ws m room) (sym f ∙ e)
-
-  -- one of Issue 3
-  module _ (h : Header3) (k : Message3) (start len : ℕ) (f : x ≡ reading.Three h k start len) (z : Sought) (g : z ≡ operationFor3 t s index h k)
-      (b : Bool) (eb : b ≡ isAnswer3 t z k) where
-    module _ (y : b ≡ true) where
-      pub response : (l : List ℕ) (room : ℕ) (r : AnyReceived) → r ≡ responseTo3 l z p h start len → r ≡ anyOutcome own i ours t s index p l ws m room
+      pub unread : (l : List ℕ) (room : ℕ) (r : AnyReceived) → r ≡ refusedAny p n → r ≡ anyOutcome own i ours t s index p l ws m room
       unfolding anyOutcomeOf
-      response l room r d =
-          let q : r ≡ anyOutcomeOf own i ours t s index p l ws m room (reading.Three h k start len) = rw (← g, ← eb, y) d in
-          q ∙ ap (anyOutcomeOf own i ours t s index p l ws m room) (sym f ∙ e)
+      unread l room r d = d ∙ ap (anyOutcomeOf own i ours t s index p l ws m room) not-read
 
-      pub response-output : (st : Stamp) (c : ℕ) (out : List ℕ) → out ≡ anyOutput own st c i ours t s index p ws m out
+      pub unread-output : (st : Stamp) (c : ℕ) (out : List ℕ) → out ≡ anyOutput own st c i ours t s index p ws m out
       unfolding anyOutputOf
-      response-output st c out =
-          let q : out ≡ anyOutputOf own st c i ours t s index p ws m out (reading.Three h k start len) = rw (← g, ← eb, y) refl in
-          q ∙ ap (anyOutputOf own st c i ours t s index p ws m out) (sym f ∙ e)
+      unread-output st c out = ap (anyOutputOf own st c i ours t s index p ws m out) not-read
 
-      pub response-list : (l a : List ℕ) → a ≡ listAnswered3 l h → a ≡ anyList own i t s index l m
+      pub unread-list : (l : List ℕ) → l ≡ anyList own i t s index l m
       unfolding anyListOf
-      response-list l a d =
-          let q : a ≡ anyListOf own t s index l m (reading.Three h k start len) = rw (← g, ← eb, y) d in
-          q ∙ ap (anyListOf own t s index l m) (sym f ∙ e)
+      unread-list l = ap (anyListOf own t s index l m) not-read
 
-      pub response-words : (room : ℕ) → ws ≡ anyWords own i ours t s index p ws m room
+      pub unread-words : (room : ℕ) → ws ≡ anyWords own i ours t s index p ws m room
       unfolding anyWordsOf
-      response-words room =
-          let q : ws ≡ anyWordsOf own i ours t s index p ws m room (reading.Three h k start len) = rw (← g, ← eb, y) refl in
-          q ∙ ap (anyWordsOf own i ours t s index p ws m room) (sym f ∙ e)
+      unread-words room = ap (anyWordsOf own i ours t s index p ws m room) not-read
 
-    module _ (y : b ≡ false) where
-      pub other-list : (l : List ℕ) → l ≡ anyList own i t s index l m
-      unfolding anyListOf
-      other-list l =
-          let q : l ≡ anyListOf own t s index l m (reading.Three h k start len) = rw (← g, ← eb, y) refl in
-          q ∙ ap (anyListOf own t s index l m) (sym f ∙ e)
+    -- one in Issue 6's, refused or read
+    module _ (f : x ≡ form.Six) where
+      tests : (threeForm i m ≡ false) × (isThree i (senderIn m) ≡ false)
+      tests = six-tests i own m (sym f ∙ e)
 
-      pub other : (l : List ℕ) (room : ℕ) (r : AnyReceived)
-          → r ≡ settled3 i ours p h (reaction3 own ours t s z p h k start len) (part m start len) ws room
+      pub of-six : (l : List ℕ) (room : ℕ) (q : Received) (r : AnyReceived) → q ≡ outcomeIn own t s index p l m room → r ≡ fromReceived q
           → r ≡ anyOutcome own i ours t s index p l ws m room
-      unfolding anyOutcomeOf
-      other l room r d =
-          let q : r ≡ anyOutcomeOf own i ours t s index p l ws m room (reading.Three h k start len) = rw (← g, ← eb, y) d in
-          q ∙ ap (anyOutcomeOf own i ours t s index p l ws m room) (sym f ∙ e)
+      of-six l room q r g d = d ∙ ap fromReceived g ∙ sym (outcome-before own i ours t s index p ws m (tests .0) (tests .1) l room)
 
-      pub other-output : (st : Stamp) (c : ℕ) (out o : List ℕ)
-          → o ≡ laid3 own st c i ours h (reaction3 own ours t s z p h k start len) (part m start len) ws out
+      pub of-six-output : (st : Stamp) (c : ℕ) (out o : List ℕ) → o ≡ outputIn own t s index p m out → o ≡ anyOutput own st c i ours t s index p ws m out
+      of-six-output st c out o d = d ∙ sym (output-before own i ours t s index p ws m (tests .0) (tests .1) st c out)
+
+      pub of-six-list : (l a : List ℕ) → a ≡ listIn own t s index l m → a ≡ anyList own i t s index l m
+      of-six-list l a d = d ∙ sym (list-before own i ours t s index p ws m (tests .0) (tests .1) l)
+
+      pub of-six-words : (room : ℕ) → ws ≡ anyWords own i ours t s index p ws m room
+      of-six-words room = sym (words-before own i ours t s index p ws m (tests .0) (tests .1) room)
+
+    -- one in Issue 3's
+    module _ (f : x ≡ form.Three) where
+      by-issue-3 : fromThree (readOf3 own m) ≡ anyOf i own m
+      by-issue-3 = its-reading i own m x e form.Three f
+
+      pub of-three : (l : List ℕ) (room : ℕ) (r : AnyReceived) → r ≡ anyOutcomeOf own i ours t s index p l ws m room (fromThree (readOf3 own m))
+          → r ≡ anyOutcome own i ours t s index p l ws m room
+      of-three l room r d = d ∙ ap (anyOutcomeOf own i ours t s index p l ws m room) by-issue-3
+
+      pub of-three-output : (st : Stamp) (c : ℕ) (out o : List ℕ) → o ≡ anyOutputOf own st c i ours t s index p ws m out (fromThree (readOf3 own m))
           → o ≡ anyOutput own st c i ours t s index p ws m out
-      unfolding anyOutputOf
-      other-output st c out o d =
-          let q : o ≡ anyOutputOf own st c i ours t s index p ws m out (reading.Three h k start len) = rw (← g, ← eb, y) d in
-          q ∙ ap (anyOutputOf own st c i ours t s index p ws m out) (sym f ∙ e)
+      of-three-output st c out o d = d ∙ ap (anyOutputOf own st c i ours t s index p ws m out) by-issue-3
 
-      pub other-words : (room : ℕ) (a : List ℕ) → a ≡ kept3 i ours h (reaction3 own ours t s z p h k start len) (part m start len) ws room
+      pub of-three-list : (l a : List ℕ) → a ≡ anyListOf own t s index l m (fromThree (readOf3 own m)) → a ≡ anyList own i t s index l m
+      of-three-list l a d = d ∙ ap (anyListOf own t s index l m) by-issue-3
+
+      pub of-three-words : (room : ℕ) (a : List ℕ) → a ≡ anyWordsOf own i ours t s index p ws m room (fromThree (readOf3 own m))
           → a ≡ anyWords own i ours t s index p ws m room
-      unfolding anyWordsOf
-      other-words room a d =
-          let q : a ≡ anyWordsOf own i ours t s index p ws m room (reading.Three h k start len) = rw (← g, ← eb, y) d in
-          q ∙ ap (anyWordsOf own i ours t s index p ws m room) (sym f ∙ e)
+      of-three-words room a d = d ∙ ap (anyWordsOf own i ours t s index p ws m room) by-issue-3

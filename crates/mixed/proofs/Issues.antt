@@ -2,7 +2,7 @@
 -- Assumes nothing.
 use Prim.Native.Nat.{ℕ, zero, suc}
 use mathlib.Core.Path.{_≡_, refl, sym, ap, _∙_}
-use mathlib.Core.Bool.{true, false, not, cond}
+use mathlib.Core.Bool.{Bool, true, false, not, cond}
 use mathlib.Core.List.{List}
 use native.Mathlib.Omega.{arith}
 use borrow.Author.Tests.{eq-eqb, ne-eqb}
@@ -25,10 +25,12 @@ use Rattle.message3.specs.Refusal.{readRefusal3}
 use Rattle.message3.specs.Reading.{answered3, readOut3, readOf3}
 use Rattle.message3.proofs.Accepted.{Readable as Readable3, readable as readable3}
 use Rattle.partners.specs.Threes.{isThree}
+use Rattle.mixed.specs.declared.Form.{Form}
+use Rattle.mixed.specs.declared.Form.the-variants as form
 use Rattle.mixed.specs.declared.AnyReading.{AnyReading}
 use Rattle.mixed.specs.declared.AnyReading.the-variants.{Refused, Six, Three}
 use Rattle.mixed.specs.Form.{threeForm}
-use Rattle.mixed.specs.Reading.{otherIssue, fromSix, fromThree, anyOf, issueIn}
+use Rattle.mixed.specs.Reading.{otherIssue, formOf, fromSix, fromThree, anyOf, issueIn}
 
 -- what was read under one issue, taken back
 abbrev pub asSix : AnyReading → Reading
@@ -107,6 +109,17 @@ module _ (own : ℕ) (s : List ℕ) where
     pub three-readable : Readable3 own s
     three-readable = readable3 own s not-refused3
 
+-- what is read of each form
+abbrev pub readBy : ℕ → List ℕ → Form → AnyReading
+readBy own s form.Three = fromThree (readOf3 own s)
+readBy own s form.Six = fromSix (readOf own s)
+readBy own s (form.Other n) = Refused n
+
+abbrev isSix : Form → ℕ
+isSix form.Three = 0
+isSix form.Six = 1
+isSix (form.Other n) = 0
+
 -- by the two tests
 module _ (i : List ℕ) (own : ℕ) (s : List ℕ) where
   pub if-three : threeForm i s ≡ true → anyOf i own s ≡ fromThree (readOf3 own s)
@@ -137,3 +150,26 @@ module _ (i : List ℕ) (own : ℕ) (s : List ℕ) where
   pub of-speaker : threeForm i s ≡ true → isThree i (senderIn3 s) ≡ true
   unfolding threeForm
   of-speaker e = and-right (not (eqb (versionIn s) theVersion)) (isThree i (senderIn3 s)) e
+
+  -- reading goes by the form that was found
+  pub by-form : anyOf i own s ≡ readBy own s (formOf i s)
+  unfolding anyOf formOf
+  by-form = go (threeForm i s) (isThree i (senderIn s))
+    where
+      go : (a b : Bool) → cond a (fromThree (readOf3 own s)) (cond b (Refused (otherIssue (frameRefusal s))) (fromSix (readOf own s)))
+          ≡ readBy own s (cond a form.Three (cond b (form.Other (otherIssue (frameRefusal s))) form.Six))
+      go true b = refl
+      go false true = refl
+      go false false = refl
+
+  -- Issue 6's form is found where both tests fail
+  pub six-tests : form.Six ≡ formOf i s → (threeForm i s ≡ false) × (isThree i (senderIn s) ≡ false)
+  unfolding formOf
+  six-tests e = go (threeForm i s) (isThree i (senderIn s)) refl refl (ap isSix e)
+    where
+      go : (a b : Bool) → threeForm i s ≡ a → isThree i (senderIn s) ≡ b
+          → 1 ≡ isSix (cond a form.Three (cond b (form.Other (otherIssue (frameRefusal s))) form.Six))
+          → (threeForm i s ≡ false) × (isThree i (senderIn s) ≡ false)
+      go true b p q d = absurd (omega arith)
+      go false true p q d = absurd (omega arith)
+      go false false p q d = (p, q)

@@ -1,5 +1,5 @@
-mod Readings
 pub mod Issues
+mod Readings
 pub mod NoCrossing
 pub mod ByByteTwo
 mod OursLaws
@@ -9,6 +9,9 @@ pub mod ToldLaws
 mod Rooms
 mod Kept
 mod Receipts
-mod Calls
-mod OnTables
+pub mod Deeds
+pub mod Settling
 pub mod AsBefore
+mod Calls
+mod CallsThree
+mod OnTables

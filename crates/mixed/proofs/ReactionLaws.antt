@@ -2,21 +2,21 @@
 -- Assumes nothing.
 use Prim.Native.Nat.{ℕ}
 use mathlib.Core.Path.{_≡_, refl, sym, ap, _∙_}
-use mathlib.Core.Bool.{Bool, true, false}
+use mathlib.Core.Bool.{Bool, true, false, cond}
 use mathlib.Core.List.{List, [], _∷_}
 use denote.Enum.Declared.{tagOf}
 use types.Run.{OneOf, miss}
+use lib.Dec.{eqb}
 use Rattle.wire.proofs.Cond.{yes-eq, no-eq}
 use Rattle.table.specs.declared.Sections.{Sections}
 use Rattle.operations.specs.declared.Sought.{Sought}
 use Rattle.operations.specs.declared.Sought.the-variants as sought
+use Rattle.operations.specs.Entries.{dataKind, kindAt}
 use Rattle.operations.specs.Search.{soughtIn}
 use Rattle.pending.specs.Free.{drawn}
 use Rattle.states.specs.States.{isUp}
-use Rattle.message.specs.declared.Header.{Header}
 use Rattle.message.specs.declared.Status.{Status}
 use Rattle.message.specs.declared.Status.the-variants.{Down, Up}
-use Rattle.message.specs.declared.Message.{Message}
 use Rattle.message.specs.declared.Message.the-variants as message
 use Rattle.message3.specs.declared.Agreement.{Agreement}
 use Rattle.message3.specs.declared.Header3.{Header3}
@@ -27,17 +27,16 @@ use Rattle.platform.specs.declared.reactions.Standing.{Standing}
 use Rattle.platform.specs.declared.reactions.Heard.{Heard}
 use Rattle.platform.specs.declared.reactions.Heard.the-variants as heard
 use Rattle.platform.specs.declared.reactions.Reply.the-variants.{StatusUp, Unknown}
-use Rattle.platform.specs.declared.reactions.Reaction.{Reaction}
 use Rattle.platform.specs.Replies.{allData}
-use Rattle.platform.specs.Reaction.{noted, reactionTo}
+use Rattle.platform.specs.Reaction.{isData, silent, noted, notVersioned, onPullAll, onPullOne, onPull, onOperation, reactionTo}
 use Rattle.platform.proofs.reactions.Heard.{the-type as heard-type}
 use Rattle.mixed.specs.declared.reactions.Heard3.the-variants as heard3
 use Rattle.mixed.specs.declared.reactions.Deed.{Deed}
 use Rattle.mixed.specs.declared.reactions.Deed.the-variants.{Nothing, One, StartUp, TellAll, TellOne, Note, MarkAll}
 use Rattle.mixed.specs.declared.reactions.Reaction3.{Reaction3}
 use Rattle.mixed.specs.Ours.{oursAvailable}
-use Rattle.mixed.specs.Reaction.{allServices, operationFor3, silent3, inSixWords, deedFor, heardAs, commonly, onPull3, cameUp3}
-use Rattle.mixed.specs.Reaction.{onStatus3, onServicesRequest, reaction3}
+use Rattle.mixed.specs.Reaction.{allServices, operationFor3, silent3, inSixWords, deedFor, heardAs, oneHeard, pullHeard, operationHeard, commonly}
+use Rattle.mixed.specs.Reaction.{onPull3, cameUp3, onStatus3, onServicesRequest, reaction3}
 
 -- what is owed for what was heard
 module _ (n : ℕ) where
@@ -130,25 +129,70 @@ module _ (ours : List ℕ) (p : Standing) (n id : ℕ) where
       ap telling (ap (TellOne n id) d ∙ sym (no-eq {A = Deed} (TellAll n) (TellOne n id (oursAvailable ours id)) id allServices e))
 
 -- what both issues have
+pub as-heard : (p : Standing) (n : ℕ) (x : Heard) (d : Deed) → d ≡ deedFor n x
+    → _≡_ {A = Reaction3} (record { standing = p; heard = heard3.Common x; deed = d }) (heardAs p n x)
+as-heard p n x d e = ap (λ (y : Deed). record { standing = p; heard = heard3.Common x; deed = y }) e
+
+-- `pull_heard`, `one_heard`, `operation_heard`
+module _ (t : List ℕ) (f : Sought) (id : ℕ) where
+  pub all-pulled : id ≡ allData → heard.PullOfAll ≡ pullHeard t f id
+  all-pulled e = sym (yes-eq {A = Heard} heard.PullOfAll (oneHeard t f id) id allData e)
+
+  pub one-pulled : {x : Heard} → (id ≡ allData → ⊥) → x ≡ oneHeard t f id → x ≡ pullHeard t f id
+  one-pulled n e = e ∙ sym (no-eq {A = Heard} heard.PullOfAll (oneHeard t f id) id allData n)
+
+  module _ (i q k : ℕ) (e : f ≡ sought.At i q) (ek : k ≡ kindAt t q) where
+    pub is-pulled : k ≡ dataKind → heard.PullOfOne id i ≡ oneHeard t f id
+    unfolding isData
+    is-pulled z =
+        sym (ap (λ (x : Sought). oneHeard t x id) e ∙ yes-eq {A = Heard} (heard.PullOfOne id i) (heard.NotVersionedData id) (kindAt t q) dataKind (sym ek ∙ z))
+
+    pub no-pull : (k ≡ dataKind → ⊥) → heard.NotVersionedData id ≡ oneHeard t f id
+    unfolding isData
+    no-pull z =
+        sym (ap (λ (x : Sought). oneHeard t x id) e
+        ∙ no-eq {A = Heard} (heard.PullOfOne id i) (heard.NotVersionedData id) (kindAt t q) dataKind (λ (y : kindAt t q ≡ dataKind). z (ek ∙ y)))
+
+  pub nowhere-pulled : f ≡ sought.Nowhere → heard.NotVersionedData id ≡ oneHeard t f id
+  nowhere-pulled e = rw e refl
+
+module _ (f : Sought) (id start len : ℕ) where
+  pub operation-there : (i q : ℕ) → f ≡ sought.At i q → heard.Operation i start len ≡ operationHeard f id start len
+  operation-there i q e = rw e refl
+
+  pub operation-absent : f ≡ sought.Nowhere → heard.NotInTable id ≡ operationHeard f id start len
+  operation-absent e = rw e refl
+
+-- and that this is what Issue 6's words say
 module _ (own : ℕ) (t : List ℕ) (s : Sections) (f : Sought) (p : Standing) (h : Header3) (start len : ℕ) where
-  pub commonly-is : (m : Message) (g : Header) (r : Reaction) (d : Deed) → g ≡ inSixWords h → r ≡ reactionTo own t s f p g m start len
-      → d ≡ deedFor (h .sequence) (r .heard)
-      → _≡_ {A = Reaction3} (record { standing = p; heard = heard3.Common (r .heard); deed = d }) (commonly own t s f p h m start len)
-  unfolding commonly
-  commonly-is m g r d eg er ed =
-      let k : r .heard ≡ reactionTo own t s f p (inSixWords h) m start len .heard =
-      ap (λ (x : Reaction). x .heard) (er ∙ ap (λ (x : Header). reactionTo own t s f p x m start len) eg) in
-      ap (λ (x : Deed). record { standing = p; heard = heard3.Common (r .heard); deed = x }) ed ∙ ap (heardAs p (h .sequence)) k
+  pulled-one : (g : Sought) (id n : ℕ) → oneHeard t g id ≡ onPullOne t g p n id .heard
+  unfolding onPullOne
+  pulled-one (sought.At i q) id n = go (isData t q)
+    where
+      go : (b : Bool) → cond b (heard.PullOfOne id i) (heard.NotVersionedData id)
+          ≡ cond b (silent p (heard.PullOfOne id i)) (notVersioned p n id) .heard
+      go true = refl
+      go false = refl
+  pulled-one sought.Nowhere id n = refl
 
-  pub pulls-all : (id : ℕ) (r : Reaction3) → id ≡ allData → r ≡ silent3 p (heard3.Common heard.PullOfAll) → r ≡ onPull3 own t s f p h id start len
-  unfolding onPull3
-  pulls-all id r e d = d ∙ sym (yes-eq {A = Reaction3} (silent3 p (heard3.Common heard.PullOfAll)) _ id allData e)
+  pub pulls : (id : ℕ) → heardAs p (h .sequence) (pullHeard t f id) ≡ onPull3 own t s f p h id start len
+  unfolding onPull3 commonly reactionTo onPull
+  pulls id = go (eqb id allData)
+    where
+      go : (b : Bool) → heardAs p (h .sequence) (cond b heard.PullOfAll (oneHeard t f id))
+          ≡ cond b (silent3 p (heard3.Common heard.PullOfAll))
+          (heardAs p (h .sequence) (cond b (onPullAll t s p (h .sequence)) (onPullOne t f p (h .sequence) id) .heard))
+      go true = refl
+      go false = ap (heardAs p (h .sequence)) (pulled-one f id (h .sequence))
 
-  pub pulls-one : (id : ℕ) (r : Reaction3) → (id ≡ allData → ⊥) → r ≡ commonly own t s f p h (message.VersionedDataPull id) start len
-      → r ≡ onPull3 own t s f p h id start len
-  unfolding onPull3
-  pulls-one id r e d =
-      d ∙ sym (no-eq {A = Reaction3} (silent3 p (heard3.Common heard.PullOfAll)) (commonly own t s f p h (message.VersionedDataPull id) start len) id allData e)
+  pub operates : heardAs p (h .sequence) (operationHeard f (h .id) start len) ≡ commonly own t s f p h message.Operation start len
+  unfolding commonly reactionTo onOperation
+  operates = go f
+    where
+      go : (g : Sought) → heardAs p (h .sequence) (operationHeard g (h .id) start len)
+          ≡ heardAs p (h .sequence) (onOperation g p (inSixWords h) start len .heard)
+      go (sought.At i q) = refl
+      go sought.Nowhere = refl
 
 -- each message
 module _ (own : ℕ) (ours t : List ℕ) (s : Sections) (f : Sought) (p : Standing) (h : Header3) (m : Message3) (start len : ℕ) where
@@ -160,25 +204,25 @@ module _ (own : ℕ) (ours t : List ℕ) (s : Sections) (f : Sought) (p : Standi
     unfolding reaction3
     to-status x c k d = rw k d
 
-    pub to-request : m ≡ message3.PlatformStatusRequest → r ≡ commonly own t s f p h message.PlatformStatusRequest start len → r ≡ whole
-    unfolding reaction3
+    pub to-request : m ≡ message3.PlatformStatusRequest → r ≡ heardAs p (h .sequence) heard.Request → r ≡ whole
+    unfolding reaction3 commonly reactionTo
     to-request k d = rw k d
 
     pub to-services-request : (id : ℕ) → m ≡ message3.AvailabilityStatusRequest id → r ≡ onServicesRequest ours p (h .sequence) id → r ≡ whole
     unfolding reaction3
     to-services-request id k d = rw k d
 
-    pub to-unknown : (id : ℕ) → m ≡ message3.UnknownOperation id → r ≡ commonly own t s f p h (message.UnknownOperation id) start len → r ≡ whole
-    unfolding reaction3
+    pub to-unknown : (id : ℕ) → m ≡ message3.UnknownOperation id → r ≡ heardAs p (h .sequence) (heard.UnknownOperation id) → r ≡ whole
+    unfolding reaction3 commonly reactionTo
     to-unknown id k d = rw k d
 
     pub to-not-available : (id : ℕ) → m ≡ message3.ServiceNotAvailable id → r ≡ silent3 p (heard3.ServiceNotAvailable id) → r ≡ whole
     unfolding reaction3
     to-not-available id k d = rw k d
 
-    pub to-pull : (id : ℕ) → m ≡ message3.VersionedDataPull id → r ≡ onPull3 own t s f p h id start len → r ≡ whole
+    pub to-pull : (id : ℕ) (x : Heard) → m ≡ message3.VersionedDataPull id → x ≡ pullHeard t f id → r ≡ heardAs p (h .sequence) x → r ≡ whole
     unfolding reaction3
-    to-pull id k d = rw k d
+    to-pull id x k e d = rw k (d ∙ ap (heardAs p (h .sequence)) e ∙ pulls own t s f p h start len id)
 
     pub to-change : (c : ℕ) → m ≡ message3.CompositeChangeRequest c → r ≡ silent3 p (heard3.CompositeChange c) → r ≡ whole
     unfolding reaction3
@@ -188,9 +232,9 @@ module _ (own : ℕ) (ours t : List ℕ) (s : Sections) (f : Sought) (p : Standi
     unfolding reaction3
     to-ack a k d = rw k d
 
-    pub to-operation : m ≡ message3.Operation → r ≡ commonly own t s f p h message.Operation start len → r ≡ whole
+    pub to-operation : (x : Heard) → m ≡ message3.Operation → x ≡ operationHeard f (h .id) start len → r ≡ heardAs p (h .sequence) x → r ≡ whole
     unfolding reaction3
-    to-operation k d = rw k d
+    to-operation x k e d = rw k (d ∙ ap (heardAs p (h .sequence)) e ∙ operates own t s f p h start len)
 
   pub to-services : (n : ℕ) → m ≡ message3.AvailabilityStatus n → _≡_ {A = Reaction3} (record { standing = p; heard = heard3.Services n; deed = Note }) whole
   unfolding reaction3

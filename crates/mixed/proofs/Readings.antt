@@ -21,10 +21,13 @@ use Rattle.message3.specs.declared.Reading3.the-variants as three
 use Rattle.message3.specs.Header.{senderIn3}
 use Rattle.message3.specs.Reading.{readOf3}
 use Rattle.partners.specs.Threes.{isThree}
+use Rattle.mixed.specs.declared.Form.{Form}
+use Rattle.mixed.specs.declared.Form.the-variants as form
 use Rattle.mixed.specs.declared.AnyReading.{AnyReading}
 use Rattle.mixed.specs.declared.AnyReading.the-variants.{Refused, Six, Three}
 use Rattle.mixed.specs.Form.{threeForm}
-use Rattle.mixed.specs.Reading.{otherIssue, fromSix, fromThree, anyOf, payloadOf}
+use Rattle.mixed.specs.Reading.{otherIssue, formOf, fromSix, fromThree, anyOf, payloadOf}
+use Rattle.mixed.proofs.Issues.{readBy, by-form}
 
 pub the-form : {version sender : ℕ} {speaks : Bool} (i s : List ℕ) → sender ≡ senderIn3 s → version ≡ versionIn s → speaks ≡ isThree i sender
     → (not (eqb version theVersion) && speaks) ≡ threeForm i s
@@ -52,26 +55,39 @@ module _ (x : Reading3) where
   pub three-read : (h : Header3) (m : Message3) (start len : ℕ) → x ≡ three.Read h m start len → Three h m start len ≡ fromThree x
   three-read h m start len e = ap fromThree (sym e)
 
--- `read` by its two tests
-module _ (i : List ℕ) (own : ℕ) (s : List ℕ) (form : Bool) (e : form ≡ threeForm i s) where
-  pub by-three : {x : Reading3} {r : AnyReading} → form ≡ true → x ≡ readOf3 own s → r ≡ fromThree x → r ≡ anyOf i own s
-  unfolding anyOf
-  by-three y p q = q ∙ ap fromThree p ∙ sym (yes-if {A = AnyReading} (fromThree (readOf3 own s)) _ (sym e ∙ y))
+-- `form_of` by its two tests
+module _ (i s : List ℕ) (three : Bool) (e : three ≡ threeForm i s) where
+  pub three-found : three ≡ true → form.Three ≡ formOf i s
+  unfolding formOf
+  three-found y = sym (yes-if {A = Form} form.Three _ (sym e ∙ y))
 
-  module _ (n : form ≡ false) (sender : ℕ) (speaks : Bool) (f : sender ≡ senderIn s) (g : speaks ≡ isThree i sender) where
-    in-its-form : anyOf i own s ≡ cond (isThree i (senderIn s)) (Refused (otherIssue (frameRefusal s))) (fromSix (readOf own s))
-    unfolding anyOf
-    in-its-form = no-if {A = AnyReading} (fromThree (readOf3 own s)) _ (sym e ∙ n)
+  module _ (n : three ≡ false) (sender : ℕ) (speaks : Bool) (f : sender ≡ senderIn s) (g : speaks ≡ isThree i sender) where
+    in-its-form : formOf i s ≡ cond (isThree i (senderIn s)) (form.Other (otherIssue (frameRefusal s))) form.Six
+    unfolding formOf
+    in-its-form = no-if {A = Form} form.Three _ (sym e ∙ n)
 
     its-issue : speaks ≡ isThree i (senderIn s)
     its-issue = g ∙ ap (isThree i) f
 
-    pub not-its-issue : {k m : ℕ} → speaks ≡ true → k ≡ frameRefusal s → m ≡ otherIssue k → Refused m ≡ anyOf i own s
-    not-its-issue y p q = ap Refused (q ∙ ap otherIssue p) ∙ sym (in-its-form ∙ yes-if {A = AnyReading} _ (fromSix (readOf own s)) (sym its-issue ∙ y))
+    pub other-found : {k m : ℕ} → speaks ≡ true → k ≡ frameRefusal s → m ≡ otherIssue k → form.Other m ≡ formOf i s
+    other-found y p q = ap form.Other (q ∙ ap otherIssue p) ∙ sym (in-its-form ∙ yes-if {A = Form} _ form.Six (sym its-issue ∙ y))
 
-    pub by-six : {x : Reading} {r : AnyReading} → speaks ≡ false → x ≡ readOf own s → r ≡ fromSix x → r ≡ anyOf i own s
-    by-six z p q =
-        q ∙ ap fromSix p ∙ sym (in-its-form ∙ no-if {A = AnyReading} (Refused (otherIssue (frameRefusal s))) (fromSix (readOf own s)) (sym its-issue ∙ z))
+    pub six-found : speaks ≡ false → form.Six ≡ formOf i s
+    six-found z = sym (in-its-form ∙ no-if {A = Form} (form.Other (otherIssue (frameRefusal s))) form.Six (sym its-issue ∙ z))
+
+-- `read` by the form
+module _ (i : List ℕ) (own : ℕ) (s : List ℕ) (x : Form) (e : x ≡ formOf i s) where
+  pub its-reading : (y : Form) → x ≡ y → readBy own s y ≡ anyOf i own s
+  its-reading y f = ap (readBy own s) (sym f ∙ e) ∙ sym (by-form i own s)
+
+  pub by-three : {y : Reading3} {r : AnyReading} → x ≡ form.Three → y ≡ readOf3 own s → r ≡ fromThree y → r ≡ anyOf i own s
+  by-three f p q = q ∙ ap fromThree p ∙ its-reading form.Three f
+
+  pub by-six : {y : Reading} {r : AnyReading} → x ≡ form.Six → y ≡ readOf own s → r ≡ fromSix y → r ≡ anyOf i own s
+  by-six f p q = q ∙ ap fromSix p ∙ its-reading form.Six f
+
+  pub not-its-issue : {n : ℕ} → x ≡ form.Other n → Refused n ≡ anyOf i own s
+  not-its-issue {n} f = its-reading (form.Other n) f
 
 -- the payload of either
 module _ {u : List ℕ} {r : AnyReading} (s : List ℕ) where

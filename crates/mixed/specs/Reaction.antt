@@ -23,7 +23,7 @@ use Rattle.platform.specs.declared.reactions.Heard.{Heard}
 use Rattle.platform.specs.declared.reactions.Heard.the-variants as heard
 use Rattle.platform.specs.declared.reactions.Reply.the-variants.{StatusUp, Unknown}
 use Rattle.platform.specs.Replies.{allData}
-use Rattle.platform.specs.Reaction.{noted, reactionTo}
+use Rattle.platform.specs.Reaction.{isData, noted, reactionTo}
 use Rattle.mixed.specs.declared.reactions.Heard3.{Heard3}
 use Rattle.mixed.specs.declared.reactions.Heard3.the-variants as heard3
 use Rattle.mixed.specs.declared.reactions.Deed.{Deed}
@@ -70,6 +70,18 @@ deedFor n (heard.NotInTable id) = One (Unknown n id)
 
 abbrev pub heardAs : Standing → ℕ → Heard → Reaction3
 heardAs p n x = record { standing = p; heard = heard3.Common x; deed = deedFor n x }
+
+-- what is heard of a pull, and of a message of domain 1 (`platform/specs/Reaction`), by the operation that was looked up
+abbrev pub oneHeard : List ℕ → Sought → ℕ → Heard
+oneHeard t (sought.At i q) id = cond (isData t q) (heard.PullOfOne id i) (heard.NotVersionedData id)
+oneHeard t sought.Nowhere id = heard.NotVersionedData id
+
+abbrev pub pullHeard : List ℕ → Sought → ℕ → Heard
+pullHeard t f id = cond (eqb id allData) heard.PullOfAll (oneHeard t f id)
+
+abbrev pub operationHeard : Sought → ℕ → ℕ → ℕ → Heard
+operationHeard (sought.At i q) id start len = heard.Operation i start len
+operationHeard sought.Nowhere id start len = heard.NotInTable id
 
 unfoldable pub commonly : ℕ → List ℕ → Sections → Sought → Standing → Header3 → Message → ℕ → ℕ → Reaction3
 commonly own t s f p h m start len = heardAs p (h .sequence) (reactionTo own t s f p (inSixWords h) m start len .heard)

@@ -12,6 +12,8 @@ use Rattle.message3.specs.declared.Reading3.{Reading3}
 use Rattle.message3.specs.declared.Reading3.the-variants as three
 use Rattle.message3.specs.Reading.{readOf3}
 use Rattle.partners.specs.Threes.{isThree}
+use Rattle.mixed.specs.declared.Form.{Form}
+use Rattle.mixed.specs.declared.Form.the-variants as form
 use Rattle.mixed.specs.declared.AnyReading.{AnyReading}
 use Rattle.mixed.specs.declared.AnyReading.the-variants.{Refused, Six, Three}
 use Rattle.mixed.specs.Form.{threeForm}
@@ -22,6 +24,10 @@ otherIssue zero = wrongVersion
 otherIssue (suc zero) = tooShort
 otherIssue (suc (suc zero)) = wrongMark
 otherIssue (suc (suc (suc n))) = wrongVersion
+
+-- by which issue a message is read, or the number that refuses it in the form of the issue that its sender does not speak
+unfoldable pub formOf : List ℕ → List ℕ → Form
+formOf i s = cond (threeForm i s) form.Three (cond (isThree i (senderIn s)) (form.Other (otherIssue (frameRefusal s))) form.Six)
 
 abbrev pub fromSix : Reading → AnyReading
 fromSix (six.Refused n) = Refused n

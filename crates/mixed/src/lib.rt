@@ -27,11 +27,19 @@ use platform::Standing;
 pub use reactions::Deed;
 pub use reactions::Heard3;
 pub use reactions::Reaction3;
+pub use reader::form_of;
 pub use reader::payload;
 pub use reader::read;
 use table::CUT_SHORT;
 use table::Checked;
 use table::Sections;
+
+// Which issue a message is read by, its sender's, or the number that refuses one in the form of the issue that its sender does not speak.
+pub enum Form {
+    Three,
+    Six,
+    Other(u32),
+}
 
 // What a message is, by its sender's issue.
 pub enum AnyReading {
@@ -116,14 +124,9 @@ pub fn receive_within(
         ≡ anyWords (own .platform) (now (partners .entry)) (now (ours .entry)) (now (table .entry)) s (now (index .entry)) standing
         (now (blocks .entry)) (now (message .entry)) (length (now (out .entry))) ⌝ }
 {
-    match reader::read(own, partners, message) {
-        AnyReading::Refused(number) => receiving::refused(standing, number),
-        AnyReading::Six {
-            header: _,
-            message: _,
-            start: _,
-            length: _,
-        } => {
+    match reader::form_of(partners, message) {
+        Form::Other(number) => receiving::refused(standing, number),
+        Form::Six => {
             let received = platform::receive_within(
                 own,
                 table,
@@ -136,36 +139,21 @@ pub fn receive_within(
             );
             receiving::from_received(received)
         }
-        AnyReading::Three {
-            header,
-            message: kind,
-            start,
-            length,
-        } => {
-            let found = reacting::look_up(table, s, index, header, kind);
-            if receiving::is_answer(table, found, kind) {
-                receiving::response_to(list, found, standing, header, start, length)
-            } else {
-                receiving::reacted(
-                    own,
-                    stamp,
-                    composite,
-                    partners,
-                    ours,
-                    table,
-                    s,
-                    found,
-                    standing,
-                    header,
-                    kind,
-                    start,
-                    length,
-                    message,
-                    blocks,
-                    out,
-                )
-            }
-        }
+        Form::Three => receiving::of_three(
+            own,
+            stamp,
+            composite,
+            partners,
+            ours,
+            table,
+            s,
+            index,
+            standing,
+            list,
+            blocks,
+            message,
+            out,
+        ),
     }
 }
 

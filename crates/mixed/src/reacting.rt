@@ -1,13 +1,11 @@
 // What a message of Issue 3 comes to: what it was, the states and the own number after it, and what is to be written.
 ghost use mathlib.Core.Path.{_≡_};
-ghost use Rattle.mixed.specs.Reaction.{inSixWords, operationFor3, deedFor, silent3, commonly, cameUp3, onStatus3, onPull3, onServicesRequest};
+ghost use Rattle.mixed.specs.Reaction.{operationFor3, deedFor, heardAs, oneHeard, pullHeard, operationHeard, silent3, cameUp3, onStatus3, onServicesRequest};
 ghost use Rattle.mixed.specs.Reaction.{reaction3};
 use crate::ours;
 use crate::reactions::Deed;
 use crate::reactions::Heard3;
 use crate::reactions::Reaction3;
-use message::Header;
-use message::Message;
 use message::Own;
 use message::Status;
 use message3::Header3;
@@ -40,17 +38,7 @@ pub(crate) fn reaction_to(
         Message3::PlatformStatus(status, composite) => {
             on_status(own, standing, header.platform, status, composite)
         }
-        Message3::PlatformStatusRequest => commonly(
-            own,
-            table,
-            s,
-            found,
-            standing,
-            header,
-            Message::PlatformStatusRequest,
-            start,
-            length,
-        ),
+        Message3::PlatformStatusRequest => commonly(standing, header.sequence, Heard::Request),
         Message3::AvailabilityStatus(count) => Reaction3 {
             standing,
             heard: Heard3::Services(count),
@@ -59,35 +47,21 @@ pub(crate) fn reaction_to(
         Message3::AvailabilityStatusRequest(id) => {
             on_services_request(ours, standing, header.sequence, id)
         }
-        Message3::UnknownOperation(id) => commonly(
-            own,
-            table,
-            s,
-            found,
-            standing,
-            header,
-            Message::UnknownOperation(id),
-            start,
-            length,
-        ),
+        Message3::UnknownOperation(id) => {
+            commonly(standing, header.sequence, Heard::UnknownOperation(id))
+        }
         Message3::ServiceNotAvailable(id) => silent(standing, Heard3::ServiceNotAvailable(id)),
         Message3::VersionedDataPull(id) => {
-            on_pull(own, table, s, found, standing, header, id, start, length)
+            commonly(standing, header.sequence, pull_heard(table, found, id))
         }
         Message3::CompositeChangeRequest(id) => silent(standing, Heard3::CompositeChange(id)),
         Message3::CompositeChangeRequestAck(answer) => {
             silent(standing, Heard3::CompositeAnswer(answer))
         }
         Message3::Operation => commonly(
-            own,
-            table,
-            s,
-            found,
             standing,
-            header,
-            Message::Operation,
-            start,
-            length,
+            header.sequence,
+            operation_heard(found, header.id, start, length),
         ),
     }
 }
@@ -151,33 +125,41 @@ fn came_up(standing: Standing, sender: u8, composite: u32) -> Reaction3
 }
 
 // 001 has no answer to a pull of all where there is no versioned data.
-fn on_pull(
-    own: Own,
-    table: &[u8],
-    s: Sections,
-    found: Sought,
-    standing: Standing,
-    header: Header3,
-    id: u32,
-    start: usize,
-    length: usize,
-) -> Reaction3
-    ensures { λ r. ⌜ r ≡ onPull3 (own .platform) (now (table .entry)) s found standing header id start length ⌝ }
+fn pull_heard(table: &[u8], found: Sought, id: u32) -> Heard
+    ensures { λ r. ⌜ r ≡ pullHeard (now (table .entry)) found id ⌝ }
 {
     if id == ALL_DATA {
-        silent(standing, Heard3::Common(Heard::PullOfAll))
+        Heard::PullOfAll
     } else {
-        commonly(
-            own,
-            table,
-            s,
-            found,
-            standing,
-            header,
-            Message::VersionedDataPull(id),
+        one_heard(table, found, id)
+    }
+}
+
+fn one_heard(table: &[u8], found: Sought, id: u32) -> Heard
+    ensures { λ r. ⌜ r ≡ oneHeard (now (table .entry)) found id ⌝ }
+{
+    match found {
+        Sought::At(entry, place) => {
+            if operations::kind_at(table, place) == operations::VERSIONED_DATA {
+                Heard::PullOfOne(id, entry)
+            } else {
+                Heard::NotVersionedData(id)
+            }
+        }
+        Sought::Nowhere => Heard::NotVersionedData(id),
+    }
+}
+
+fn operation_heard(found: Sought, id: u32, start: usize, length: usize) -> Heard
+    ensures { λ r. ⌜ r ≡ operationHeard found id start length ⌝ }
+{
+    match found {
+        Sought::At(entry, _) => Heard::Operation {
+            entry,
             start,
             length,
-        )
+        },
+        Sought::Nowhere => Heard::NotInTable(id),
     }
 }
 
@@ -203,49 +185,16 @@ fn on_services_request(ours: &[u64], standing: Standing, number: u32, id: u32) -
     }
 }
 
-// What both issues have is asked in Issue 6's words, and what is owed is told by what was heard.
-fn commonly(
-    own: Own,
-    table: &[u8],
-    s: Sections,
-    found: Sought,
-    standing: Standing,
-    header: Header3,
-    message: Message,
-    start: usize,
-    length: usize,
-) -> Reaction3
-    ensures { λ r. ⌜ r ≡ commonly (own .platform) (now (table .entry)) s found standing header message start length ⌝ }
+// What both issues have: what is owed is told by what was heard. It is not asked of `platform`, whose own call would then be compiled
+// as two.
+fn commonly(standing: Standing, number: u32, heard: Heard) -> Reaction3
+    ensures { λ r. ⌜ r ≡ heardAs standing number heard ⌝ }
 {
-    let reaction = platform::reaction_to(
-        own,
-        table,
-        s,
-        found,
-        standing,
-        in_six_words(header),
-        message,
-        start,
-        length,
-    );
-    let heard = reaction.heard;
     Reaction3 {
         standing,
         heard: Heard3::Common(heard),
-        deed: deed_for(header.sequence, heard),
+        deed: deed_for(number, heard),
     }
-}
-
-pub(crate) fn in_six_words(header: Header3) -> Header
-    ensures { λ r. ⌜ r ≡ inSixWords header ⌝ }
-{
-    Header::new(
-        header.domain,
-        header.platform as u32,
-        header.id,
-        header.payload_size,
-        header.sequence,
-    )
 }
 
 // Replies repeat the number of what they answer.

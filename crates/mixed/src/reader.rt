@@ -1,8 +1,9 @@
 // Messages read by their sender's issue: header, kind and where the payload lies, or the number 1 to 9 that refuses the bytes.
 ghost use mathlib.Core.Path.{_≡_};
 ghost use Rattle.mixed.specs.Form.{threeForm};
-ghost use Rattle.mixed.specs.Reading.{otherIssue, fromSix, fromThree, anyOf, payloadOf};
+ghost use Rattle.mixed.specs.Reading.{otherIssue, formOf, fromSix, fromThree, anyOf, payloadOf};
 use crate::AnyReading;
+use crate::Form;
 use message::Header;
 use message::Own;
 use message::Reading;
@@ -13,13 +14,24 @@ use message3::Reading3;
 pub fn read(own: Own, partners: &[u64], message: &[u8]) -> AnyReading
     ensures { λ r. ⌜ r ≡ anyOf (now (partners .entry)) (own .platform) (now (message .entry)) ⌝ }
 {
+    match form_of(partners, message) {
+        Form::Three => from_three(message3::read(own, message)),
+        Form::Six => from_six(message::read(own, message)),
+        Form::Other(number) => AnyReading::Refused(number),
+    }
+}
+
+// By which issue a message is to be read, before it is: so a caller of one issue alone reads it once.
+pub fn form_of(partners: &[u64], message: &[u8]) -> Form
+    ensures { λ r. ⌜ r ≡ formOf (now (partners .entry)) (now (message .entry)) ⌝ }
+{
     if three_form(partners, message) {
-        return from_three(message3::read(own, message));
+        return Form::Three;
     }
     if partners::is_three(partners, wire::u32_at(message, Header::PLATFORM_AT)) {
-        return AnyReading::Refused(other_issue(message::frame_refusal(message)));
+        return Form::Other(other_issue(message::frame_refusal(message)));
     }
-    from_six(message::read(own, message))
+    Form::Six
 }
 
 // The payload of a message that was read, as a part of the bytes it was read from; empty for one that was refused.

@@ -2,8 +2,11 @@
 ghost use mathlib.Core.Path.{_≡_};
 ghost use lib.ListN.{length};
 ghost use Rattle.wire.specs.Bytes.{part};
+ghost use Rattle.message3.specs.Reading.{readOf3};
+ghost use Rattle.mixed.specs.Reading.{fromThree};
 ghost use Rattle.mixed.specs.Reaction.{reaction3};
 ghost use Rattle.mixed.specs.Receiving.{fromReceived, refusedAny, isAnswer3, delivered3, responseTo3, listAnswered3, taken3, settled3, laid3, kept3};
+ghost use Rattle.mixed.specs.Receiving.{anyOutcomeOf, anyOutputOf, anyListOf, anyWordsOf};
 use crate::AnyAnswer;
 use crate::AnyReceived;
 use crate::keeping;
@@ -14,6 +17,7 @@ use crate::reactions::Room;
 use message::Own;
 use message3::Header3;
 use message3::Message3;
+use message3::Reading3;
 use message3::Stamp;
 use operations::Sought;
 use platform::NOT_AWAITED;
@@ -21,6 +25,71 @@ use platform::Noting;
 use platform::Received;
 use platform::Standing;
 use table::Sections;
+
+// A message in Issue 3's form, read by Issue 3: the response to a request of ours, or any other.
+pub(crate) fn of_three(
+    own: Own,
+    stamp: Stamp,
+    composite: u32,
+    partners: &[u64],
+    ours: &[u64],
+    table: &[u8],
+    s: Sections,
+    index: &[u64],
+    standing: Standing,
+    list: &mut [u64],
+    blocks: &mut [u64],
+    message: &[u8],
+    out: &mut [u8],
+) -> AnyReceived
+    ensures answer { λ r. ⌜ r
+        ≡ anyOutcomeOf (own .platform) (now (partners .entry)) (now (ours .entry)) (now (table .entry)) s (now (index .entry)) standing
+        (now (list .entry)) (now (blocks .entry)) (now (message .entry)) (length (now (out .entry)))
+        (fromThree (readOf3 (own .platform) (now (message .entry)))) ⌝ }
+    ensures output { λ r. ⌜ now (out .exit)
+        ≡ anyOutputOf (own .platform) stamp composite (now (partners .entry)) (now (ours .entry)) (now (table .entry)) s (now (index .entry)) standing
+        (now (blocks .entry)) (now (message .entry)) (now (out .entry)) (fromThree (readOf3 (own .platform) (now (message .entry)))) ⌝ }
+    ensures list { λ r. ⌜ now (list .exit)
+        ≡ anyListOf (own .platform) (now (table .entry)) s (now (index .entry)) (now (list .entry)) (now (message .entry))
+        (fromThree (readOf3 (own .platform) (now (message .entry)))) ⌝ }
+    ensures blocks { λ r. ⌜ now (blocks .exit)
+        ≡ anyWordsOf (own .platform) (now (partners .entry)) (now (ours .entry)) (now (table .entry)) s (now (index .entry)) standing
+        (now (blocks .entry)) (now (message .entry)) (length (now (out .entry))) (fromThree (readOf3 (own .platform) (now (message .entry)))) ⌝ }
+{
+    match message3::read(own, message) {
+        Reading3::Refused(number) => refused(standing, number),
+        Reading3::Read {
+            header,
+            message: kind,
+            start,
+            length,
+        } => {
+            let found = reacting::look_up(table, s, index, header, kind);
+            if is_answer(table, found, kind) {
+                response_to(list, found, standing, header, start, length)
+            } else {
+                reacted(
+                    own,
+                    stamp,
+                    composite,
+                    partners,
+                    ours,
+                    table,
+                    s,
+                    found,
+                    standing,
+                    header,
+                    kind,
+                    start,
+                    length,
+                    message,
+                    blocks,
+                    out,
+                )
+            }
+        }
+    }
+}
 
 // Any message that is no response, with the operation that was looked up for it.
 pub(crate) fn reacted(

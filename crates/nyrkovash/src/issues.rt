@@ -1,15 +1,17 @@
 // Partners of both issues (02, request 8): who speaks Issue 3, messages read by their sender's issue, and messages written for a
 // partner that speaks Issue 3. What `nyr_read` and `nyr_write` do is Issue 6 alone.
 ghost use mathlib.Core.Path.{_≡_};
-ghost use Rattle.nyrkovash.specs.IssueCalls.{partnersLeft, anyNumber, anyAnswer, writeNumber3, writeOutput3, writeGiven3};
+ghost use Rattle.message.specs.Reading.{readOf};
+ghost use Rattle.message3.specs.Reading.{readOf3};
+ghost use Rattle.mixed.specs.Reading.{fromSix, fromThree, numberGiven};
+ghost use Rattle.nyrkovash.specs.IssueCalls.{partnersLeft, anyNumber, anyLeft, anyAnswer, writeNumber3, writeOutput3, writeGiven3};
 use crate::telling;
 use message::Own;
 use message::Writing;
+use message3::Reading3;
 use message3::Stamp;
-use mixed::AnyReading;
-
-// A set-up: platform k is bit k % 64 of word k / 64, set where it speaks Issue 3.
-pub const PARTNERS_WORDS: usize = 4;
+use mixed::Form;
+use mixed_words::PARTNERS_WORDS;
 
 // How many words a message of either issue is that was read.
 pub const ANY_READING_WORDS: usize = 10;
@@ -41,18 +43,34 @@ pub extern "C" fn nyr_read_mixed(
     ensures { λ r. ⌜ r ≡ anyNumber (now (partners .entry)) own (now (message .entry)) ⌝ }
     ensures { λ _. ⌜ now (answer .exit) ≡ anyAnswer (now (partners .entry)) own (now (message .entry)) (now (answer .entry)) ⌝ }
 {
-    match mixed::read(Own { platform: own }, partners, message) {
-        AnyReading::Refused(number) => number,
-        AnyReading::Six {
-            header,
-            message: what,
-            start,
-            length,
-        } => {
-            telling::put_six(header, what, start, length, answer);
-            0
-        }
-        AnyReading::Three {
+    match mixed::form_of(partners, message) {
+        Form::Six => read_six(Own { platform: own }, message, answer),
+        Form::Three => read_three(Own { platform: own }, message, answer),
+        Form::Other(number) => number,
+    }
+}
+
+// A message in Issue 6's form, straight from its bytes.
+fn read_six(own: Own, message: &[u8], answer: &mut [u64; ANY_READING_WORDS]) -> u32
+    ensures { λ r. ⌜ r ≡ numberGiven (fromSix (readOf (own .platform) (now (message .entry)))) ⌝ }
+    ensures { λ _. ⌜ now (answer .exit) ≡ anyLeft (now (answer .entry)) (fromSix (readOf (own .platform) (now (message .entry)))) ⌝ }
+{
+    let number = message::read_refusal(own, message);
+    if number == 0 {
+        telling::put_six(message, answer);
+        0
+    } else {
+        number
+    }
+}
+
+fn read_three(own: Own, message: &[u8], answer: &mut [u64; ANY_READING_WORDS]) -> u32
+    ensures { λ r. ⌜ r ≡ numberGiven (fromThree (readOf3 (own .platform) (now (message .entry)))) ⌝ }
+    ensures { λ _. ⌜ now (answer .exit) ≡ anyLeft (now (answer .entry)) (fromThree (readOf3 (own .platform) (now (message .entry)))) ⌝ }
+{
+    match message3::read(own, message) {
+        Reading3::Refused(number) => number,
+        Reading3::Read {
             header,
             message: what,
             start,

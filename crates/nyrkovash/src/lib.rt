@@ -1,10 +1,11 @@
 // The library as programs in C, C++, Ada and Rust link it (include/nyrkovash.h): a slice is a pointer and a length, and what has a
-// fixed size an array behind a reference. A call answers 0 or 01's number, but for the two that ask states and the one that asks
+// fixed size an array behind a reference. A call answers 0 or 01's number, but for the three that ask states or a service and the one that asks
 // which library this is; where it is refused all that was lent is as it was, but for the place that 40 to 43 leave.
 mod asking;
 mod issues;
 mod joining;
 mod messages;
+mod partnered;
 mod payloads;
 mod plans;
 mod platforms;
@@ -16,8 +17,8 @@ mod version;
 pub use asking::nyr_cancel;
 pub use asking::nyr_pending;
 pub use asking::nyr_send;
+pub use asking::nyr_send_mixed;
 pub use issues::ANY_READING_WORDS;
-pub use issues::PARTNERS_WORDS;
 pub use issues::nyr_partners_set;
 pub use issues::nyr_read_mixed;
 pub use issues::nyr_write_3;
@@ -26,6 +27,9 @@ pub use joining::nyr_take;
 pub use messages::nyr_cut;
 pub use messages::nyr_pieces;
 pub use messages::nyr_write;
+pub use partnered::nyr_receive_mixed;
+pub use partnered::nyr_receive_mixed_in;
+pub use partnered::nyr_service;
 pub use payloads::nyr_pack;
 pub use payloads::nyr_pack_in;
 pub use payloads::nyr_unpack;

@@ -72,7 +72,7 @@ fn put_reading(message: &[u8], answer: &mut [u64; READING_WORDS])
     ];
 }
 
-fn kind_of(domain: u8, id: u32) -> u64
+pub(crate) fn kind_of(domain: u8, id: u32) -> u64
     ensures { λ r. ⌜ r ≡ cond (eqb domain platformDomain) id (kindIn Operation) ⌝ }
 {
     if domain == Header::PLATFORM_DOMAIN {
@@ -82,7 +82,7 @@ fn kind_of(domain: u8, id: u32) -> u64
     }
 }
 
-fn value_of(domain: u8, id: u32, field: u32) -> u64
+pub(crate) fn value_of(domain: u8, id: u32, field: u32) -> u64
     ensures { λ r. ⌜ r ≡ cond (eqb domain platformDomain) field id ⌝ }
 {
     if domain == Header::PLATFORM_DOMAIN {

@@ -1,10 +1,15 @@
 // What a message of either issue is told as, in words (02, request 8).
 ghost use mathlib.Core.Path.{_≡_};
-ghost use Rattle.message.specs.Platform.{statusValue, kindIn, valueIn};
+ghost use Rattle.message.specs.Header.{domainIn, idIn, payloadIn};
+ghost use Rattle.message.specs.Platform.{statusValue};
+ghost use Rattle.message.specs.Refusal.{contentsRefusal};
+ghost use Rattle.message.specs.Reading.{readOut};
 ghost use Rattle.message3.specs.Platform.{agreementValue, kindIn3, valueIn3, compositeIn};
-ghost use Rattle.mixed.specs.declared.AnyReading.the-variants.{Six, Three};
+ghost use Rattle.mixed.specs.declared.AnyReading.the-variants.{Three};
+ghost use Rattle.mixed.specs.Reading.{fromSix};
 ghost use Rattle.nyrkovash.specs.IssueCalls.{anyLeft};
 use crate::issues::ANY_READING_WORDS;
+use crate::reading;
 use crate::reading::OPERATION;
 use message::Header;
 use message::Message;
@@ -28,23 +33,20 @@ const ISSUE_3: u64 = 3;
 
 const ISSUE_6: u64 = 6;
 
-// Issue 6 has no timestamp and no composite ID.
-pub(crate) fn put_six(
-    header: Header,
-    what: Message,
-    start: usize,
-    length: usize,
-    answer: &mut [u64; ANY_READING_WORDS],
-)
-    ensures { λ _. ⌜ now (answer .exit) ≡ anyLeft (now (answer .entry)) (Six header what start length) ⌝ }
+// A message of Issue 6 that nothing refuses, straight from its bytes, as `nyr_read` tells it. It has no timestamp and no composite ID.
+pub(crate) fn put_six(message: &[u8], answer: &mut [u64; ANY_READING_WORDS])
+    requires { ⌜ contentsRefusal (domainIn (now message)) (idIn (now message)) (payloadIn (now message)) ≡ 0 ⌝ }
+    ensures { λ _. ⌜ now (answer .exit) ≡ anyLeft (now (answer .entry)) (fromSix (readOut (now (message .entry)))) ⌝ }
 {
+    let domain = wire::u8_at(message, Header::DOMAIN_AT);
+    let id = wire::u32_at(message, Header::ID_AT);
     *answer = [
-        kind_six(what),
-        value_six(header.id, what),
-        header.platform as u64,
-        header.sequence as u64,
-        start as u64,
-        length as u64,
+        reading::kind_of(domain, id),
+        reading::value_of(domain, id, wire::u32_at(message, Header::LENGTH)),
+        wire::u32_at(message, Header::PLATFORM_AT) as u64,
+        wire::u32_at(message, Header::SEQUENCE_AT) as u64,
+        Header::LENGTH as u64,
+        wire::u32_at(message, Header::PAYLOAD_SIZE_AT) as u64,
         ISSUE_6,
         0,
         0,
@@ -73,30 +75,6 @@ pub(crate) fn put_three(
         header.nanoseconds as u64,
         composite_three(what),
     ];
-}
-
-fn kind_six(what: Message) -> u64
-    ensures { λ r. ⌜ r ≡ kindIn what ⌝ }
-{
-    match what {
-        Message::PlatformStatus(_) => Message::PLATFORM_STATUS as u64,
-        Message::PlatformStatusRequest => Message::PLATFORM_STATUS_REQUEST as u64,
-        Message::UnknownOperation(_) => Message::UNKNOWN_OPERATION as u64,
-        Message::VersionedDataPull(_) => Message::VERSIONED_DATA_PULL as u64,
-        Message::Operation => OPERATION,
-    }
-}
-
-fn value_six(id: u32, what: Message) -> u64
-    ensures { λ r. ⌜ r ≡ valueIn id what ⌝ }
-{
-    match what {
-        Message::PlatformStatus(status) => status_value(status),
-        Message::PlatformStatusRequest => 0,
-        Message::UnknownOperation(unknown) => unknown as u64,
-        Message::VersionedDataPull(pulled) => pulled as u64,
-        Message::Operation => id as u64,
-    }
 }
 
 fn kind_three(what: Message3) -> u64

@@ -11,7 +11,6 @@ pub use answering::NOT_AWAITED;
 pub use answering::entry_of;
 pub use answering::is_sent;
 pub use reacting::noted;
-pub use reacting::reaction_to;
 pub use reactions::Heard;
 pub use reactions::Owed;
 pub use reactions::REPLY_LENGTH;

@@ -33,7 +33,7 @@ pub(crate) fn look_up(table: &[u8], s: Sections, index: &[u64], reading: Reading
 }
 
 // Without what answers a request of ours, which is `answering`'s.
-pub fn reaction_to(
+pub(crate) fn reaction_to(
     own: Own,
     table: &[u8],
     s: Sections,

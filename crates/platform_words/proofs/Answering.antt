@@ -6,7 +6,7 @@ use mathlib.Core.Bool.{Bool, true, false, cond}
 use mathlib.Core.List.{List, _++_}
 use native.Mathlib.Omega.{arith}
 use borrow.Rule.Slice.PartMut.{putMid}
-use lib.ListN.{length, take, drop, getD, take-append-drop}
+use lib.ListN.{length, take, drop, getD}
 use Rattle.wire.proofs.Cond.{yes-if, no-if, yes-eq, no-eq}
 use Rattle.operations.specs.Entries.{sentKind, kindAt}
 use Rattle.pending.specs.Answers.{isResponse, responded}
@@ -19,44 +19,50 @@ use Rattle.platform_words.proofs.Behind.{lent-behind, back-by, word-bac
 use Rattle.platform_words.proofs.Storing.{states-in, standing-in}
 
 -- `take_response`
-module _ {n id sender : ℕ} (ws m : List ℕ) (en : n ≡ sequenceIn m) (ei : id ≡ idIn m) (es : sender ≡ senderIn m) where
-  pub was-awaited : {r : Bool} → r ≡ isResponse (take (length ws - 5) (drop 5 ws)) n id sender → r ≡ isAwaited ws m
-  was-awaited e = e ∙ ap (λ (l : List ℕ). isResponse l n id sender) (lent-behind standingLength ws) ∙ rw (en, ei, es)
+module _ {n id sender : ℕ} (l m : List ℕ) (en : n ≡ sequenceIn m) (ei : id ≡ idIn m) (es : sender ≡ senderIn m) where
+  pub was-awaited : {r : Bool} → r ≡ isResponse l n id sender → r ≡ isAwaited l m
+  was-awaited e = e ∙ rw (en, ei, es)
 
-  pub list-answered : {last : List ℕ} → last ≡ responded (take (length ws - 5) (drop 5 ws)) n id sender
-      → putMid 5 (length ws - 5) ws last ≡ take standingLength ws ++ listAnswered (pendingIn ws) (headerIn m)
-  list-answered e = back-by standingLength ws (λ (l : List ℕ). responded l n id sender) e ∙ rw (en, ei, es)
+  pub list-answered : {x : List ℕ} → x ≡ responded l n id sender → x ≡ listAnswered l (headerIn m)
+  list-answered e = e ∙ rw (en, ei, es)
 
 -- `kind_heard`
-module _ {kind : ℕ} (ws t : List ℕ) (q : ℕ) (m : List ℕ) (ek : kind ≡ kindAt t q) where
+module _ {kind : ℕ} (l t : List ℕ) (q : ℕ) (m : List ℕ) (ek : kind ≡ kindAt t q) where
   abbrev answered : List ℕ
-  answered = listAnswered (pendingIn ws) (headerIn m)
+  answered = listAnswered l (headerIn m)
 
   module _ (z : kind ≡ sentKind) where
-    if-awaited : cond (isAwaited ws m) 9 0 ≡ kindHeard ws t q m
-    if-awaited = sym (yes-eq (cond (isAwaited ws m) 9 0) 7 (kindAt t q) sentKind (sym ek ∙ z))
+    if-awaited : cond (isAwaited l m) 9 0 ≡ kindHeard l t q m
+    if-awaited = sym (yes-eq (cond (isAwaited l m) 9 0) 7 (kindAt t q) sentKind (sym ek ∙ z))
 
-    module _ {b : Bool} (eb : b ≡ isAwaited ws m) where
-      pub kind-awaited : b ≡ true → 9 ≡ kindHeard ws t q m
+    module _ {b : Bool} (eb : b ≡ isAwaited l m) where
+      pub kind-awaited : b ≡ true → 9 ≡ kindHeard l t q m
       kind-awaited e = sym (yes-if 9 0 (sym eb ∙ e)) ∙ if-awaited
 
-      pub kind-unasked : b ≡ false → 0 ≡ kindHeard ws t q m
+      pub kind-unasked : b ≡ false → 0 ≡ kindHeard l t q m
       kind-unasked e = sym (no-if 9 0 (sym eb ∙ e)) ∙ if-awaited
 
-    pub list-heard : {x : List ℕ} → x ≡ take standingLength ws ++ listAnswered (pendingIn ws) (headerIn m) → x ≡ take standingLength ws ++ listHeard ws t q m
-    list-heard e = e ∙ ap (λ (l : List ℕ). take standingLength ws ++ l) (sym (yes-eq answered (pendingIn ws) (kindAt t q) sentKind (sym ek ∙ z)))
+    pub list-heard : {x : List ℕ} → x ≡ listAnswered l (headerIn m) → x ≡ listHeard l t q m
+    list-heard e = e ∙ sym (yes-eq answered l (kindAt t q) sentKind (sym ek ∙ z))
 
   module _ (z : kind ≡ sentKind → ⊥) where
     other-kind : kindAt t q ≡ sentKind → ⊥
     other-kind e = z (ek ∙ e)
 
-    pub kind-operation : 7 ≡ kindHeard ws t q m
-    kind-operation = sym (no-eq (cond (isAwaited ws m) 9 0) 7 (kindAt t q) sentKind other-kind)
+    pub kind-operation : 7 ≡ kindHeard l t q m
+    kind-operation = sym (no-eq (cond (isAwaited l m) 9 0) 7 (kindAt t q) sentKind other-kind)
 
-    pub list-stays : ws ≡ take standingLength ws ++ listHeard ws t q m
-    list-stays =
-        sym (take-append-drop standingLength ws)
-        ∙ ap (λ (l : List ℕ). take standingLength ws ++ l) (sym (no-eq answered (pendingIn ws) (kindAt t q) sentKind other-kind))
+    pub list-stays : l ≡ listHeard l t q m
+    list-stays = sym (no-eq answered l (kindAt t q) sentKind other-kind)
+
+-- `kind_in`: the list is lent by itself
+module _ (ws t : List ℕ) (q : ℕ) (m : List ℕ) where
+  pub kind-behind : {kind : ℕ} → kind ≡ kindHeard (take (length ws - 5) (drop 5 ws)) t q m → kind ≡ kindHeard (pendingIn ws) t q m
+  kind-behind e = e ∙ ap (λ (l : List ℕ). kindHeard l t q m) (lent-behind standingLength ws)
+
+  pub list-behind : {last : List ℕ} → last ≡ listHeard (take (length ws - 5) (drop 5 ws)) t q m
+      → putMid 5 (length ws - 5) ws last ≡ take standingLength ws ++ listHeard (pendingIn ws) t q m
+  list-behind e = back-by standingLength ws (λ (l : List ℕ). listHeard l t q m) e
 
 -- a platform whose list alone is another
 pub kept-behind : (ws l : List ℕ) → standingLength ≤ length ws

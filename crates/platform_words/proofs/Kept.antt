@@ -12,6 +12,7 @@ use Rattle.pending.specs.declared.Slot.the-variants.{At, Nowhere}
 use Rattle.pending.specs.Places.{placeOf}
 use Rattle.pending.specs.Free.{isAt, isPending}
 use Rattle.pending.specs.Answers.{clearedAt, cancelled}
+use Rattle.requests.specs.declared.Issue.{Issue}
 use Rattle.requests.specs.declared.Sent.{Sent}
 use Rattle.requests.specs.declared.Sent.the-variants as sent
 use Rattle.requests.specs.Sending as sending
@@ -25,7 +26,7 @@ use Rattle.platform_words.specs.Words.{standingLength, standingIn, pendi
 use Rattle.platform_words.specs.HeardWords.{notedWords}
 use Rattle.platform_words.specs.TableCalls as table
 use Rattle.platform_words.specs.SectionCalls as section
-use Rattle.platform_words.specs.SendCalls.{outcomeSent, requestBytes, enteredWords, sentWords, sendNumber, sendWords, sendOutput, sendSent}
+use Rattle.platform_words.specs.SendCalls.{outcomeSentFor, requestBytes, enteredWords, sentWords, sendNumberFor, sendWordsFor, sendOutputFor, sendSentFor}
 use Rattle.platform_words.specs.PendingCalls.{cancelWords}
 
 -- words with the list that was there before
@@ -61,17 +62,17 @@ untold : (a : Sent) (was : List ℕ) → (sending.numberGiven a ≡ 0 → ⊥) �
 untold (sent.Refused n) was d = refl
 untold (sent.Under n written) was d = absurd (d refl)
 
-module _ (ws t ss : List ℕ) (id : ℕ) (payload out : List ℕ) (d : sendNumber ws t ss id payload out ≡ 0 → ⊥) where
-  pub send-keeps-words : (target : ℕ) → sendWords ws t ss id target payload out ≡ ws
+module _ (issue : Issue) (ws t ss : List ℕ) (id : ℕ) (payload out : List ℕ) (d : sendNumberFor issue ws t ss id payload out ≡ 0 → ⊥) where
+  pub send-keeps-words : (target : ℕ) → sendWordsFor issue ws t ss id target payload out ≡ ws
   send-keeps-words target =
-      let o = outcomeSent ws t ss id payload (length out) in
+      let o = outcomeSentFor issue ws t ss id payload (length out) in
       stays (o .answer) ws (enteredWords ws (o .next) id target) d
 
-  pub send-keeps-output : (own : ℕ) → sendOutput own ws t ss id payload out ≡ out
-  send-keeps-output own = stays (outcomeSent ws t ss id payload (length out) .answer) out (over out 0 (requestBytes own ws id payload)) d
+  pub send-keeps-output : (own : ℕ) → sendOutputFor issue own ws t ss id payload out ≡ out
+  send-keeps-output own = stays (outcomeSentFor issue ws t ss id payload (length out) .answer) out (over out 0 (requestBytes issue own ws id payload)) d
 
-  pub send-keeps-sent : (was : List ℕ) → sendSent ws t ss id payload out was ≡ was
-  send-keeps-sent was = untold (outcomeSent ws t ss id payload (length out) .answer) was d
+  pub send-keeps-sent : (was : List ℕ) → sendSentFor issue ws t ss id payload out was ≡ was
+  send-keeps-sent was = untold (outcomeSentFor issue ws t ss id payload (length out) .answer) was d
 
 -- a number that is not pending
 not-cleared : (l : List ℕ) (s : Slot) → isAt s ≡ false → clearedAt l s ≡ l

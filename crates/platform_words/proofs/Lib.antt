@@ -3,8 +3,8 @@ pub mod Behind
 mod Telling
 mod Calling
 mod OnSections
-mod Straight
-mod Answering
+pub mod Straight
+pub mod Answering
 mod Asking
 mod Freeing
 pub mod Kept

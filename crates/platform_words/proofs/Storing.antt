@@ -1,19 +1,20 @@
 -- A platform in its words: what reading and writing show, and that the words of a platform read back as that platform.
 -- Assumes nothing.
 use Prim.Native.Nat.{ℕ, _%_, _^_, _≤_, _<_}
-use mathlib.Core.Path.{_≡_, ap, _∙_}
+use mathlib.Core.Path.{_≡_, sym, ap, _∙_}
 use mathlib.Core.Bool.{Bool, true, false}
 use mathlib.Core.List.{List, [], _∷_, _++_}
 use native.Mathlib.Nat.{mod-eq-of-lt}
 use lib.ListN.{length, getD, set, replicate}
 use lib.Seq.{sets-eq}
+use Rattle.wire.proofs.Cond.{yes-le, no-le}
 use Rattle.states.specs.declared.States.{States}
 use Rattle.platform.specs.declared.reactions.Standing.{Standing}
 use Rattle.states.specs.States.{isUp, howManyUp}
 use Rattle.pending.specs.PlainMap.{freshList}
 use Rattle.platform.specs.Receiving.{freshStanding}
 use Rattle.platform_words.specs.StateCalls.{freshWords, upNumber}
-use Rattle.platform_words.specs.Words.{standingLength, statesIn, nextIn, standingIn, pendingIn, standingWords}
+use Rattle.platform_words.specs.Words.{standingLength, statesIn, nextIn, standingIn, pendingIn, standingWords, withStanding}
 
 module _ (ws : List ℕ) where
   pub states-in : {a b c d : ℕ} → a ≡ getD ws 0 0 → b ≡ getD ws 1 0 → c ≡ getD ws 2 0 → d ≡ getD ws 3 0
@@ -39,6 +40,17 @@ module _ (ws : List ℕ) where
 pub put-words : (ws : List ℕ) (a b c d e : ℕ) → standingLength ≤ length ws
     → set (set (set (set (set ws 0 a) 1 b) 2 c) 3 d) 4 e ≡ a ∷ b ∷ c ∷ d ∷ e ∷ pendingIn ws
 put-words ws a b c d e h = sets-eq (a ∷ b ∷ c ∷ d ∷ e ∷ []) ws 0 h
+
+-- words that keep a standing from now on
+module _ (ws : List ℕ) (p : Standing) where
+  pub keeps-standing : {x : List ℕ} → standingLength ≤ length ws → x ≡ standingWords p ++ pendingIn ws → x ≡ withStanding ws p
+  keeps-standing h e = e ∙ sym (yes-le (standingWords p ++ pendingIn ws) ws standingLength (length ws) h)
+
+  pub kept-standing : {x : List ℕ} → standingLength ≤ length ws → x ≡ withStanding ws p → x ≡ standingWords p ++ pendingIn ws
+  kept-standing h e = e ∙ yes-le (standingWords p ++ pendingIn ws) ws standingLength (length ws) h
+
+  pub too-few : length ws < standingLength → ws ≡ withStanding ws p
+  too-few h = sym (no-le (standingWords p ++ pendingIn ws) ws standingLength (length ws) h)
 
 -- a fresh one
 pub fresh-words : {x : List ℕ} {p : Standing} (own : ℕ) → p ≡ freshStanding own → x ≡ standingWords p ++ pendingIn (replicate 133 0)

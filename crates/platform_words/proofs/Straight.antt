@@ -81,16 +81,16 @@ standing-again ws ep ex = ex ∙ ap (λ (y : Standing). standingWords y ++ pendi
 
 -- an operation; the response to a request; what no pending request asked for. By its kind in the table and whether it is awaited
 module _ (p : Standing) (m : List ℕ) (i : ℕ) where
-  abbrev operation : Received
+  abbrev pub operation : Received
   operation = taken (headerIn m) (silent p (heard.Operation i headerLength (payloadSizeIn m))) 0
 
-  abbrev response : Received
+  abbrev pub response : Received
   response = record { standing = p; answer = Response (headerIn m) i headerLength (payloadSizeIn m) }
 
-  abbrev outcomeBy : Bool → Bool → Received
+  abbrev pub outcomeBy : Bool → Bool → Received
   outcomeBy sent awaited = cond sent (cond awaited response (refused p notAwaited)) operation
 
-  abbrev kindBy : Bool → Bool → ℕ
+  abbrev pub kindBy : Bool → Bool → ℕ
   kindBy sent awaited = cond sent (cond awaited 9 0) 7
 
   nothing-told : (sent awaited : Bool) → kindBy sent awaited ≡ 0 → refused p notAwaited ≡ outcomeBy sent awaited
@@ -109,7 +109,7 @@ module _ (p : Standing) (m : List ℕ) (i : ℕ) where
   as-told false awaited d = record { number-is = refl; words-are = λ ws l. refl; heard-is = λ heard. refl }
 
 -- what the general way comes to where there is such an operation
-never : {i q : ℕ} → _≡_ {A = Sought} sought.Nowhere (sought.At i q) → ⊥
+pub never : {i q : ℕ} → _≡_ {A = Sought} sought.Nowhere (sought.At i q) → ⊥
 never e = let z : _≡_ {A = ℕ} 0 1 = cc in omega arith
 
 module _ (own : ℕ) (t : List ℕ) (s : Sections) (index : List ℕ) (p : Standing) (l m : List ℕ) (i q : ℕ) where
@@ -171,14 +171,14 @@ module _ (own : ℕ) (t : List ℕ) (s : Sections) (index : List ℕ) (p : Stand
 
 -- `received`: straight from its bytes
 module _ {f : Sought} {kind : ℕ} (own : ℕ) (ws t : List ℕ) (s : Sections) (index m out : List ℕ) (i q : ℕ) (ef : f ≡ operationHeard own t s index m)
-    (at : f ≡ sought.At i q) (ek : kind ≡ kindHeard ws t q m) where
+    (at : f ≡ sought.At i q) (ek : kind ≡ kindHeard (pendingIn ws) t q m) where
   its : Straight own t s index (standingIn ws) (pendingIn ws) m i q
   its = straight own t s index (standingIn ws) (pendingIn ws) m i q (sym ef ∙ at)
 
-  meant : outcomeBy (standingIn ws) m i (eqb (kindAt t q) sentKind) (isAwaited ws m) ≡ outcomeWithin own ws t s index m out
+  meant : outcomeBy (standingIn ws) m i (eqb (kindAt t q) sentKind) (isAwaited (pendingIn ws) m) ≡ outcomeWithin own ws t s index m out
   meant = sym (its-outcome own t s index (standingIn ws) (pendingIn ws) m i q its (length out))
 
-  its-words : (o : Received) → o ≡ outcomeWithin own ws t s index m out → platformAfter o ws (listHeard ws t q m) ≡ wordsWithin own ws t s index m out
+  its-words : (o : Received) → o ≡ outcomeWithin own ws t s index m out → platformAfter o ws (listHeard (pendingIn ws) t q m) ≡ wordsWithin own ws t s index m out
   its-words o e =
       ap₂ (λ (x : Received) (l : List ℕ). platformAfter x ws l) e (sym (its-list own t s index (standingIn ws) (pendingIn ws) m i q its))
 
@@ -187,12 +187,12 @@ module _ {f : Sought} {kind : ℕ} (own : ℕ) (ws t : List ℕ) (s : Sections) 
 
   module _ (z : kind ≡ 0) where
     nothing-meant : refused (standingIn ws) notAwaited ≡ outcomeWithin own ws t s index m out
-    nothing-meant = nothing-told (standingIn ws) m i (eqb (kindAt t q) sentKind) (isAwaited ws m) (sym ek ∙ z) ∙ meant
+    nothing-meant = nothing-told (standingIn ws) m i (eqb (kindAt t q) sentKind) (isAwaited (pendingIn ws) m) (sym ek ∙ z) ∙ meant
 
     pub refused-number : 61 ≡ numberWithin own ws t s index m out
     refused-number = ap (λ (o : Received). numberGiven (o .answer)) nothing-meant
 
-    pub refused-words : {x : List ℕ} → x ≡ take standingLength ws ++ listHeard ws t q m → x ≡ wordsWithin own ws t s index m out
+    pub refused-words : {x : List ℕ} → x ≡ take standingLength ws ++ listHeard (pendingIn ws) t q m → x ≡ wordsWithin own ws t s index m out
     refused-words e = e ∙ its-words (refused (standingIn ws) notAwaited) nothing-meant
 
     pub refused-heard : (heard : List ℕ) → heard ≡ heardWithin own ws t s index m out heard
@@ -202,17 +202,17 @@ module _ {f : Sought} {kind : ℕ} (own : ℕ) (ws t : List ℕ) (s : Sections) 
     so-told : Told (standingIn ws) m i kind (outcomeWithin own ws t s index m out)
     so-told =
         subst (λ (n : ℕ). Told (standingIn ws) m i n (outcomeWithin own ws t s index m out)) (sym ek)
-        (subst (Told (standingIn ws) m i (kindHeard ws t q m)) meant
-        (as-told (standingIn ws) m i (eqb (kindAt t q) sentKind) (isAwaited ws m) (λ e. z (ek ∙ e))))
+        (subst (Told (standingIn ws) m i (kindHeard (pendingIn ws) t q m)) meant
+        (as-told (standingIn ws) m i (eqb (kindAt t q) sentKind) (isAwaited (pendingIn ws) m) (λ e. z (ek ∙ e))))
 
     pub straight-number : 0 ≡ numberWithin own ws t s index m out
     straight-number = so-told .number-is
 
-    pub straight-words : {x was : List ℕ} → standingLength ≤ length ws → was ≡ take standingLength ws ++ listHeard ws t q m
+    pub straight-words : {x was : List ℕ} → standingLength ≤ length ws → was ≡ take standingLength ws ++ listHeard (pendingIn ws) t q m
         → x ≡ standingWords (standingIn was) ++ pendingIn was → x ≡ wordsWithin own ws t s index m out
     straight-words h ew ex =
-        ex ∙ ap (λ (y : List ℕ). standingWords (standingIn y) ++ pendingIn y) ew ∙ kept-behind ws (listHeard ws t q m) h
-        ∙ so-told .words-are ws (listHeard ws t q m) ∙ its-words (outcomeWithin own ws t s index m out) refl
+        ex ∙ ap (λ (y : List ℕ). standingWords (standingIn y) ++ pendingIn y) ew ∙ kept-behind ws (listHeard (pendingIn ws) t q m) h
+        ∙ so-told .words-are ws (listHeard (pendingIn ws) t q m) ∙ its-words (outcomeWithin own ws t s index m out) refl
 
     pub straight-heard : {x : List ℕ} (heard : List ℕ) → x ≡ straightWords kind m i → x ≡ heardWithin own ws t s index m out heard
     straight-heard heard ex = ex ∙ so-told .heard-is heard

@@ -40,17 +40,17 @@ operationHeard own t s index m =
     cond (eqb (domainIn m) platformDomain) Nowhere
     (cond (eqb (readRefusal own m) 0) (soughtIn t index (s .operations .count) (idIn m)) Nowhere)
 
--- 02, 1: whether a message under the ID of a request that we send is the response to one that is pending
+-- 02, 1: whether a message under the ID of a request that we send is the response to one that is pending in the list l
 abbrev pub isAwaited : List ℕ → List ℕ → Bool
-isAwaited ws m = isResponse (pendingIn ws) (sequenceIn m) (idIn m) (senderIn m)
+isAwaited l m = isResponse l (sequenceIn m) (idIn m) (senderIn m)
 
 -- what a message is told as whose operation's entry stands at q, 9 being a response, 7 an operation and 0 nothing; and the list of
 -- the requests that are pending afterwards
 abbrev pub kindHeard : List ℕ → List ℕ → ℕ → List ℕ → ℕ
-kindHeard ws t q m = cond (eqb (kindAt t q) sentKind) (cond (isAwaited ws m) 9 0) 7
+kindHeard l t q m = cond (eqb (kindAt t q) sentKind) (cond (isAwaited l m) 9 0) 7
 
 abbrev pub listHeard : List ℕ → List ℕ → ℕ → List ℕ → List ℕ
-listHeard ws t q m = cond (eqb (kindAt t q) sentKind) (listAnswered (pendingIn ws) (headerIn m)) (pendingIn ws)
+listHeard l t q m = cond (eqb (kindAt t q) sentKind) (listAnswered l (headerIn m)) l
 
 -- its words, from its bytes: nothing is owed for an operation or a response
 abbrev pub straightWords : ℕ → List ℕ → ℕ → List ℕ

@@ -2,8 +2,10 @@
 -- counts modulo 2 ^ 32; and the list of the requests that are pending (pending/specs/Places). So any words are a platform. A word
 -- that is missing is 0.
 use Prim.Native.Nat.{ℕ, _%_, _^_}
-use mathlib.Core.List.{List, [], _∷_}
-use lib.ListN.{getD, drop}
+use mathlib.Core.Bool.{cond}
+use mathlib.Core.List.{List, [], _∷_, _++_}
+use lib.Dec.{leb}
+use lib.ListN.{length, getD, drop}
 use Rattle.states.specs.declared.States.{States}
 use Rattle.platform.specs.declared.reactions.Standing.{Standing}
 
@@ -30,3 +32,7 @@ pendingIn ws = drop standingLength ws
 -- and back: a platform that keeps p and the list l is `standingWords p ++ l`
 abbrev pub standingWords : Standing → List ℕ
 standingWords p = p .states .w0 ∷ p .states .w1 ∷ p .states .w2 ∷ p .states .w3 ∷ p .next ∷ []
+
+-- words that keep p from now on, with their list; fewer than a standing has stay as they are
+abbrev pub withStanding : List ℕ → Standing → List ℕ
+withStanding ws p = cond (leb standingLength (length ws)) (standingWords p ++ pendingIn ws) ws

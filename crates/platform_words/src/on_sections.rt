@@ -24,7 +24,7 @@ use table::SECTIONS_WORDS;
 use table::Sections;
 
 // What a message is told as that no pending request asked for.
-const NOTHING: u64 = 0;
+pub const NOTHING: u64 = 0;
 
 // `on_table::receive` by the sections that a check gave: 30 where these do not lie in the table.
 pub fn receive_in(
@@ -89,7 +89,7 @@ fn received(
 {
     match operation_heard(own, table, s, index, message) {
         Sought::At(entry, place) => {
-            let kind = kind_heard(words, table, place, message);
+            let kind = kind_in(words, table, place, message);
             if kind == NOTHING {
                 platform::NOT_AWAITED
             } else {
@@ -151,16 +151,24 @@ fn operation_heard(own: Own, table: &[u8], s: Sections, index: &[u64], message: 
     }
 }
 
-// What a message of domain 1 is told as, by its operation's entry: under the ID of a request that we send it is the response to one
-// that is pending, which then is so no more, or nothing (02, 1). The platform's first words are still as they were.
-fn kind_heard(words: &mut [u64], table: &[u8], place: usize, message: &[u8]) -> u64
+// The list is lent by itself, and the platform's first words are still as they were.
+fn kind_in(words: &mut [u64], table: &[u8], place: usize, message: &[u8]) -> u64
     requires { ⌜ standingLength ≤ length (now words) ⌝ }
-    ensures { λ r. ⌜ r ≡ kindHeard (now (words .entry)) (now (table .entry)) place (now (message .entry)) ⌝ }
+    ensures { λ r. ⌜ r ≡ kindHeard (pendingIn (now (words .entry))) (now (table .entry)) place (now (message .entry)) ⌝ }
     ensures { λ _. ⌜ now (words .exit)
-        ≡ take standingLength (now (words .entry)) ++ listHeard (now (words .entry)) (now (table .entry)) place (now (message .entry)) ⌝ }
+        ≡ take standingLength (now (words .entry)) ++ listHeard (pendingIn (now (words .entry))) (now (table .entry)) place (now (message .entry)) ⌝ }
+{
+    kind_heard(&mut words[PENDING_AT..], table, place, message)
+}
+
+// What a message of domain 1 is told as, by its operation's entry: under the ID of a request that we send it is the response to one
+// that is pending in the list, which then is so no more, or nothing (02, 1).
+fn kind_heard(list: &mut [u64], table: &[u8], place: usize, message: &[u8]) -> u64
+    ensures { λ r. ⌜ r ≡ kindHeard (now (list .entry)) (now (table .entry)) place (now (message .entry)) ⌝ }
+    ensures { λ _. ⌜ now (list .exit) ≡ listHeard (now (list .entry)) (now (table .entry)) place (now (message .entry)) ⌝ }
 {
     if operations::kind_at(table, place) == operations::REQUEST_SENT {
-        if take_response(words, message) {
+        if take_response(list, message) {
             heard_words::RESPONSE
         } else {
             NOTHING
@@ -170,16 +178,14 @@ fn kind_heard(words: &mut [u64], table: &[u8], place: usize, message: &[u8]) -> 
     }
 }
 
-fn take_response(words: &mut [u64], message: &[u8]) -> bool
-    requires { ⌜ standingLength ≤ length (now words) ⌝ }
-    ensures { λ r. ⌜ r ≡ isAwaited (now (words .entry)) (now (message .entry)) ⌝ }
-    ensures { λ _. ⌜ now (words .exit)
-        ≡ take standingLength (now (words .entry)) ++ listAnswered (pendingIn (now (words .entry))) (headerIn (now (message .entry))) ⌝ }
+fn take_response(list: &mut [u64], message: &[u8]) -> bool
+    ensures { λ r. ⌜ r ≡ isAwaited (now (list .entry)) (now (message .entry)) ⌝ }
+    ensures { λ _. ⌜ now (list .exit) ≡ listAnswered (now (list .entry)) (headerIn (now (message .entry))) ⌝ }
 {
     let sequence = wire::u32_at(message, Header::SEQUENCE_AT);
     let id = wire::u32_at(message, Header::ID_AT);
     let sender = wire::u32_at(message, Header::PLATFORM_AT);
-    pending::take_response(&mut words[PENDING_AT..], sequence, id, sender)
+    pending::take_response(list, sequence, id, sender)
 }
 
 // What was heard, and the platform's words with the own number that they mean. Called for both kinds at one place, so that the

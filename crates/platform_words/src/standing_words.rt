@@ -8,14 +8,14 @@ ghost use mathlib.Core.List.{_++_};
 ghost use Prim.Native.Nat.{_≤_};
 ghost use lib.ListN.{length};
 ghost use Rattle.states.specs.States.{howManyUp};
-ghost use Rattle.platform_words.specs.Words.{standingLength, statesIn, nextIn, standingIn, pendingIn, standingWords};
+ghost use Rattle.platform_words.specs.Words.{standingLength, statesIn, nextIn, standingIn, pendingIn, standingWords, withStanding};
 ghost use Rattle.platform_words.specs.StateCalls.{freshWords, upNumber};
 
 // How many words a platform is.
 pub const PLATFORM_WORDS: usize = 133;
 
 // Where the list of the pending requests starts.
-pub(crate) const PENDING_AT: usize = 5;
+pub const PENDING_AT: usize = 5;
 
 // Where the next own number stands.
 pub(crate) const NEXT_AT: usize = 4;
@@ -53,7 +53,8 @@ pub fn how_many_up(own: u8, platform: &[u64; PLATFORM_WORDS]) -> u32
     states::how_many_up(Own { platform: own }, states_in(platform))
 }
 
-pub(crate) fn standing_in(words: &[u64]) -> Standing
+// The states and the next own number that the words are.
+pub fn standing_in(words: &[u64]) -> Standing
     ensures { λ r. ⌜ r ≡ standingIn (now (words .entry)) ⌝ }
 {
     let states = states_in(words);
@@ -67,6 +68,15 @@ pub(crate) fn next_in(words: &[u64]) -> u32
     ensures { λ r. ⌜ r ≡ nextIn (now (words .entry)) ⌝ }
 {
     (wire::word_at(words, NEXT_AT) % NUMBERS) as u32
+}
+
+// States and next own number kept from now on; where there are no words for them nothing is written.
+pub fn keep_standing(words: &mut [u64], standing: Standing)
+    ensures { λ _. ⌜ now (words .exit) ≡ withStanding (now (words .entry)) standing ⌝ }
+{
+    if PENDING_AT <= words.len() {
+        put_standing(words, standing);
+    }
 }
 
 // The list stays where it is.

@@ -29,6 +29,7 @@ use Rattle.pending.specs.Free.{isPending, nextFree, IsNextFree}
 use Rattle.pending.specs.Answers.{awaitedOf, cancelled, isResponse}
 use Rattle.pending.proofs.Looking.{none-bears-it}
 use Rattle.pending.proofs.Drawing.{next-is-free}
+use Rattle.requests.specs.declared.Issue.the-variants.{Six}
 use Rattle.requests.specs.declared.Sending.{Sending}
 use Rattle.requests.specs.declared.Sent.the-variants.{Under}
 use Rattle.requests.specs.Sending.{unlessFull, sendRefusal, sentOf, outputSent, numberGiven}
@@ -60,9 +61,9 @@ module _ (t : List ℕ) (s : Sections) (words : List ℕ) (e : checked t ≡ Tab
       → Arrives own id n reader payload (take written (outputSent own from l (kindIn t s words id) id payload out))
   arrives own from id reader n written l payload out o i f d q =
       let z : numberGiven (sentOf from l (kindIn t s words id) id payload (length out) .answer) ≡ 0 = ap numberGiven q in
-      let w : sendRefusal l (kindIn t s words id) id payload (length out) ≡ 0 = sym (given-is l (kindIn t s words id) id payload (length out) from) ∙ z in
+      let w : sendRefusal l (kindIn t s words id) id payload (length out) ≡ 0 = sym (given-is Six l (kindIn t s words id) id payload (length out) from) ∙ z in
       let g : Under (nextFree l from) (20 + length payload) ≡ Under n written =
-      sym (ap (λ (x : Sending). x .answer) (sent-so l (kindIn t s words id) id payload (length out) from w)) ∙ q in
+      sym (ap (λ (x : Sending). x .answer) (sent-so Six l (kindIn t s words id) id payload (length out) from w)) ∙ q in
       let a : nextFree l from ≡ n = cc in
       let b : 20 + length payload ≡ written = cc in
       let r : Arrives own id (nextFree l from) reader payload
@@ -87,16 +88,16 @@ in-front own id n payload out =
     let e : length (messageBytes own 1 id n payload) ≡ 20 + length payload = omega arith in
     take-at (messageBytes own 1 id n payload) (drop (0 + length (messageBytes own 1 id n payload)) out) (20 + length payload) e
 
-writes : (id : ℕ) (payload : List ℕ) (room : ℕ) → length payload < 2 ^ 32 → 20 + length payload ≤ room → writeRefusal 1 id payload room ≡ 0
+pub writes : (id : ℕ) (payload : List ℕ) (room : ℕ) → length payload < 2 ^ 32 → 20 + length payload ≤ room → writeRefusal 1 id payload room ≡ 0
 writes id payload room h r = admits 1 id payload room (record { domain = omega arith; size = h; contents = refl; fits = r })
 
 -- a message is read at another platform as it was written
-abbrev Crosses : ℕ → ℕ → ℕ → ℕ → List ℕ → Type 0
+abbrev pub Crosses : ℕ → ℕ → ℕ → ℕ → List ℕ → Type 0
 Crosses x y id n payload =
     (readOf y (messageBytes x 1 id n payload) ≡ Read (headerFor x 1 id n payload) message.Operation 20 (length payload))
     × (part (messageBytes x 1 id n payload) 20 (length payload) ≡ payload)
 
-crosses : (x y id n : ℕ) (payload : List ℕ) → x < 256 → ¬ (x ≡ y) → id < 2 ^ 32 → n < 2 ^ 32 → length payload < 2 ^ 32 → Crosses x y id n payload
+pub crosses : (x y id n : ℕ) (payload : List ℕ) → x < 256 → ¬ (x ≡ y) → id < 2 ^ 32 → n < 2 ^ 32 → length payload < 2 ^ 32 → Crosses x y id n payload
 crosses x y id n payload o d i q size =
     let w : writeRefusal 1 id payload (20 + length payload) ≡ 0 = writes id payload (20 + length payload) size (omega arith) in
     let r : readOf y (messageBytes x 1 id n payload) ≡ Read (headerFor x 1 id n payload) message.Operation 20 (length payload) =
@@ -134,11 +135,11 @@ module _ (a b from id : ℕ) (t : List ℕ) (s : Sections) (words l payload out 
 
   -- what platform b gets, and what platform a waits for
   asked-is : asked a b from id t s words l payload out ≡ messageBytes a 1 id (nextFree l from) payload
-  asked-is = ap (take (20 + length payload)) (written-so a from kind id l payload out not-refused) ∙ in-front a id (nextFree l from) payload out
+  asked-is = ap (take (20 + length payload)) (written-so Six a from kind id l payload out not-refused) ∙ in-front a id (nextFree l from) payload out
 
   waiting-is : waiting a b from id t s words l payload out ≡ entered l (there .0) (nextFree l from) id b
   waiting-is =
-      entered-so l kind id payload (length out) from b not-refused ∙ ap (λ (x : Slot). enteredAt l x (nextFree l from) id b) (there .1)
+      entered-so Six l kind id payload (length out) from b not-refused ∙ ap (λ (x : Slot). enteredAt l x (nextFree l from) id b) (there .1)
 
   awaited : awaitedOf (waiting a b from id t s words l payload out) n ≡ Of id b
   awaited =
@@ -215,7 +216,7 @@ module _ (a b from id : ℕ) (t : List ℕ) (s : Sections) (words l payload out 
   asked-and-answered : AskedAndAnswered a b from id t s words l payload out
   asked-and-answered =
       record {
-        sends = ap (λ (x : Sending). x .answer) (sent-so l kind id payload (length out) from not-refused);
+        sends = ap (λ (x : Sending). x .answer) (sent-so Six l kind id payload (length out) from not-refused);
         hears = hears;
         answers = answers;
       }

@@ -63,6 +63,12 @@ module _ {R A : Type 0} (refused : R → A) (good : A) where
   by true n d a = this (d .yes-is refl)
   by false n d a = next (d .no-is refl) a
 
+  -- and then, where it does not apply, the others
+  pub by-then : {C : Type 0} {cs : List (CheckOf R)} {x : A} (b : Bool) (n : R) → Decides b C → (b ≡ false → Answers refused good cs x)
+      → Answers refused good (n when C ∷ cs) (cond b (refused n) x)
+  by-then true n d a = this (d .yes-is refl)
+  by-then false n d a = next (d .no-is refl) (a refl)
+
   -- the other way round: what is good stands first
   pub unless : {C : Type 0} {cs : List (CheckOf R)} {x : A} (b : Bool) (n : R) → Decides (not b) C → Answers refused good cs x
       → Answers refused good (n when C ∷ cs) (cond b x (refused n))

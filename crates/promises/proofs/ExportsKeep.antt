@@ -62,6 +62,9 @@ use Rattle.operations.specs.Search.{soughtIn}
 use Rattle.pending.specs.Free.{isPending}
 use Rattle.platform_words.specs.Words.{standingIn, pendingIn}
 use Rattle.platform_words.specs.HeardWords.{answerWords}
+use Rattle.requests.specs.declared.Issue.the-variants.{Six}
+use Rattle.mixed_words.specs.HeardWords.{stampIn}
+use Rattle.mixed_words.specs.SendCalls.{issueFor}
 use Rattle.platform_words.proofs.Kept.{receive-keeps, receive-in-keeps, send-keeps-words, send-keeps-output, send-keeps-sent, cancel-keeps}
 use Rattle.nyrkovash.specs.PieceCalls.{countLeft, madeLeft}
 use Rattle.nyrkovash.specs.MessageCalls.{readLeft, writeLeft}
@@ -72,11 +75,13 @@ use Rattle.nyrkovash.specs.PlanCalls.{lengthLeft}
 use Rattle.promises.specs.Checks.{Keeps, Outside}
 use Rattle.promises.specs.Demand1.{ChangesNothing}
 use Rattle.promises.specs.ExportsKeep.{WordsKept, ExportsKeep}
+use Rattle.promises.specs.MixedCalls.{bytes, sections}
 use Rattle.promises.proofs.Checks.{not-outside}
 use Rattle.promises.proofs.Numbered.{Numbered, in-numbered, by-numbered, bytes-numbered}
 use Rattle.promises.proofs.Demand1.{demand-1}
 use Rattle.promises.proofs.Plans.{the-plans}
 use Rattle.promises.proofs.Issue3Order.{issue3-order}
+use Rattle.promises.proofs.MixedKept.{mixed-words-keep, mixed-services-keep, mixed-output-keeps, mixed-heard-keeps}
 
 -- what was lent for an answer
 count-keeps : (was : ℕ) (x : Counted) → Keeps (countNumber x) was (countLeft was x)
@@ -277,15 +282,59 @@ exports-keep =
           let t = sectionsOutcome (a .0) (now (a .1 .1 .0)) (sectionsIn ss) (indexIn ss) (standingIn ws) (pendingIn ws) (now (a .1 .1 .1 .1 .0))
           (length (now (a .1 .1 .1 .1 .1 .0))) in
           by (p .0) (p .1 .1 .1) (heard-keeps _ (t .answer));
+      receive-mixed-platform = λ k a n e p. by (p .0) (p .1 .0)
+          (mixed-words-keep (bytes (now (a .1 .1 .1 .1 .1 .1 .0))) (a .0) (now (a .1 .0)) (now (a .1 .1 .0)) (now (a .1 .1 .1 .0))
+          (now (a .1 .1 .1 .1 .0)) (now (a .1 .1 .1 .1 .1 .0)) (now (a .1 .1 .1 .1 .1 .1 .1 .0)) (now (a .1 .1 .1 .1 .1 .1 .1 .1 .0)));
+      receive-mixed-services = λ k a n e p. by (p .0) (p .1 .1 .0)
+          (mixed-services-keep (bytes (now (a .1 .1 .1 .1 .1 .1 .0))) (a .0) (now (a .1 .0)) (now (a .1 .1 .0)) (now (a .1 .1 .1 .0))
+          (now (a .1 .1 .1 .1 .0)) (now (a .1 .1 .1 .1 .1 .0)) (now (a .1 .1 .1 .1 .1 .1 .1 .0)) (now (a .1 .1 .1 .1 .1 .1 .1 .1 .0)));
+      receive-mixed-out = λ k a n e p. by (p .0) (p .1 .1 .1 .0)
+          (mixed-output-keeps (bytes (now (a .1 .1 .1 .1 .1 .1 .0))) (a .0) (now (a .1 .0)) (now (a .1 .1 .0)) (now (a .1 .1 .1 .0))
+          (now (a .1 .1 .1 .1 .0)) (now (a .1 .1 .1 .1 .1 .0)) (now (a .1 .1 .1 .1 .1 .1 .1 .0)) (now (a .1 .1 .1 .1 .1 .1 .1 .1 .0)));
+      receive-mixed-heard = λ k a n e p. by (p .0) (p .1 .1 .1 .1)
+          (mixed-heard-keeps (bytes (now (a .1 .1 .1 .1 .1 .1 .0))) (a .0) (now (a .1 .0)) (now (a .1 .1 .0)) (now (a .1 .1 .1 .0))
+          (now (a .1 .1 .1 .1 .0)) (now (a .1 .1 .1 .1 .1 .0)) (now (a .1 .1 .1 .1 .1 .1 .1 .0)) (now (a .1 .1 .1 .1 .1 .1 .1 .1 .0)) _);
+      receive-mixed-in-platform = λ k a n e p.
+          let ss = now (a .1 .1 .1 .1 .1 .1 .1 .0) in
+          by (p .0) (p .1 .0)
+          (mixed-words-keep (sections (now (a .1 .1 .1 .1 .1 .1 .0)) (sectionsIn ss) (indexIn ss)) (a .0) (now (a .1 .0)) (now (a .1 .1 .0)) (now (a .1 .1 .1 .0))
+          (now (a .1 .1 .1 .1 .0)) (now (a .1 .1 .1 .1 .1 .0)) (now (a .1 .1 .1 .1 .1 .1 .1 .1 .0)) (now (a .1 .1 .1 .1 .1 .1 .1 .1 .1 .0)));
+      receive-mixed-in-services = λ k a n e p.
+          let ss = now (a .1 .1 .1 .1 .1 .1 .1 .0) in
+          by (p .0) (p .1 .1 .0)
+          (mixed-services-keep (sections (now (a .1 .1 .1 .1 .1 .1 .0)) (sectionsIn ss) (indexIn ss)) (a .0) (now (a .1 .0)) (now (a .1 .1 .0)) (now (a .1 .1 .1 .0))
+          (now (a .1 .1 .1 .1 .0)) (now (a .1 .1 .1 .1 .1 .0)) (now (a .1 .1 .1 .1 .1 .1 .1 .1 .0)) (now (a .1 .1 .1 .1 .1 .1 .1 .1 .1 .0)));
+      receive-mixed-in-out = λ k a n e p.
+          let ss = now (a .1 .1 .1 .1 .1 .1 .1 .0) in
+          by (p .0) (p .1 .1 .1 .0)
+          (mixed-output-keeps (sections (now (a .1 .1 .1 .1 .1 .1 .0)) (sectionsIn ss) (indexIn ss)) (a .0) (now (a .1 .0)) (now (a .1 .1 .0)) (now (a .1 .1 .1 .0))
+          (now (a .1 .1 .1 .1 .0)) (now (a .1 .1 .1 .1 .1 .0)) (now (a .1 .1 .1 .1 .1 .1 .1 .1 .0)) (now (a .1 .1 .1 .1 .1 .1 .1 .1 .1 .0)));
+      receive-mixed-in-heard = λ k a n e p.
+          let ss = now (a .1 .1 .1 .1 .1 .1 .1 .0) in
+          by (p .0) (p .1 .1 .1 .1)
+          (mixed-heard-keeps (sections (now (a .1 .1 .1 .1 .1 .1 .0)) (sectionsIn ss) (indexIn ss)) (a .0) (now (a .1 .0)) (now (a .1 .1 .0)) (now (a .1 .1 .1 .0))
+          (now (a .1 .1 .1 .1 .0)) (now (a .1 .1 .1 .1 .1 .0)) (now (a .1 .1 .1 .1 .1 .1 .1 .1 .0)) (now (a .1 .1 .1 .1 .1 .1 .1 .1 .1 .0)) _);
       send-platform = λ k a n e p. by (p .0) (p .1 .0)
-          (λ d. send-keeps-words (now (a .1 .0)) (now (a .1 .1 .0)) (now (a .1 .1 .1 .0)) (a .1 .1 .1 .1 .0) (now (a .1 .1 .1 .1 .1 .1 .0))
+          (λ d. send-keeps-words Six (now (a .1 .0)) (now (a .1 .1 .0)) (now (a .1 .1 .1 .0)) (a .1 .1 .1 .1 .0) (now (a .1 .1 .1 .1 .1 .1 .0))
           (now (a .1 .1 .1 .1 .1 .1 .1 .0)) d (a .1 .1 .1 .1 .1 .0));
       send-out = λ k a n e p. by (p .0) (p .1 .1 .0)
-          (λ d. send-keeps-output (now (a .1 .0)) (now (a .1 .1 .0)) (now (a .1 .1 .1 .0)) (a .1 .1 .1 .1 .0) (now (a .1 .1 .1 .1 .1 .1 .0))
+          (λ d. send-keeps-output Six (now (a .1 .0)) (now (a .1 .1 .0)) (now (a .1 .1 .1 .0)) (a .1 .1 .1 .1 .0) (now (a .1 .1 .1 .1 .1 .1 .0))
           (now (a .1 .1 .1 .1 .1 .1 .1 .0)) d (a .0));
       send-sent = λ k a n e p. by (p .0) (p .1 .1 .1)
-          (λ d. send-keeps-sent (now (a .1 .0)) (now (a .1 .1 .0)) (now (a .1 .1 .1 .0)) (a .1 .1 .1 .1 .0) (now (a .1 .1 .1 .1 .1 .1 .0))
+          (λ d. send-keeps-sent Six (now (a .1 .0)) (now (a .1 .1 .0)) (now (a .1 .1 .1 .0)) (a .1 .1 .1 .1 .0) (now (a .1 .1 .1 .1 .1 .1 .0))
           (now (a .1 .1 .1 .1 .1 .1 .1 .0)) d _);
+      send-mixed-platform = λ k a n e p. by (p .0) (p .1 .0)
+          (λ d. send-keeps-words (issueFor (now (a .1 .1 .0)) (stampIn (now (a .1 .0))) (a .1 .1 .1 .1 .1 .1 .1 .0))
+          (now (a .1 .1 .1 .0)) (now (a .1 .1 .1 .1 .0)) (now (a .1 .1 .1 .1 .1 .0)) (a .1 .1 .1 .1 .1 .1 .0) (now (a .1 .1 .1 .1 .1 .1 .1 .1 .0))
+          (now (a .1 .1 .1 .1 .1 .1 .1 .1 .1 .0)) d (a .1 .1 .1 .1 .1 .1 .1 .0));
+      send-mixed-out = λ k a n e p. by (p .0) (p .1 .1 .0)
+          (λ d. send-keeps-output (issueFor (now (a .1 .1 .0)) (stampIn (now (a .1 .0))) (a .1 .1 .1 .1 .1 .1 .1 .0))
+          (now (a .1 .1 .1 .0)) (now (a .1 .1 .1 .1 .0)) (now (a .1 .1 .1 .1 .1 .0)) (a .1 .1 .1 .1 .1 .1 .0) (now (a .1 .1 .1 .1 .1 .1 .1 .1 .0))
+          (now (a .1 .1 .1 .1 .1 .1 .1 .1 .1 .0)) d (a .0));
+      send-mixed-sent = λ k a n e p. by (p .0) (p .1 .1 .1)
+          (λ d. send-keeps-sent (issueFor (now (a .1 .1 .0)) (stampIn (now (a .1 .0))) (a .1 .1 .1 .1 .1 .1 .1 .0))
+          (now (a .1 .1 .1 .0)) (now (a .1 .1 .1 .1 .0)) (now (a .1 .1 .1 .1 .1 .0)) (a .1 .1 .1 .1 .1 .1 .0) (now (a .1 .1 .1 .1 .1 .1 .1 .1 .0))
+          (now (a .1 .1 .1 .1 .1 .1 .1 .1 .1 .0)) d _);
       cancel-none = λ k a n e p z.
           let ws = now (a .0) in
           p .1 .0 ∙ cancel-keeps ws (a .1 .0) (none-given-up (isPending (pendingIn ws) (a .1 .0)) _ (p .1 .1) z);

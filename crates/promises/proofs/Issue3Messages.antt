@@ -41,7 +41,7 @@ use Rattle.promises.specs.Issue3Messages.{toldAs, Kinds3, NeverBoth, Wor
 use Rattle.promises.proofs.Headers.{not-refused, was-read}
 
 -- what an answer says of the refusal behind it
-was-read3 : (r : ℕ) (x : Reading3) (h : Header3) (m : Message3) (start len : ℕ) → answered3 r x ≡ reading.Read h m start len → (r ≡ 0)
+pub was-read3 : (r : ℕ) (x : Reading3) (h : Header3) (m : Message3) (start len : ℕ) → answered3 r x ≡ reading.Read h m start len → (r ≡ 0)
     × (x ≡ reading.Read h m start len)
 was-read3 zero x h m start len e = (refl, e)
 was-read3 (suc r) x h m start len e = let z : _≡_ {A = ℕ} 0 1 = cc in absurd (omega arith)
@@ -86,7 +86,7 @@ again own s out o e l =
       written-out (senderIn3 s) (stampIn s) (domainIn3 s) (idIn3 s) (sequenceIn3 s) (payloadIn3 s) out w ∙ ap (over out 0) (same-bytes own s o e),
     )
 
-abbrev headerRead : Header3 → Reading3 → Header3
+abbrev pub headerRead : Header3 → Reading3 → Header3
 headerRead h (reading.Read x m start len) = x
 headerRead h (reading.Refused n) = h
 

@@ -35,7 +35,7 @@ use Rattle.promises.proofs.Demand1.{write-keeps}
 use Rattle.promises.proofs.Rules32.{some-below}
 
 -- reserved IDs
-reserved-decides : (id : ℕ) → Decides (reservedID3 id) (Outside 1 9 id)
+pub reserved-decides : (id : ℕ) → Decides (reservedID3 id) (Outside 1 9 id)
 reserved-decides id =
     decides-same (or-decides (eqb id 0) (ltb compositeChangeRequestAck id) (eq-decides id 0) (lt-decides compositeChangeRequestAck id)) there back
   where

@@ -62,7 +62,7 @@ sent-decides t sought.Nowhere =
 pub not-operation : (k : Message) → kindIn k < 5 → ¬ (k ≡ message.Operation)
 not-operation k l e = omega (arith, l, ap kindIn e)
 
-never : {b : Bool} (k : Message) {A : Type 0} → b ≡ false → kindIn k < 5 → Decides b ((k ≡ message.Operation) × A)
+pub never : {b : Bool} (k : Message) {A : Type 0} → b ≡ false → kindIn k < 5 → Decides b ((k ≡ message.Operation) × A)
 never k f l = record { yes-is = λ e. let z : _≡_ {A = ℕ} 0 1 = cc in absurd (omega arith); no-is = λ e p. not-operation k l (p .0) }
 
 -- by any index

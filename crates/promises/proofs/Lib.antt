@@ -45,6 +45,7 @@ pub mod UniqueCalls
 pub mod UniqueRequests
 pub mod UniquePlatforms
 pub mod Halving
+mod SentFor
 pub mod Requests
 mod RequestTables
 mod RequestReceipts
@@ -103,3 +104,65 @@ mod ReadByIssue
 mod ReadAgain
 pub mod LinkedIssue3
 pub mod AsBefore
+mod ReplyBytes3
+mod OneOfOurs
+mod Reacting3
+mod Reporting3
+mod Received3
+mod Replying3
+pub mod Replies3
+mod BlockAnew
+pub mod ServicesAcross
+pub mod WorkedReplies3
+pub mod WrongReplies3
+mod MixedCalls
+mod MixedRooms
+mod MixedNot0
+pub mod MixedRefusals
+pub mod MixedSending
+pub mod WrongAsking
+pub mod LinkedSending
+pub mod MixedOnSections
+mod LinkedReplying3
+mod LinkedAcross
+pub mod LinkedReplies3
+pub mod WrongReports3
+pub mod WrongAcross
+mod MixedByTable
+mod MixedMeasure
+mod MixedWeights
+mod MixedReplies
+mod MixedHeld
+mod MixedThrees
+mod MixedSixes
+mod MixedArrivals
+mod MixedRuns
+pub mod MixedExchange
+pub mod WrongMixedExchange
+mod MixedChains
+mod MixedRead
+mod MixedThree
+mod MixedSix
+pub mod MixedOrder
+mod MixedBlocks
+mod MixedWords
+mod MixedChanges
+pub mod MixedServices
+pub mod WorkedMixed
+pub mod WrongMixed
+mod MixedKept
+mod MixedReceipts
+mod AnyReceipts
+pub mod MixedResponses
+pub mod MixedAsked
+pub mod WrongMixedResponses
+pub mod MixedTurns
+mod SomeMixed
+pub mod LinkedMixed
+pub mod WrongLinkedMixed
+mod MixedNextFits
+mod SendsAlong
+mod MixedRequestsAlong
+mod OneMixedRun
+pub mod MixedRequestRuns
+pub mod WrongMixedListings

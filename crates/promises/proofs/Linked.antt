@@ -193,7 +193,7 @@ the-mix-makes-no-difference ids R rooms rooms′ k one other a x y =
     }
 
 -- a call of each, and a run
-abbrev lent : List ℕ → RefT (List ℕ)
+abbrev pub lent : List ℕ → RefT (List ℕ)
 lent xs = record { ptr = (0, 0); name = 0; now = xs }
 
 takes : (ws rooms : List ℕ) (d : Datagram) (out : List ℕ)

@@ -27,38 +27,38 @@ use Rattle.promises.specs.RequestRuns.{MapCalls, ended, then}
 use Rattle.promises.proofs.RequestTables.{one-entry}
 
 -- two lists of checks that apply alike
-data ApplyAlike : List Check → List Check → Type 1 where
+pub data ApplyAlike : List Check → List Check → Type 1 where
   alike : ApplyAlike [] []
   also : {c d : Check} {cs ds : List Check} → c .refusal ≡ d .refusal → (c .applies → d .applies) → (d .applies → c .applies)
       → ApplyAlike cs ds → ApplyAlike (c ∷ cs) (d ∷ ds)
 
-itself : (cs : List Check) → ApplyAlike cs cs
+pub itself : (cs : List Check) → ApplyAlike cs cs
 itself [] = alike
 itself (c ∷ cs) = also refl (λ h. h) (λ h. h) (itself cs)
 
 module _ {A : Type 0} {f g : ℕ → A} {a b : A} (R : A → A → Type 0) (refused : (k : ℕ) → R (f k) (g k)) (good : R a b) where
-  one-answer : {cs ds : List Check} {x y : A} → ApplyAlike cs ds → Answers f a cs x → Answers g b ds y → R x y
+  pub one-answer : {cs ds : List Check} {x y : A} → ApplyAlike cs ds → Answers f a cs x → Answers g b ds y → R x y
   one-answer alike none none = good
   one-answer (also {c} {d} e h k r) (this u) (this v) = subst (λ (n : ℕ). R (f (c .refusal)) (g n)) e (refused (c .refusal))
   one-answer (also e h k r) (this u) (next v q) = absurd (v (h u))
   one-answer (also e h k r) (next u p) (this v) = absurd (u (k v))
   one-answer (also e h k r) (next u p) (next v q) = one-answer r p q
 
-abbrev SameOn : OnMap → OnMap → Type 0
+abbrev pub SameOn : OnMap → OnMap → Type 0
 SameOn x y = (x .seen ≡ y .seen) × SameMap (x .after) (y .after)
 
 module _ (own : ℕ) (p : Standing) (m w : Map) (same : SameMap m w) where
-  same-taken : (k : ℕ) → taken m k ≡ taken w k
+  pub same-taken : (k : ℕ) → taken m k ≡ taken w k
   same-taken k = ap isAsked (same .everywhere k)
 
-  same-inserted : (n id target : ℕ) → SameMap (inserted m n id target) (inserted w n id target)
+  pub same-inserted : (n id target : ℕ) → SameMap (inserted m n id target) (inserted w n id target)
   same-inserted n id target =
       record {
         everywhere = λ x. ap (λ (z : Asked). cond (eqb x n) (Of id target) z) (same .everywhere x);
         counts = ap (λ (c : ℕ). c + 1) (same .counts);
       }
 
-  same-deleted : (n : ℕ) → SameMap (deleted m n) (deleted w n)
+  pub same-deleted : (n : ℕ) → SameMap (deleted m n) (deleted w n)
   same-deleted n = one-told m w (giveUp n) _ _ _ _ same gives-up gives-up .1
 
   -- a message under an ID of kind 2 is read in one way, and its ID has one entry

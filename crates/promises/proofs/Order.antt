@@ -36,7 +36,7 @@ use Rattle.promises.proofs.Checks.{Decides, lt-decides, le-decides, eq-
 use Rattle.promises.proofs.Checks.{decides-same, flip-decides, where-is, not-outside, unless, by-number, passing}
 
 -- reserved IDs
-reserved-decides : (id : ℕ) → Decides (reservedID id) (Outside 1 4 id)
+pub reserved-decides : (id : ℕ) → Decides (reservedID id) (Outside 1 4 id)
 reserved-decides id = decides-same (or-decides (eqb id 0) (ltb versionedDataPull id) (eq-decides id 0) (lt-decides versionedDataPull id)) there back
   where
     there : (id ≡ 0) ⊎ (4 < id) → Outside 1 4 id

@@ -64,14 +64,14 @@ pulled t s index id g = go (eqb id allData) refl (someData t s) refl (operationW
 
 -- a state that is as it was said already, and one that is turned
 module _ (own : ℕ) (s : States) (k who : ℕ) where
-  as-it-was : (b : Bool) → isUp own s who ≡ b → isUp own s k ≡ cond (eqb k who) b (isUp own s k)
+  pub as-it-was : (b : Bool) → isUp own s who ≡ b → isUp own s k ≡ cond (eqb k who) b (isUp own s k)
   as-it-was b e = go (eqb k who) refl
     where
       go : (c : Bool) → eqb k who ≡ c → isUp own s k ≡ cond c b (isUp own s k)
       go true q = ap (isUp own s) (eqb-true k who q) ∙ e
       go false q = refl
 
-  now-turned : (b : Bool) → isUp own s who ≡ b → k < platforms → who < platforms → (who ≡ own → ⊥) → isUp own (turned s who) k
+  pub now-turned : (b : Bool) → isUp own s who ≡ b → k < platforms → who < platforms → (who ≡ own → ⊥) → isUp own (turned s who) k
       ≡ cond (eqb k who) (not b) (isUp own s k)
   now-turned b e hk hw other = go (eqb k who) refl
     where

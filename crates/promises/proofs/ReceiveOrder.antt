@@ -64,7 +64,7 @@ module _ (own : ℕ) (m : List ℕ) (e : readOf own m ≡ readOut m) where
       go false false true = omega arith
       go false false false = omega arith
 
-  its-domain : itsMessage m ≡ message.Operation → domainIn m ≡ 1
+  pub its-domain : itsMessage m ≡ message.Operation → domainIn m ≡ 1
   its-domain k = go (eqb (domainIn m) 0) refl k
     where
       go : (b : Bool) → eqb (domainIn m) 0 ≡ b → cond b (platformMessage (idIn m) (number 2 (payloadIn m) 0)) message.Operation
@@ -77,16 +77,16 @@ module _ (own : ℕ) (m : List ℕ) (e : readOf own m ≡ readOut m) where
 
 -- with what an index finds
 module _ (own : ℕ) (t : List ℕ) (s : Sections) (index : List ℕ) (p : Standing) (l m : List ℕ) (room : ℕ) where
-  abbrev h : Header
+  abbrev pub h : Header
   h = headerIn m
 
-  abbrev found : Sought
+  abbrev pub found : Sought
   found = operationFor t s index h (itsMessage m)
 
   abbrev reaction : Reaction
   reaction = reactionTo own t s found p h (itsMessage m) headerLength (payloadSizeIn m)
 
-  abbrev given : ℕ
+  abbrev pub given : ℕ
   given = receiveNumber (outcomeOf own t s found p l (readOut m) room .answer)
 
   abbrev matched : Bool
@@ -112,13 +112,13 @@ module _ (own : ℕ) (t : List ℕ) (s : Sections) (index : List ℕ) (p : Stand
   module _ (e : readOf own m ≡ readOut m) (K : Type 0) (d : Decides (isAnswer t found (itsMessage m)) ((itsMessage m ≡ message.Operation) × K))
       (owed : ℕ) (none-owed : isAnswer t found (itsMessage m) ≡ true → owed ≡ 0)
       (is-owed : isAnswer t found (itsMessage m) ≡ false → owedIn own t s index p m ≡ owed) where
-    abbrev checks : List Check
+    abbrev pub checks : List Check
     checks = 61 when NotAwaited K l m ∷ 10 when (room < owed) ∷ []
 
     awaited : Decides matched (IsAwaited l h)
     awaited = awaited-decides (h .id) (h .platform) l (h .sequence)
 
-    in-turn : Answers (λ (n : ℕ). n) 0 checks given
+    pub in-turn : Answers (λ (n : ℕ). n) 0 checks given
     in-turn = go (isAnswer t found (itsMessage m)) refl matched refl
       where
         go : (a : Bool) → isAnswer t found (itsMessage m) ≡ a → (b : Bool) → matched ≡ b → Answers (λ (n : ℕ). n) 0 checks given

@@ -46,13 +46,13 @@ use Rattle.promises.specs.RequestCalls.{HasKind, kindFound, kindIn}
 use Rattle.promises.specs.RequestRuns.{Responds}
 use Rattle.promises.proofs.RequestTables.{finds, its-kind, has-kind}
 
-sent-by : (t : List ℕ) (x : Sought) → isSent t x ≡ eqb (kindFound t x) 2
+pub sent-by : (t : List ℕ) (x : Sought) → isSent t x ≡ eqb (kindFound t x) 2
 unfolding isSent
 sent-by t (At i p) = refl
 sent-by t Nowhere = refl
 
 -- whether a message that was read answers a request of ours
-abbrev answersIn : List ℕ → Sought → Reading → Bool
+abbrev pub answersIn : List ℕ → Sought → Reading → Bool
 answersIn t f (reading.Refused n) = false
 answersIn t f (reading.Read h m start len) = isAnswer t f m
 
@@ -133,26 +133,26 @@ module _ (own : ℕ) (t : List ℕ) (s : Sections) (f : Sought) (p : Standing) (
       go false b = fit (ltb room (owedLength (reactionTo own t s f p h m start len .owed)))
 
 module _ (own : ℕ) (t : List ℕ) (s : Sections) (e : checked t ≡ Table s) (bytes : List ℕ) where
-  abbrev found : Sought
+  abbrev pub found : Sought
   found = operationIn t s (indexOf t s) (readOf own bytes)
 
-  abbrev zeros : List ℕ
+  abbrev pub zeros : List ℕ
   zeros = replicate 1024 0
 
-  has-room : s .operations .count ≤ length zeros
+  pub has-room : s .operations .count ≤ length zeros
   has-room =
       let n : length zeros ≡ 1024 = length-replicate {A = ℕ} 1024 0 in
       omega (arith, accepted t s e .lie .operations .few)
 
-  in-outcome : (p : Standing) (l : List ℕ) (room : ℕ) → receivedOf own t p l bytes room ≡ outcomeOf own t s found p l (readOf own bytes) room
+  pub in-outcome : (p : Standing) (l : List ℕ) (room : ℕ) → receivedOf own t p l bytes room ≡ outcomeOf own t s found p l (readOf own bytes) room
   unfolding receivedOf receivedBy
   in-outcome p l room = ap (λ (c : Checked). receivedBy c own t p l bytes room) e
 
-  in-output : (p : Standing) (out : List ℕ) → leftOf own t p bytes out ≡ outputOf own t s found p (readOf own bytes) out
+  pub in-output : (p : Standing) (out : List ℕ) → leftOf own t p bytes out ≡ outputOf own t s found p (readOf own bytes) out
   unfolding leftOf leftIf
   in-output p out = ap (λ (c : Checked). leftIf c own t p bytes out) e
 
-  in-list : (l : List ℕ) → listAfter own t l bytes ≡ listOf t found l (readOf own bytes)
+  pub in-list : (l : List ℕ) → listAfter own t l bytes ≡ listOf t found l (readOf own bytes)
   unfolding listAfter listIf
   in-list l = ap (λ (c : Checked). listIf c own t l bytes) e
 

@@ -8,11 +8,13 @@ use lib.ListN.{length}
 use Rattle.pending.specs.Places.{freePlace, enteredAt}
 use Rattle.pending.specs.Free.{nextFree}
 use Rattle.pending.specs.PlainMap.{Map, emptyMap, freshList, LikeMap}
-use Rattle.pending.specs.Turns.{Turn, request, giveUp, arrival, AllNarrow, listAfter as turnAfter, listAfterAll, Kempt}
+use Rattle.pending.specs.Turns.{Turn, request, giveUp, arrival, Narrow, AllNarrow, listAfter as turnAfter, listAfterAll, Kempt}
 use Rattle.pending.proofs.AsMap.{fresh-like}
 use Rattle.pending.proofs.Turning.{kempt}
 use Rattle.pending.proofs.OneMap.{SameMap}
-use Rattle.requests.specs.Sending.{sendRefusal, answeredBy, leftBy}
+use Rattle.requests.specs.declared.Issue.{Issue}
+use Rattle.requests.specs.declared.Issue.the-variants.{Six}
+use Rattle.requests.specs.Sending.{lengthFor, sendRefusalFor, answeredBy, leftBy, listSentFor}
 use Rattle.platform.specs.declared.reactions.Standing.{Standing}
 use Rattle.platform.specs.Receiving.{freshStanding, listAfter}
 use Rattle.promises.specs.RequestCalls.{kindIn, RequestCall, send, receive, cancel, ask, Fair, AllFair, Shown, ourShows, ourLeaves}
@@ -40,7 +42,7 @@ runs-along own p l m (c ∷ cs) same fits h =
 from-fresh : (own : ℕ) (cs : List RequestCall) → AllFair cs → RunsAlong own (freshStanding own) freshList emptyMap cs
 from-fresh own cs h = runs-along own (freshStanding own) freshList emptyMap cs fresh-like (omega arith) h
 
-like-same : (l : List ℕ) (m w : Map) → SameMap m w → LikeMap l m → LikeMap l w
+pub like-same : (l : List ℕ) (m w : Map) → SameMap m w → LikeMap l m → LikeMap l w
 like-same l m w same like =
     record { whole = like .whole; once = like .once; looked = λ n. like .looked n ∙ same .everywhere n; counted = like .counted ∙ same .counts }
 
@@ -51,27 +53,31 @@ same-runs own cs xs m h r =
     (from-fresh own cs h .goes) r
 
 -- each call does one turn with the list, or none
-record TurnsOf (l after : List ℕ) : Type 0 where
-  turns : List Turn
-  narrow : AllNarrow turns
-  makes : after ≡ listAfterAll l turns
+pub record TurnsOf (l after : List ℕ) : Type 0 where
+  pub turns : List Turn
+  pub narrow : AllNarrow turns
+  pub makes : after ≡ listAfterAll l turns
 
-more-narrow : (ts us : List Turn) → AllNarrow ts → AllNarrow us → AllNarrow (ts ++ us)
+pub more-narrow : (ts us : List Turn) → AllNarrow ts → AllNarrow us → AllNarrow (ts ++ us)
 more-narrow [] us a b = b
 more-narrow (t ∷ ts) us a b = (a .0, more-narrow ts us (a .1) b)
 
-after-more : (l : List ℕ) (ts us : List Turn) → listAfterAll (listAfterAll l ts) us ≡ listAfterAll l (ts ++ us)
+pub after-more : (l : List ℕ) (ts us : List Turn) → listAfterAll (listAfterAll l ts) us ≡ listAfterAll l (ts ++ us)
 after-more l [] us = refl
 after-more l (t ∷ ts) us = after-more (turnAfter l t) ts us
 
-turn-of : (own : ℕ) (p : Standing) (l : List ℕ) (c : RequestCall) → p .next < 2 ^ 32 → Fair c → TurnsOf l (ourLeaves own p l c)
-turn-of own p l (send t s words id target payload out) fits h =
-    go (sendRefusal l (kindIn t s words id) id payload (length out))
+pub turn-sent : (issue : Issue) (next : ℕ) (l : List ℕ) (kind id target : ℕ) (payload : List ℕ) (space : ℕ) → Narrow (request next id target)
+    → TurnsOf l (listSentFor issue next l kind id target payload space)
+turn-sent issue next l kind id target payload space h = go (sendRefusalFor issue l kind id payload space)
   where
-    go : (r : ℕ) → TurnsOf l (leftBy (answeredBy r (p .next) (nextFree l (p .next)) (20 + length payload) .answer) l
-        (enteredAt l (freePlace l) (nextFree l (p .next)) id target))
-    go zero = record { turns = request (p .next) id target ∷ []; narrow = ((fits, (h .1 .1 .0, h .1 .1 .1)), tt); makes = refl }
+    go : (r : ℕ) → TurnsOf l (leftBy (answeredBy r next (nextFree l next) (lengthFor issue payload) .answer) l
+        (enteredAt l (freePlace l) (nextFree l next) id target))
+    go zero = record { turns = request next id target ∷ []; narrow = (h, tt); makes = refl }
     go (suc r) = record { turns = []; narrow = tt; makes = refl }
+
+pub turn-of : (own : ℕ) (p : Standing) (l : List ℕ) (c : RequestCall) → p .next < 2 ^ 32 → Fair c → TurnsOf l (ourLeaves own p l c)
+turn-of own p l (send t s words id target payload out) fits h =
+    turn-sent Six (p .next) l (kindIn t s words id) id target payload (length out) (fits, (h .1 .1 .0, h .1 .1 .1))
 turn-of own p l (receive t s bytes out) fits h = go (receipt own t s h bytes)
   where
     go : Receipt own t s h bytes → TurnsOf l (listAfter own t l bytes)

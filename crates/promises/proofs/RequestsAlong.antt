@@ -17,34 +17,27 @@ use Rattle.operations.specs.declared.Sought.the-variants as sought
 use Rattle.operations.specs.Entries.{opPlace}
 use Rattle.message.specs.declared.Header.{Header}
 use Rattle.message.specs.Writing.{messageBytes}
-use Rattle.pending.specs.declared.Slot.{Slot}
-use Rattle.pending.specs.declared.Slot.the-variants.{At, Nowhere}
 use Rattle.pending.specs.declared.Asked.{Asked}
 use Rattle.pending.specs.declared.Asked.the-variants.{Of, Nothing}
-use Rattle.pending.specs.Places.{numberAt, freePlace, enteredAt}
-use Rattle.pending.specs.Free.{isPending, nextFree, IsNextFree}
+use Rattle.pending.specs.Places.{freePlace, enteredAt}
+use Rattle.pending.specs.Free.{nextFree}
 use Rattle.pending.specs.Answers.{cancelled, isResponse}
 use Rattle.pending.specs.PlainMap.{Map, taken, asks, inserted, deleted, freshList, LikeMap}
-use Rattle.pending.proofs.Looking.{is-first, none-bears-it}
-use Rattle.pending.proofs.Drawing.{next-is-free}
-use Rattle.pending.proofs.AsMap.{response-by, full-counts, room-counts, same-taken, entered-like, cancelled-like}
-use Rattle.pending.proofs.Turning.{next-by}
-use Rattle.requests.specs.declared.Sending.{Sending}
+use Rattle.pending.proofs.AsMap.{response-by, same-taken, cancelled-like}
+use Rattle.requests.specs.declared.Issue.{Issue}
+use Rattle.requests.specs.declared.Issue.the-variants.{Six}
 use Rattle.requests.specs.declared.Sent.the-variants as sent
-use Rattle.requests.specs.Sending.{sendRefusal, answeredBy, sentOf, numberGiven, leftBy}
-use Rattle.requests.proofs.Sends.{Sendable, sendable, given-is}
+use Rattle.requests.specs.Sending.{lengthFor, sendRefusalFor, sendRefusal, answeredBy, sentFor, leftBy}
 use Rattle.platform.specs.declared.reactions.Standing.{Standing}
 use Rattle.platform.specs.declared.Noting.the-variants as noting
 use Rattle.platform.specs.declared.Received.{Received}
 use Rattle.platform.specs.Receiving.{refused, responseTo, listAnswered, receivedOf, leftOf, listAfter}
-use Rattle.promises.specs.Checks.{Answers, Gives, none, this, next}
-use Rattle.promises.specs.Requests.{sendChecks}
+use Rattle.promises.specs.Checks.{Answers}
 use Rattle.promises.specs.RequestCalls.{kindIn, RequestCall, send, receive, cancel, ask, Fair}
 use Rattle.promises.specs.RequestCalls.{ofSend, ofReceive, whether, what, Shown, shown, ourShows, ourLeaves}
-use Rattle.promises.specs.RequestRuns.{OnMap, Full, mapChecks, refusedOn, sentOn, Responds, MapCall, sends, delivers, refuses, passes, forgets, looks}
-use Rattle.promises.proofs.Checks.{numbers}
+use Rattle.promises.specs.RequestRuns.{OnMap, mapChecks, refusedOn, sentOn, Responds, MapCall, sends, delivers, refuses, passes, forgets, looks}
 use Rattle.promises.proofs.Requests.{requests}
-use Rattle.promises.proofs.RequestTables.{no-request, some-request}
+use Rattle.promises.proofs.SendsAlong.{byNumber, free-on, order-for, like-sent}
 use Rattle.promises.proofs.RequestReceipts.{Receipt, response, other, receipt, by-list, output-stays, list-by, as-if-empty, list-stays, next-fits}
 
 -- the map that goes along with a list
@@ -59,14 +52,14 @@ by-map {own} {p} {l} {m} {c} x g e k =
     record { after = x .after; goes = subst (λ (y : Shown). MapCall own p m c (record { seen = y; after = x .after })) e g; like = k }
 
 -- what a map says is asked under a number
-asks-it : (a : Asked) (id sender : ℕ) → asks a id sender ≡ true → a ≡ Of id sender
+pub asks-it : (a : Asked) (id sender : ℕ) → asks a id sender ≡ true → a ≡ Of id sender
 asks-it (Of i t) id sender e =
     let h : (eqb i id ≡ true) × (eqb t sender ≡ true) = both (eqb i id) (eqb t sender) e in
     ap₂ Of (eqb-true i id (h .0)) (eqb-true t sender (h .1))
 asks-it Nothing id sender e = absurd (true≢false (sym e))
 
 module _ (own : ℕ) (p : Standing) (l : List ℕ) (m : Map) (same : LikeMap l m) where
-  asked-same : (x id sender : ℕ) → isResponse l x id sender ≡ asks (m .under x) id sender
+  pub asked-same : (x id sender : ℕ) → isResponse l x id sender ≡ asks (m .under x) id sender
   asked-same x id sender = response-by l x id sender ∙ ap (λ (a : Asked). asks a id sender) (same .looked x)
 
   -- a request is sent, or refused
@@ -84,12 +77,6 @@ module _ (own : ℕ) (p : Standing) (l : List ℕ) (m : Map) (same : LikeMap l m
     abbrev Says : OnMap → Type 1
     Says x = Answers (refusedOn p m out) (sentOn own p m id target payload out n) (mapChecks t s id m payload (length out)) x
 
-    free : IsNextFree (isPending l) (p .next) n
-    free = next-is-free l (p .next) fits
-
-    free-on : IsNextFree (taken m) (p .next) n
-    free-on = next-by (isPending l) (taken m) (p .next) n (same-taken l m same) free
-
     -- what is shown and left by the number that refuses
     abbrev showsBy : ℕ → Shown
     showsBy r =
@@ -102,14 +89,13 @@ module _ (own : ℕ) (p : Standing) (l : List ℕ) (m : Map) (same : LikeMap l m
 
     refused-along : (k : ℕ) → sendRefusal l kind id payload (length out) ≡ suc k → Says (refusedOn p m out (suc k)) → Along
     refused-along k q a =
-        by-map (refusedOn p m out (suc k)) (sends free-on a) (ap showsBy (sym q))
+        by-map (refusedOn p m out (suc k)) (sends (free-on l m same (p .next) fits) a) (ap showsBy (sym q))
         (subst (λ (r : ℕ). LikeMap (leavesBy r) m) (sym q) same)
 
     sent-along : sendRefusal l kind id payload (length out) ≡ 0 → Says (sentOn own p m id target payload out n) → Along
     sent-along q a =
-        let can : Sendable l kind id payload (length out) = sendable l kind id payload (length out) q in
         let long : 20 + length payload ≡ 0 + length (messageBytes own 1 id n payload) = omega arith in
-        by-map (sentOn own p m id target payload out n) (sends free-on a)
+        by-map (sentOn own p m id target payload out n) (sends (free-on l m same (p .next) fits) a)
         (ap
         (λ (k : ℕ).
         shown (ofSend (sent.Under n (20 + length payload))) (messageBytes own 1 id n payload ++ drop k out)
@@ -117,41 +103,17 @@ module _ (own : ℕ) (p : Standing) (l : List ℕ) (m : Map) (same : LikeMap l m
         long
         ∙ ap showsBy (sym q))
         (subst (λ (r : ℕ). LikeMap (leavesBy r) (inserted m n id target)) (sym q)
-        (subst (λ (x : Slot). LikeMap (enteredAt l x n id target) (inserted m n id target)) (sym (can .free))
-        (entered-like l m same (can .place) n id target (can .free) small (free .not-zero) (free .not-taken))))
-
-    -- 60, by the map's count
-    abbrev NoneFree : Type 0
-    NoneFree = (k : ℕ) → k < 64 → ¬ (numberAt l k ≡ 0)
-
-    is-full : NoneFree → Full m
-    is-full h = go (freePlace l) refl
-      where
-        go : (x : Slot) → freePlace l ≡ x → Full m
-        go (At k) q = absurd (h k (is-first l 0 64 0 k q .below) (is-first l 0 64 0 k q .named))
-        go Nowhere q = full-counts l m same q
-
-    not-full : ¬ NoneFree → ¬ (Full m)
-    not-full d c = go (freePlace l) refl
-      where
-        go : (x : Slot) → freePlace l ≡ x → ⊥
-        go (At k) q = omega (arith, room-counts l m same k q)
-        go Nowhere q = d (λ k h. none-bears-it l 0 64 0 k q (omega arith) h)
+        (like-sent l m same (p .next) t s e words room id payload (length out) Six target fits small q))
 
     sends-along : Along
     sends-along =
-        go (numberGiven (sentOf (p .next) l kind id payload (length out) .answer))
-        (numbers (λ (x : Sending). numberGiven (x .answer)) (λ k. refl) refl (requests .order (p .next) kind id l payload (length out)))
-        (sym (given-is l kind id payload (length out) (p .next)))
+        go (sendRefusal l kind id payload (length out)) refl
+        (order-for l m same (p .next) t s e words room id payload (length out) Six (refusedOn p m out) (sentOn own p m id target payload out n))
       where
-        go : (r : ℕ) → Gives (sendChecks l kind payload (length out)) r → sendRefusal l kind id payload (length out) ≡ r → Along
-        go r (this h) q = refused-along 61 q (this (no-request t s e words room id h))
-        go r (next a (this h)) q = refused-along 59 q (next (some-request t s e words room id a) (this (is-full h)))
-        go r (next a (next b (this h))) q = refused-along 4 q (next (some-request t s e words room id a) (next (not-full b) (this h)))
-        go r (next a (next b (next c (this h)))) q =
-            refused-along 9 q (next (some-request t s e words room id a) (next (not-full b) (next c (this h))))
-        go r (next a (next b (next c (next d none)))) q =
-            sent-along q (next (some-request t s e words room id a) (next (not-full b) (next c (next d none))))
+        go : (r : ℕ) → sendRefusal l kind id payload (length out) ≡ r
+            → Says (byNumber (refusedOn p m out) (sentOn own p m id target payload out n) r) → Along
+        go (suc k) q a = refused-along k q a
+        go zero q a = sent-along q a
 
   -- a message arrives
   module _ (t : List ℕ) (s : Sections) (bytes out : List ℕ) (e : checked t ≡ Table s) where
@@ -216,12 +178,16 @@ module _ (own : ℕ) (p : Standing) (l : List ℕ) (m : Map) (same : LikeMap l m
       by-map (record { seen = shown (what (m .under n)) [] p; after = m }) looks (ap (λ (x : Asked). shown (what x) [] p) (sym (same .looked n))) same
 
 -- the next own number stays one of 32 bits
-pub call-fits : (own : ℕ) (p : Standing) (l : List ℕ) (c : RequestCall) → p .next < 2 ^ 32 → Fair c → ourShows own p l c .standing .next < 2 ^ 32
-call-fits own p l (send t s words id target payload out) fits h = go (sendRefusal l (kindIn t s words id) id payload (length out))
+pub sent-fits : (issue : Issue) (next : ℕ) (l : List ℕ) (kind id : ℕ) (payload : List ℕ) (space : ℕ) → next < 2 ^ 32
+    → sentFor issue next l kind id payload space .next < 2 ^ 32
+sent-fits issue next l kind id payload space fits = go (sendRefusalFor issue l kind id payload space)
   where
-    go : (r : ℕ) → answeredBy r (p .next) (nextFree l (p .next)) (20 + length payload) .next < 2 ^ 32
+    go : (r : ℕ) → answeredBy r next (nextFree l next) (lengthFor issue payload) .next < 2 ^ 32
     go zero = omega arith
     go (suc r) = fits
+
+pub call-fits : (own : ℕ) (p : Standing) (l : List ℕ) (c : RequestCall) → p .next < 2 ^ 32 → Fair c → ourShows own p l c .standing .next < 2 ^ 32
+call-fits own p l (send t s words id target payload out) fits h = sent-fits Six (p .next) l (kindIn t s words id) id payload (length out) fits
 call-fits own p l (receive t s bytes out) fits h = next-fits own t s h bytes p l (length out) fits
 call-fits own p l (cancel n) fits h = fits
 call-fits own p l (ask n) fits h = fits

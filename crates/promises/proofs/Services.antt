@@ -21,7 +21,7 @@ use Rattle.partners.proofs.SettingUp.{is-set, others-stay, above-sets-nothing, 
 use Rattle.promises.specs.Services.{ourKeeping, pairCount, KemptBlock, Arises, start, status, wentDown, ServicesBy, SetUp, Services}
 
 -- what every call leaves
-after-note : (b s : List ℕ) → Octets s → KemptBlock b → KemptBlock (statusNoted b s)
+pub after-note : (b s : List ℕ) → Octets s → KemptBlock b → KemptBlock (statusNoted b s)
 after-note b s o k =
     record {
       whole = noted-long b s ∙ k .whole;
@@ -33,7 +33,7 @@ after-note b s o k =
     go true f = rw (noted-known b s o (k .packed) f) (once-named (known b) s (pairCount s) (k .once))
     go false f = rw (not-noted b s f) (k .once)
 
-after-down : (b : List ℕ) → KemptBlock b → KemptBlock (marked b)
+pub after-down : (b : List ℕ) → KemptBlock b → KemptBlock (marked b)
 after-down b k =
     record { whole = marked-long b ∙ k .whole; packed = marked-packed b (k .packed); once = rw (marked-known b) (k .once) }
 
@@ -48,7 +48,7 @@ is-unheard Unheard e = refl
 is-unheard Unavailable e = absurd (true≢false e)
 is-unheard Available e = absurd (true≢false e)
 
-is-marked : (a : Availability) → ¬ (a ≡ Unheard) → whenDown a ≡ Unavailable
+pub is-marked : (a : Availability) → ¬ (a ≡ Unheard) → whenDown a ≡ Unavailable
 is-marked Unheard h = absurd (h refl)
 is-marked Unavailable h = refl
 is-marked Available h = refl

@@ -40,19 +40,19 @@ refuted : (X : Listing) (cs : List RequestCall) → AllFair cs
 refuted X cs fair d a = d (a 1 cs _ (request-runs .map-goes 1 cs fair .0) fair (request-runs .map-goes 1 cs fair .1))
 
 -- a table of one type and the requests with these IDs
-abbrev entry : ℕ → List ℕ
+abbrev pub entry : ℕ → List ℕ
 entry id = 0 ∷ 0 ∷ 0 ∷ id ∷ 0 ∷ 2 ∷ 0xFF ∷ 0xFF ∷ 0xFF ∷ 0xFF ∷ []
 
-abbrev start : List ℕ
+abbrev pub start : List ℕ
 start = 0 ∷ 1 ∷ 0 ∷ 0 ∷ 0 ∷ 8 ∷ 0 ∷ 0 ∷ 0 ∷ 0 ∷ 0 ∷ 0 ∷ 0 ∷ 0 ∷ []
 
-abbrev one : List ℕ
+abbrev pub one : List ℕ
 one = start ++ (0 ∷ 1 ∷ entry 7)
 
 abbrev two : List ℕ
 two = start ++ (0 ∷ 2 ∷ (entry 5 ++ entry 7))
 
-abbrev with : ℕ → Sections
+abbrev pub with : ℕ → Sections
 with n =
     record {
       types = record { at = 2; count = 1 };
@@ -61,7 +61,7 @@ with n =
       operations = record { at = 16; count = n };
     }
 
-one-good : checked one ≡ Table (with 1)
+pub one-good : checked one ≡ Table (with 1)
 unfolding allBelow above sectionAt after ended afterValues afterMembers afterTypes sectionsOf typeAt base bytesOf isValue width fieldsOk
     pointedOk typeOk sizeOf sizes largest sizeFits entriesOk sizesOk judged judging checked widthOf kindAt opWidth opPlace responseAt operationAt
     idAt operationFields operationOk operationsOk

@@ -36,12 +36,12 @@ use Rattle.promises.proofs.Platforms.{replies}
 use Rattle.promises.proofs.SmallTraffic.{octets-are}
 
 -- one type, and two operations: event 7 with no type, and versioned data 0x0A0B0C0D, which the message `operation` is
-abbrev t : List ℕ
+abbrev pub t : List ℕ
 t =
     0 ∷ 1 ∷ 0 ∷ 0 ∷ 0 ∷ 8 ∷ 0 ∷ 0 ∷ 0 ∷ 0 ∷ 0 ∷ 0 ∷ 0 ∷ 0 ∷ 0 ∷ 2 ∷ 0 ∷ 0 ∷ 0 ∷ 7 ∷ 0 ∷ 0 ∷ 0xFF ∷ 0xFF
     ∷ 0x0A ∷ 0x0B ∷ 0x0C ∷ 0x0D ∷ 0 ∷ 1 ∷ 0 ∷ 0 ∷ []
 
-abbrev s : Sections
+abbrev pub s : Sections
 s =
     record {
       types = record { at = 2; count = 1 };
@@ -50,7 +50,7 @@ s =
       operations = record { at = 16; count = 2 };
     }
 
-abbrev id : ℕ
+abbrev pub id : ℕ
 id = 0x0A0B0C0D
 
 abbrev h : Header
@@ -59,7 +59,7 @@ h = record { domain = 1; platform = 3; id = id; «payload_size» = 2; sequence =
 abbrev p : Standing
 p = freshStanding 1
 
-is-table : checked t ≡ Table s
+pub is-table : checked t ≡ Table s
 unfolding allBelow above sectionAt after ended afterValues afterMembers afterTypes sectionsOf typeAt memberAt valueAt idAt operationAt
     widthOf kindAt opWidth opPlace responseAt base bytesOf width fieldsOk memberOk membersOk pointedOk typeOk rules.fieldsOk rules.operationOk
     rules.operationsOk sumOf sizeOf sizes largest sizeFits
@@ -67,7 +67,7 @@ unfolding allBelow above sectionAt after ended afterValues afterMembers afterTyp
 is-table = refl
 
 -- no ID of the table is of kind 2
-no-request : ¬ (IsKind2 t s id)
+pub no-request : ¬ (IsKind2 t s id)
 no-request (zero, has, sent) = let e : _≡_ {A = ℕ} 0 2 = sent in omega arith
 no-request (suc zero, has, sent) = let e : _≡_ {A = ℕ} 1 2 = sent in omega arith
 no-request (suc (suc i), (l, _), sent) = omega arith
@@ -89,7 +89,7 @@ nothing-owed : owedFor 1 t s p h message.Operation ≡ []
 unfolding operationOf firstBelow idAt opPlace opWidth widthOf kindAt
 nothing-owed = refl
 
-has : HasID t s id 1
+pub has : HasID t s id 1
 has = (omega arith, refl)
 
 has-not : ¬ (HasID t s id 0)

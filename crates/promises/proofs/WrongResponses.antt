@@ -78,12 +78,12 @@ module _ (own : ℕ) (t : List ℕ) (p : Standing) (l m : List ℕ) (room : ℕ)
       go (checked.Table s) = by-read (operationIn t s (indexOf t s) (readOf own m)) (readOf own m)
 
 -- one type, and two operations: event 7 with no type, and 0x0A0B0C0D, which the message `operation` bears and whose requests we send
-abbrev t : List ℕ
+abbrev pub t : List ℕ
 t =
     0 ∷ 1 ∷ 0 ∷ 0 ∷ 0 ∷ 8 ∷ 0 ∷ 0 ∷ 0 ∷ 0 ∷ 0 ∷ 0 ∷ 0 ∷ 0 ∷ 0 ∷ 2 ∷ 0 ∷ 0 ∷ 0 ∷ 7 ∷ 0 ∷ 0 ∷ 0xFF ∷ 0xFF
     ∷ 0x0A ∷ 0x0B ∷ 0x0C ∷ 0x0D ∷ 0 ∷ 2 ∷ 0xFF ∷ 0xFF ∷ 0 ∷ 0 ∷ []
 
-abbrev s : Sections
+abbrev pub s : Sections
 s =
     record {
       types = record { at = 2; count = 1 };
@@ -98,7 +98,7 @@ h = record { domain = 1; platform = 3; id = 0x0A0B0C0D; «payload_size» = 2; se
 abbrev p : Standing
 p = freshStanding 1
 
-is-table : checked t ≡ checked.Table s
+pub is-table : checked t ≡ checked.Table s
 unfolding allBelow above sectionAt after ended afterValues afterMembers afterTypes sectionsOf typeAt widthOf kindAt opWidth opPlace responseAt
     operationAt idAt base bytesOf width fieldsOk pointedOk typeOk rules.fieldsOk rules.operationOk rules.operationsOk sizeOf sizes largest sizeFits
     entriesOk sizesOk judged judging checked

@@ -23,22 +23,22 @@ use Rattle.promises.proofs.SmallTraffic.{octets-are}
 use Rattle.promises.proofs.Services.{services}
 
 -- two states differ
-abbrev numbered : Availability → ℕ
+abbrev pub numbered : Availability → ℕ
 numbered Unheard = 0
 numbered Unavailable = 1
 numbered Available = 2
 
 -- service 5 told AVAILABLE; UNAVAILABLE and then AVAILABLE; service 6 told; services 257 and 258 told
-abbrev five : List ℕ
+abbrev pub five : List ℕ
 five = bytes 2 1 ++ pair 5 1
 
-abbrev twice : List ℕ
+abbrev pub twice : List ℕ
 twice = bytes 2 2 ++ (pair 5 0 ++ pair 5 1)
 
 abbrev six : List ℕ
 six = bytes 2 1 ++ pair 6 1
 
-abbrev more : List ℕ
+abbrev pub more : List ℕ
 more = bytes 2 2 ++ (pair 257 1 ++ pair 258 1)
 
 -- a block that is full
@@ -63,7 +63,7 @@ unfolding known NoneTwice
 full-once zero h = tt
 full-once (suc n) h = rw (full-known n h) (not-in n (suc n) (omega arith) (omega arith), full-once n (omega arith))
 
-kempt : KemptBlock (full 256)
+pub kempt : KemptBlock (full 256)
 kempt = record { whole = refl; packed = full-packed 256 (omega arith); once = full-once 256 (omega arith) }
 
 -- a 257th service: no number

@@ -27,7 +27,10 @@ use Rattle.nyrkovash.proofs.nyr_unpack_by.Reads.{Post as nyr-unpack-by}
 use Rattle.nyrkovash.proofs.nyr_pack_by.Reads.{Post as nyr-pack-by}
 use Rattle.nyrkovash.proofs.nyr_receive.Reads.{Post as nyr-receive}
 use Rattle.nyrkovash.proofs.nyr_receive_in.Reads.{Post as nyr-receive-in}
+use Rattle.nyrkovash.proofs.nyr_receive_mixed.Reads.{Post as nyr-receive-mixed}
+use Rattle.nyrkovash.proofs.nyr_receive_mixed_in.Reads.{Post as nyr-receive-mixed-in}
 use Rattle.nyrkovash.proofs.nyr_send.Reads.{Post as nyr-send}
+use Rattle.nyrkovash.proofs.nyr_send_mixed.Reads.{Post as nyr-send-mixed}
 use Rattle.nyrkovash.proofs.nyr_cancel.Reads.{Post as nyr-cancel}
 
 -- whatever a call's promise allows: the number, and a lent buffer at entry and at exit
@@ -81,8 +84,19 @@ pub record ExportsKeep : Type 0 where
   pub receive-in-platform : Untouched nyr-receive-in (λ k a. now (a .1 .0)) (λ k e. now (e .1 .0))
   pub receive-in-out : Untouched nyr-receive-in (λ k a. now (a .1 .1 .1 .1 .1 .0)) (λ k e. now (e .1 .1 .1 .1 .1 .0))
   pub receive-in-heard : Untouched nyr-receive-in (λ k a. now (a .1 .1 .1 .1 .1 .1 .0)) (λ k e. now (e .1 .1 .1 .1 .1 .1 .0))
+  pub receive-mixed-platform : Untouched nyr-receive-mixed (λ k a. now (a .1 .1 .1 .1 .0)) (λ k e. now (e .1 .1 .1 .1 .0))
+  pub receive-mixed-services : Untouched nyr-receive-mixed (λ k a. now (a .1 .1 .1 .1 .1 .0)) (λ k e. now (e .1 .1 .1 .1 .1 .0))
+  pub receive-mixed-out : Untouched nyr-receive-mixed (λ k a. now (a .1 .1 .1 .1 .1 .1 .1 .1 .0)) (λ k e. now (e .1 .1 .1 .1 .1 .1 .1 .1 .0))
+  pub receive-mixed-heard : Untouched nyr-receive-mixed (λ k a. now (a .1 .1 .1 .1 .1 .1 .1 .1 .1 .0)) (λ k e. now (e .1 .1 .1 .1 .1 .1 .1 .1 .1 .0))
+  pub receive-mixed-in-platform : Untouched nyr-receive-mixed-in (λ k a. now (a .1 .1 .1 .1 .0)) (λ k e. now (e .1 .1 .1 .1 .0))
+  pub receive-mixed-in-services : Untouched nyr-receive-mixed-in (λ k a. now (a .1 .1 .1 .1 .1 .0)) (λ k e. now (e .1 .1 .1 .1 .1 .0))
+  pub receive-mixed-in-out : Untouched nyr-receive-mixed-in (λ k a. now (a .1 .1 .1 .1 .1 .1 .1 .1 .1 .0)) (λ k e. now (e .1 .1 .1 .1 .1 .1 .1 .1 .1 .0))
+  pub receive-mixed-in-heard : Untouched nyr-receive-mixed-in (λ k a. now (a .1 .1 .1 .1 .1 .1 .1 .1 .1 .1 .0)) (λ k e. now (e .1 .1 .1 .1 .1 .1 .1 .1 .1 .1 .0))
   pub send-platform : Untouched nyr-send (λ k a. now (a .1 .0)) (λ k e. now (e .1 .0))
   pub send-out : Untouched nyr-send (λ k a. now (a .1 .1 .1 .1 .1 .1 .1 .0)) (λ k e. now (e .1 .1 .1 .1 .1 .1 .1 .0))
   pub send-sent : Untouched nyr-send (λ k a. now (a .1 .1 .1 .1 .1 .1 .1 .1 .0)) (λ k e. now (e .1 .1 .1 .1 .1 .1 .1 .1 .0))
+  pub send-mixed-platform : Untouched nyr-send-mixed (λ k a. now (a .1 .1 .1 .0)) (λ k e. now (e .1 .1 .1 .0))
+  pub send-mixed-out : Untouched nyr-send-mixed (λ k a. now (a .1 .1 .1 .1 .1 .1 .1 .1 .1 .0)) (λ k e. now (e .1 .1 .1 .1 .1 .1 .1 .1 .1 .0))
+  pub send-mixed-sent : Untouched nyr-send-mixed (λ k a. now (a .1 .1 .1 .1 .1 .1 .1 .1 .1 .1 .0)) (λ k e. now (e .1 .1 .1 .1 .1 .1 .1 .1 .1 .1 .0))
   -- the count of requests that were given up
   pub cancel-none : (k : _) (a : _) (n : ℕ) (e : _) → nyr-cancel k a n e → now (e .1 .1 .0) ≡ 0 → now (e .0) ≡ now (a .0)

@@ -24,7 +24,11 @@ use Rattle.nyrkovash.proofs.nyr_take.Reads.{Post as nyrkovash-nyr-take}
 use Rattle.nyrkovash.proofs.nyr_start.Reads.{Post as nyrkovash-nyr-start}
 use Rattle.nyrkovash.proofs.nyr_receive.Reads.{Post as nyrkovash-nyr-receive}
 use Rattle.nyrkovash.proofs.nyr_receive_in.Reads.{Post as nyrkovash-nyr-receive-in}
+use Rattle.nyrkovash.proofs.nyr_receive_mixed.Reads.{Post as nyrkovash-nyr-receive-mixed}
+use Rattle.nyrkovash.proofs.nyr_receive_mixed_in.Reads.{Post as nyrkovash-nyr-receive-mixed-in}
+use Rattle.nyrkovash.proofs.nyr_service.Reads.{Post as nyrkovash-nyr-service}
 use Rattle.nyrkovash.proofs.nyr_send.Reads.{Post as nyrkovash-nyr-send}
+use Rattle.nyrkovash.proofs.nyr_send_mixed.Reads.{Post as nyrkovash-nyr-send-mixed}
 use Rattle.nyrkovash.proofs.nyr_cancel.Reads.{Post as nyrkovash-nyr-cancel}
 use Rattle.nyrkovash.proofs.nyr_pending.Reads.{Post as nyrkovash-nyr-pending}
 use Rattle.nyrkovash.proofs.nyr_is_up.Reads.{Post as nyrkovash-nyr-is-up}
@@ -91,10 +95,25 @@ pub record UniqueCalls : Type 0 where
   pub nyr-receive-in-platform : Lent nyrkovash-nyr-receive-in (λ k e. now (e .1 .0))
   pub nyr-receive-in-out : Lent nyrkovash-nyr-receive-in (λ k e. now (e .1 .1 .1 .1 .1 .0))
   pub nyr-receive-in-heard : Lent nyrkovash-nyr-receive-in (λ k e. now (e .1 .1 .1 .1 .1 .1 .0))
+  pub nyr-receive-mixed : Answer nyrkovash-nyr-receive-mixed
+  pub nyr-receive-mixed-platform : Lent nyrkovash-nyr-receive-mixed (λ k e. now (e .1 .1 .1 .1 .0))
+  pub nyr-receive-mixed-services : Lent nyrkovash-nyr-receive-mixed (λ k e. now (e .1 .1 .1 .1 .1 .0))
+  pub nyr-receive-mixed-out : Lent nyrkovash-nyr-receive-mixed (λ k e. now (e .1 .1 .1 .1 .1 .1 .1 .1 .0))
+  pub nyr-receive-mixed-heard : Lent nyrkovash-nyr-receive-mixed (λ k e. now (e .1 .1 .1 .1 .1 .1 .1 .1 .1 .0))
+  pub nyr-receive-mixed-in : Answer nyrkovash-nyr-receive-mixed-in
+  pub nyr-receive-mixed-in-platform : Lent nyrkovash-nyr-receive-mixed-in (λ k e. now (e .1 .1 .1 .1 .0))
+  pub nyr-receive-mixed-in-services : Lent nyrkovash-nyr-receive-mixed-in (λ k e. now (e .1 .1 .1 .1 .1 .0))
+  pub nyr-receive-mixed-in-out : Lent nyrkovash-nyr-receive-mixed-in (λ k e. now (e .1 .1 .1 .1 .1 .1 .1 .1 .1 .0))
+  pub nyr-receive-mixed-in-heard : Lent nyrkovash-nyr-receive-mixed-in (λ k e. now (e .1 .1 .1 .1 .1 .1 .1 .1 .1 .1 .0))
+  pub nyr-service : Answer nyrkovash-nyr-service
   pub nyr-send : Answer nyrkovash-nyr-send
   pub nyr-send-platform : Lent nyrkovash-nyr-send (λ k e. now (e .1 .0))
   pub nyr-send-out : Lent nyrkovash-nyr-send (λ k e. now (e .1 .1 .1 .1 .1 .1 .1 .0))
   pub nyr-send-sent : Lent nyrkovash-nyr-send (λ k e. now (e .1 .1 .1 .1 .1 .1 .1 .1 .0))
+  pub nyr-send-mixed : Answer nyrkovash-nyr-send-mixed
+  pub nyr-send-mixed-platform : Lent nyrkovash-nyr-send-mixed (λ k e. now (e .1 .1 .1 .0))
+  pub nyr-send-mixed-out : Lent nyrkovash-nyr-send-mixed (λ k e. now (e .1 .1 .1 .1 .1 .1 .1 .1 .1 .0))
+  pub nyr-send-mixed-sent : Lent nyrkovash-nyr-send-mixed (λ k e. now (e .1 .1 .1 .1 .1 .1 .1 .1 .1 .1 .0))
   pub nyr-cancel : Answer nyrkovash-nyr-cancel
   pub nyr-cancel-platform : Lent nyrkovash-nyr-cancel (λ k e. now (e .0))
   pub nyr-cancel-cancelled : Lent nyrkovash-nyr-cancel (λ k e. now (e .1 .1 .0))

@@ -10,6 +10,8 @@ use Rattle.platform.proofs.payload.Reads.{Post as platform-payload}
 use Rattle.platform_words.proofs.fresh.Reads.{Post as platform-words-fresh}
 use Rattle.platform_words.proofs.is_up.Reads.{Post as platform-words-is-up}
 use Rattle.platform_words.proofs.how_many_up.Reads.{Post as platform-words-how-many-up}
+use Rattle.platform_words.proofs.standing_in.Reads.{Post as platform-words-standing-in}
+use Rattle.platform_words.proofs.keep_standing.Reads.{Post as platform-words-keep-standing}
 use Rattle.platform_words.proofs.receive.Reads.{Post as platform-words-receive}
 use Rattle.platform_words.proofs.receive_in.Reads.{Post as platform-words-receive-in}
 use Rattle.platform_words.proofs.send.Reads.{Post as platform-words-send}
@@ -34,6 +36,8 @@ pub record PlatformWordsUnique : Type 0 where
   pub fresh-platform : Lent platform-words-fresh (λ k e. now (e .1 .0))
   pub is-up : Answer platform-words-is-up
   pub how-many-up : Answer platform-words-how-many-up
+  pub standing-in : Answer platform-words-standing-in
+  pub keep-standing : Lent platform-words-keep-standing (λ k e. now (e .0))
   pub receive : Answer platform-words-receive
   pub receive-platform : Lent platform-words-receive (λ k e. now (e .1 .0))
   pub receive-out : Lent platform-words-receive (λ k e. now (e .1 .1 .1 .1 .0))
@@ -43,9 +47,9 @@ pub record PlatformWordsUnique : Type 0 where
   pub receive-in-out : Lent platform-words-receive-in (λ k e. now (e .1 .1 .1 .1 .1 .0))
   pub receive-in-heard : Lent platform-words-receive-in (λ k e. now (e .1 .1 .1 .1 .1 .1 .0))
   pub send : Answer platform-words-send
-  pub send-platform : Lent platform-words-send (λ k e. now (e .1 .0))
-  pub send-out : Lent platform-words-send (λ k e. now (e .1 .1 .1 .1 .1 .1 .1 .0))
-  pub send-sent : Lent platform-words-send (λ k e. now (e .1 .1 .1 .1 .1 .1 .1 .1 .0))
+  pub send-platform : Lent platform-words-send (λ k e. now (e .1 .1 .0))
+  pub send-out : Lent platform-words-send (λ k e. now (e .1 .1 .1 .1 .1 .1 .1 .1 .0))
+  pub send-sent : Lent platform-words-send (λ k e. now (e .1 .1 .1 .1 .1 .1 .1 .1 .1 .0))
   pub cancel : Answer platform-words-cancel
   pub cancel-platform : Lent platform-words-cancel (λ k e. now (e .0))
   pub cancel-cancelled : Lent platform-words-cancel (λ k e. now (e .1 .1 .0))

@@ -28,8 +28,8 @@ pub record PendingUnique : Type 0 where
 
 pub record RequestsUnique : Type 0 where
   pub send : Answer requests-send
-  pub send-list : Lent requests-send (λ k e. now (e .1 .1 .0))
-  pub send-out : Lent requests-send (λ k e. now (e .1 .1 .1 .1 .1 .1 .1 .0))
+  pub send-list : Lent requests-send (λ k e. now (e .1 .1 .1 .0))
+  pub send-out : Lent requests-send (λ k e. now (e .1 .1 .1 .1 .1 .1 .1 .1 .0))
 
 pub record UniqueRequests : Type 0 where
   pub pending : PendingUnique

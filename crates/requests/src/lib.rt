@@ -1,13 +1,21 @@
-// Requests: a message that asks another platform's operation is written and entered among those that are pending, or 62, 60, 5
-// or 10 is answered, the first that applies, and nothing changes.
+// Requests: a message that asks another platform's operation is written in that platform's issue and entered among those that are
+// pending, or 62, 60, 5 or 10 is answered, the first that applies, and nothing changes.
 ghost use mathlib.Core.Path.{_≡_};
 ghost use lib.ListN.{length};
-ghost use Rattle.requests.specs.Sending.{sentOf, listSent, outputSent, refusedWith, writtenOf, listWritten, outputWritten};
+ghost use Rattle.requests.specs.Sending.{sentFor, listSentFor, outputSentFor, refusedWith};
+ghost use Rattle.requests.specs.Sending.{writtenOf, listWritten, outputWritten, writeFor, outputFor};
 use message::Header;
 use message::Own;
 use message::Writing;
+use message3::Stamp;
 use operations::REQUEST_SENT;
 use pending::Slot;
+
+// The issue that a target speaks: what is written for Issue 3 bears a timestamp.
+pub enum Issue {
+    Six,
+    Three(Stamp),
+}
 
 // What became of a request: the number that refuses it, or its own number and how many bytes were written.
 pub enum Sent {
@@ -26,9 +34,10 @@ pub const LIST_FULL: u32 = 60;
 
 pub const NO_REQUEST: u32 = 62;
 
-// Sends a request under an operation of this kind and ID to platform `target`.
+// Sends a request under an operation of this kind and ID to platform `target`, which speaks this issue.
 pub fn send(
     own: Own,
+    issue: Issue,
     next: u32,
     list: &mut [u64],
     kind: u16,
@@ -37,13 +46,13 @@ pub fn send(
     payload: &[u8],
     out: &mut [u8],
 ) -> Sending
-    ensures answer { λ r. ⌜ r ≡ sentOf next (now (list .entry)) kind id (now (payload .entry)) (length (now (out .entry))) ⌝ }
-    ensures list { λ r. ⌜ now (list .exit) ≡ listSent next (now (list .entry)) kind id target (now (payload .entry)) (length (now (out .entry))) ⌝ }
-    ensures output { λ r. ⌜ now (out .exit) ≡ outputSent (own .platform) next (now (list .entry)) kind id (now (payload .entry)) (now (out .entry)) ⌝ }
+    ensures answer { λ r. ⌜ r ≡ sentFor issue next (now (list .entry)) kind id (now (payload .entry)) (length (now (out .entry))) ⌝ }
+    ensures list { λ r. ⌜ now (list .exit) ≡ listSentFor issue next (now (list .entry)) kind id target (now (payload .entry)) (length (now (out .entry))) ⌝ }
+    ensures output { λ r. ⌜ now (out .exit) ≡ outputSentFor issue (own .platform) next (now (list .entry)) kind id (now (payload .entry)) (now (out .entry)) ⌝ }
 {
     if kind == REQUEST_SENT {
         match pending::free_place(list) {
-            Slot::At(place) => send_at(own, next, list, place, id, target, payload, out),
+            Slot::At(place) => send_at(own, issue, next, list, place, id, target, payload, out),
             Slot::Nowhere => refused(next, LIST_FULL),
         }
     } else {
@@ -54,6 +63,7 @@ pub fn send(
 // The message is written first: where there is no room for it nothing is entered.
 fn send_at(
     own: Own,
+    issue: Issue,
     next: u32,
     list: &mut [u64],
     place: usize,
@@ -62,12 +72,12 @@ fn send_at(
     payload: &[u8],
     out: &mut [u8],
 ) -> Sending
-    ensures answer { λ r. ⌜ r ≡ writtenOf next (now (list .entry)) id (now (payload .entry)) (length (now (out .entry))) ⌝ }
-    ensures list { λ r. ⌜ now (list .exit) ≡ listWritten next (now (list .entry)) place id target (now (payload .entry)) (length (now (out .entry))) ⌝ }
-    ensures output { λ r. ⌜ now (out .exit) ≡ outputWritten (own .platform) next (now (list .entry)) id (now (payload .entry)) (now (out .entry)) ⌝ }
+    ensures answer { λ r. ⌜ r ≡ writtenOf issue next (now (list .entry)) id (now (payload .entry)) (length (now (out .entry))) ⌝ }
+    ensures list { λ r. ⌜ now (list .exit) ≡ listWritten issue next (now (list .entry)) place id target (now (payload .entry)) (length (now (out .entry))) ⌝ }
+    ensures output { λ r. ⌜ now (out .exit) ≡ outputWritten issue (own .platform) next (now (list .entry)) id (now (payload .entry)) (now (out .entry)) ⌝ }
 {
     let number = pending::next_free(list, next);
-    match message::write(own, Header::OPERATION_DOMAIN, id, number, payload, out) {
+    match write_for(own, issue, id, number, payload, out) {
         Writing::Written(written) => {
             pending::enter(list, place, number, id, target);
             Sending {
@@ -76,6 +86,31 @@ fn send_at(
             }
         }
         Writing::Refused(with) => refused(next, with),
+    }
+}
+
+fn write_for(
+    own: Own,
+    issue: Issue,
+    id: u32,
+    number: u32,
+    payload: &[u8],
+    out: &mut [u8],
+) -> Writing
+    ensures answer { λ r. ⌜ r ≡ writeFor issue id (now (payload .entry)) (length (now (out .entry))) ⌝ }
+    ensures output { λ r. ⌜ now (out .exit) ≡ outputFor issue (own .platform) id number (now (payload .entry)) (now (out .entry)) ⌝ }
+{
+    match issue {
+        Issue::Six => message::write(own, Header::OPERATION_DOMAIN, id, number, payload, out),
+        Issue::Three(stamp) => message3::write(
+            own,
+            stamp,
+            Header::OPERATION_DOMAIN,
+            id,
+            number,
+            payload,
+            out,
+        ),
     }
 }
 

@@ -1,7 +1,7 @@
 //! The lines that a file of calls must give: each call answered by its model.
 
 use crate::answers3;
-use crate::call::{next, Argument, Codes, Next};
+use crate::call::{next, Argument, Next};
 use crate::cutting::{piece, pieces};
 use crate::message::{self, Content};
 use crate::partners::Partners;
@@ -32,22 +32,13 @@ pub enum Ending {
 
 /// What `./answers` must give.
 pub fn tell(file: &[u8]) -> Told {
-    tell_of(file, Codes::Library)
-}
-
-/// The same with the codes that are awaited (`call::AWAITED`).
-pub fn tell_all(file: &[u8]) -> Told {
-    tell_of(file, Codes::All)
-}
-
-fn tell_of(file: &[u8], codes: Codes) -> Told {
     let mut rest = file;
     let mut partners = Partners::new(0, &[]);
     let mut lines = String::new();
     let mut calls = Vec::new();
     let ending = loop {
         let place = calls.len();
-        match next(&mut rest, codes) {
+        match next(&mut rest) {
             Next::End => break Ending::BehindACall,
             Next::CutShort => {
                 lines.push_str("cut short\n");
@@ -146,8 +137,8 @@ fn answer(platform: &mut Platform, code: u64, arguments: &[Argument]) -> Result<
         }),
         (20, [Bytes(table), Number(id), Number(target), Bytes(payload), Number(room)]) => {
             let (id, target) = (*id as u32, *target as u32);
-            let (number, bytes) = platform.send(table, id, target, payload, *room as usize)?;
-            Ok(format!("sent {number} {}", hex(&bytes)))
+            let sent = platform.send(table, id, target, payload, *room as usize)?;
+            Ok(sent_line(&sent))
         }
         (21, [Number(sequence)]) => Ok(match platform.cancel(*sequence as u32) {
             true => "cancelled".to_string(),
@@ -198,6 +189,11 @@ pub(crate) fn heard(got: &Answer) -> String {
         }
     };
     format!("{what} from {from} owed {}", hex(&got.owed))
+}
+
+/// A request that was sent: its number and its bytes.
+pub(crate) fn sent_line((number, bytes): &(u32, Vec<u8>)) -> String {
+    format!("sent {number} {}", hex(bytes))
 }
 
 fn taken(mut joiner: Joiner, datagram: &[u8]) -> Result<String, u8> {

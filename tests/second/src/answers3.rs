@@ -1,9 +1,9 @@
-//! The lines of the calls among partners of both issues, codes 81 to 86: 02, request 8.
+//! The lines of the calls among partners of both issues, codes 81 to 88: 02, request 8.
 //!
 //! A file has one platform. 7, 23 and 83 start it again; the set-up and what is known of services
 //! are begun anew by 83 alone.
 
-use crate::answers::{heard, hex, message_read, up_or_down};
+use crate::answers::{heard, hex, message_read, sent_line, up_or_down};
 use crate::call::Argument::{self, Bytes, Number, Words};
 use crate::message3::{self, services_payload, Content, Service, Time};
 use crate::mixed::{self, Message, SetUp};
@@ -38,15 +38,28 @@ pub fn answer(
             84,
             [Number(seconds), Number(nanoseconds), Number(composite), Words(ours), Bytes(table), Bytes(message), Number(room)],
         ) => {
-            let stamp = Stamp {
-                time: time(*seconds, *nanoseconds),
-                composite: *composite as u32,
-            };
+            let stamp = stamp(*seconds, *nanoseconds, *composite);
             let got = partners.call(stamp, ours, table, message, *room as usize)?;
-            Ok(match &got {
-                Heard::Six(answer) => format!("six {}", heard(answer)),
-                Heard::Three(answer) => format!("three {}", heard_3(answer)),
-            })
+            Ok(heard_line(&got))
+        }
+        (
+            87,
+            [Number(seconds), Number(nanoseconds), Number(composite), Words(ours), Number(lent), Bytes(table), Bytes(message), Number(room)],
+        ) => {
+            let stamp = stamp(*seconds, *nanoseconds, *composite);
+            let all = std::mem::replace(&mut partners.lent, *lent as usize);
+            let got = partners.call(stamp, ours, table, message, *room as usize);
+            partners.lent = all;
+            Ok(heard_line(&got?))
+        }
+        (
+            88,
+            [Number(seconds), Number(nanoseconds), Bytes(table), Number(id), Number(target), Bytes(payload), Number(room)],
+        ) => {
+            let (id, target) = (*id as u32, *target as u32);
+            let time = time(*seconds, *nanoseconds);
+            let sent = partners.send(time, table, id, target, payload, *room as usize)?;
+            Ok(sent_line(&sent))
         }
         (85, [Number(platform), Number(id)]) => {
             let state = partners.services.state(*platform as u32, *id as u32);
@@ -66,6 +79,20 @@ fn time(seconds: u64, nanoseconds: u64) -> Time {
     Time {
         seconds: seconds as u32,
         nanoseconds: nanoseconds as u32,
+    }
+}
+
+fn stamp(seconds: u64, nanoseconds: u64, composite: u64) -> Stamp {
+    Stamp {
+        time: time(seconds, nanoseconds),
+        composite: composite as u32,
+    }
+}
+
+fn heard_line(got: &Heard) -> String {
+    match got {
+        Heard::Six(answer) => format!("six {}", heard(answer)),
+        Heard::Three(answer) => format!("three {}", heard_3(answer)),
     }
 }
 

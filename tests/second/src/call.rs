@@ -17,29 +17,6 @@ const LIST_WORDS: u64 = 128;
 /// sender 2, seen 1, last 4, held 4.
 const RECORD: usize = 11;
 
-/// Codes 83 to 86, the platform call among partners of Issue 3 (02, request 8), are awaited: this
-/// program answers them, and `./answers` has no calls for them yet. So `run-answers` sends none of
-/// them, and takes them for no codes. When the library has them this becomes `false`, and the gate
-/// compares them: the files worked out by hand, each code cut and bad at every place, files from
-/// seeds, and 63.
-pub const AWAITED: bool = true;
-
-/// Which codes are codes.
-#[derive(Clone, Copy, Debug, PartialEq, Eq)]
-pub enum Codes {
-    /// Those that the library has calls for.
-    Library,
-    /// The awaited ones too.
-    All,
-}
-
-impl Codes {
-    fn has(self, code: u64) -> bool {
-        let awaited = AWAITED && (83..87).contains(&code);
-        self == Codes::All || !awaited
-    }
-}
-
 /// What an argument is for, and with it how long it may be.
 #[derive(Clone, Copy)]
 enum Parameter {
@@ -122,6 +99,25 @@ fn parameters(code: u64) -> Option<&'static [Parameter]> {
         ],
         85 => &[Number(32), Number(32)],
         86 => &[Number(32)],
+        87 => &[
+            Number(32),
+            Number(32),
+            Number(32),
+            Words(MOST_WORDS),
+            WORDS_OUT,
+            Bytes,
+            Bytes,
+            BYTES_OUT,
+        ],
+        88 => &[
+            Number(32),
+            Number(32),
+            Bytes,
+            Number(32),
+            Number(32),
+            Bytes,
+            BYTES_OUT,
+        ],
         _ => return None,
     })
 }
@@ -154,7 +150,7 @@ fn bite<'a>(rest: &mut &'a [u8], n: u64) -> Option<&'a [u8]> {
 }
 
 /// The next call, taken away from `rest`.
-pub fn next<'a>(rest: &mut &'a [u8], codes: Codes) -> Next<'a> {
+pub fn next<'a>(rest: &mut &'a [u8]) -> Next<'a> {
     if rest.is_empty() {
         return Next::End;
     }
@@ -162,7 +158,7 @@ pub fn next<'a>(rest: &mut &'a [u8], codes: Codes) -> Next<'a> {
         return Next::CutShort;
     };
     let (code, count) = (number(&four[..2]), number(&four[2..]));
-    let known = parameters(code).filter(|_| codes.has(code));
+    let known = parameters(code);
     let Some(wanted) = known.filter(|wanted| wanted.len() as u64 == count) else {
         return Next::Bad;
     };

@@ -29,6 +29,8 @@ pub fn arguments(code: u16) -> impl Iterator<Item = &'static str> {
         84 => "32 32 32 w b b o",
         85 => "32 32",
         86 => "32",
+        87 => "32 32 32 w v b b o",
+        88 => "32 32 b 32 32 b o",
         _ => panic!("{code} is no code"),
     };
     kinds.split_whitespace()
@@ -54,7 +56,7 @@ pub fn bad(rng: &mut Prng, good: &Call) -> Vec<u8> {
 /// A code or a number of arguments that does not exist.
 fn wrong_head(rng: &mut Prng, call: &mut Call) {
     match rng.below(4) {
-        0 => call.code = rng.pick(&[0, 18, 19, 24, 255, 256, 0x1400, 0xFFFF]),
+        0 => call.code = rng.pick(&[0, 18, 19, 24, 80, 89, 255, 256, 0x1400, 0xFFFF]),
         1 => call.code |= 0x0100,
         2 if !call.arguments.is_empty() => {
             call.arguments.pop();

@@ -1,4 +1,4 @@
-//! Conversations of one platform with partners of both issues, codes 83 to 86 and those beside them:
+//! Conversations of one platform with partners of both issues, codes 83 to 88 and those beside them:
 //! they come and go, tell of services, are asked and answer.
 
 use crate::calls_compose::Call;
@@ -8,11 +8,14 @@ use crate::calls_payloads::table;
 use crate::calls_tables::Draft;
 use crate::prng::Prng;
 use crate::{calls_lists, calls_messages, calls_messages3};
+use std::collections::BTreeSet;
 
 /// Who talks to whom, about what.
 pub struct Bench {
     own: u8,
     pub threes: Vec<u8>,
+    /// How many are set up as Issue 3, ourselves perhaps among them.
+    blocks: u64,
     sixes: Vec<u32>,
     draft: Draft,
     /// Operations of the table, and some that are none.
@@ -40,6 +43,7 @@ impl Bench {
         Bench {
             own: 0,
             threes: vec![],
+            blocks: 0,
             sixes: vec![1, 7, 300],
             draft,
             ids,
@@ -70,6 +74,7 @@ impl Bench {
             listed.extend(listed.clone());
         }
         self.asked.clear();
+        self.blocks = listed.iter().collect::<BTreeSet<_>>().len() as u64;
         let call = Call::new(83).number(rng, u64::from(self.own));
         call.bytes(&listed)
     }
@@ -84,7 +89,7 @@ impl Bench {
                 self.asked.clear();
                 Call::new(7).number(rng, u64::from(self.own))
             }
-            3..=11 => calls_messages3::read(rng),
+            3..=10 => calls_messages3::read(rng),
             12..=16 => calls_messages3::write(rng),
             17..=22 => self.ask(rng),
             23 | 24 => {
@@ -96,7 +101,7 @@ impl Bench {
                 Call::new(9).number(rng, platform)
             }
             26 => Call::new(10),
-            27 | 28 => self.send(rng),
+            11 | 27 | 28 => self.send(rng),
             29 | 30 => {
                 let number = self.some_request(rng).0;
                 Call::new(rng.pick(&[21, 22])).number(rng, u64::from(number))
@@ -129,26 +134,44 @@ impl Bench {
         }
     }
 
-    /// Code 84: with room for just what may be owed, for one byte less, or for none.
+    /// Code 84 or 87: with room for just what may be owed, for one byte less, or for none.
     pub fn hear(&self, rng: &mut Prng, message: &[u8]) -> Call {
-        let ours: Vec<u64> = (0..rng.pick(&[0, 1, 2, 5]))
-            .map(|_| self.ours(rng))
-            .collect();
-        let all = 28 + 8 * ours.len() as u64;
+        let count = rng.pick(&[0, 1, 2, 5]);
+        let all = 28 + 8 * count as u64;
         let edges = [all, all - 1, 87, 48, 47, 36, 35, 28, 27, 24, 0];
         let room = match rng.below(4) {
             0 => rng.pick(&edges),
             1 => 70_000,
             _ => 88,
         };
-        let mut call = Call::new(84);
+        self.hear_with(rng, message, count, room)
+    }
+
+    /// The same with so many services of ours, and this room.
+    pub fn hear_with(&self, rng: &mut Prng, message: &[u8], count: usize, room: u64) -> Call {
+        let ours: Vec<u64> = (0..count).map(|_| self.ours(rng)).collect();
+        let lent = rng.chance(1, 3).then(|| self.lent(rng));
+        let mut call = Call::new(if lent.is_some() { 87 } else { 84 });
         for _ in ["seconds", "nanoseconds", "composite"] {
             let any = number(rng);
             call = call.number(rng, u64::from(any));
         }
-        let call = call.words(&ours);
+        call = call.words(&ours);
+        if let Some(lent) = lent {
+            call = call.number(rng, lent);
+        }
         let table = table(rng, &self.draft, 40);
         call.bytes(&table).bytes(message).number(rng, room)
+    }
+
+    /// Words for all blocks or for more, for all but one word or one block, for one block, or none.
+    fn lent(&self, rng: &mut Prng) -> u64 {
+        let all = 256 * self.blocks;
+        match rng.below(4) {
+            0 => rng.pick(&[all.max(1) - 1, all.max(256) - 256, 256, 255, 0]),
+            1 => 65_536,
+            _ => all,
+        }
     }
 
     /// A service of ours as a word, its state now and then none that there is.
@@ -214,15 +237,27 @@ impl Bench {
         calls_lists::hand_in(rng, &ledger, &words)
     }
 
-    /// Code 20, to a partner of either issue.
+    /// Code 20, or mostly 88, to a partner of either issue.
     fn send(&self, rng: &mut Prng) -> Call {
         let six = rng.pick(&self.sixes);
         let three = u32::from(self.three(rng));
-        let (target, id) = (rng.pick(&[three, six]), rng.pick(&self.ids));
-        let call = Call::new(20).bytes(&self.draft.bytes());
-        let call = call.number(rng, u64::from(id));
+        // The first two are those whose requests we send.
+        let id = match rng.below(4) {
+            0 => rng.pick(&self.ids),
+            _ => rng.pick(&self.ids[..2]),
+        };
+        let target = rng.pick(&[three, six]);
+        let (table, room) = (table(rng, &self.draft, 40), rng.pick(&[25, 25, 24, 21, 20]));
+        let by_issue = rng.chance(3, 4);
+        let mut call = Call::new(if by_issue { 88 } else { 20 });
+        if by_issue {
+            let (seconds, nanoseconds) = (number(rng), number(rng));
+            call = call.number(rng, u64::from(seconds));
+            call = call.number(rng, u64::from(nanoseconds));
+        }
+        let call = call.bytes(&table).number(rng, u64::from(id));
         let call = call.number(rng, u64::from(target)).bytes(&[1]);
-        call.number(rng, 21)
+        call.number(rng, room)
     }
 
     fn some_request(&self, rng: &mut Prng) -> (u32, u32, u32) {

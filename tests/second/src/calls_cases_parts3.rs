@@ -65,3 +65,40 @@ macro_rules! known {
         concat!("0056 0001 | 00000004 ", $platform, " ")
     };
 }
+
+/// Code 87 as 84 above, with so many words lent.
+macro_rules! hear_lent {
+    ($lent:literal, $message:expr, $room:literal) => {
+        concat!(
+            "0057 0008 | 00000001 02 | 00000001 02 | 00000001 63 | ",
+            "00000010 0000000200000015 0000000100000016 | 00000002 ",
+            $lent,
+            " | ",
+            requests_table!(),
+            " | ",
+            $message,
+            " | 00000001 ",
+            $room,
+            " "
+        )
+    };
+}
+
+/// Code 88 at 5 s 6 ns, over the same table.
+macro_rules! send_3 {
+    ($id:literal, $target:literal, $payload:literal, $room:literal) => {
+        concat!(
+            "0058 0007 | 00000001 05 | 00000001 06 | ",
+            requests_table!(),
+            " | 00000004 ",
+            $id,
+            " | 00000004 ",
+            $target,
+            " | ",
+            $payload,
+            " | 00000001 ",
+            $room,
+            " "
+        )
+    };
+}

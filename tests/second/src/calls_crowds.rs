@@ -52,5 +52,15 @@ impl Bench {
             }
         }
         calls.push(Call::new(10));
+        self.all_of_ours(rng, calls);
+    }
+
+    /// All our services asked for: as many as an output has bytes for, one byte less, and one more.
+    fn all_of_ours(&mut self, rng: &mut Prng, calls: &mut Vec<Call>) {
+        let from = self.three(rng);
+        let bytes = Fields::new(0, from, 4, 5, fields(&[0xFFFF_FFFF])).bytes();
+        for (count, room) in [(8_746, 69_996), (8_746, 69_995), (8_747, 70_000)] {
+            calls.push(self.hear_with(rng, &bytes, count, room));
+        }
     }
 }

@@ -75,6 +75,20 @@ pub(crate) const SHORTEST_3: &[Short] = &[
     ),
     (85, &["01", "4D"]),
     (86, &["01"]),
+    (
+        87,
+        &[
+            "05",
+            "06",
+            "63",
+            "0000000200000015",
+            "0100",
+            UINT8,
+            "EC0A1001 00000003 00000005 00000006 0000000C 00000007 00000001 0000004D 00000000",
+            "00",
+        ],
+    ),
+    (88, &["05", "06", ASKS, "07", "01", "", "18"]),
 ];
 
 pub(crate) fn calls(shortest: &[Short]) -> Vec<Call> {
@@ -105,7 +119,7 @@ pub(crate) fn cuts(shortest: &[Short]) -> impl Iterator<Item = Case> + Send {
     let whole = in_one_file(&calls(shortest));
     (0..=whole.len()).map(move |length| Case {
         name: format!("cut-{length}"),
-        told: answers::tell_all(&whole[..length]),
+        told: answers::tell(&whole[..length]),
         file: whole[..length].to_vec(),
         ways: in_turn(length),
         counts: length == whole.len(),
@@ -178,7 +192,7 @@ pub(crate) fn bad(shortest: &[Short]) -> impl Iterator<Item = Case> + Send {
     let files = bad_calls(shortest).into_iter().enumerate();
     files.map(|(number, file)| Case {
         name: format!("bad-{number}"),
-        told: answers::tell_all(&file),
+        told: answers::tell(&file),
         file,
         ways: in_turn(number),
         counts: true,
@@ -210,7 +224,7 @@ pub(crate) fn longest(shortest: &[Short]) -> Case {
     let file = in_one_file(&long_ones);
     Case {
         name: "longest".to_string(),
-        told: answers::tell_all(&file),
+        told: answers::tell(&file),
         file,
         ways: &[By::Name, By::Input],
         counts: true,

@@ -1,12 +1,11 @@
 //! What is done to one short call of each code comes to what it must.
 
 use crate::answers::{self, Ending};
-use crate::call::AWAITED;
 use crate::calls_every::*;
 use std::collections::BTreeSet;
 
 fn lines(shortest: &[Short]) -> Vec<String> {
-    let whole = answers::tell_all(&in_one_file(&calls(shortest)));
+    let whole = answers::tell(&in_one_file(&calls(shortest)));
     let answered = whole.calls.iter().filter(|call| call.1.is_none());
     assert_eq!(answered.count(), shortest.len(), "{}", whole.lines);
     whole.lines.lines().map(str::to_string).collect()
@@ -37,24 +36,16 @@ fn the_shortest_are_answered() {
 #[test]
 fn the_shortest_of_issue_3_are_answered() {
     let codes: BTreeSet<u16> = SHORTEST_3.iter().map(|short| short.0).collect();
-    assert_eq!(codes, (83..=86).collect());
+    assert_eq!(codes, (83..=88).collect());
     let expected = [
         "0 platform 2 threes 1",
         "1 three services 1 0000004d00000001 from 1 owed -",
         "2 available",
         "3 known 77 a",
+        "4 three services 1 0000004d00000000 from 1 owed -",
+        "5 sent 1 ec0a11020000000700000005000000060000000000000001",
     ];
     assert_eq!(lines(SHORTEST_3), expected);
-}
-
-/// While they are awaited the library's codes are without them, and this program's are not.
-#[test]
-fn awaited_codes() {
-    for call in calls(SHORTEST_3) {
-        let (library, all) = (answers::tell(&call.file()), answers::tell_all(&call.file()));
-        assert_eq!(library.lines == "0 bad call\n", AWAITED, "{}", call.code);
-        assert_eq!(all.calls[0].0, u64::from(call.code));
-    }
 }
 
 /// A file cut behind a call has that many lines; cut anywhere else, one more.

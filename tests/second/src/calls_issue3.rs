@@ -1,4 +1,4 @@
-//! Files of calls among partners of both issues, codes 81 to 86, from a seed: the seed's remainder
+//! Files of calls among partners of both issues, codes 81 to 88, from a seed: the seed's remainder
 //! by 4 names the kind.
 
 use crate::calls_bad;
@@ -46,7 +46,7 @@ fn ending(rng: &mut Prng, bench: &mut Bench, out: &mut Vec<u8>) {
 #[cfg(test)]
 mod tests {
     use super::*;
-    use crate::answers::{tell_all, Ending};
+    use crate::answers::{tell, Ending};
     use std::collections::BTreeMap;
 
     /// Each form of line among the first 80 files, and how often it comes at least.
@@ -101,10 +101,22 @@ mod tests {
         ("85 unavailable", 40),
         ("85 unheard", 200),
         ("86 known", 150),
+        ("87 six operation", 40),
+        ("87 six response", 5),
+        ("87 six status down", 10),
+        ("87 six status up", 80),
+        ("87 three operation", 30),
+        ("87 three pull all", 30),
+        ("87 three response", 8),
+        ("87 three services", 80),
+        ("87 three services request", 40),
+        ("87 three status down", 20),
+        ("87 three status up", 60),
+        ("88 sent", 30),
         ("9 up", 10),
         ("9 down", 30),
         ("10 count", 50),
-        ("20 sent", 20),
+        ("20 sent", 8),
         ("21 cancelled", 10),
         ("22 pending", 10),
         ("23 platform", 40),
@@ -115,6 +127,8 @@ mod tests {
         (81, &[1, 2, 3, 4, 5, 6, 7, 8, 9]),
         (82, &[4, 7, 8, 9, 10]),
         (84, &[1, 2, 3, 4, 5, 6, 7, 8, 9, 10, 30, 31, 32, 33, 61, 63]),
+        (87, &[1, 2, 3, 4, 5, 6, 7, 8, 9, 10, 30, 31, 32, 33, 61, 63]),
+        (88, &[10, 32, 60, 62]),
     ];
 
     /// A line without its call's number and without what differs from call to call.
@@ -133,7 +147,7 @@ mod tests {
         let mut seen: BTreeMap<String, usize> = BTreeMap::new();
         let (mut bad, mut cut) = (0, 0);
         for seed in 0..80 {
-            let told = tell_all(&file(seed));
+            let told = tell(&file(seed));
             for (line, (code, refusal)) in told.lines.lines().zip(&told.calls) {
                 let form = match refusal {
                     Some(number) => format!("{code} refused {number}"),

@@ -169,6 +169,11 @@ pub fn spoilt(rng: &mut Prng, own: u8, mut it: Fields) -> Vec<u8> {
 
 /// A status of services whose count is not that of its pairs, or in which one state is reserved.
 fn spoilt_services(rng: &mut Prng, it: Fields) -> Fields {
+    // 2^29 services and more in four bytes.
+    if rng.chance(1, 6) {
+        let count = rng.pick(&[1 << 29, 1 << 30, 7 << 29]);
+        return Fields::new(0, it.from, 3, it.sequence, fields(&[count]));
+    }
     let mut services: Vec<(u32, u32)> = (0..rng.from_to(1, 5) as u32).map(|id| (id, 1)).collect();
     if rng.chance(1, 2) {
         let at = rng.below(services.len());

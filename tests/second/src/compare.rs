@@ -2,7 +2,6 @@
 //! input, every byte of its output against the expected lines, and a count of what was met.
 
 use crate::answers::{self, Ending, Told};
-use crate::call::AWAITED;
 use crate::program::{difference, output, By};
 use crate::{calls, calls_cases, calls_every, calls_issue3};
 use std::collections::{BTreeMap, BTreeSet};
@@ -25,16 +24,8 @@ const PLACED: Range<u8> = 40..44;
 /// The gate's run.
 const WHOLE: Least = Least {
     calls: 20_000,
-    codes: if AWAITED {
-        &[1..18, 20..24, 81..83]
-    } else {
-        &[1..18, 20..24, 81..87]
-    },
-    refusals: if AWAITED {
-        &[1..11, 20..24, 30..34, 40..46, 50..53, 60..63]
-    } else {
-        &[1..11, 20..24, 30..34, 40..46, 50..53, 60..64]
-    },
+    codes: &[1..18, 20..24, 81..89],
+    refusals: &[1..11, 20..24, 30..34, 40..46, 50..53, 60..64],
     // Unpacking and packing.
     walks: &[5, 6, 13, 14, 16, 17],
 };
@@ -42,7 +33,7 @@ const WHOLE: Least = Least {
 /// Partners of Issue 3 alone.
 const ISSUE_3: Least = Least {
     calls: 5_000,
-    codes: &[7..8, 9..11, 20..24, 81..87],
+    codes: &[7..8, 9..11, 20..24, 81..89],
     refusals: &[1..11, 30..34, 60..64],
     walks: &[],
 };
@@ -69,7 +60,7 @@ impl Case {
 
     fn issue_3(seed: u64) -> Case {
         let file = calls_issue3::file(seed);
-        let told = answers::tell_all(&file);
+        let told = answers::tell(&file);
         Case::of(format!("issue-3-{seed}"), seed, file, told)
     }
 
@@ -263,19 +254,16 @@ fn compare_all(
 }
 
 /// The gate's run: the files worked out by hand, one call of each code cut and bad at every place,
-/// and the seeds below `count`; behind them those of Issue 3, unless they are awaited. It must meet
+/// and the seeds below `count`; behind them those of Issue 3, with half as many seeds. It must meet
 /// every code and every number.
 pub fn run(count: u64, command: &[&str]) -> Result<bool> {
     let fixed = calls_cases::all().chain(calls_every::all());
     let cases = fixed.chain((0..count).map(Case::from_seed));
-    if AWAITED {
-        return compare_all(cases, &WHOLE, command);
-    }
     let cases = cases.chain(cases_of_issue_3(count / 2));
     compare_all(cases, &WHOLE, command)
 }
 
-/// The files among partners of Issue 3 alone, awaited or not.
+/// The files among partners of Issue 3 alone.
 pub fn run_issue_3(count: u64, command: &[&str]) -> Result<bool> {
     compare_all(cases_of_issue_3(count), &ISSUE_3, command)
 }

@@ -108,6 +108,7 @@ pub mod calls_cases_full;
 pub mod calls_cases_issue3;
 pub mod calls_cases_joining;
 pub mod calls_cases_lists;
+pub mod calls_cases_mixed;
 pub mod calls_cases_partners;
 pub mod calls_cases_payload;
 pub mod calls_cases_places;

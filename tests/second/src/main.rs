@@ -72,7 +72,7 @@ fn command(words: &[&str]) -> Outcome {
         ["calls", seed, file] => write(file, &calls::file(number(seed)?)),
         ["calls-issue-3", seed, file] => write(file, &calls_issue3::file(number(seed)?)),
         ["answers", file] => {
-            print!("{}", answers::tell_all(&read(file)?).lines);
+            print!("{}", answers::tell(&read(file)?).lines);
             Ok(true)
         }
         ["run-answers", seeds, program @ ..] if !program.is_empty() => {

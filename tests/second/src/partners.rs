@@ -122,6 +122,25 @@ impl Partners {
         }
     }
 
+    /// A request to `target`, written in its issue: 02, request 8.
+    pub fn send(
+        &mut self,
+        time: Time,
+        table: &[u8],
+        id: u32,
+        target: u32,
+        payload: &[u8],
+        room: usize,
+    ) -> Result<(u32, Vec<u8>), u8> {
+        let platform = &mut self.platform;
+        if !self.set_up.is_three(target) {
+            return platform.send(table, id, target, payload, room);
+        }
+        let own = platform.own;
+        let bytes = |sequence| message3::write(own, time, 1, id, sequence, payload, room);
+        platform.send_as(table, id, target, bytes)
+    }
+
     /// The replies, one behind another.
     fn laid(&self, time: Time, replies: &[Reply], room: usize) -> Result<Vec<u8>, u8> {
         let mut owed = Vec::new();

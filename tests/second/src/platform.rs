@@ -179,13 +179,26 @@ impl Platform {
         payload: &[u8],
         room: usize,
     ) -> Result<(u32, Vec<u8>), u8> {
+        let own = self.own;
+        let bytes = |sequence| write(own, 1, id, sequence, payload, room);
+        self.send_as(table, id, target, bytes)
+    }
+
+    /// The same with the request's bytes made otherwise, of its number.
+    pub(crate) fn send_as(
+        &mut self,
+        table: &[u8],
+        id: u32,
+        target: u32,
+        bytes: impl FnOnce(u32) -> Result<Vec<u8>, u8>,
+    ) -> Result<(u32, Vec<u8>), u8> {
         let table = check(table)?;
         if table.operation(id).map(|entry| entry.kind) != Some(SENT) {
             return Err(62);
         }
         let place = self.list.free().ok_or(60)?;
         let sequence = self.list.next_free(self.next);
-        let bytes = write(self.own, 1, id, sequence, payload, room)?;
+        let bytes = bytes(sequence)?;
         self.list.enter(place, sequence, id, target);
         // Numbers that were passed over are not offered again before the round is over.
         self.next = sequence;

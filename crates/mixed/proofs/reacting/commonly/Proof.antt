@@ -1,7 +1,7 @@
--- `mixed::reacting::commonly` meets its contract: as heard in Issue 6's words.
+-- `mixed::reacting::commonly` meets its contract: what is owed is told by what was heard.
 -- Assumes nothing.
 use borrow.Author.Needs.{needs}
-use Rattle.mixed.proofs.ReactionLaws.{commonly-is}
+use Rattle.mixed.proofs.ReactionLaws.{as-heard}
 use Rattle.mixed.proofs.reacting.commonly.Statement.{statement}
 use Rattle.mixed.proofs.reacting.commonly.Tie as tie
 
@@ -10,6 +10,4 @@ commonly-spec =
     tie.close
     (tie.spec
     (λ c κs. search needs)
-    (λ c κs. search needs)
-    (λ c κs. search needs)
-    (λ c. search commonly-is))
+    (λ c. search as-heard))

@@ -1,4 +1,4 @@
--- `mixed::read` meets its contract: by its form and its sender.
+-- `mixed::read` meets its contract: by its form.
 -- Assumes nothing.
 use borrow.Author.Needs.{needs}
 use Rattle.mixed.proofs.Readings.{by-three, not-its-issue, by-six}
@@ -10,14 +10,13 @@ read-spec =
     tie.close
     (tie.spec
     (λ c κs. search needs)
+    (λ c. search needs)
     (λ c κs. search needs)
     (λ c κs. search needs)
+    (λ c. search needs)
+    (λ c κs. search needs)
+    (λ c κs. search needs)
+    (λ c. search needs)
     (λ c. search by-three)
-    (λ c κs. search needs)
-    (λ c κs. search needs)
-    (λ c κs. search needs)
-    (λ c κs. search needs)
-    (λ c. search not-its-issue)
-    (λ c κs. search needs)
-    (λ c κs. search needs)
-    (λ c. search by-six))
+    (λ c. search by-six)
+    (λ c. search not-its-issue))

@@ -1,9 +1,7 @@
--- `nyrkovash::nyr_read_mixed` meets its contract: by the issue that the message was read under.
+-- `nyrkovash::nyr_read_mixed` meets its contract: by the form of the message.
 -- Assumes nothing.
 use borrow.Author.Needs.{needs}
-use Rattle.wire.proofs.MetCases.{met, met-left}
-use Rattle.mixed.specs.Reading.{numberGiven}
-use Rattle.nyrkovash.specs.IssueCalls.{anyLeft}
+use Rattle.nyrkovash.proofs.IssueWords.{form-number, form-words}
 use Rattle.nyrkovash.proofs.issues.nyr_read_mixed.Statement.{statement}
 use Rattle.nyrkovash.proofs.issues.nyr_read_mixed.Tie as tie
 
@@ -13,10 +11,10 @@ nyr-read-mixed-spec =
     (tie.spec
     (λ c κs. search needs)
     (λ c. search needs)
-    (λ c. search needs)
     (λ c κs. search needs)
     (λ c. search needs)
     (λ c κs. search needs)
-    (λ c. (search (met numberGiven), search (met-left anyLeft)))
-    (λ c. (search (met numberGiven), search (met-left anyLeft)))
-    (λ c. (search (met numberGiven), search (met-left anyLeft))))
+    (λ c. search needs)
+    (λ c. (search form-number, search form-words))
+    (λ c. (search form-number, search form-words))
+    (λ c. (search form-number, search form-words)))

@@ -1,4 +1,4 @@
--- `platform_words::take_response` meets its contract: the list is lent by itself.
+-- `platform_words::take_response` meets its contract.
 -- Assumes nothing.
 use borrow.Author.Needs.{needs}
 use Rattle.platform_words.proofs.Answering.{was-awaited, list-answered}
@@ -12,9 +12,6 @@ take-response-spec =
     (λ c κs. search needs)
     (λ c κs. search needs)
     (λ c κs. search needs)
-    (λ c. search needs)
-    (λ c. search needs)
-    (λ c. search needs)
     (λ c κs. search needs)
     (λ c. search needs)
     (λ c. (search was-awaited, search list-answered)))

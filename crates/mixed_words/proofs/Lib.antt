@@ -1,0 +1,6 @@
+pub mod ToldWords
+mod Calling
+mod Straight
+mod OnSections
+mod ServiceAsked
+mod ByTarget
