@@ -1,44 +1,17 @@
 -- A run of leaves of one base code, four in a turn: what is stored behind those that are stored already goes on from them.
 -- Assumes nothing.
-use Prim.Native.Nat.{ℕ, zero, suc, _+_, _-_, _*_, _/_, _^_, _≤_, _<_}
+use Prim.Native.Nat.{ℕ, zero, suc, _+_, _-_, _*_, _/_, _≤_, _<_}
 use mathlib.Core.Path.{_≡_, refl, sym, ap, _∙_}
 use mathlib.Core.List.{List}
-use native.Mathlib.Nat.{mul-le-mul-right, add-mul, add-zero, add-suc}
+use native.Mathlib.Nat.{add-mul, add-zero, add-suc}
 use native.Mathlib.Omega.{arith}
-use mir.Syntax.{w64}
-use mir.Val.{Fits}
 use lib.ListN.{length}
 use Rattle.table.specs.Leaf.{width}
 use Rattle.walk.specs.declared.Place.{Place}
+use Rattle.walk.proofs.Fours.{four-in, rest-in}
 use Rattle.pack_leaves.specs.Stored.{stored}
 use Rattle.pack_leaves.specs.StoredRuns.{behindAll, storedAll}
 use Rattle.pack_leaves.proofs.StoredRuns.{length-all}
-
--- m leaves, and j behind them, of n that there is room for
-module _ (to n w code : ℕ) (is : w ≡ width code) (l : ℕ) (room : to + n * width code ≤ l) where
-  both-in : (m j : ℕ) → m + j ≤ n → to + m * w + j * width code ≤ l
-  both-in m j h = rw is (omega (arith, mul-le-mul-right (width code) h, add-mul m j (width code)))
-
-  module _ (k : ℕ) (less : k < n / 4) where
-    four-in : to + 4 * k * w + 4 * width code ≤ l
-    four-in = both-in (4 * k) 4 (omega arith)
-
-    module _ (h : l * 1 < 2 ^ 63) where
-      pub four-times : Fits w64 (4 * k * w)
-      four-times = record { fits = omega (arith, four-in) }
-
-      pub four-place : Fits w64 (to + 4 * k * w)
-      four-place = record { fits = omega (arith, four-in) }
-
-  rest-in : to + 4 * (n / 4) * w + (n - 4 * (n / 4)) * width code ≤ l
-  rest-in = both-in (4 * (n / 4)) (n - 4 * (n / 4)) (omega arith)
-
-  module _ (h : l * 1 < 2 ^ 63) where
-    pub rest-times : Fits w64 (4 * (n / 4) * w)
-    rest-times = record { fits = omega (arith, rest-in) }
-
-    pub rest-place : Fits w64 (to + 4 * (n / 4) * w)
-    rest-place = record { fits = omega (arith, rest-in) }
 
 module _ (ws : List ℕ) (code : ℕ) (p : Place) (x : List ℕ) where
   same-place : (m n : ℕ) (y : List ℕ) → stored ws code (behindAll code (behindAll code p m) n) y ≡ stored ws code (behindAll code p (m + n)) y
@@ -69,7 +42,7 @@ module _ (ws : List ℕ) (code : ℕ) (p : Place) (x : List ℕ) where
     so-long = ap length g ∙ length-all ws code p x (4 * k)
 
     pub four-room : k < n / 4 → p .to + 4 * k * w + 4 * width code ≤ length y
-    four-room less = rw so-long (four-in (p .to) n w code is (length x) room k less)
+    four-room less = rw so-long (four-in (length x) (p .to) n w code is room k less)
 
     pub four-more : (z : List ℕ) → z ≡ storedAll ws code (record { from = p .from + 4 * k; to = p .to + 4 * k * w }) 4 y → z
         ≡ storedAll ws code p (4 * (k + 1)) x
@@ -78,7 +51,7 @@ module _ (ws : List ℕ) (code : ℕ) (p : Place) (x : List ℕ) where
         goes-on (4 * k) 4 w y z is g e ∙ ap (λ (m : ℕ). storedAll ws code p m x) h
 
     pub rest-room : p .to + 4 * (n / 4) * w + (n - 4 * (n / 4)) * width code ≤ length y
-    rest-room = rw so-long (rest-in (p .to) n w code is (length x) room)
+    rest-room = rw so-long (rest-in (length x) (p .to) n w code is room)
 
     pub rest-more : (z : List ℕ) → k ≤ n / 4 → n / 4 ≤ k → z
         ≡ storedAll ws code (record { from = p .from + 4 * (n / 4); to = p .to + 4 * (n / 4) * w }) (n - 4 * (n / 4)) y → z ≡ storedAll ws code p n x

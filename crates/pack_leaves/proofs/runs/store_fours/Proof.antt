@@ -5,7 +5,8 @@ use mathlib.Core.Path.{_≡_, refl}
 use borrow.Author.Needs.{needs}
 use lib.ListN.{length}
 use Rattle.pack_leaves.specs.StoredRuns.{storedAll}
-use Rattle.pack_leaves.proofs.Fours.{four-times, four-place, four-room, four-more, rest-times, rest-place, rest-room, rest-more, none-yet}
+use Rattle.walk.proofs.Fours.{four-times, four-place, rest-times, rest-place}
+use Rattle.pack_leaves.proofs.Fours.{none-yet, four-room, four-more, rest-room, rest-more}
 use Rattle.pack_leaves.proofs.runs.store_fours.Statement.{statement}
 use Rattle.pack_leaves.proofs.runs.store_fours.Tie as tie
 

@@ -5,7 +5,8 @@ use Prim.Native.Nat.{_-_, _*_, _/_, _≤_}
 use mathlib.Core.Path.{_≡_, refl}
 use lib.ListN.{length}
 use Rattle.unpack_leaves.specs.OneCode.{filled}
-use Rattle.unpack_leaves.proofs.Fours.{four-in, four-times, four-place, rest-in, rest-times, rest-place, none-yet, four-more, rest-more}
+use Rattle.walk.proofs.Fours.{four-in, four-times, four-place, rest-in, rest-times, rest-place}
+use Rattle.unpack_leaves.proofs.Fours.{none-yet, four-more, rest-more}
 use Rattle.unpack_leaves.proofs.runs.store_fours.Statement.{statement}
 use Rattle.unpack_leaves.proofs.runs.store_fours.Tie as tie
 
