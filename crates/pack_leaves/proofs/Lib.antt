@@ -3,3 +3,4 @@ pub mod There
 pub mod Behind
 mod OneMore
 pub mod StoredRuns
+mod Fours

@@ -3,7 +3,7 @@ pub mod InTurn
 pub mod Counts
 pub mod OneCode
 mod Ascii
-mod Pairs
+mod Fours
 pub mod WholeRuns
 pub mod Loops
 pub mod AmongValues

@@ -74,9 +74,9 @@ module _ (b : List ℕ) (code n : ℕ) (p : Place) (x : List ℕ) where
     pub run-left : h ≡ false → x ≡ cond (leb (p .from + n * width code) (length b)) (filled b code p n x) x
     run-left f = sym (no-if (filled b code p n x) x (sym (has b code (p .from) n w is h room) ∙ f))
 
-  pub arm-stored : (m : ℕ) (y : List ℕ) → y ≡ cond (leb (p .from + n * width m) (length b)) (filled b m p n x) x → code ≡ m → y
-      ≡ cond (leb (p .from + n * width code) (length b)) (filled b code p n x) x
-  arm-stored m y e c = e ∙ ap (λ (k : ℕ). cond (leb (p .from + n * width k) (length b)) (filled b k p n x) x) (sym c)
+  -- the arm of a code
+  pub arm-stored : (m : ℕ) (y : List ℕ) → y ≡ filled b m p n x → code ≡ m → y ≡ filled b code p n x
+  arm-stored m y e c = e ∙ ap (λ (k : ℕ). filled b k p n x) (sym c)
 
   -- a run that is there, and stored, is walked over
   pub run-walked : (y : List ℕ) → runThere b code (p .from) n ≡ true → y
@@ -85,6 +85,9 @@ module _ (b : List ℕ) (code n : ℕ) (p : Place) (x : List ℕ) where
   run-walked y h e f reads =
       run-on b code p x f reads n (run-room b code (p .from) n h) (λ k l. at-below (isGood b code (p .from)) n k (run-good b code (p .from) n h) l)
       ∙ ap (on (along code p n)) (sym (e ∙ yes-if (filled b code p n x) x (le-leb (p .from + n * width code) (length b) (run-room b code (p .from) n h))))
+
+pub arm-in : (l from n code m : ℕ) → from + n * width code ≤ l → code ≡ m → from + n * width m ≤ l
+arm-in l from n code m h e = rw (← e) h
 
 -- the arm of a code, and of those that are no base: no leaf at all is there
 pub arm-judged : (b : List ℕ) (code from n m : ℕ) (r : Bool) → r ≡ runThere b m from n → code ≡ m → r ≡ runThere b code from n

@@ -1,8 +1,8 @@
 -- Leaves of one base code, one behind another.
 use Prim.Native.Nat.{ℕ, zero, suc, _+_, _*_}
-use mathlib.Core.Bool.{Bool, _&&_, _||_}
+use mathlib.Core.Bool.{Bool, _&&_}
 use mathlib.Core.List.{List}
-use lib.Dec.{leb, eqb}
+use lib.Dec.{leb}
 use lib.ListN.{length}
 use Rattle.wire.specs.All.{allBelow}
 use Rattle.table.specs.Leaf.{width, allowed}
@@ -33,7 +33,3 @@ runThere b code from n = leb (from + n * width code) (length b) && allBelow (isG
 -- so many are all there, and each is one of those values
 unfoldable pub runAmong : List ℕ → ℕ → ℕ → List ℕ → ℕ → ℕ → ℕ → Bool
 runAmong t p n b code from m = leb (from + m * width code) (length b) && allBelow (isAmong t p n b code from) m
-
--- uint32 and float32: the codes whose word is the number of four bytes itself
-abbrev pub isWhole4 : ℕ → Bool
-isWhole4 code = eqb code 9 || eqb code 11

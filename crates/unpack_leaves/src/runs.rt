@@ -3,14 +3,13 @@
 use crate::bases;
 use walk::Place;
 ghost use mathlib.Core.Path.{_≡_};
-ghost use mathlib.Core.Bool.{true, cond};
-ghost use Prim.Native.Nat.{_+_, _*_, _/_, _%_, _≤_, _<_};
+ghost use mathlib.Core.Bool.{cond};
+ghost use Prim.Native.Nat.{_+_, _*_, _≤_, _<_};
 ghost use lib.Dec.{leb};
 ghost use lib.ListN.{length};
-ghost use Rattle.wire.specs.Bytes.{number};
 ghost use Rattle.wire.specs.All.{allBelow};
 ghost use Rattle.table.specs.Leaf.{width, allowed};
-ghost use Rattle.unpack_leaves.specs.OneCode.{isGood, filled, runThere, isWhole4};
+ghost use Rattle.unpack_leaves.specs.OneCode.{isGood, filled, runThere};
 
 // Whether so many leaves of one code are all there and allowed.
 pub fn judge_run(payload: &[u8], from: usize, code: u16, count: u32) -> bool
@@ -93,29 +92,6 @@ pub fn store_run(payload: &[u8], words: &mut [u64], code: u16, count: u32, p: Pl
         ≡ cond (leb (p .from + count * width code) (length (now (payload .entry))))
         (filled (now (payload .entry)) code p count (now (words .entry))) (now (words .entry)) ⌝ }
 {
-    match code {
-        leaf::BOOLEAN8 => store_each(payload, words, leaf::BOOLEAN8, count, p),
-        leaf::INT8 => store_each(payload, words, leaf::INT8, count, p),
-        leaf::CHAR8 => store_each(payload, words, leaf::CHAR8, count, p),
-        leaf::INT16 => store_each(payload, words, leaf::INT16, count, p),
-        leaf::INT32 => store_each(payload, words, leaf::INT32, count, p),
-        leaf::INT64 => store_each(payload, words, leaf::INT64, count, p),
-        leaf::UINT8 => store_each(payload, words, leaf::UINT8, count, p),
-        leaf::BYTE => store_each(payload, words, leaf::BYTE, count, p),
-        leaf::UINT16 => store_each(payload, words, leaf::UINT16, count, p),
-        leaf::UINT32 => store_each(payload, words, leaf::UINT32, count, p),
-        leaf::UINT64 => store_each(payload, words, leaf::UINT64, count, p),
-        leaf::FLOAT32 => store_each(payload, words, leaf::FLOAT32, count, p),
-        leaf::DOUBLE64 => store_each(payload, words, leaf::DOUBLE64, count, p),
-        _ => store_each(payload, words, code, count, p),
-    }
-}
-
-fn store_each(payload: &[u8], words: &mut [u64], code: u16, count: u32, p: Place)
-    ensures { λ _. ⌜ now (words .exit)
-        ≡ cond (leb (p .from + count * width code) (length (now (payload .entry))))
-        (filled (now (payload .entry)) code p count (now (words .entry))) (now (words .entry)) ⌝ }
-{
     let many = count as usize;
     if wire::has_room(payload.len(), p.from, many * leaf::width(code)) {
         put_run(payload, words, code, many, p);
@@ -129,12 +105,68 @@ fn put_run(payload: &[u8], words: &mut [u64], code: u16, count: usize, p: Place)
 {
     if p.to < words.len() {
         let room = wire::least(count, words.len() - p.to);
-        if is_whole4(code) {
-            store_pairs(payload, words, code, room, p);
-        } else {
-            store(payload, words, code, room, p);
-        }
+        store_all(payload, words, code, room, p);
     }
+}
+
+// A call for each code, so that the compiler makes its own loop of each: leaves of two bytes it takes several at once, and of the others
+// four in a turn are faster.
+fn store_all(payload: &[u8], words: &mut [u64], code: u16, count: usize, p: Place)
+    requires { ⌜ (p .from + count * width code ≤ length (now payload)) × (p .to + count ≤ length (now words)) ⌝ }
+    ensures { λ _. ⌜ now (words .exit) ≡ filled (now (payload .entry)) code p count (now (words .entry)) ⌝ }
+{
+    match code {
+        leaf::BOOLEAN8 => store_fours(payload, words, leaf::BOOLEAN8, count, p),
+        leaf::INT8 => store_fours(payload, words, leaf::INT8, count, p),
+        leaf::CHAR8 => store_fours(payload, words, leaf::CHAR8, count, p),
+        leaf::INT16 => store(payload, words, leaf::INT16, count, p),
+        leaf::INT32 => store_fours(payload, words, leaf::INT32, count, p),
+        leaf::INT64 => store_fours(payload, words, leaf::INT64, count, p),
+        leaf::UINT8 => store_fours(payload, words, leaf::UINT8, count, p),
+        leaf::BYTE => store_fours(payload, words, leaf::BYTE, count, p),
+        leaf::UINT16 => store(payload, words, leaf::UINT16, count, p),
+        leaf::UINT32 => store_fours(payload, words, leaf::UINT32, count, p),
+        leaf::UINT64 => store_fours(payload, words, leaf::UINT64, count, p),
+        leaf::FLOAT32 => store_fours(payload, words, leaf::FLOAT32, count, p),
+        leaf::DOUBLE64 => store_fours(payload, words, leaf::DOUBLE64, count, p),
+        _ => store(payload, words, code, count, p),
+    }
+}
+
+// Four leaves in a turn, laid out one behind another: by itself the compiler takes two leaves at once, and loses by bringing them into
+// order more than it wins. What is left of them is stored one by one.
+fn store_fours(payload: &[u8], words: &mut [u64], code: u16, count: usize, p: Place)
+    requires { ⌜ (p .from + count * width code ≤ length (now payload)) × (p .to + count ≤ length (now words)) ⌝ }
+    ensures { λ _. ⌜ now (words .exit) ≡ filled (now (payload .entry)) code p count (now (words .entry)) ⌝ }
+{
+    let width = leaf::width(code);
+    let fours = count / 4;
+    let mut k: usize = 0;
+    while k < fours {
+        let at = 4 * k;
+        store(
+            payload,
+            words,
+            code,
+            4,
+            Place {
+                from: p.from + at * width,
+                to: p.to + at,
+            },
+        );
+        k += 1;
+    }
+    let done = 4 * fours;
+    store(
+        payload,
+        words,
+        code,
+        count - done,
+        Place {
+            from: p.from + done * width,
+            to: p.to + done,
+        },
+    );
 }
 
 fn store(payload: &[u8], words: &mut [u64], code: u16, count: usize, p: Place)
@@ -147,40 +179,4 @@ fn store(payload: &[u8], words: &mut [u64], code: u16, count: usize, p: Place)
         words[p.to + done] = bases::word_in(payload, p.from + done * width, code);
         done += 1;
     }
-}
-
-// The same for codes whose word is the number of four bytes itself: of two leaves one load. By itself the compiler takes more of
-// them at once, and loses that again by bringing them into order.
-fn store_pairs(payload: &[u8], words: &mut [u64], code: u16, count: usize, p: Place)
-    requires { ⌜ (p .from + count * 4 ≤ length (now payload)) × (p .to + count ≤ length (now words)) ⌝ }
-    requires { ⌜ isWhole4 code ≡ true ⌝ }
-    ensures { λ _. ⌜ now (words .exit) ≡ filled (now (payload .entry)) code p count (now (words .entry)) ⌝ }
-{
-    let pairs = count / 2;
-    let mut k: usize = 0;
-    while k < pairs {
-        let to = p.to + 2 * k;
-        let two = two_in(payload, p.from + k * 8);
-        words[to] = two / 4294967296;
-        words[to + 1] = two % 4294967296;
-        k += 1;
-    }
-    if 2 * pairs < count {
-        words[p.to + 2 * pairs] = bases::word_in(payload, p.from + pairs * 8, code);
-    }
-}
-
-// Two numbers of four bytes, as the halves of one.
-fn two_in(payload: &[u8], at: usize) -> u64
-    requires { ⌜ at + 8 ≤ length (now payload) ⌝ }
-    ensures { λ r. ⌜ (r / 4294967296 ≡ number 2 (now (payload .entry)) at) × (r % 4294967296 ≡ number 2 (now (payload .entry)) (at + 4)) ⌝ }
-{
-    wire::whole_u64(&payload[at..at + 8], 0)
-}
-
-// uint32 and float32.
-fn is_whole4(code: u16) -> bool
-    ensures { λ r. ⌜ r ≡ isWhole4 code ⌝ }
-{
-    (code == leaf::UINT32) | (code == leaf::FLOAT32)
 }

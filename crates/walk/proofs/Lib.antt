@@ -8,3 +8,4 @@ pub mod Bases
 pub mod Codes
 pub mod Parts
 pub mod Whole
+pub mod Fours

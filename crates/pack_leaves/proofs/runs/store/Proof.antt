@@ -18,11 +18,11 @@ store-spec =
     (λ c κs. (search needs, search fit-in))
     (λ c. search needs)
     (λ c.
-    let at-store-each = c .before .before in
-    let at-least = at-store-each .before in
+    let at-store-fours = c .before .before in
+    let at-least = at-store-fours .before in
     let at-width = at-least .before .before in
     let at-if1 = at-width .before .before in
     let at-pre = at-if1 .before .before .before .before in
     all-that-fit _ _ _ _ (at-pre .pre .0) _ _ _ _ (at-width .width .ensures) (at-if1 .if1 .taken) refl (at-least .least .ensures)
-    (at-store-each .store-each .ensures))
+    (at-store-fours .store-fours .ensures))
     (λ c. search none-fits))

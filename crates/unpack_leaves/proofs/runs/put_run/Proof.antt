@@ -2,7 +2,6 @@
 -- Assumes nothing.
 use borrow.Author.Needs.{needs}
 use Rattle.unpack_leaves.proofs.OneCode.{fewer-in, room-filled, no-room-left}
-use Rattle.unpack_leaves.proofs.Pairs.{is-four, fours-in}
 use Rattle.unpack_leaves.proofs.runs.put_run.Statement.{statement}
 use Rattle.unpack_leaves.proofs.runs.put_run.Tie as tie
 
@@ -12,11 +11,7 @@ put-run-spec =
     (tie.spec
     (λ c. search needs)
     (λ c κs. search needs)
-    (λ c κs. search needs)
-    (λ c κs. ((search fours-in, search needs), search is-four))
     (λ c κs. (search fewer-in, search needs))
-    (λ c. search needs)
-    (λ c. search room-filled)
     (λ c. search needs)
     (λ c. search room-filled)
     (λ c. search no-room-left))

@@ -1,7 +1,7 @@
--- `unpack_leaves::runs::store_run` meets its contract: each arm stores leaves of its own code.
+-- `unpack_leaves::runs::store_run` meets its contract: all of a run of one code, or nothing.
 -- Assumes nothing.
 use borrow.Author.Needs.{needs}
-use Rattle.unpack_leaves.proofs.WholeRuns.{arm-stored}
+use Rattle.unpack_leaves.proofs.WholeRuns.{bytes-fit, run-in, run-stored, run-left}
 use Rattle.unpack_leaves.proofs.runs.store_run.Statement.{statement}
 use Rattle.unpack_leaves.proofs.runs.store_run.Tie as tie
 
@@ -10,44 +10,9 @@ store-run-spec =
     tie.close
     (tie.spec
     (λ c κs. search needs)
+    (λ c. search bytes-fit)
     (λ c κs. search needs)
-    (λ c κs. search needs)
-    (λ c κs. search needs)
-    (λ c κs. search needs)
-    (λ c κs. search needs)
-    (λ c κs. search needs)
-    (λ c κs. search needs)
-    (λ c κs. search needs)
-    (λ c κs. search needs)
-    (λ c κs. search needs)
-    (λ c κs. search needs)
-    (λ c κs. search needs)
-    (λ c κs. search needs)
+    (λ c κs. search run-in)
     (λ c. search needs)
-    (λ c. search arm-stored)
-    (λ c. search needs)
-    (λ c. search arm-stored)
-    (λ c. search needs)
-    (λ c. search arm-stored)
-    (λ c. search needs)
-    (λ c. search arm-stored)
-    (λ c. search needs)
-    (λ c. search arm-stored)
-    (λ c. search needs)
-    (λ c. search arm-stored)
-    (λ c. search needs)
-    (λ c. search arm-stored)
-    (λ c. search needs)
-    (λ c. search arm-stored)
-    (λ c. search needs)
-    (λ c. search arm-stored)
-    (λ c. search needs)
-    (λ c. search arm-stored)
-    (λ c. search needs)
-    (λ c. search arm-stored)
-    (λ c. search needs)
-    (λ c. search arm-stored)
-    (λ c. search needs)
-    (λ c. search arm-stored)
-    (λ c. search needs)
-    (λ c. search needs))
+    (λ c. search run-stored)
+    (λ c. search run-left))
