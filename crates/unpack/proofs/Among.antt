@@ -5,7 +5,8 @@ use mathlib.Core.Path.{_≡_, refl, sym, _∙_}
 use mathlib.Core.Bool.{Bool, true, false}
 use mathlib.Core.List.{List}
 use native.Mathlib.Omega.{arith}
-use lib.ListN.{length}
+use lib.ListN.{length, take}
+use lib.Seq.{take-length}
 use Rattle.wire.specs.All.{allBelow}
 use Rattle.wire.proofs.AllBelow.{at-below, all-below}
 use Rattle.table.specs.declared.Sections.{Sections}
@@ -64,16 +65,17 @@ module _ (b t : List ℕ) (s : Sections) (e : Entry) (from n : ℕ) (g : Bool) (
       (λ j l. of-enum t s e (wordAt (e .of) b (from + j * width (e .of))) (allowed-at h j l) refl k
       (by-place t s e (wordAt (e .of) b (from + j * width (e .of))) refl))
 
--- a run's leaves: of one that has no values, and of one that has some
+-- a run's leaves: of one that has no values, and of one that has some; the slices of that call are made anew
 module _ (t b : List ℕ) (run from n : ℕ) (is : n ≡ valuesIn run) where
   pub taken-any : n ≡ 0 → true ≡ allBelow (isTaken t b run from) (manyIn run)
   taken-any e =
       sym (all-below (isTaken t b run from) (manyIn run) (λ k l. sym (any-taken t run n is (wordAt (codeIn run) b (from + k * width (codeIn run))) e)))
 
   pub taken-values : (p code many : ℕ) (r : Bool) → (n ≡ 0 → ⊥) → p ≡ placeIn run → code ≡ codeIn run → many ≡ manyIn run
-      → from + manyIn run * width (codeIn run) ≤ length b → r ≡ runAmong t p n b code from many → r ≡ allBelow (isTaken t b run from) (manyIn run)
+      → from + manyIn run * width (codeIn run) ≤ length b → r ≡ runAmong (take (length t) t) p n (take (length b) b) code from many
+      → r ≡ allBelow (isTaken t b run from) (manyIn run)
   taken-values p code many r e at c m room h =
-      among-there t p n b (codeIn run) from (manyIn run) r room (h ∙ rw (c, m) refl)
+      among-there t p n b (codeIn run) from (manyIn run) r room (h ∙ rw (take-length t, take-length b, c, m) refl)
       ∙ same-below (isAmong t p n b (codeIn run) from) (isTaken t b run from) (manyIn run)
       (λ k l. taken-among t run n is (wordAt (codeIn run) b (from + k * width (codeIn run))) p
       (isAmong t p n b (codeIn run) from k) e at refl)

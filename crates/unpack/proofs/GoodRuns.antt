@@ -28,7 +28,7 @@ use Rattle.walk.proofs.Turns.{going-next}
 use Rattle.unpack_leaves.specs.Leaves.{isThere, behind, stored}
 use Rattle.unpack_leaves.specs.OneCode.{along, isGood, filled, runThere}
 use Rattle.unpack.specs.Reading.{reader, Reading}
-use Rattle.unpack.specs.RunByRun.{isTaken, isAny, runGood, leafRead, runRead}
+use Rattle.unpack.specs.RunByRun.{isTaken, runGood, leafRead, runRead}
 use Rattle.unpack_leaves.proofs.OneCode.{all-good, good-there, steps-on, same-many}
 use Rattle.unpack.proofs.ReadReturns.{reader-keeps}
 use Rattle.unpack_leaves.proofs.WholeRuns.{run-room, run-good}
@@ -44,10 +44,6 @@ module _ (t : List ℕ) (run n : ℕ) (is : n ≡ valuesIn run) (w : ℕ) where
   taken-among p r h at e =
       e ∙ rw (at, is) (sym (no-eq true (amongAt t (placeIn run) (valuesIn run) w) (valuesIn run) 0 (λ (z : valuesIn run ≡ 0). h (is ∙ z))))
 
--- whether it takes every word
-pub any-is : (run code n : ℕ) (g : Range) → code ≡ codeIn run → g ≡ rangeOf (base code) → n ≡ valuesIn run → (g .every && eqb n 0) ≡ isAny run
-any-is run code n g c e v = rw (e, c, v) refl
-
 -- so many bytes are left
 room-left : (l from n : ℕ) → from ≤ l → leb n (l - from) ≡ leb (from + n) l
 room-left l from n h = go (leb n (l - from)) refl
@@ -56,41 +52,34 @@ room-left l from n h = go (leb n (l - from)) refl
     go true e = e ∙ sym (le-leb (from + n) l (omega (arith, leb-true n (l - from) e)))
     go false e = e ∙ sym (lt-leb (from + n) l (omega (arith, leb-false n (l - from) e)))
 
-both-true : (v : Bool) → ((v && true) && true) ≡ v
-both-true true = refl
-both-true false = refl
+and-nothing : (v : Bool) → v ≡ (v && true)
+and-nothing true = refl
+and-nothing false = refl
 
 -- a run's tests
 module _ (t b : List ℕ) (run from : ℕ) where
-  module _ (code many : ℕ) (code-is : code ≡ codeIn run) (many-is : many ≡ manyIn run) (h : Bool) (judged : h ≡ runThere b code from many) where
-    as-run : h ≡ runThere b (codeIn run) from (manyIn run)
-    as-run = judged ∙ rw (code-is, many-is) refl
+  -- where its code takes every word it is there if its bytes are
+  pub every-there : (bytes : ℕ) → Octets b → (code : ℕ) (g : Range) → g ≡ rangeOf (base code) → g .every ≡ true → code ≡ codeIn run
+      → bytes ≡ manyIn run * width (codeIn run) → from ≤ length b → leb bytes (length b - from) ≡ runThere b (codeIn run) from (manyIn run)
+  unfolding runThere
+  every-there bytes o code g is every code-is many-is h =
+      let n : ℕ = manyIn run in
+      let g-is : g ≡ rangeOf (base (codeIn run)) = is ∙ ap (λ (m : ℕ). rangeOf (base m)) code-is in
+      ap (λ (m : ℕ). leb m (length b - from)) many-is
+      ∙ room-left (length b) from (n * width (codeIn run)) h
+      ∙ rw (sym (all-good b (codeIn run) from n o g g-is every)) (and-nothing (leb (from + n * width (codeIn run)) (length b)))
 
+  module _ (h : Bool) (judged : h ≡ runThere b (codeIn run) from (manyIn run)) where
     pub bad-run : h ≡ false → false ≡ runGood t b run from
     unfolding runGood
-    bad-run f = rw (← as-run, f) refl
+    bad-run f = rw (← judged, f) refl
 
     pub has-bytes : h ≡ true → from + manyIn run * width (codeIn run) ≤ length b
-    has-bytes g = run-room b (codeIn run) from (manyIn run) (sym as-run ∙ g)
+    has-bytes g = run-room b (codeIn run) from (manyIn run) (sym judged ∙ g)
 
     pub by-values : (r : Bool) → h ≡ true → r ≡ allBelow (isTaken t b run from) (manyIn run) → r ≡ runGood t b run from
     unfolding runGood
-    by-values r g e = rw (← as-run, g) e
-
-  -- a run that takes every word that its bytes can be
-  pub any-good : (code many w : ℕ) → Octets b → (a : Bool) → a ≡ isAny run → a ≡ true → code ≡ codeIn run → many ≡ manyIn run → w ≡ width code
-      → from ≤ length b → leb (many * w) (length b - from) ≡ runGood t b run from
-  unfolding runGood runThere
-  any-good code many w o a test so code-is many-is is h =
-      let n : ℕ = manyIn run in
-      let every : rangeOf (base (codeIn run)) .every ≡ true = and-left (rangeOf (base (codeIn run)) .every) (eqb (valuesIn run) 0) (sym test ∙ so) in
-      let none : valuesIn run ≡ 0 = eqb-true (valuesIn run) 0 (and-right (rangeOf (base (codeIn run)) .every) (eqb (valuesIn run) 0) (sym test ∙ so)) in
-      let taken : allBelow (isTaken t b run from) n ≡ true = all-below (isTaken t b run from) n
-      (λ k l. sym (any-taken t run (valuesIn run) refl (wordAt (codeIn run) b (from + k * width (codeIn run))) none)) in
-      ap (λ (m : ℕ). leb m (length b - from)) (rw (is, code-is, many-is) refl)
-      ∙ room-left (length b) from (n * width (codeIn run)) h
-      ∙ rw (taken, sym (all-good b (codeIn run) from n o (rangeOf (base (codeIn run))) refl every))
-      (sym (both-true (leb (from + n * width (codeIn run)) (length b))))
+    by-values r g e = rw (← judged, g) e
 
   -- so it is there, and its words are taken
   module _ (h : runGood t b run from ≡ true) where
@@ -134,6 +123,10 @@ module _ (t b : List ℕ) (run : ℕ) where
 pub no-words : (y : List ℕ) → length y ≡ 0 → [] ≡ y
 no-words [] h = refl
 no-words (a ∷ y) h = absurd (omega arith)
+
+-- the bytes of a run
+pub run-bytes : (run many code w : ℕ) → many ≡ manyIn run → code ≡ codeIn run → w ≡ width code → many * w ≡ manyIn run * width (codeIn run)
+run-bytes run many code w m c e = rw (e, c, m) refl
 
 -- the next of several runs, which is good
 module _ (t b runs : List ℕ) {n first k : ℕ} {p : Place} {from to : ℕ}

@@ -4,10 +4,12 @@ pub mod ReadCodes
 pub mod Entries
 pub mod GoodRuns
 pub mod Among
+pub mod Anew
 pub mod LeafByLeaf
 pub mod Upto
 pub mod ByWidth
 pub mod StoredRuns
 pub mod PlannedRuns
+pub mod WholeStores
 pub mod WholePlan
 pub mod EachByPlan

@@ -2,16 +2,13 @@
 -- Assumes nothing.
 use Prim.Native.Nat.{ℕ, min, _+_, _-_, _*_, _^_, _≤_, _<_}
 use mathlib.Core.Path.{_≡_, refl, ap, _∙_}
-use mathlib.Core.Bool.{cond}
 use mathlib.Core.List.{List}
 use native.Mathlib.Nat.{zero-mul, add-zero}
 use native.Mathlib.Numerals.{add-one}
 use native.Mathlib.Omega.{arith}
 use mir.Syntax.{w64}
 use mir.Val.{Fits}
-use lib.Dec.{leb}
 use lib.ListN.{length, getD, set}
-use Rattle.wire.proofs.Cond.{yes-le}
 use Rattle.table.specs.Leaf.{width}
 use Rattle.leaf.specs.Forms.{wordAt}
 use Rattle.walk.specs.declared.Place.{Place}
@@ -21,7 +18,7 @@ use Rattle.unpack.specs.RunByRun.{placeAt, storedUpto, Within}
 use Rattle.unpack_leaves.proofs.OneLeaf.{stored-word}
 use Rattle.unpack_leaves.proofs.WholeRuns.{bytes-fit}
 
--- leaves of one code that have their bytes: one, and several
+-- one leaf of a code that has its bytes
 pub one-room : (l from n code : ℕ) → n ≡ 1 → from + n * width code ≤ l → from + width code ≤ l
 one-room l from n code e h = let g : n * width code ≡ width code = rw e (omega arith) in omega arith
 
@@ -32,10 +29,6 @@ module _ (b : List ℕ) (code : ℕ) (p : Place) (x : List ℕ) where
 
   pub one-stored : (n : ℕ) (y : List ℕ) → n ≡ 1 → y ≡ filled b code p 1 x → y ≡ filled b code p n x
   one-stored n y e h = rw e h
-
-  pub run-stored : (n : ℕ) (y : List ℕ) → p .from + n * width code ≤ length b
-      → y ≡ cond (leb (p .from + n * width code) (length b)) (filled b code p n x) x → y ≡ filled b code p n x
-  run-stored n y h e = e ∙ yes-le (filled b code p n x) x (p .from + n * width code) (length b) h
 
 -- behind no run, and behind all
 pub place-start : (runs : List ℕ) (p : Place) (upto : ℕ) → p ≡ placeAt runs p upto 0

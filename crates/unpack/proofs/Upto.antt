@@ -28,7 +28,7 @@ use Rattle.unpack.proofs.GoodRuns.{run-is}
 use Rattle.unpack.proofs.LeafByLeaf.{runs-are}
 
 -- what a walk over n leaves of a run came to: all of them are read, or so many
-data Came (b : List ℕ) (code : ℕ) (q : Place) (y : List ℕ) (n : ℕ) (st : Step) : Type 0 where
+pub data Came (b : List ℕ) (code : ℕ) (q : Place) (y : List ℕ) (n : ℕ) (st : Step) : Type 0 where
   whole : st ≡ on (along code q n) (filled b code q n y) → Came b code q y n st
   cut : (m k : ℕ) → m < n → st ≡ stop k (along code q m) (filled b code q m y) → Came b code q y n st
 
@@ -80,7 +80,7 @@ module _ (b t : List ℕ) (run : ℕ) where
         go (whole e) = one e (one-leaf n (along (codeIn run) q n) (filled b (codeIn run) q n y))
         go (cut m k l e) = cut m k (omega arith) (ap (λ (st : Step). next st (f n)) e)
 
-    run-came : Came b (codeIn run) q y (manyIn run) (walk (reader b) (runTree t run) q y)
+    pub run-came : Came b (codeIn run) q y (manyIn run) (walk (reader b) (runTree t run) q y)
     run-came = subst (Came b (codeIn run) q y (manyIn run)) (sym (run-is t b run q y)) (came (manyIn run))
 
 -- a walk gives more and more words

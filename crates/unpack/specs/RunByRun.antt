@@ -2,27 +2,21 @@
 use Prim.Native.Nat.{ℕ, zero, suc, min, _-_, _≤_, _*_, _+_}
 use mathlib.Core.Bool.{Bool, _&&_}
 use mathlib.Core.List.{List}
-use lib.Dec.{eqb}
 use lib.ListN.{length, getD}
 use Rattle.wire.specs.All.{allBelow}
-use Rattle.table.specs.Leaf.{base, width}
-use Rattle.leaf.specs.Limits.{rangeOf}
+use Rattle.table.specs.Leaf.{width}
 use Rattle.leaf.specs.Forms.{wordAt}
 use Rattle.walk.specs.declared.Place.{Place}
 use Rattle.walk.specs.declared.Walked.{Walked}
 use Rattle.walk.specs.declared.Walked.the-variants.{Went, Stopped}
-use Rattle.walk.specs.Walk.{Step, item, notAllowed, walk}
-use Rattle.walk.specs.Runs.{codeIn, manyIn, valuesIn, takenBy, runTree, runsTree}
+use Rattle.walk.specs.Walk.{Step, item, notAllowed, start, walk}
+use Rattle.walk.specs.Runs.{codeIn, manyIn, takenBy, runTree, runsTree}
 use Rattle.unpack_leaves.specs.OneCode.{along, filled, runThere}
 use Rattle.unpack.specs.Reading.{reader}
 
 -- the word of the k-th leaf of a run that stands at a byte is among those that the run takes
 abbrev pub isTaken : List ℕ → List ℕ → ℕ → ℕ → ℕ → Bool
 isTaken t b run from k = takenBy t run (wordAt (codeIn run) b (from + k * width (codeIn run)))
-
--- the run takes every word that its bytes can be
-abbrev pub isAny : ℕ → Bool
-isAny run = rangeOf (base (codeIn run)) .every && eqb (valuesIn run) 0
 
 -- its leaves are all there, allowed and taken
 unfoldable pub runGood : List ℕ → List ℕ → ℕ → ℕ → Bool
@@ -61,3 +55,12 @@ storedUpto b runs p upto (suc k) x =
 -- all leaves before that word have their bytes, so that no place is past the end
 abbrev pub Within : List ℕ → List ℕ → Place → ℕ → Type 0
 Within b runs p upto = (k : ℕ) → k ≤ length runs → placeAt runs p upto k .from ≤ length b
+
+-- the place behind so many runs from the start, and what is left of the words where the leaves of all of them are stored
+unfoldable pub wholeAt : List ℕ → ℕ → Place
+wholeAt runs zero = start
+wholeAt runs (suc k) = along (codeIn (getD runs k 0)) (wholeAt runs k) (manyIn (getD runs k 0))
+
+unfoldable pub storedWhole : List ℕ → List ℕ → ℕ → List ℕ → List ℕ
+storedWhole b runs zero x = x
+storedWhole b runs (suc k) x = filled b (codeIn (getD runs k 0)) (wholeAt runs k) (manyIn (getD runs k 0)) (storedWhole b runs k x)

@@ -6,6 +6,7 @@ ghost use lib.ListN.{length};
 ghost use Rattle.wire.specs.Bytes.{number};
 ghost use Rattle.table.specs.Leaf.{width};
 ghost use Rattle.leaf.specs.Forms.{wordAt};
+ghost use Rattle.unpack_leaves.specs.Leaves.{wholeWord};
 
 // The word of a leaf that is there, among leaves of other codes: of those wider than a byte by tests of its width, since where the codes are mixed
 // a jump by the code is foretold wrong.
@@ -17,8 +18,16 @@ pub(crate) fn leaf_in(s: &[u8], at: usize, code: u16) -> u64
         4 => of_four(s, at, code),
         8 => u64_in(s, at),
         2 => of_two(s, at, code),
-        _ => unpack_leaves::word_at(s, at, code),
+        _ => of_one(s, at, code),
     }
+}
+
+// The slice is made anew for the call, so that the other widths do without it in memory.
+fn of_one(s: &[u8], at: usize, code: u16) -> u64
+    ensures { λ r. ⌜ r ≡ wholeWord code (now (s .entry)) at ⌝ }
+{
+    let len = s.len();
+    unpack_leaves::word_at(&s[..len], at, code)
 }
 
 fn of_four(s: &[u8], at: usize, code: u16) -> u64

@@ -11,12 +11,11 @@ ghost use Rattle.wire.specs.All.{allBelow};
 ghost use Rattle.table.specs.Leaf.{width};
 ghost use Rattle.walk.specs.declared.Place.{Place};
 ghost use Rattle.walk.specs.Runs.{codeIn, manyIn, takenBy, runTree, runsTree};
-ghost use Rattle.walk.specs.Walk.{on, start, answer, left, through, walk};
+ghost use Rattle.walk.specs.Walk.{on, answer, left, through, walk};
 ghost use Rattle.walk.specs.Planned.{planTree};
-ghost use Rattle.walk.specs.Whole.{allOrNothing};
-ghost use Rattle.unpack_leaves.specs.OneCode.{filled};
+ghost use Rattle.unpack_leaves.specs.OneCode.{filled, runThere};
 ghost use Rattle.unpack.specs.Reading.{reader, Reading};
-ghost use Rattle.unpack.specs.RunByRun.{isTaken, isAny, runGood, leafRead, runRead, wordsOf, storedUpto, Within};
+ghost use Rattle.unpack.specs.RunByRun.{isTaken, runGood, leafRead, runRead, wordsOf, storedUpto, Within};
 
 // Judges the leaves of these runs: a run after another, and from one that is not all good leaf by leaf.
 pub(crate) fn judge_runs(table: &[u8], runs: &[u64], payload: &[u8], p: Place) -> Walked
@@ -28,9 +27,10 @@ pub(crate) fn judge_runs(table: &[u8], runs: &[u64], payload: &[u8], p: Place) -
     let mut k: usize = 0;
     while k < runs.len() {
         let run = runs[k];
-        if is_good(table, run, payload, from) {
-            let many = walk::plans::many_in(run) as usize;
-            from = from + many * leaf::width(walk::plans::code_in(run));
+        let many = walk::plans::many_in(run) as usize;
+        let bytes = many * leaf::width(walk::plans::code_in(run));
+        if is_good(table, run, payload, from, bytes) {
+            from = from + bytes;
             to = to + many;
             k += 1;
         } else {
@@ -40,28 +40,30 @@ pub(crate) fn judge_runs(table: &[u8], runs: &[u64], payload: &[u8], p: Place) -
     Walked::Went(Place { from, to })
 }
 
-// Whether the leaves of a run are all there, allowed and taken: of most runs any are.
-fn is_good(table: &[u8], run: u64, payload: &[u8], from: usize) -> bool
-    requires { ⌜ from ≤ length (now payload) ⌝ }
+// Whether the leaves of a run, which have so many bytes, are all there, allowed and taken.
+pub(crate) fn is_good(table: &[u8], run: u64, payload: &[u8], from: usize, bytes: usize) -> bool
+    requires { ⌜ (from ≤ length (now payload)) × (bytes ≡ manyIn run * width (codeIn run)) ⌝ }
     ensures { λ r. ⌜ r ≡ runGood (now (table .entry)) (now (payload .entry)) run from ⌝ }
 {
-    let code = walk::plans::code_in(run);
-    let many = walk::plans::many_in(run);
-    if is_any(run) {
-        return (many as usize) * leaf::width(code) <= payload.len() - from;
-    }
-    if unpack_leaves::judge_run(payload, from, code, many) {
+    if are_allowed(run, payload, from, bytes) {
         are_taken(table, run, payload, from)
     } else {
         false
     }
 }
 
-// Whether a run takes every word that its bytes can be.
-fn is_any(run: u64) -> bool
-    ensures { λ r. ⌜ r ≡ isAny run ⌝ }
+// Whether they are there and allowed: of most codes every word is. A slice that goes on to a call is made anew there: handed on as it
+// came, it would be kept in memory, and waited for, where no call is made too.
+fn are_allowed(run: u64, payload: &[u8], from: usize, bytes: usize) -> bool
+    requires { ⌜ (from ≤ length (now payload)) × (bytes ≡ manyIn run * width (codeIn run)) ⌝ }
+    ensures { λ r. ⌜ r ≡ runThere (now (payload .entry)) (codeIn run) from (manyIn run) ⌝ }
 {
-    leaf::range_of(walk::plans::code_in(run)).every & (walk::plans::values_in(run) == 0)
+    let code = walk::plans::code_in(run);
+    if leaf::range_of(code).every {
+        return bytes <= payload.len() - from;
+    }
+    let all = payload.len();
+    unpack_leaves::judge_run(&payload[..all], from, code, walk::plans::many_in(run))
 }
 
 // Whether the words of a run's leaves are all among its values, where it has some.
@@ -76,7 +78,9 @@ fn are_taken(table: &[u8], run: u64, payload: &[u8], from: usize) -> bool
     let code = walk::plans::code_in(run);
     let many = walk::plans::many_in(run);
     let at = walk::plans::place_in(run);
-    unpack_leaves::are_among(table, at, values, payload, from, code, many)
+    let all = table.len();
+    let len = payload.len();
+    unpack_leaves::are_among(&table[..all], at, values, &payload[..len], from, code, many)
 }
 
 // Whether a run takes the word, of those that its code allows: any, where it has no values.
@@ -91,7 +95,13 @@ fn is_taken(table: &[u8], run: u64, word: u64) -> bool
 }
 
 // Judges the leaves of the runs from the k-th on, leaf by leaf: which is refused, and with what.
-fn judge_rest(table: &[u8], runs: &[u64], first: usize, payload: &[u8], p: Place) -> Walked
+pub(crate) fn judge_rest(
+    table: &[u8],
+    runs: &[u64],
+    first: usize,
+    payload: &[u8],
+    p: Place,
+) -> Walked
     requires { ⌜ Reading (now payload) p × (first ≤ length (now runs)) ⌝ }
     ensures { λ r. ⌜ ((o : Place) → through first (runRead (now (payload .entry)) (now (table .entry)) (now (runs .entry))) o [] ≡ on p []
         → r ≡ answer (walk (reader (now (payload .entry))) (runsTree (now (table .entry)) (now (runs .entry))) o [])) ⌝ }
@@ -184,7 +194,8 @@ fn store_leaves(payload: &[u8], words: &mut [u64], code: u16, count: u32, p: Pla
     if count == 1 {
         store_leaf(payload, words, code, p);
     } else {
-        unpack_leaves::store_run(payload, words, code, count, p);
+        let len = payload.len();
+        unpack_leaves::store_run(&payload[..len], words, code, count, p);
     }
 }
 
@@ -243,25 +254,4 @@ pub(crate) fn read_planned(
     let first = plan.first;
     let end = plan.first + plan.runs;
     read_runs(table, &plans[first..end], payload, words, p)
-}
-
-// Unpacks a payload by these runs, and stores its words where all of it was read and there is room for all of them.
-pub(crate) fn read_whole(table: &[u8], runs: &[u64], payload: &[u8], words: &mut [u64]) -> Walked
-    ensures { λ r. ⌜ r ≡ answer (walk (reader (now (payload .entry))) (runsTree (now (table .entry)) (now (runs .entry))) start []) ⌝ }
-    ensures { λ _. ⌜ now (words .exit)
-        ≡ allOrNothing (reader (now (payload .entry))) (length (now (payload .entry)))
-        (runsTree (now (table .entry)) (now (runs .entry))) (now (words .entry)) ⌝ }
-{
-    let p = Place { from: 0, to: 0 };
-    match judge_runs(table, runs, payload, p) {
-        Walked::Stopped(n, q) => Walked::Stopped(n, q),
-        Walked::Went(q) => {
-            if walk::fits(q, payload.len(), words.len()) {
-                store_runs(payload, words, runs, p, q.to);
-                Walked::Went(q)
-            } else {
-                Walked::Went(q)
-            }
-        }
-    }
 }

@@ -5,6 +5,7 @@ mod bases;
 mod by_plan;
 mod each;
 mod walking;
+mod whole;
 
 use table::Sections;
 use walk::Walked;
@@ -53,7 +54,7 @@ pub fn read_plan(table: &[u8], plans: &[u64], i: u16, payload: &[u8], words: &mu
     let plan = walk::plans::plan_of(plans, i);
     let first = plan.first;
     let end = plan.first + plan.runs;
-    by_plan::read_whole(table, &plans[first..end], payload, words)
+    whole::read_whole(table, &plans[first..end], payload, words)
 }
 
 // The walk with no room for a word: it stores nothing.

@@ -1,6 +1,8 @@
 -- `unpack::by_plan::are_taken` meets its contract: any words where the run has no values, and else those among them.
 -- Assumes nothing.
 use borrow.Author.Needs.{needs}
+use mathlib.Core.Path.{sym}
+use lib.Seq.{length-take-le}
 use Rattle.unpack.proofs.Among.{taken-any, taken-values}
 use Rattle.unpack.proofs.by_plan.are_taken.Statement.{statement}
 use Rattle.unpack.proofs.by_plan.are_taken.Tie as tie
@@ -14,5 +16,7 @@ are-taken-spec =
     (λ c κs. search needs)
     (λ c κs. search needs)
     (λ c κs. search needs)
+    (λ c. sym (length-take-le _ _ (search needs)))
+    (λ c. sym (length-take-le _ _ (search needs)))
     (λ c κs. search needs)
     (λ c. search taken-values))

@@ -9,7 +9,7 @@ use Rattle.walk.proofs.Turns.{going-start}
 use Rattle.unpack.specs.Reading.{Reading}
 use Rattle.unpack.specs.RunByRun.{runRead}
 use Rattle.unpack_leaves.proofs.WholeRuns.{bytes-fit}
-use Rattle.unpack.proofs.GoodRuns.{run-next, run-next-from, run-next-to}
+use Rattle.unpack.proofs.GoodRuns.{run-bytes, run-next, run-next-from, run-next-to}
 use Rattle.unpack.proofs.by_plan.judge_runs.Statement.{statement}
 use Rattle.unpack.proofs.by_plan.judge_runs.Tie as tie
 use Rattle.unpack.proofs.LeafByLeaf.{all-judged, rest-judged}
@@ -31,16 +31,16 @@ judge-runs-spec =
     (λ c. search needs)
     (λ c. search needs)
     (λ c κs. search needs)
-    (λ c κs. search needs)
     (λ c. search needs)
     (λ c κs. search needs)
     (λ c κs. search needs)
     (λ c. search bytes-fit)
+    (λ c κs. (search needs, search run-bytes))
     (λ c. search run-next-from)
     (λ c. search run-next-to)
     (λ c. search needs)
     (λ c. search needs)
     (λ c. search run-next)
     (λ c κs. search needs)
-    (λ c. rest-judged _ _ _ (c .before .before .before .before .before .loop .inv) _ (c .judge-rest .ensures))
+    (λ c. rest-judged _ _ _ (search needs) _ (c .judge-rest .ensures))
     (λ c. search all-judged))

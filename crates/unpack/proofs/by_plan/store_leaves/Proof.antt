@@ -1,7 +1,10 @@
 -- `unpack::by_plan::store_leaves` meets its contract: one leaf, or a run.
 -- Assumes nothing.
 use borrow.Author.Needs.{needs}
-use Rattle.unpack.proofs.StoredRuns.{one-room, one-stored, run-stored}
+use mathlib.Core.Path.{sym}
+use lib.Seq.{length-take-le}
+use Rattle.unpack.proofs.Anew.{stored-anew}
+use Rattle.unpack.proofs.StoredRuns.{one-room, one-stored}
 use Rattle.unpack.proofs.by_plan.store_leaves.Statement.{statement}
 use Rattle.unpack.proofs.by_plan.store_leaves.Tie as tie
 
@@ -10,8 +13,9 @@ store-leaves-spec =
     tie.close
     (tie.spec
     (λ c κs. search one-room)
+    (λ c. sym (length-take-le _ _ (search needs)))
     (λ c κs. search needs)
     (λ c. search needs)
     (λ c. search one-stored)
     (λ c. search needs)
-    (λ c. search run-stored))
+    (λ c. search stored-anew))
