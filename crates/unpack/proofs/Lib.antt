@@ -11,3 +11,4 @@ pub mod StoredRuns
 pub mod PlannedRuns
 pub mod WholePlan
 pub mod EachByPlan
+pub mod NearWords

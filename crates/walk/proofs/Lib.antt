@@ -7,4 +7,5 @@ pub mod Turns
 pub mod Bases
 pub mod Codes
 pub mod Parts
+pub mod Near
 pub mod Whole
