@@ -12,3 +12,4 @@ pub mod PlannedRuns
 pub mod WholePlan
 pub mod EachByPlan
 pub mod NearWords
+pub mod ByCodes

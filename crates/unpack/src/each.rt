@@ -1,32 +1,41 @@
-// The elements of an array, each by the plan of their type: the plan is looked up once for all of them.
+// The elements of an array, each by the plan of their type or by the codes of its members: these are looked up once for all of them.
+use crate::at_once::MOST_CODES;
 use crate::at_once::Reached;
 use crate::by_plan;
+use table::Entry;
+use table::Sections;
 use walk::Place;
 use walk::Walked;
-ghost use mathlib.Core.Path.{_≡_};
-ghost use mathlib.Core.Bool.{true};
+ghost use Prim.Native.Nat.{ℕ};
+ghost use mathlib.Core.List.{List};
 ghost use Rattle.walk.specs.Tree.{Tree};
-ghost use Rattle.walk.specs.Planned.{isPlanned, planTree};
+ghost use Rattle.walk.specs.Planned.{planTree};
 ghost use Rattle.walk.specs.Walk.{Going};
-ghost use Rattle.unpack.specs.Reading.{Reading, treeRead};
+ghost use Rattle.unpack.specs.Reading.{Reading, treeRead, recordOf, Alike, Coded};
 ghost use Rattle.unpack.specs.RunByRun.{runsRead};
 
-// Reads elements of type i, up to one that is refused; none where the type has no plan.
-pub(crate) fn read_planned(
+// Reads elements of type i, whose entry is e, up to one that is refused: by the type's plan or, of a record with none, by its members' codes.
+// None where neither serves.
+pub(crate) fn read_alike(
     table: &[u8],
+    s: Sections,
     plans: &[u64],
     i: u16,
+    e: Entry,
     payload: &[u8],
     words: &mut [u64],
     count: u32,
     p: Place,
 ) -> Reached
     requires { ⌜ Reading (now payload) p ⌝ }
-    ensures { λ r. ⌜ ((tr : Tree) → (isPlanned (now (plans .entry)) i ≡ true → tr ≡ planTree (now (table .entry)) (now (plans .entry)) i)
+    ensures { λ r. ⌜ ((tr : Tree) → Alike (now (plans .entry)) (now (table .entry)) s i e tr
         → Going (Reading (now (payload .entry))) (treeRead (now (payload .entry)) tr) count 0 p (now (words .entry)) (r .upto) (r .at) (now (words .exit))) ⌝ }
 {
     if walk::plans::is_planned(plans, i) {
-        read_each(table, plans, i, payload, words, count, p)
+        return read_each(table, plans, i, payload, words, count, p);
+    }
+    if e.kind == table::RECORD {
+        read_records(table, s, i, e, payload, words, count, p)
     } else {
         Reached { upto: 0, at: p }
     }
@@ -75,6 +84,52 @@ fn read_times(
             }
             Walked::Stopped(_, _) => return Reached { upto: k, at },
         }
+    }
+    Reached { upto: k, at }
+}
+
+// Records all of whose members are bases: their codes are got from the table once for all of them. None where a member is no base.
+fn read_records(
+    table: &[u8],
+    s: Sections,
+    i: u16,
+    e: Entry,
+    payload: &[u8],
+    words: &mut [u64],
+    count: u32,
+    p: Place,
+) -> Reached
+    requires { ⌜ Reading (now payload) p ⌝ }
+    ensures { λ r. ⌜ ((ps : List ℕ) → Going (Reading (now (payload .entry))) (treeRead (now (payload .entry)) (recordOf ps (now (table .entry)) s i e)) count
+        0 p (now (words .entry)) (r .upto) (r .at) (now (words .exit))) ⌝ }
+{
+    let mut codes = [0u8; MOST_CODES];
+    let n = walk::runs::base_codes(table, s, i, e, 0, &mut codes);
+    if n == e.count as usize {
+        read_coded(payload, words, &codes[..n], count, p)
+    } else {
+        Reached { upto: 0, at: p }
+    }
+}
+
+// So many times leaves of these codes, up to such a time of which one is refused.
+fn read_coded(payload: &[u8], words: &mut [u64], codes: &[u8], count: u32, p: Place) -> Reached
+    requires { ⌜ Reading (now payload) p ⌝ }
+    ensures { λ r. ⌜ Coded (now (payload .entry)) (now (codes .entry)) count p (now (words .entry)) (r .upto) (r .at) (now (words .exit)) ⌝ }
+{
+    let mut at = p;
+    let mut k: u32 = 0;
+    while k < count {
+        let part = unpack_leaves::judge_codes(payload, codes, at.from);
+        if part.count < codes.len() {
+            return Reached { upto: k, at };
+        }
+        unpack_leaves::store_codes(payload, words, codes, at);
+        at = Place {
+            from: part.from,
+            to: at.to + codes.len(),
+        };
+        k += 1;
     }
     Reached { upto: k, at }
 }
