@@ -71,26 +71,27 @@ module _ (b codes : List ℕ) (q : Place) (c e : ℕ) (counts : c ≡ thereCount
             through-more (rowRead (length codes) f) p₀ x₀ k q y (g .goes f reads p₀ x₀ so-far) ∙ one-coded y z put f reads;
       }
 
--- the codes of all members of a record
-module _ (t : List ℕ) (s : Sections) (i : ℕ) (e : Entry) (r : ℕ) (u v : List ℕ) (counts : r ≡ codeCount t s i e 0 (length u))
-    (given : v ≡ over u 0 (codesOf t s i e 0 (length u))) (all : r ≡ e .count) where
-  as-all : length (take r v) ≡ e .count
-  as-all = all-given t s i e 0 r u v counts given ∙ all
+-- what reads leaves of these codes, each time as many
+pub coded-as : {b codes : List ℕ} {n : ℕ} {p : Place} {x : List ℕ} {k : ℕ} {q : Place} {y : List ℕ} → Coded b codes n p x k q y → (m : ℕ)
+    (f : ℕ → Place → List ℕ → Step) → length codes ≡ m → ReadsCodes b codes 0 f → Going (Reading b) (rowRead m f) n 0 p x k q y
+coded-as {b} {codes} {n} {p} {x} {k} {q} {y} g m f all reads =
+    record {
+      onward = omega arith;
+      most = g .most;
+      here = g .here;
+      as-long = g .as-long;
+      goes = λ p₀ x₀ so-far.
+          ap (λ (j : ℕ). through k (rowRead j f) p₀ x₀) (sym all)
+          ∙ g .goes f reads p₀ x₀ (ap (λ (j : ℕ). through 0 (rowRead j f) p₀ x₀) all ∙ so-far);
+    }
 
-  pub coded-going : (b ps : List ℕ) {n : ℕ} {p : Place} {x : List ℕ} {k : ℕ} {q : Place} {y : List ℕ} → Coded b (take r v) n p x k q y
-      → Going (Reading b) (treeRead b (recordOf ps t s i e)) n 0 p x k q y
-  unfolding walk
-  coded-going b ps {n} {p} {x} {k} {q} {y} g =
-      record {
-        onward = omega arith;
-        most = g .most;
-        here = g .here;
-        as-long = g .as-long;
-        goes = λ p₀ x₀ so-far.
-            ap (λ (m : ℕ). through k (rowRead m (memberRead b ps t s i e)) p₀ x₀) (sym as-all)
-            ∙ g .goes (memberRead b ps t s i e) (codes-read t s i e 0 r u v counts given b ps) p₀ x₀
-            (ap (λ (m : ℕ). through 0 (rowRead m (memberRead b ps t s i e)) p₀ x₀) as-all ∙ so-far);
-      }
+-- the codes of all members of a record
+pub coded-going : (t : List ℕ) (s : Sections) (i : ℕ) (e : Entry) (r : ℕ) (u v : List ℕ) (counts : r ≡ codeCount t s i e 0 (length u))
+    (given : v ≡ over u 0 (codesOf t s i e 0 (length u))) (all : r ≡ e .count) (b ps : List ℕ) {n : ℕ} {p : Place} {x : List ℕ} {k : ℕ} {q : Place}
+    {y : List ℕ} → Coded b (take r v) n p x k q y → Going (Reading b) (treeRead b (recordOf ps t s i e)) n 0 p x k q y
+unfolding walk
+coded-going t s i e r u v counts given all b ps g =
+    coded-as g (e .count) (memberRead b ps t s i e) (all-given t s i e 0 r u v counts given ∙ all) (codes-read t s i e 0 r u v counts given b ps)
 
 -- a record, and an array, that was met
 by-kind-array : (x e : Entry) → byKind x ≡ Elements e → e .kind ≡ 2 → ⊥

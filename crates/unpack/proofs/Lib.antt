@@ -13,3 +13,4 @@ pub mod WholePlan
 pub mod EachByPlan
 pub mod NearWords
 pub mod ByCodes
+pub mod SingleRuns

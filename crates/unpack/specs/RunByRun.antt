@@ -1,6 +1,7 @@
 -- 02, request 13: the leaves of a payload by the runs of a plan, a run after another.
-use Prim.Native.Nat.{ℕ, zero, suc, min, _-_, _≤_, _*_, _+_}
-use mathlib.Core.Bool.{Bool, _&&_}
+use Prim.Native.Nat.{ℕ, zero, suc, min, _-_, _≤_, _<_, _*_, _+_}
+use mathlib.Core.Path.{_≡_}
+use mathlib.Core.Bool.{Bool, true, _&&_}
 use mathlib.Core.List.{List}
 use lib.Dec.{eqb}
 use lib.ListN.{length, getD}
@@ -23,6 +24,13 @@ isTaken t b run from k = takenBy t run (wordAt (codeIn run) b (from + k * width 
 -- the run takes every word that its bytes can be
 abbrev pub isAny : ℕ → Bool
 isAny run = rangeOf (base (codeIn run)) .every && eqb (valuesIn run) 0
+
+-- the run is one leaf that may be any of its code; and the first n runs are, of these codes
+abbrev pub isSingle : ℕ → Bool
+isSingle run = eqb (manyIn run) 1 && eqb (valuesIn run) 0
+
+pub record Single (runs codes : List ℕ) (n : ℕ) : Type 0 where
+  pub each : (j : ℕ) → j < n → (isSingle (getD runs j 0) ≡ true) × (getD codes j 0 ≡ codeIn (getD runs j 0))
 
 -- its leaves are all there, allowed and taken
 unfoldable pub runGood : List ℕ → List ℕ → ℕ → ℕ → Bool

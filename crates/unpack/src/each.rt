@@ -6,13 +6,16 @@ use table::Entry;
 use table::Sections;
 use walk::Place;
 use walk::Walked;
-ghost use Prim.Native.Nat.{ℕ};
+ghost use mathlib.Core.Path.{_≡_};
+ghost use mathlib.Core.Bool.{true};
+ghost use Prim.Native.Nat.{ℕ, _≤_};
+ghost use lib.ListN.{length};
 ghost use mathlib.Core.List.{List};
 ghost use Rattle.walk.specs.Tree.{Tree};
 ghost use Rattle.walk.specs.Planned.{planTree};
 ghost use Rattle.walk.specs.Walk.{Going};
 ghost use Rattle.unpack.specs.Reading.{Reading, treeRead, recordOf, Alike, Coded};
-ghost use Rattle.unpack.specs.RunByRun.{runsRead};
+ghost use Rattle.unpack.specs.RunByRun.{isSingle, Single, runsRead};
 
 // Reads elements of type i, whose entry is e, up to one that is refused: by the type's plan or, of a record with none, by its members' codes.
 // None where neither serves.
@@ -57,10 +60,59 @@ fn read_each(
     let plan = walk::plans::plan_of(plans, i);
     let first = plan.first;
     let end = plan.first + plan.runs;
-    read_times(table, &plans[first..end], payload, words, count, p)
+    read_by_runs(table, &plans[first..end], payload, words, count, p)
 }
 
-// The same of a plan's runs, so many times.
+// The same of a plan's runs, so many times: by their codes where each is one leaf, since runs are for several.
+fn read_by_runs(
+    table: &[u8],
+    runs: &[u64],
+    payload: &[u8],
+    words: &mut [u64],
+    count: u32,
+    p: Place,
+) -> Reached
+    requires { ⌜ Reading (now payload) p ⌝ }
+    ensures { λ r. ⌜ Going (Reading (now (payload .entry))) (runsRead (now (payload .entry)) (now (table .entry)) (now (runs .entry))) count
+        0 p (now (words .entry)) (r .upto) (r .at) (now (words .exit)) ⌝ }
+{
+    let mut codes = [0u8; MOST_CODES];
+    if are_single(runs, &mut codes) {
+        let n = runs.len();
+        read_coded(payload, words, &codes[..n], count, p)
+    } else {
+        read_times(table, runs, payload, words, count, p)
+    }
+}
+
+// Whether each of these runs is one leaf that may be any of its code, and there is room for their codes; and the codes.
+fn are_single(runs: &[u64], codes: &mut [u8]) -> bool
+    ensures { λ r. ⌜ (length (now (codes .exit)) ≡ length (now (codes .entry)))
+        × (r ≡ true → (length (now (runs .entry)) ≤ length (now (codes .entry))) × Single (now (runs .entry)) (now (codes .exit)) (length (now (runs .entry)))) ⌝ }
+{
+    if codes.len() < runs.len() {
+        return false;
+    }
+    let mut k: usize = 0;
+    while k < runs.len() {
+        let run = runs[k];
+        if is_single(run) {
+            codes[k] = walk::plans::code_in(run) as u8;
+            k += 1;
+        } else {
+            return false;
+        }
+    }
+    true
+}
+
+fn is_single(run: u64) -> bool
+    ensures { λ r. ⌜ r ≡ isSingle run ⌝ }
+{
+    (walk::plans::many_in(run) == 1) & (walk::plans::values_in(run) == 0)
+}
+
+// Run by run.
 fn read_times(
     table: &[u8],
     runs: &[u64],
