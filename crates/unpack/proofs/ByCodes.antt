@@ -23,14 +23,14 @@ use Rattle.walk.specs.declared.Met.the-variants.{Leaf, Members, Elements, Broke
 use Rattle.walk.specs.declared.Place.{Place}
 use Rattle.walk.specs.Tree.{byKind, look, meet, treeOf}
 use Rattle.walk.specs.Codes.{codeCount, codesOf}
-use Rattle.walk.specs.Planned.{isPlanned, planTree, treeBy, treesBy, childBy}
-use Rattle.walk.specs.Walk.{Step, on, through, walk, Goes, Going}
+use Rattle.walk.specs.Planned.{planTree, treeBy, treesBy, childBy}
+use Rattle.walk.specs.Walk.{Step, on, through, walk, Going}
 use Rattle.walk.proofs.Trees.{child-met, members-by, elements-by}
 use Rattle.walk.proofs.Walks.{through-none, through-more}
 use Rattle.unpack_leaves.specs.Leaves.{ends, laid, thereCount, wholeCount}
 use Rattle.unpack_leaves.specs.Steps.{ReadsCodes}
 use Rattle.unpack_leaves.proofs.Counts.{length-laid}
-use Rattle.unpack.specs.Reading.{reader, Reading, treeRead, memberRead, recordOf, Alike, rowRead, Coded}
+use Rattle.unpack.specs.Reading.{Reading, treeRead, memberRead, recordOf, Alike, rowRead, Coded}
 use Rattle.unpack.proofs.ReadBases.{part-in, part-reading, part-goes}
 use Rattle.unpack.proofs.ReadCodes.{codes-read, all-given}
 

@@ -2,7 +2,7 @@
 -- Assumes nothing.
 use Prim.Native.Nat.{ℕ, _+_, _≤_, _<_}
 use mathlib.Core.Path.{_≡_, refl, sym, ap, _∙_}
-use mathlib.Core.Bool.{Bool, true, cond, _&&_}
+use mathlib.Core.Bool.{Bool, true, _&&_}
 use mathlib.Core.Logic.{⊎-elim}
 use mathlib.Core.List.{List}
 use native.Mathlib.Nat.{zero-add, eq-or-lt-of-le}
@@ -13,12 +13,11 @@ use mir.Val.{Fits}
 use lib.Dec.{leb, eqb}
 use lib.ListN.{length, getD, set, take}
 use lib.Seq.{length-take-le, getD-take, getD-set-same, getD-set-other}
-use Rattle.wire.proofs.Cond.{and-left, and-right, and-true, both, yes-if}
+use Rattle.wire.proofs.Cond.{and-left, and-right, and-true}
 use Rattle.table.specs.Leaf.{width, allowed}
-use Rattle.leaf.specs.Choice.{amongAt}
 use Rattle.leaf.specs.Forms.{wordAt}
 use Rattle.walk.specs.declared.Place.{Place}
-use Rattle.walk.specs.Runs.{codeIn, manyIn, valuesIn, placeIn, takenBy, runTree, runsTree}
+use Rattle.walk.specs.Runs.{codeIn, manyIn, valuesIn, takenBy, runTree, runsTree}
 use Rattle.walk.specs.Tree.{leaf}
 use Rattle.walk.specs.Walk.{on, next, through, walk, Going}
 use Rattle.walk.proofs.Returns.{item-on}

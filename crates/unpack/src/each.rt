@@ -88,7 +88,8 @@ fn read_by_runs(
 // Whether each of these runs is one leaf that may be any of its code, and there is room for their codes; and the codes.
 fn are_single(runs: &[u64], codes: &mut [u8]) -> bool
     ensures { λ r. ⌜ (length (now (codes .exit)) ≡ length (now (codes .entry)))
-        × (r ≡ true → (length (now (runs .entry)) ≤ length (now (codes .entry))) × Single (now (runs .entry)) (now (codes .exit)) (length (now (runs .entry)))) ⌝ }
+        × (r ≡ true → (length (now (runs .entry)) ≤ length (now (codes .entry)))
+        × Single (now (runs .entry)) (now (codes .exit)) (length (now (runs .entry)))) ⌝ }
 {
     if codes.len() < runs.len() {
         return false;

@@ -21,7 +21,8 @@ read-by-runs-spec =
     (λ c.
     let if1 = c .before .before in
     let single = if1 .before .before in
-    sym (length-take-le _ _ (codes-there _ (replicate 64 0) (single .are-single .last .1 .0) (single .are-single .ensures .0) (single .are-single .ensures .1 (if1 .if1 .taken) .0))))
+    let are = single .are-single .ensures in
+    sym (length-take-le _ _ (codes-there _ (replicate 64 0) (single .are-single .last .1 .0) (are .0) (are .1 (if1 .if1 .taken) .0))))
     (λ c κs. search needs)
     (λ c κs. search needs)
     (λ c. search needs)
@@ -30,6 +31,7 @@ read-by-runs-spec =
     let if1 = at-read-coded .before .before .before in
     let single = if1 .before .before in
     let are = single .are-single .ensures .1 (if1 .if1 .taken) in
-    single-going _ _ (codes-there _ (replicate 64 0) (single .are-single .last .1 .0) (single .are-single .ensures .0) (are .0)) (are .1) _ _ (at-read-coded .read-coded .ensures))
+    single-going _ _ (codes-there _ (replicate 64 0) (single .are-single .last .1 .0) (single .are-single .ensures .0) (are .0)) (are .1) _ _
+    (at-read-coded .read-coded .ensures))
     (λ c. search needs)
     (λ c. search needs))
