@@ -13,3 +13,6 @@ pub mod PlannedRuns
 pub mod WholeStores
 pub mod WholePlan
 pub mod EachByPlan
+pub mod NearWords
+pub mod ByCodes
+pub mod SingleRuns

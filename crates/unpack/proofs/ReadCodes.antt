@@ -21,11 +21,11 @@ module _ (t : List ℕ) (s : Sections) (i : ℕ) (e : Entry) (m r : ℕ) (u v : 
   pub codes-in : r ≤ length v
   codes-in = omega (arith, codes-fit t s i e m r u counts, codes-as-long t s i e m r u counts v given)
 
-  as-given : length (take r v) ≡ r
-  as-given = length-take-le r v codes-in
+  pub all-given : length (take r v) ≡ r
+  all-given = length-take-le r v codes-in
 
   members-in : m ≤ e .count → m + length (take r v) ≤ e .count
-  members-in h = omega (arith, as-given, few-codes t s i e m (length u))
+  members-in h = omega (arith, all-given, few-codes t s i e m (length u))
 
   pub members-few : m ≤ e .count → e .count < 65536 → m + length (take r v) ≤ 65535
   members-few h l = omega (arith, members-in h)
@@ -35,6 +35,6 @@ module _ (t : List ℕ) (s : Sections) (i : ℕ) (e : Entry) (m r : ℕ) (u v : 
 
   pub codes-read : (b ps : List ℕ) → ReadsCodes b (take r v) m (memberRead b ps t s i e)
   codes-read b ps j q y less there =
-      let k : j < r = omega (arith, as-given) in
+      let k : j < r = omega (arith, all-given) in
       base-reads b ps t s i (memberAt t s (e .first + (m + j))) (getD (take r v) j 0)
       (code-is t s i e m r u counts v given j (getD (take r v) j 0) k (getD-take r v j 0 k)) q y there

@@ -1,19 +1,21 @@
 -- 01, "Payload and words": reading a payload.
 use Prim.Native.Nat.{ℕ, _+_, _*_, _≤_}
-use mathlib.Core.Bool.{Bool}
+use mathlib.Core.Path.{_≡_}
+use mathlib.Core.Bool.{Bool, true, false}
 use mathlib.Core.List.{List, [], _∷_}
 use lib.Dec.{leb}
 use lib.ListN.{length}
 use Rattle.table.specs.declared.Sections.{Sections}
 use Rattle.table.specs.declared.Entry.{Entry}
 use Rattle.table.specs.Leaf.{width}
-use Rattle.table.specs.Entries.{memberAt}
+use Rattle.table.specs.Entries.{recordKind, memberAt}
 use Rattle.leaf.specs.Choice.{choice, takes}
 use Rattle.leaf.specs.Forms.{wordAt}
 use Rattle.walk.specs.declared.Place.{Place}
-use Rattle.walk.specs.Tree.{Tree, leaf}
-use Rattle.walk.specs.Walk.{Step, Codec, walk}
-use Rattle.walk.specs.Planned.{childBy}
+use Rattle.walk.specs.Tree.{Tree, leaf, row}
+use Rattle.walk.specs.Walk.{Step, Codec, Goes, through, walk}
+use Rattle.walk.specs.Planned.{isPlanned, planTree, childBy}
+use Rattle.unpack_leaves.specs.Steps.{ReadsCodes}
 
 -- a leaf of a payload is its word, one for each leaf
 unfoldable pub reader : List ℕ → Codec
@@ -48,3 +50,21 @@ entryRead b t s e k q y = walk (reader b) (leaf (e .of) (choice t s e)) q y
 
 abbrev pub entryTakes : List ℕ → List ℕ → Sections → Entry → ℕ → ℕ → Bool
 entryTakes b t s e from k = takes t s e (wordAt (e .of) b (from + k * width (e .of)))
+
+-- a record of type i by its members, with no plan of its own; and the tree of elements of type i, whose entry is e
+abbrev pub recordOf : List ℕ → List ℕ → Sections → ℕ → Entry → Tree
+recordOf ps t s i e = row (e .count) (λ k. childBy ps t s i (memberAt t s (e .first + k)))
+
+pub record Alike (ps t : List ℕ) (s : Sections) (i : ℕ) (e : Entry) (tr : Tree) : Type 0 where
+  pub planned : isPlanned ps i ≡ true → tr ≡ planTree t ps i
+  pub members : isPlanned ps i ≡ false → e .kind ≡ recordKind → tr ≡ recordOf ps t s i e
+
+-- the step over n leaves, one behind another; and k of n times leaves of these codes read
+abbrev pub rowRead : ℕ → (ℕ → Place → List ℕ → Step) → ℕ → Place → List ℕ → Step
+rowRead n f k q y = through n f q y
+
+pub record Coded (b codes : List ℕ) (n : ℕ) (p : Place) (x : List ℕ) (k : ℕ) (q : Place) (y : List ℕ) : Type 0 where
+  pub most : k ≤ n
+  pub here : Reading b q
+  pub as-long : length y ≡ length x
+  pub goes : (f : ℕ → Place → List ℕ → Step) → ReadsCodes b codes 0 f → Goes (rowRead (length codes) f) 0 p x k q y

@@ -1,7 +1,9 @@
 -- 02, request 13: the leaves of a payload by the runs of a plan, a run after another.
-use Prim.Native.Nat.{ℕ, zero, suc, min, _-_, _≤_, _*_, _+_}
-use mathlib.Core.Bool.{Bool, _&&_}
+use Prim.Native.Nat.{ℕ, zero, suc, min, _-_, _≤_, _<_, _*_, _+_}
+use mathlib.Core.Path.{_≡_}
+use mathlib.Core.Bool.{Bool, true, _&&_}
 use mathlib.Core.List.{List}
+use lib.Dec.{eqb}
 use lib.ListN.{length, getD}
 use Rattle.wire.specs.All.{allBelow}
 use Rattle.table.specs.Leaf.{width}
@@ -10,13 +12,20 @@ use Rattle.walk.specs.declared.Place.{Place}
 use Rattle.walk.specs.declared.Walked.{Walked}
 use Rattle.walk.specs.declared.Walked.the-variants.{Went, Stopped}
 use Rattle.walk.specs.Walk.{Step, item, notAllowed, start, walk}
-use Rattle.walk.specs.Runs.{codeIn, manyIn, takenBy, runTree, runsTree}
+use Rattle.walk.specs.Runs.{codeIn, manyIn, valuesIn, takenBy, runTree, runsTree}
 use Rattle.unpack_leaves.specs.OneCode.{along, filled, runThere}
 use Rattle.unpack.specs.Reading.{reader}
 
 -- the word of the k-th leaf of a run that stands at a byte is among those that the run takes
 abbrev pub isTaken : List ℕ → List ℕ → ℕ → ℕ → ℕ → Bool
 isTaken t b run from k = takenBy t run (wordAt (codeIn run) b (from + k * width (codeIn run)))
+
+-- the run is one leaf that may be any of its code; and the first n runs are, of these codes
+abbrev pub isSingle : ℕ → Bool
+isSingle run = eqb (manyIn run) 1 && eqb (valuesIn run) 0
+
+pub record Single (runs codes : List ℕ) (n : ℕ) : Type 0 where
+  pub each : (j : ℕ) → j < n → (isSingle (getD runs j 0) ≡ true) × (getD codes j 0 ≡ codeIn (getD runs j 0))
 
 -- its leaves are all there, allowed and taken
 unfoldable pub runGood : List ℕ → List ℕ → ℕ → ℕ → Bool

@@ -1,5 +1,5 @@
 // Leaves that are read at once, no entry being met for each: a record's members that are bases, and an array's elements that are
-// bases or enums, or have a plan.
+// bases or enums, have a plan, or are records of bases.
 use table::Entry;
 use table::Sections;
 use walk::Met;
@@ -17,7 +17,7 @@ ghost use Rattle.unpack.specs.Reading.{Reading, memberRead, elementRead,
 use crate::each;
 
 // How many base codes of a record's members are read at once.
-const MOST_CODES: usize = 64;
+pub(crate) const MOST_CODES: usize = 64;
 
 // How far a run of leaves was read: up to which member or element, and where it ends.
 pub struct Reached {
@@ -66,7 +66,7 @@ fn read_codes(payload: &[u8], words: &mut [u64], codes: &[u8], from: u32, p: Pla
 }
 
 // Reads elements that are bases or enums, type c coming from type i: all of them, or none where one is not there or not allowed. Those
-// that have a plan are read by it, up to one that is refused.
+// that have a plan are read by it, and records of bases by their codes, up to one that is refused.
 pub(crate) fn read_leaves(
     table: &[u8],
     s: Sections,
@@ -88,8 +88,8 @@ pub(crate) fn read_leaves(
     }
     match walk::meet(table, s, i, c) {
         Met::Leaf(e) => read_enums(table, s, e, payload, words, count, p),
-        Met::Members(_) => each::read_planned(table, plans, c, payload, words, count, p),
-        Met::Elements(_) => each::read_planned(table, plans, c, payload, words, count, p),
+        Met::Members(e) => each::read_alike(table, s, plans, c, e, payload, words, count, p),
+        Met::Elements(e) => each::read_alike(table, s, plans, c, e, payload, words, count, p),
         Met::Broken => Reached { upto: 0, at: p },
     }
 }

@@ -18,6 +18,7 @@ use Rattle.walk.specs.declared.Place.{Place}
 use Rattle.walk.specs.Tree.{Tree, leaf, row, array, broken}
 use Rattle.walk.specs.Walk.{Step, on, stop, next, through, Codec, item, counted, countCode, walk}
 use Rattle.values.specs.Values.{Behind, Row, One, Some, Over}
+use Rattle.walk.proofs.Near.{Between, between}
 use Rattle.walk.proofs.Returns.{item-short, item-bad, item-on}
 
 -- what a stretch of a walk over the input has taken and given: lists that M says belong together
@@ -72,18 +73,6 @@ took-both A B input p q r x y z a b =
           (λ g. b .given (omega arith) ∙ ap (λ (n : ℕ). over y n (b .ys)) ta)
           (omega arith);
     }
-
--- a walk that went on past one thing and another went on past each
-pub record Between (a : Step) (f : Place → List ℕ → Step) (q : Place) (y : List ℕ) : Type 0 where
-  pub r : Place
-  pub z : List ℕ
-  pub one : a ≡ on r z
-  pub two : f r z ≡ on q y
-
-between : (a : Step) (f : Place → List ℕ → Step) (q : Place) (y : List ℕ) → next a f ≡ on q y → Between a f q y
-unfolding next
-between (on r z) f q y h = record { r = r; z = z; one = refl; two = h }
-between (stop n r z) f q y h = absurd (let v : _≡_ {A = ℕ} 0 1 = cc in omega arith)
 
 none-taken : (M : List ℕ → List ℕ → Type 0) (input : List ℕ) (p q : Place) (x y : List ℕ) → M [] [] → on p x ≡ on q y → Took M input p q x y
 none-taken M input p q x y m h =

@@ -7,5 +7,6 @@ pub mod Turns
 pub mod Bases
 pub mod Codes
 pub mod Parts
+pub mod Near
 pub mod Whole
 pub mod Fours

@@ -1,9 +1,9 @@
 -- `unpack::at_once::read_leaves` meets its contract: by what type c is.
 -- Assumes nothing.
 use borrow.Author.Needs.{needs}
-use Rattle.walk.proofs.Trees.{members-by, elements-by}
 use Rattle.walk.proofs.Turns.{going-start}
 use Rattle.unpack.proofs.ReadBases.{element-reads}
+use Rattle.unpack.proofs.ByCodes.{alike-members, alike-elements}
 use Rattle.unpack.proofs.Entries.{entry-met}
 use Rattle.unpack.proofs.at_once.read_leaves.Statement.{statement}
 use Rattle.unpack.proofs.at_once.read_leaves.Tie as tie
@@ -33,12 +33,12 @@ read-leaves-spec =
     entry-met _ _ _ _ _ _ _ _ (at-e .before .before .meet .ensures) (at-e .e .given .1) (at-read-enums .read-enums .ensures))
     (λ c. search needs)
     (λ c.
-    let at-read-planned = c .before .before in
-    let told = at-read-planned .before .before in
-    at-read-planned .read-planned .ensures _ (members-by _ _ _ _ _ _ _ (told .before .before .meet .ensures) (told .enum-told .given .1)))
+    let at-read-alike = c .before .before in
+    let told = at-read-alike .before .before .before in
+    at-read-alike .read-alike .ensures _ (alike-members _ _ _ _ _ _ _ (told .before .before .meet .ensures) (told .e2 .given .1)))
     (λ c. search needs)
     (λ c.
-    let at-read-planned = c .before .before in
-    let told = at-read-planned .before .before in
-    at-read-planned .read-planned2 .ensures _ (elements-by _ _ _ _ _ _ _ (told .before .before .meet .ensures) (told .enum-told2 .given .1)))
+    let at-read-alike = c .before .before in
+    let told = at-read-alike .before .before .before in
+    at-read-alike .read-alike2 .ensures _ (alike-elements _ _ _ _ _ _ _ (told .before .before .meet .ensures) (told .e3 .given .1)))
     (λ c. going-start (search needs) (search needs)))

@@ -22,5 +22,5 @@ read-each-spec =
     (λ c κs. search needs)
     (λ c. search needs)
     (λ c.
-    let at-read-times = c .before .before in
-    going-as _ _ _ (sym (tree-is _ _ _ (at-read-times .before .before .before .before .plan-of .ensures) (reader []) _)) (at-read-times .read-times .ensures)))
+    let at-read = c .before .before in
+    going-as _ _ _ (sym (tree-is _ _ _ (at-read .before .before .before .before .plan-of .ensures) (reader []) _)) (at-read .read-by-runs .ensures)))

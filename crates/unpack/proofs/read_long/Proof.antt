@@ -1,12 +1,12 @@
--- `unpack::read_type` meets its contract: the second walk ends as the first.
+-- `unpack::read_long` meets its contract: the second walk ends as the first.
 -- Assumes nothing.
 use borrow.Author.Needs.{needs}
 use Rattle.walk.proofs.Whole.{refused, not-whole, all-stored}
-use Rattle.unpack.proofs.read_type.Statement.{statement}
-use Rattle.unpack.proofs.read_type.Tie as tie
+use Rattle.unpack.proofs.read_long.Statement.{statement}
+use Rattle.unpack.proofs.read_long.Tie as tie
 
-pub read-type-spec : {M : Type 1} → statement M
-read-type-spec =
+pub read-long-spec : {M : Type 1} → statement M
+read-long-spec =
     tie.close
     (tie.spec
     (λ c κs. search needs)
