@@ -43,7 +43,7 @@ module _ (ws t : List ℕ) (s : Sections) (e : Entry) (from n : ℕ) (there : Al
       (there k l, rw (eq-eqb (e .kind) 1 h) (sym (by-place t s e w a)))
 
 -- a leaf that is there and taken
-leaf-on : (ws t : List ℕ) (s : Sections) (e : Entry) (q : Place) (y : List ℕ) → isThere ws (e .of) (q .from) ≡ true
+pub leaf-on : (ws t : List ℕ) (s : Sections) (e : Entry) (q : Place) (y : List ℕ) → isThere ws (e .of) (q .from) ≡ true
     → choice t s e (getD ws (q .from) 0) ≡ true → leafWalk (writer ws) t s e q y ≡ on (behind (e .of) q) (stored ws (e .of) q y)
 unfolding isThere writer leafWalk
 leaf-on ws t s e q y h g =

@@ -8,3 +8,6 @@ mod PlanLeaves
 mod PlanStores
 mod PlanReturns
 mod PlanEach
+mod LaidBases
+mod Sure
+mod SureLeaves

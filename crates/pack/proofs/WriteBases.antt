@@ -3,15 +3,15 @@
 use Prim.Native.Nat.{ℕ, zero, suc, _+_, _-_, _*_, _^_, _≤_, _<_}
 use mathlib.Core.Path.{_≡_, refl, sym, ap, _∙_}
 use mathlib.Core.Bool.{true}
-use mathlib.Core.List.{List}
+use mathlib.Core.List.{List, [], _∷_}
 use native.Mathlib.Omega.{arith}
 use mir.Syntax.{w32, w64}
 use mir.Val.{Fits}
 use lib.Dec.{ltb}
-use lib.ListN.{length, getD, take}
-use lib.Seq.{length-take-le, take-all, take-take, getD-take}
+use lib.ListN.{length, getD, take, drop}
+use lib.Seq.{length-take-le, take-all, take-take, take-at, getD-take}
 use Rattle.wire.specs.Bytes.{over}
-use Rattle.wire.proofs.Cond.{both}
+use Rattle.wire.proofs.Cond.{both, yes-if}
 use Rattle.table.specs.declared.Sections.{Sections}
 use Rattle.table.specs.declared.Entry.{Entry}
 use Rattle.table.specs.Entries.{memberAt}
@@ -22,9 +22,9 @@ use Rattle.walk.specs.Planned.{childBy}
 use Rattle.walk.specs.Walk.{on, through, walk, Goes, Going}
 use Rattle.walk.specs.Codes.{codeCount, codesOf}
 use Rattle.walk.proofs.Bases.{base-on}
-use Rattle.walk.proofs.Codes.{codes-fit, codes-as-long, code-member, code-is}
-use Rattle.pack_leaves.specs.Stored.{isThere, behind, stored, takenCount, ends, laid, WritesEach}
-use Rattle.pack_leaves.proofs.Behind.{ends-near, ends-from, laid-length, count-codes, count-words, count-taken, written-over, fewer-written}
+use Rattle.walk.proofs.Codes.{length-codes, codes-fit, codes-as-long, code-member, code-is}
+use Rattle.pack_leaves.specs.Stored.{isThere, behind, stored, takenCount, allTaken, ends, laid, WritesEach}
+use Rattle.pack_leaves.proofs.Behind.{ends-near, ends-from, laid-length, laid-outside, count-codes, count-words, count-taken, written-over, fewer-written}
 use Rattle.pack.specs.Writing.{writer, Writing, Writes, memberWritten}
 
 -- a base among a record's members, and as an array's element
@@ -120,6 +120,57 @@ module _ (ws t : List ℕ) (s : Sections) (i : ℕ) (e : Entry) (m r : ℕ) (u v
           → Going (Writing ws) (memberWritten ws ps t s i e) (e .count) m p x (m + j) (record { from = p .from + j; to = p .to + b }) y
       taken-going h so-far ps =
           record { onward = omega arith; most = taken-end h; here = writing-taken so-far; as-long = taken-long; goes = taken-written ps }
+
+-- all of them, where it is known that each takes its word
+all-counted : (ws cs : List ℕ) (from : ℕ) → allTaken ws cs from ≡ true → takenCount ws cs from ≡ length cs
+unfolding allTaken takenCount
+all-counted ws [] from h = refl
+all-counted ws (c ∷ cs) from h =
+    let d : (isThere ws c from ≡ true) × (allTaken ws cs (from + 1) ≡ true) = both (isThere ws c from) (allTaken ws cs (from + 1)) h in
+    yes-if (suc (takenCount ws cs (from + 1))) 0 (d .0) ∙ ap suc (all-counted ws cs (from + 1) (d .1))
+
+module _ (ws t : List ℕ) (s : Sections) (i : ℕ) (e : Entry) (m r : ℕ) (u v : List ℕ) (counts : r ≡ codeCount t s i e m (length u))
+    (got : v ≡ over u 0 (codesOf t s i e m (length u))) (p : Place) (known : allTaken ws (codesOf t s i e m (length u)) (p .from) ≡ true) where
+  codes-are : take r v ≡ codesOf t s i e m (length u)
+  codes-are =
+      ap (take r) got
+      ∙ take-at (codesOf t s i e m (length u)) (drop (0 + length (codesOf t s i e m (length u))) u) r (length-codes t s i e m (length u) ∙ sym counts)
+
+  so-many-taken : length (take r v) ≡ r
+  so-many-taken = length-take-le r v (codes-in ws t s i e m r u v counts got)
+
+  many-all : r ≡ takenCount ws (take r v) (p .from)
+  many-all = sym (all-counted ws (take r v) (p .from) (ap (λ (cs : List ℕ). allTaken ws cs (p .from)) codes-are ∙ known) ∙ so-many-taken)
+
+  bytes-all : ends (take r v) 0 ≡ ends (take (takenCount ws (take r v) (p .from)) (take r v)) 0
+  bytes-all =
+      ap (λ (cs : List ℕ). ends cs 0) (sym (take-all (takenCount ws (take r v) (p .from)) (take r v) (omega (arith, many-all, so-many-taken))))
+
+  pub all-words : Writing ws p → p .from + length (take r v) ≤ length ws
+  all-words h = omega (arith, h .1, so-many-taken, many-all, count-words ws (take r v) (p .from))
+
+  pub all-count-fits : e .count < 2 ^ 16 → m ≤ e .count → Fits w32 r
+  all-count-fits = count-fits ws t s i e m r u v counts got p r (ends (take r v) 0) many-all bytes-all
+
+  pub all-upto-fits : e .count < 2 ^ 16 → m ≤ e .count → Fits w32 (m + r)
+  all-upto-fits = upto-fits ws t s i e m r u v counts got p r (ends (take r v) 0) many-all bytes-all
+
+  pub all-from-fits : Writing ws p → length ws * 8 < 2 ^ 63 → Fits w64 (p .from + r)
+  all-from-fits = from-fits ws t s i e m r u v counts got p r (ends (take r v) 0) many-all bytes-all
+
+  pub all-going : (q : ℕ) (x y : List ℕ) → q ≡ ends (take r v) (p .to) → y ≡ laid ws (take r v) p x → m ≤ e .count → Writing ws p → (ps : List ℕ)
+      → Going (Writing ws) (memberWritten ws ps t s i e) (e .count) m p x (m + r) (record { from = p .from + r; to = q }) y
+  all-going q x y is put h so-far ps =
+      let there : take (length ws - p .from) (take r v)
+      ≡ take r v = take-all (length ws - p .from) (take r v) (omega (arith, all-words so-far)) in
+      let g = taken-going ws t s i e m r u v counts got p r (ends (take r v) 0) many-all bytes-all x y
+      (put ∙ ap (λ (cs : List ℕ). laid ws cs p x) (sym there)) h so-far ps in
+      let o : p .to + ends (take r v) 0 ≡ q = sym (is ∙ ends-from (take r v) (p .to)) in
+      rw o at g
+
+-- where there is no room nothing is stored
+pub none-laid : (ws cs : List ℕ) (p : Place) (x : List ℕ) → length x ≡ 0 → x ≡ laid ws cs p x
+none-laid ws cs p x h = sym (laid-outside ws cs p x (omega arith))
 
 pub element-writes : (ws ps t : List ℕ) (s : Sections) (i c code : ℕ) → code ≡ baseAt t s i c
     → Writes ws code (λ k q y. walk (writer ws) (childBy ps t s i c) q y)

@@ -7,12 +7,15 @@ use walk::Place;
 ghost use mathlib.Core.Path.{_≡_};
 ghost use mathlib.Core.Bool.{true};
 ghost use mathlib.Core.List.{List};
-ghost use Prim.Native.Nat.{ℕ, _+_, _≤_};
+ghost use Prim.Native.Nat.{ℕ, _+_, _-_, _≤_, _<_};
 ghost use lib.ListN.{length};
+ghost use Rattle.table.specs.declared.Entry.{Entry};
 ghost use Rattle.walk.specs.declared.Place.{Place};
+ghost use Rattle.walk.specs.declared.Met.the-variants.{Leaf};
 ghost use Rattle.walk.specs.Walk.{Step, Going};
 ghost use Rattle.walk.specs.Tree.{Tree};
 ghost use Rattle.pack.specs.Writing.{Writing, Writes, treeWritten};
+ghost use Rattle.pack.specs.JudgedRuns.{AllThere};
 ghost use Rattle.pack.specs.Alike.{AllChosen, WritesLeaf, MetTree};
 use crate::by_plan;
 use crate::each;
@@ -26,7 +29,7 @@ pub struct Reached {
 
 // Of one base code.
 pub(crate) fn write_run(words: &[u64], out: &mut [u8], code: u16, count: u32, p: Place) -> Reached
-    requires { ⌜ Writing (now words) p ⌝ }
+    requires { ⌜ Writing (now words) p × (0 < length (now out) → code < 13 → AllThere (now words) code (p .from) count) ⌝ }
     ensures { λ r. ⌜ ((f : ℕ → Place → List ℕ → Step) → Writes (now (words .entry)) code f
         → Going (Writing (now (words .entry))) f count 0 p (now (out .entry)) (r .upto) (r .at) (now (out .exit))) ⌝ }
 {
@@ -35,7 +38,7 @@ pub(crate) fn write_run(words: &[u64], out: &mut [u8], code: u16, count: u32, p:
     if left < many {
         return Reached { upto: 0, at: p };
     }
-    if limits::judged(words, p.from, code, many) {
+    if is_run(words, code, p.from, many, out.len()) {
         pack_leaves::store_run(words, out, code, many, p);
         let width = leaf::width(code);
         Reached {
@@ -47,6 +50,18 @@ pub(crate) fn write_run(words: &[u64], out: &mut [u8], code: u16, count: u32, p:
         }
     } else {
         Reached { upto: 0, at: p }
+    }
+}
+
+// Whether the code takes every word. Where there is room to store in, the first walk has seen that a base code does.
+fn is_run(words: &[u64], code: u16, from: usize, many: usize, room: usize) -> bool
+    requires { ⌜ (from + many ≤ length (now words)) × (0 < room → code < 13 → AllThere (now words) code from many) ⌝ }
+    ensures { λ r. ⌜ (r ≡ true → AllThere (now (words .entry)) code from many) ⌝ }
+{
+    if room == 0 {
+        limits::judged(words, from, code, many)
+    } else {
+        code < walk::NO_BASE
     }
 }
 
@@ -63,7 +78,8 @@ pub(crate) fn write_met(
     count: u32,
     p: Place,
 ) -> Reached
-    requires { ⌜ Writing (now words) p × (from ≤ count) ⌝ }
+    requires { ⌜ Writing (now words) p × (from ≤ count)
+        × (0 < length (now out) → (e : Entry) → met ≡ Leaf e → AllChosen (now words) (now table) s e (p .from) (count - from)) ⌝ }
     ensures { λ r. ⌜ ((tr : Tree) → MetTree (now (plans .entry)) (now (table .entry)) s c met tr
         → Going (Writing (now (words .entry))) (treeWritten (now (words .entry)) tr) count from p (now (out .entry)) (r .upto) (r .at) (now (out .exit))) ⌝ }
 {
@@ -86,7 +102,8 @@ fn write_leaves(
     count: u32,
     p: Place,
 ) -> Reached
-    requires { ⌜ Writing (now words) p × (from ≤ count) ⌝ }
+    requires { ⌜ Writing (now words) p × (from ≤ count)
+        × (0 < length (now out) → AllChosen (now words) (now table) s e (p .from) (count - from)) ⌝ }
     ensures { λ r. ⌜ ((f : ℕ → Place → List ℕ → Step) → WritesLeaf (now (words .entry)) (now (table .entry)) s e f
         → Going (Writing (now (words .entry))) f count from p (now (out .entry)) (r .upto) (r .at) (now (out .exit))) ⌝ }
 {
@@ -94,7 +111,7 @@ fn write_leaves(
     if words.len() - p.from < many {
         return Reached { upto: from, at: p };
     }
-    if takes_all(table, s, e, words, p.from, many) {
+    if takes_all(table, s, e, words, p.from, many, out.len()) {
         pack_leaves::store_run(words, out, e.of, many, p);
         let width = leaf::width(e.of);
         Reached {
@@ -109,11 +126,22 @@ fn write_leaves(
     }
 }
 
-// Whether the entry's leaf takes every word.
-fn takes_all(table: &[u8], s: Sections, e: Entry, words: &[u64], from: usize, many: usize) -> bool
-    requires { ⌜ from + many ≤ length (now words) ⌝ }
+// Whether the entry's leaf takes every word. Where there is room to store in, the first walk has seen that it does.
+fn takes_all(
+    table: &[u8],
+    s: Sections,
+    e: Entry,
+    words: &[u64],
+    from: usize,
+    many: usize,
+    room: usize,
+) -> bool
+    requires { ⌜ (from + many ≤ length (now words)) × (0 < room → AllChosen (now words) (now table) s e from many) ⌝ }
     ensures { λ r. ⌜ (r ≡ true → AllChosen (now (words .entry)) (now (table .entry)) s e from many) ⌝ }
 {
+    if 0 < room {
+        return true;
+    }
     if limits::judged(words, from, e.of, many) {
         if e.kind == table::ENUM {
             let at = s.values.at as u32 + 8 * (e.first as u32);

@@ -6,11 +6,12 @@ use walk::Walked;
 ghost use mathlib.Core.Path.{_≡_};
 ghost use mathlib.Core.Bool.{true};
 ghost use Prim.Native.Nat.{_≤_};
+ghost use lib.ListN.{length};
 ghost use Rattle.walk.specs.Tree.{Tree};
 ghost use Rattle.walk.specs.Planned.{isPlanned, planTree};
 ghost use Rattle.walk.specs.Walk.{Going};
 ghost use Rattle.pack.specs.Writing.{Writing, treeWritten};
-ghost use Rattle.pack.specs.ByPlan.{runsWritten};
+ghost use Rattle.pack.specs.ByPlan.{runsWritten, storedRuns};
 
 // Writes elements of type i from the from-th on, up to one that is refused; none where the type has no plan.
 pub(crate) fn write_planned(
@@ -73,7 +74,7 @@ fn write_times(
     while k < count {
         match by_plan::judge_runs(table, runs, words, at) {
             Walked::Went(q) => {
-                by_plan::store_runs(words, out, runs, at, q.from);
+                store_element(words, out, runs, at, q.from);
                 at = q;
                 k += 1;
             }
@@ -81,4 +82,14 @@ fn write_times(
         }
     }
     Reached { upto: k, at }
+}
+
+// Stores the leaves of one element. The room is seen before the call: the first walk has none, and the call costs as much as a leaf.
+fn store_element(words: &[u64], out: &mut [u8], runs: &[u64], p: Place, upto: usize)
+    requires { ⌜ Writing (now words) p × (p .from ≤ upto) × (upto ≤ length (now words)) ⌝ }
+    ensures { λ _. ⌜ now (out .exit) ≡ storedRuns (now (words .entry)) (now (runs .entry)) p upto (now (out .entry)) ⌝ }
+{
+    if p.to < out.len() {
+        by_plan::store_runs(words, out, runs, p, upto);
+    }
 }

@@ -7,12 +7,17 @@ use walk::Place;
 use walk::Walked;
 ghost use mathlib.Core.Path.{_≡_};
 ghost use mathlib.Core.List.{List};
-ghost use Prim.Native.Nat.{ℕ, _≤_};
-ghost use lib.ListN.{getD};
+ghost use mathlib.Core.Bool.{true};
+ghost use Prim.Native.Nat.{ℕ, _+_, _≤_, _<_};
+ghost use lib.ListN.{length, getD};
+ghost use Rattle.leaf.specs.Choice.{takes};
+ghost use Rattle.walk.specs.Codes.{codesOf};
 ghost use Rattle.walk.specs.declared.Met.the-variants.{Members, Elements};
 ghost use Rattle.walk.specs.Walk.{start, answer, left, walk, begun, times, leafWalk, Going};
 ghost use Rattle.walk.specs.Planned.{typeBy, walkBy};
+ghost use Rattle.pack_leaves.specs.Stored.{allTaken, ends, laid};
 ghost use Rattle.pack.specs.Writing.{writer, Writing, memberWritten};
+ghost use Rattle.pack.specs.Sure.{Sure};
 use crate::alike;
 use crate::alike::Reached;
 use crate::by_plan;
@@ -31,6 +36,7 @@ pub(crate) fn write_once(
     words: &[u64],
     out: &mut [u8],
 ) -> Walked
+    requires { ⌜ Sure (now out) (walk (writer (now words)) (typeBy (now plans) (now table) s i) start (now out)) ⌝ }
     ensures { λ r. ⌜ r ≡ answer (walk (writer (now (words .entry))) (typeBy (now (plans .entry)) (now (table .entry)) s i) start (now (out .entry))) ⌝ }
     ensures { λ _. ⌜ now (out .exit)
         ≡ left (walk (writer (now (words .entry))) (typeBy (now (plans .entry)) (now (table .entry)) s i) start (now (out .entry))) ⌝ }
@@ -55,7 +61,7 @@ fn write_members(
     out: &mut [u8],
     p: Place,
 ) -> Walked
-    requires { ⌜ Writing (now words) p ⌝ }
+    requires { ⌜ Writing (now words) p × Sure (now out) (walkBy (writer (now words)) (now plans) (now table) s i (Members e) p (now out)) ⌝ }
     ensures { λ r. ⌜ r ≡ answer (walkBy (writer (now (words .entry))) (now (plans .entry)) (now (table .entry)) s i (Members e) p (now (out .entry))) ⌝ }
     ensures { λ _. ⌜ now (out .exit)
         ≡ left (walkBy (writer (now (words .entry))) (now (plans .entry)) (now (table .entry)) s i (Members e) p (now (out .entry))) ⌝ }
@@ -102,7 +108,7 @@ fn write_elements(
     out: &mut [u8],
     p: Place,
 ) -> Walked
-    requires { ⌜ Writing (now words) p ⌝ }
+    requires { ⌜ Writing (now words) p × Sure (now out) (walkBy (writer (now words)) (now plans) (now table) s i (Elements e) p (now out)) ⌝ }
     ensures { λ r. ⌜ r ≡ answer (walkBy (writer (now (words .entry))) (now (plans .entry)) (now (table .entry)) s i (Elements e) p (now (out .entry))) ⌝ }
     ensures { λ _. ⌜ now (out .exit)
         ≡ left (walkBy (writer (now (words .entry))) (now (plans .entry)) (now (table .entry)) s i (Elements e) p (now (out .entry))) ⌝ }
@@ -193,13 +199,13 @@ fn write_leaf(
     out: &mut [u8],
     p: Place,
 ) -> Walked
-    requires { ⌜ Writing (now words) p ⌝ }
+    requires { ⌜ Writing (now words) p × Sure (now out) (leafWalk (writer (now words)) (now table) s e p (now out)) ⌝ }
     ensures { λ r. ⌜ r ≡ answer (leafWalk (writer (now (words .entry))) (now (table .entry)) s e p (now (out .entry))) ⌝ }
     ensures { λ _. ⌜ now (out .exit) ≡ left (leafWalk (writer (now (words .entry))) (now (table .entry)) s e p (now (out .entry))) ⌝ }
 {
     if p.from < words.len() {
         let word = word_at(words, p.from);
-        if leaf::takes(table, s, e, word) {
+        if is_taken(table, s, e, word, out.len()) {
             let width = leaf::width(e.of);
             leaf::put(out, p.to, e.of, word);
             Walked::Went(Place {
@@ -211,6 +217,18 @@ fn write_leaf(
         }
     } else {
         Walked::Stopped(walk::ENDS_EARLY, p)
+    }
+}
+
+// Whether the leaf takes the word. Where there is room to store in, the first walk has seen that it does.
+fn is_taken(table: &[u8], s: Sections, e: Entry, word: u64, room: usize) -> bool
+    requires { ⌜ (0 < room → takes (now table) s e word ≡ true) ⌝ }
+    ensures { λ r. ⌜ r ≡ takes (now (table .entry)) s e word ⌝ }
+{
+    if room == 0 {
+        leaf::takes(table, s, e, word)
+    } else {
+        true
     }
 }
 
@@ -233,20 +251,49 @@ fn write_bases(
     out: &mut [u8],
     p: Place,
 ) -> Reached
-    requires { ⌜ Writing (now words) p × (from ≤ e .count) ⌝ }
+    requires { ⌜ Writing (now words) p × (from ≤ e .count)
+        × (0 < length (now out) → allTaken (now words) (codesOf (now table) s i e from 64) (p .from) ≡ true) ⌝ }
     ensures { λ r. ⌜ ((ps : List ℕ) → Going (Writing (now (words .entry))) (memberWritten (now (words .entry)) ps (now (table .entry)) s i e) (e .count)
         from p (now (out .entry)) (r .upto) (r .at) (now (out .exit))) ⌝ }
 {
     let mut codes = [0u8; MOST_CODES];
     let n = walk::runs::base_codes(table, s, i, e, from, &mut codes);
-    let part = pack_leaves::judge_codes(words, &codes[..n], p.from);
-    let count = part.count;
-    pack_leaves::store_codes(words, out, &codes[..count], p);
-    Reached {
-        upto: from + count as u32,
-        at: Place {
-            from: p.from + count,
-            to: p.to + part.bytes,
-        },
+    if out.len() == 0 {
+        let part = pack_leaves::judge_codes(words, &codes[..n], p.from);
+        let count = part.count;
+        Reached {
+            upto: from + count as u32,
+            at: Place {
+                from: p.from + count,
+                to: p.to + part.bytes,
+            },
+        }
+    } else {
+        let end = store_bases(words, out, &codes[..n], p);
+        Reached {
+            upto: from + n as u32,
+            at: Place {
+                from: p.from + n,
+                to: end,
+            },
+        }
     }
+}
+
+// Stores leaves of these codes, whose words are all there. Answers where they end.
+fn store_bases(words: &[u64], out: &mut [u8], codes: &[u8], p: Place) -> usize
+    requires { ⌜ Writing (now words) p × (p .from + length (now codes) ≤ length (now words)) ⌝ }
+    ensures { λ r. ⌜ r ≡ ends (now (codes .entry)) (p .to) ⌝ }
+    ensures { λ _. ⌜ now (out .exit) ≡ laid (now (words .entry)) (now (codes .entry)) p (now (out .entry)) ⌝ }
+{
+    let mut to = p.to;
+    let mut k: usize = 0;
+    while k < codes.len() {
+        let code = codes[k] as u16;
+        let from = p.from + k;
+        leaf::put(out, to, code, words[from]);
+        to = to + leaf::width(code);
+        k += 1;
+    }
+    to
 }

@@ -14,7 +14,7 @@ first-write-spec =
     (tie.spec
     (λ c. search needs)
     (λ c. sym (length-take-le _ (c .before .before .before .before .before .args .out .now) (omega arith)))
-    (λ c κs. search needs)
+    (λ c κs h. absurd (omega arith))
     (λ c. search needs)
     (λ c.
     let at-write-once = c .before .before in

@@ -2,6 +2,7 @@
 -- Assumes nothing.
 use borrow.Author.Needs.{needs}
 use Rattle.walk.proofs.Whole.{refused, not-whole, all-stored}
+use Rattle.pack.proofs.Sure.{second-sure}
 use Rattle.pack.proofs.write_type.Statement.{statement}
 use Rattle.pack.proofs.write_type.Tie as tie
 
@@ -13,7 +14,9 @@ write-type-spec =
     (λ c. search needs)
     (λ c. search needs)
     (λ c κs. search needs)
-    (λ c κs. search needs)
+    (λ c κs h.
+    let at-q = c .before .before .before .before in
+    second-sure _ _ _ _ _ (at-q .before .before .before .before .first-write .ensures .1) (at-q .q .given .1))
     (λ c. search needs)
     (λ c.
     let at-first-write = c .before .before .before .before .before in

@@ -11,7 +11,9 @@ write-met-spec =
     tie.close
     (tie.spec
     (λ c. search needs)
-    (λ c κs. search needs)
+    (λ c κs.
+    let start = c .before .before .before .before .before .before .before .before in
+    (start .pre .0, start .pre .1, λ h. start .pre .2 h _ (c .before .before .met .given .1)))
     (λ c. search needs)
     (λ c κs. search needs)
     (λ c. search needs)

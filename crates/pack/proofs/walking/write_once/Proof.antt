@@ -3,6 +3,7 @@
 use borrow.Author.Needs.{needs}
 use native.Mathlib.Omega.{arith}
 use Rattle.walk.proofs.Returns.{tree-looked, met-leaf, met-members, met-elements, met-broken}
+use Rattle.pack.proofs.Sure.{type-leaf, type-members, type-elements}
 use Rattle.pack.proofs.walking.write_once.Statement.{statement}
 use Rattle.pack.proofs.walking.write_once.Tie as tie
 
@@ -12,11 +13,20 @@ write-once-spec =
     (tie.spec
     (λ c κs. search needs)
     (λ c. search needs)
-    (λ c κs. (omega arith, omega arith))
+    (λ c κs.
+    let at-look = c .before .before .before .before in
+    let start = at-look .before .before .before .before .before in
+    ((omega arith, omega arith), λ h. type-leaf _ _ _ _ _ _ _ _ (at-look .look .ensures) _ (start .pre h) (c .before .before .e .given .1)))
     (λ c. search needs)
-    (λ c κs. (omega arith, omega arith))
+    (λ c κs.
+    let at-look = c .before .before .before .before in
+    let start = at-look .before .before .before .before .before in
+    ((omega arith, omega arith), λ h. type-members _ _ _ _ _ _ _ _ (at-look .look .ensures) _ (start .pre h) (c .before .before .e2 .given .1)))
     (λ c. search needs)
-    (λ c κs. (omega arith, omega arith))
+    (λ c κs.
+    let at-look = c .before .before .before .before in
+    let start = at-look .before .before .before .before .before in
+    ((omega arith, omega arith), λ h. type-elements _ _ _ _ _ _ _ _ (at-look .look .ensures) _ (start .pre h) (c .before .before .e3 .given .1)))
     (λ c. search needs)
     (λ c. search needs)
     (λ c.

@@ -1,15 +1,19 @@
 -- The writer of a record's members. Its loop: so many members are written, and the walk is at this place.
 -- Assumes nothing.
 use borrow.Author.Needs.{needs}
-use Prim.Native.Nat.{ℕ, _-_}
+use Prim.Native.Nat.{ℕ, _-_, _<_}
 use native.Mathlib.Omega.{arith}
-use Rattle.walk.specs.Walk.{Going}
+use lib.ListN.{length}
+use mathlib.Core.Path.{_≡_}
+use Rattle.walk.specs.Walk.{through, Going}
 use Rattle.pack.specs.Writing.{writer, Writing}
 use Rattle.walk.proofs.Trees.{members-smaller, elements-smaller}
 use Rattle.walk.proofs.Returns.{Did, memberStep, members-planned}
 use Rattle.walk.proofs.Turns.{met-long, of-four, leaf-stepped, members-stepped, elements-stepped, broken-stepped}
 use Rattle.walk.proofs.Turns.{going-start, going-on, going-next, members-done, members-stop}
 use Rattle.pack.proofs.WriteReturns.{writer-keeps}
+use Rattle.pack.proofs.Sure.{Goes-on, going-sure, members-sure, sure-leaf, sure-members, sure-elements}
+use Rattle.pack.proofs.SureLeaves.{going-codes}
 use Rattle.pack.proofs.walking.+write_elements+write_members.Proof.Claims.{members-claims, members-at}
 use Rattle.pack.proofs.walking.write_members.Reads as written
 use Rattle.pack.proofs.walking.+write_elements+write_members.Lts-write_members as lts
@@ -45,6 +49,21 @@ module _ (t : ℕ) where
       (c .write-bases .last .1 .1 .1 .1 .1 .1 .0)
   so-far c = going-on (loop-at c .loop .inv) (c .write-bases .ensures _)
 
+  -- where there is room to store in, the walk is known to go, and so is its next step
+  whole : (c : lts.At-loop (members-claims t) (members-at t) written.Post Inv μ) → 0 < length (start-at c .args .out .now)
+      → Goes-on (through (start-at c .args .e .count)
+      (memberStep (writer (start-at c .args .words .now)) (start-at c .args .plans .now) (start-at c .args .table .now) (start-at c .args .s)
+      (start-at c .args .i) (start-at c .args .e)) (start-at c .args .p) (start-at c .args .out .now))
+  whole c h =
+      members-sure _ _ _ _ _ _ (no-plan-at c .before .is-planned .ensures) (no-plan-at c .if1 .left) _ _ (start-at c .pre .1 .1 h)
+
+  known : (c : lts.After-write-bases (members-claims t) (members-at t) written.Post Inv μ)
+      → (c .write-bases .result .upto ≡ start-at (loop-at c) .args .e .count → ⊥) → 0 < length (c .write-bases .last .1 .1 .1 .1 .1 .1 .0)
+      → Goes-on (memberStep (writer (start-at (loop-at c) .args .words .now)) (start-at (loop-at c) .args .plans .now)
+      (start-at (loop-at c) .args .table .now) (start-at (loop-at c) .args .s) (start-at (loop-at c) .args .i) (start-at (loop-at c) .args .e)
+      (c .write-bases .result .upto) (c .write-bases .result .at) (c .write-bases .last .1 .1 .1 .1 .1 .1 .0))
+  known c more h = going-sure (so-far c) (whole (loop-at c)) (omega (arith, so-far c .most)) h
+
   -- whatever was met, the step is that of the member
   abbrev Stepped : lts.At-match-came (members-claims t) (members-at t) written.Post Inv μ → Type 0
   Stepped c =
@@ -63,13 +82,34 @@ module _ (t : ℕ) where
       (λ w. broken-stepped _ _ _ _ _ _ _ is _ _ _ m _ _ (w .1 .given .1) (w .2) (w .3))
       (c .match .came)
 
+  bases-requires : lts.Need-write-bases-requires (members-claims t) (members-at t) written.Post Inv μ
+  bases-requires c κs =
+      let loop = c .before .before in
+      let plans = start-at loop .args .plans .now in
+      (loop .loop .inv .here, loop .loop .inv .most, λ h. going-codes _ plans _ _ _ _ (loop .loop .inv) (whole loop) h)
+
+  leaf-requires : lts.Need-write-leaf-requires (members-claims t) (members-at t) written.Post Inv μ
+  leaf-requires c κs =
+      let met = c .before .before .before .before in
+      let bases = met .before .before .before .before .before .before .before in (
+        so-far bases .here,
+        λ h. sure-leaf _ _ _ _ _ _ _ (met .before .member-at .ensures) _ _ _ (met .meet .ensures) _
+            (known bases (met .before .before .before .if2 .left) h)
+            (c .before .before .c .given .1),
+      )
+
   members-requires : lts.Need-write-members-requires (members-claims t) (members-at t) written.Post Inv μ
   members-requires c κs =
       let met = c .before .before .before .before in
       let bases = met .before .before .before .before .before .before .before in
       let start = start-at (loop-at bases) in (
         members-smaller _ _ _ _ _ (start .pre .0) _ _ (met .meet .ensures) (c .before .before .c2 .given .1),
-        so-far bases .here,
+        (
+          so-far bases .here,
+          λ h. sure-members _ _ _ _ _ _ _ (met .before .member-at .ensures) _ _ _ (met .meet .ensures) _
+              (known bases (met .before .before .before .if2 .left) h)
+              (c .before .before .c2 .given .1),
+        ),
       )
 
   elements-requires : lts.Need-write-elements-requires (members-claims t) (members-at t) written.Post Inv μ
@@ -78,7 +118,12 @@ module _ (t : ℕ) where
       let bases = met .before .before .before .before .before .before .before in
       let start = start-at (loop-at bases) in (
         elements-smaller _ _ _ _ _ (start .pre .0) _ _ (met .meet .ensures) (c .before .before .c3 .given .1),
-        so-far bases .here,
+        (
+          so-far bases .here,
+          λ h. sure-elements _ _ _ _ _ _ _ (met .before .member-at .ensures) _ _ _ (met .meet .ensures) _
+              (known bases (met .before .before .before .if2 .left) h)
+              (c .before .before .c3 .given .1),
+        ),
       )
 
   loop-again : lts.Need-loop-again (members-claims t) (members-at t) written.Post Inv μ
@@ -119,18 +164,18 @@ module _ (t : ℕ) where
 
   same-length-3 : lts.Need-same-length-3 (members-claims t) (members-at t) written.Post Inv μ
   same-length-3 c =
-      met-long _ _ _ _ _ _ _ _ _ (writer-keeps _) (start-at (loop-at (bases-at (c .before .before .before))) .pre .1) (returns-3 c)
+      met-long _ _ _ _ _ _ _ _ _ (writer-keeps _) (start-at (loop-at (bases-at (c .before .before .before))) .pre .1 .0) (returns-3 c)
 
 pub members-written : (t : ℕ) {M : Type 1} → lts.Closed (members-claims t) (members-at t) written.Post M
 members-written t =
     lts.spec (members-claims t) (members-at t) written.Post Inv μ (λ c κs. search needs)
-    (λ c κs. c .before .before .before .before .before .before .before .pre .1) (λ c. search needs) (returns t)
-    (λ c. search needs) (λ c. going-start (search needs) (c .before .before .before .before .before .before .before .pre .1))
-    (λ c κs. (c .before .before .loop .inv .here, c .before .before .loop .inv .most)) (same-length-2 t) (returns-2 t)
+    (λ c κs. c .before .before .before .before .before .before .before .pre .1 .0) (λ c. search needs) (returns t)
+    (λ c. search needs) (λ c. going-start (search needs) (c .before .before .before .before .before .before .before .pre .1 .0))
+    (bases-requires t) (same-length-2 t) (returns-2 t)
     (λ c. search needs)
     (λ c. record { fits = omega (arith, so-far t (c .before .before .before .before .before) .most) })
     (λ c κs. search needs) (λ c κs. search needs) (λ c. search needs)
-    (λ c κs. so-far t (c .before .before .before .before .before .before .before .before .before .before .before) .here)
+    (leaf-requires t)
     (λ c. search needs) (members-requires t) (λ c. search needs) (elements-requires t) (λ c. search needs) (λ c. search needs)
     (λ c.
     let there = c .before .before .before in
