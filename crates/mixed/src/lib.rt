@@ -96,7 +96,8 @@ pub struct AnyReceived {
 
 // Reads a message by its sender's issue, notes the state or the services that it tells, and writes the owed replies at the output's
 // start; a response frees its place of the list. `partners` says who speaks Issue 3, `ours` are our services, `blocks` has what the
-// partners of Issue 3 told of theirs. The sections are known to lie in the table, and it does not ask.
+// partners of Issue 3 told of theirs. The sections are known to lie in the table, and it does not ask. What it hands on whole it hands
+// on as `[..]`, which the compiler makes a pair of its own for; as it came, it would be read by the pair, and wait for both its halves.
 pub fn receive_within(
     own: Own,
     stamp: Stamp,
@@ -129,12 +130,12 @@ pub fn receive_within(
         Form::Six => {
             let received = platform::receive_within(
                 own,
-                table,
+                &table[..],
                 s,
-                index,
+                &index[..],
                 standing,
                 list,
-                message,
+                &message[..],
                 out,
             );
             receiving::from_received(received)
@@ -145,13 +146,13 @@ pub fn receive_within(
             composite,
             partners,
             ours,
-            table,
+            &table[..],
             s,
-            index,
+            &index[..],
             standing,
             list,
             blocks,
-            message,
+            &message[..],
             out,
         ),
     }

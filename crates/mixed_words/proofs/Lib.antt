@@ -3,4 +3,5 @@ mod Calling
 mod Straight
 mod OnSections
 mod ServiceAsked
+mod SixOperations
 mod ByTarget

@@ -9,15 +9,13 @@ use borrow.Rule.Slice.PartMut.{putMid}
 use lib.Dec.{eqb}
 use lib.ListN.{length, take, drop}
 use Rattle.wire.specs.Bytes.{number}
-use Rattle.wire.proofs.Cond.{yes-if, no-if, yes-eq, no-eq}
+use Rattle.wire.proofs.Cond.{yes-eq, no-eq}
 use Rattle.table.specs.declared.Sections.{Sections}
 use Rattle.operations.specs.declared.Sought.{Sought}
 use Rattle.operations.specs.declared.Sought.the-variants as sought
 use Rattle.operations.specs.Entries.{sentKind, kindAt}
-use Rattle.operations.specs.Search.{soughtIn}
 use Rattle.message.specs.declared.Message.the-variants as message
-use Rattle.message.specs.Header.{headerLength, platformDomain, domainIn, senderIn, idIn, payloadSizeIn, headerIn}
-use Rattle.message.specs.Refusal.{readRefusal}
+use Rattle.message.specs.Header.{headerLength, senderIn, payloadSizeIn, headerIn}
 use Rattle.message3.specs.declared.Stamp.{Stamp}
 use Rattle.partners.specs.Threes.{isThree}
 use Rattle.platform.specs.declared.reactions.Standing.{Standing}
@@ -33,37 +31,12 @@ use Rattle.platform_words.proofs.Behind.{lent-behind, back-by}
 use Rattle.platform_words.proofs.Storing.{kept-standing}
 use Rattle.platform_words.proofs.Answering.{kept-behind}
 use Rattle.platform_words.proofs.Straight.{Straight, straight, never, outcomeBy, kindBy, its-outcome, its-output, its-list}
-use Rattle.platform_words.proofs.Straight.{of-platform, unread, was-read}
 use Rattle.mixed_words.specs.HeardWords.{stampIn, ownComposite, behindSix, anyNumber, anyPlatformAfter, anyHeardAfter}
 use Rattle.mixed_words.specs.Within.{outcomeWithin, numberWithin, wordsWithin, servicesWithin, outputWithin, heardWithin, sixOperation, sixWords}
 use Rattle.mixed_words.specs.Within.{straightNumber, straightPlatform, straightHeard}
 use Rattle.mixed_words.proofs.ToldWords.{told-behind}
 
--- `six_operation`
-module _ {b : Bool} {k : ℕ} (own : ℕ) (i t : List ℕ) (s : Sections) (index m : List ℕ) (ek : k ≡ number 2 m 4) (eb : b ≡ isThree i k) where
-  is-three : isThree i (senderIn m) ≡ b
-  is-three = ap (isThree i) (sym ek) ∙ sym eb
-
-  pub of-three : b ≡ true → sought.Nowhere ≡ sixOperation own i t s index m
-  unfolding sixOperation
-  of-three y = sym (yes-if {A = Sought} sought.Nowhere (operationHeard own t s index m) (is-three ∙ y))
-
-  module _ (no : b ≡ false) where
-    of-six : operationHeard own t s index m ≡ sixOperation own i t s index m
-    unfolding sixOperation
-    of-six = sym (no-if {A = Sought} sought.Nowhere (operationHeard own t s index m) (is-three ∙ no))
-
-    module _ (d : ℕ) (ed : d ≡ domainIn m) where
-      pub of-domain-0 : d ≡ platformDomain → sought.Nowhere ≡ sixOperation own i t s index m
-      of-domain-0 z = of-platform own t s index m d ed z ∙ of-six
-
-      module _ (zd : d ≡ platformDomain → ⊥) (n : ℕ) (en : n ≡ readRefusal own m) where
-        pub not-read : (n ≡ 0 → ⊥) → sought.Nowhere ≡ sixOperation own i t s index m
-        not-read z = unread own t s index m d ed zd n en z ∙ of-six
-
-        pub looked-up : {x : Sought} {id : ℕ} → n ≡ 0 → id ≡ idIn m → x ≡ soughtIn t index (s .operations .count) id → x ≡ sixOperation own i t s index m
-        looked-up z ei ex = was-read own t s index m d ed zd n en z ei ex ∙ of-six
-
+-- what a message that was found is
 pub six-only : (own : ℕ) (i t : List ℕ) (s : Sections) (index m : List ℕ) (e q : ℕ) → sixOperation own i t s index m ≡ sought.At e q
     → (isThree i (senderIn m) ≡ false) × (operationHeard own t s index m ≡ sought.At e q)
 unfolding sixOperation
@@ -130,7 +103,7 @@ module _ (p : Standing) (m : List ℕ) (e : ℕ) where
   as-told true false = record { number-is = refl; words-are = λ ws l. refl; heard-is = λ heard. refl }
   as-told false awaited = record { number-is = refl; words-are = λ ws l. refl; heard-is = λ heard. refl }
 
--- `received`: straight from its bytes
+-- `receive_in`: straight from its bytes, on sections that lie in the table
 module _ {f : Sought} (own : ℕ) (i ours ws sv t : List ℕ) (s : Sections) (index m out : List ℕ) (e q : ℕ) (ef : f ≡ sixOperation own i t s index m)
     (at : f ≡ sought.At e q) where
   its : Straight own t s index (standingIn ws) (pendingIn ws) m e q

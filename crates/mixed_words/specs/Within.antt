@@ -5,8 +5,11 @@ use mathlib.Core.List.{List, [], _∷_, _++_}
 use lib.Dec.{eqb}
 use lib.ListN.{length, take}
 use Rattle.table.specs.declared.Sections.{Sections}
+use Rattle.table.specs.Layout.{within}
+use Rattle.table.specs.Words.{sectionsIn, indexIn}
 use Rattle.operations.specs.declared.Sought.{Sought}
 use Rattle.operations.specs.declared.Sought.the-variants.{Nowhere}
+use Rattle.operations.specs.Search.{soughtIn}
 use Rattle.message.specs.Header.{senderIn}
 use Rattle.partners.specs.Threes.{isThree}
 use Rattle.platform.specs.Receiving.{notAwaited}
@@ -40,6 +43,13 @@ heardWithin own i ours ws sv t s index m out heard = anyHeardAfter (outcomeWithi
 -- the operation of the table that a message of Issue 6 is, where nothing refuses it
 unfoldable pub sixOperation : ℕ → List ℕ → List ℕ → Sections → List ℕ → List ℕ → Sought
 sixOperation own i t s index m = cond (isThree i (senderIn m)) Nowhere (operationHeard own t s index m)
+
+-- and by the words of its sections, where these lie in the table; the operation of an ID likewise
+unfoldable pub sixIn : ℕ → List ℕ → List ℕ → List ℕ → List ℕ → Sought
+sixIn own i t ss m = cond (within t (sectionsIn ss)) (sixOperation own i t (sectionsIn ss) (indexIn ss) m) Nowhere
+
+unfoldable pub operationIn : List ℕ → List ℕ → ℕ → Sought
+operationIn t ss id = cond (within t (sectionsIn ss)) (soughtIn t (indexIn ss) (sectionsIn ss .operations .count) id) Nowhere
 
 -- its words, from its bytes
 abbrev pub sixWords : ℕ → List ℕ → ℕ → List ℕ

@@ -1,43 +1,56 @@
-// A message of Issue 6 under the ID of an operation of the table, told straight from its bytes. It is `platform_words`' own text again:
-// called from there too, its functions would be compiled as calls, which cost an operation half its time.
+// A message of Issue 6 under the ID of an operation of the table, told straight from its bytes. From `straight` on it is
+// `platform_words`' own text again: called from there too, its functions would be compiled as calls, which cost an operation half its time.
 ghost use mathlib.Core.Path.{_≡_};
 ghost use mathlib.Core.List.{_++_};
 ghost use Prim.Native.Nat.{_≤_};
 ghost use lib.ListN.{length, take};
+ghost use Rattle.table.specs.Words.{boundsWords};
 ghost use Rattle.message.specs.Header.{headerIn};
 ghost use Rattle.platform.specs.Receiving.{listAnswered};
 ghost use Rattle.platform_words.specs.Words.{standingLength, standingIn, pendingIn, standingWords};
 ghost use Rattle.platform_words.specs.Within.{isAwaited, kindHeard, listHeard};
-ghost use Rattle.mixed_words.specs.Within.{sixOperation, sixWords, straightNumber, straightPlatform, straightHeard};
+ghost use Rattle.mixed_words.specs.Within.{sixIn, operationIn, sixWords, straightNumber, straightPlatform, straightHeard};
 use crate::heard_words;
 use crate::heard_words::ANY_HEARD_WORDS;
 use message::Header;
 use message::Own;
 use operations::Sought;
 use platform_words::PENDING_AT;
-use table::Sections;
+use table::BOUNDS_WORDS;
 
-// The operation of the table that a message of Issue 6 is, where nothing refuses it.
+// The operation of the table that a message of Issue 6 is, where nothing refuses it. Its own bytes are asked before the sections are
+// read: any other message is answered where they are read again.
 pub(crate) fn six_operation(
     own: Own,
     partners: &[u64],
     table: &[u8],
-    s: Sections,
-    index: &[u64],
+    bounds: &[u64],
     message: &[u8],
 ) -> Sought
+    requires { ⌜ boundsWords ≤ length (now bounds) ⌝ }
     ensures { λ r. ⌜ r
-        ≡ sixOperation (own .platform) (now (partners .entry)) (now (table .entry)) s (now (index .entry)) (now (message .entry)) ⌝ }
+        ≡ sixIn (own .platform) (now (partners .entry)) (now (table .entry)) (now (bounds .entry)) (now (message .entry)) ⌝ }
 {
-    if partners::is_three(partners, wire::u32_at(message, Header::PLATFORM_AT)) {
-        return Sought::Nowhere;
-    }
     if wire::u8_at(message, Header::DOMAIN_AT) == Header::PLATFORM_DOMAIN {
         return Sought::Nowhere;
     }
-    if message::read_refusal(own, message) == 0 {
-        let id = wire::u32_at(message, Header::ID_AT);
-        operations::find(table, index, s.operations.count, id)
+    if message::read_refusal(own, message) != 0 {
+        return Sought::Nowhere;
+    }
+    if partners::is_three(partners, wire::u32_at(message, Header::PLATFORM_AT)) {
+        return Sought::Nowhere;
+    }
+    operation_in(table, bounds, wire::u32_at(message, Header::ID_AT))
+}
+
+// The operation of that ID, where the sections lie in the table.
+fn operation_in(table: &[u8], bounds: &[u64], id: u32) -> Sought
+    requires { ⌜ boundsWords ≤ length (now bounds) ⌝ }
+    ensures { λ r. ⌜ r ≡ operationIn (now (table .entry)) (now (bounds .entry)) id ⌝ }
+{
+    let s = table::sections_in(bounds);
+    if table::within(table, s) {
+        operations::find(table, &bounds[BOUNDS_WORDS..], s.operations.count, id)
     } else {
         Sought::Nowhere
     }

@@ -1,7 +1,7 @@
--- `mixed_words::from_bytes::six_operation` meets its contract: by its sender's issue, its domain and what refuses it.
+-- `mixed_words::from_bytes::six_operation` meets its contract: by its domain, what refuses it and its sender's issue.
 -- Assumes nothing.
 use borrow.Author.Needs.{needs}
-use Rattle.mixed_words.proofs.Straight.{of-three, of-domain-0, looked-up, not-read}
+use Rattle.mixed_words.proofs.SixOperations.{of-domain-0, not-read, of-three, looked-up}
 use Rattle.mixed_words.proofs.from_bytes.six_operation.Statement.{statement}
 use Rattle.mixed_words.proofs.from_bytes.six_operation.Tie as tie
 
@@ -10,12 +10,12 @@ six-operation-spec =
     tie.close
     (tie.spec
     (λ c κs. search needs)
+    (λ c. search of-domain-0)
+    (λ c κs. search needs)
+    (λ c. search not-read)
+    (λ c κs. search needs)
     (λ c κs. search needs)
     (λ c. search of-three)
     (λ c κs. search needs)
-    (λ c. search of-domain-0)
     (λ c κs. search needs)
-    (λ c κs. search needs)
-    (λ c κs. search needs)
-    (λ c. search looked-up)
-    (λ c. search not-read))
+    (λ c. search looked-up))

@@ -1,8 +1,7 @@
--- `mixed_words::on_sections::receive_in` meets its contract: the sections lie in the table, or not.
+-- `mixed_words::on_sections::receive_in` meets its contract: straight from its bytes, or as `mixed` answers it.
 -- Assumes nothing.
 use borrow.Author.Needs.{needs}
-use Rattle.mixed_words.proofs.OnSections.{inside-number, inside-words, inside-services, inside-output, inside-heard}
-use Rattle.mixed_words.proofs.OnSections.{outside-number, outside-words, outside-services, outside-output, outside-heard}
+use Rattle.mixed_words.proofs.OnSections.{told-number, told-words, told-services, told-output, told-heard}
 use Rattle.mixed_words.proofs.on_sections.receive_in.Statement.{statement}
 use Rattle.mixed_words.proofs.on_sections.receive_in.Tie as tie
 
@@ -11,12 +10,11 @@ receive-in-spec =
     tie.close
     (tie.spec
     (λ c κs. search needs)
-    (λ c κs. search needs)
-    (λ c. search needs)
-    (λ c. search needs)
     (λ c. search needs)
     (λ c κs. search needs)
     (λ c. search needs)
+    (λ c κs. search needs)
+    (λ c. (search told-number, (search told-words, (search told-services, (search told-output, search told-heard)))))
     (λ c. search needs)
-    (λ c. (search inside-number, (search inside-words, (search inside-services, (search inside-output, search inside-heard)))))
-    (λ c. (search outside-number, (search outside-words, (search outside-services, (search outside-output, search outside-heard))))))
+    (λ c. search needs)
+    (λ c. (search needs, (search needs, (search needs, (search needs, search needs))))))
