@@ -12,11 +12,10 @@ use lib.ListN.{length, getD}
 use mir.Syntax.{w16, w64}
 use mir.Val.{Fits}
 use Rattle.wire.proofs.Cond.{clash}
-use Rattle.table.specs.declared.Section.{Section}
 use Rattle.table.specs.declared.Sections.{Sections}
 use Rattle.table.specs.Layout.{liesIn, within, typeWidth, memberWidth, valueWidth, operationWidth}
 use Rattle.table.specs.Layout.{mostTypes, mostMembers, mostValues, mostOperations}
-use Rattle.table.specs.Words.{wordLimit, isSection, sectionIn, areSections, outside, sectionsIn}
+use Rattle.table.specs.Words.{isSection, sectionIn, areSections, outside, sectionsIn}
 use Rattle.table.proofs.Storing.{outside-refused, operations-there, count-fits}
 
 -- no section's end wraps

@@ -105,8 +105,9 @@ fn lie_in(table: &[u8], words: &[u64]) -> bool
     }
 }
 
-// Whether the two words at k are a section that lies within so many bytes. The remainder is the place itself where the first test
-// holds, and no sum wraps where it fails: so both may be asked together, which the compiler makes two jumps of, and no choice.
+// Whether the two words at k are a section that lies within so many bytes. Place and end are asked by one `&`, of which the compiler
+// makes two jumps; of an `if` for each it makes flags that are put together. The remainder is the place itself where that is asked
+// for, and with it the sum never wraps.
 fn lies_in(words: &[u64], k: usize, width: u16, most: u16, len: usize) -> bool
     requires { ⌜ k + 2 ≤ length (now words) ⌝ }
     ensures { λ r. ⌜ r ≡ (isSection (now (words .entry)) k && liesIn width most len (sectionIn (now (words .entry)) k)) ⌝ }
