@@ -1,5 +1,6 @@
 pub mod Words
 mod Calling
+mod AsTheyLie
 mod Giving
 mod ByPlans
 mod IssueWords

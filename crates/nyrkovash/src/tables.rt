@@ -1,21 +1,37 @@
 // A table checked and its operations looked up, with the sections and the answers in lent words: as the C interface has them.
 ghost use mathlib.Core.Path.{_≡_};
 ghost use mathlib.Core.List.{_++_};
-ghost use Prim.Native.Nat.{_≤_};
+ghost use mathlib.Core.Bool.{_&&_};
+ghost use Prim.Native.Nat.{_+_, _≤_};
 ghost use lib.ListN.{length};
-ghost use Rattle.table.specs.Words.{boundsWords, sectionsIn, indexIn, wordsOf};
+ghost use Rattle.table.specs.Layout.{liesIn, within};
+ghost use Rattle.table.specs.Words.{boundsWords, isSection, sectionIn, sectionsIn, indexIn, wordsOf};
 ghost use Rattle.nyrkovash.specs.TableCalls.{sectionsWords, checkNumber, checkAnswer, findNumber, findAnswer};
 use operations::Sought;
 use table::BOUNDS_WORDS;
 use table::Checked;
+use table::MOST_VALUES;
 use table::SECTIONS_WORDS;
 use table::Sections;
+use table::layout::MEMBER_WIDTH;
+use table::layout::OPERATION_WIDTH;
+use table::layout::TYPE_WIDTH;
+use table::layout::VALUE_WIDTH;
 
 // How many words an operation that was looked up is.
 pub const FOUND_WORDS: usize = 4;
 
 // Where an operation was found.
 pub const FOUND: u64 = 1;
+
+// The most entries of a section, as `table` has them, and one more than its largest number.
+const MOST_TYPES: u16 = 256;
+
+const MOST_MEMBERS: u16 = 1024;
+
+const MOST_OPERATIONS: u16 = 1024;
+
+const WORD_LIMIT: u64 = 65536;
 
 // Checks a table: 30 to 33, or 0, its sections and the index of its operations.
 #[no_mangle]
@@ -46,9 +62,9 @@ pub extern "C" fn nyr_find(
         ≡ findAnswer (now (table .entry)) (sectionsIn (now (sections .entry))) (indexIn (now (sections .entry))) id (now (answer .entry)) ⌝ }
 {
     let words: &[u64] = sections;
-    let s = table::sections_in(words);
-    if table::within(table, s) {
-        match operations::find(table, &words[BOUNDS_WORDS..], s.operations.count, id) {
+    if lie_in(table, words) {
+        let count = words[7] as u16;
+        match operations::find(table, &words[BOUNDS_WORDS..], count, id) {
             Sought::At(_, place) => {
                 let operation = operations::operation_at(table, place);
                 *answer = [
@@ -66,6 +82,42 @@ pub extern "C" fn nyr_find(
     } else {
         table::CUT_SHORT
     }
+}
+
+// `table::within` of `table::sections_in`, asked of the words as they lie: a look-up wants no more of the sections than how many
+// operations there are, so that none is made of its words and kept.
+fn lie_in(table: &[u8], words: &[u64]) -> bool
+    requires { ⌜ boundsWords ≤ length (now words) ⌝ }
+    ensures { λ r. ⌜ r ≡ within (now (table .entry)) (sectionsIn (now (words .entry))) ⌝ }
+{
+    if lies_in(words, 0, TYPE_WIDTH, MOST_TYPES, table.len()) {
+        if lies_in(words, 2, MEMBER_WIDTH, MOST_MEMBERS, table.len()) {
+            if lies_in(words, 4, VALUE_WIDTH, MOST_VALUES, table.len()) {
+                lies_in(words, 6, OPERATION_WIDTH, MOST_OPERATIONS, table.len())
+            } else {
+                false
+            }
+        } else {
+            false
+        }
+    } else {
+        false
+    }
+}
+
+// Whether the two words at k are a section that lies within so many bytes. Place and end are asked by one `&`, of which the compiler
+// makes two jumps; of an `if` for each it makes flags that are put together. The remainder is the place itself where that is asked
+// for, and with it the sum never wraps.
+fn lies_in(words: &[u64], k: usize, width: u16, most: u16, len: usize) -> bool
+    requires { ⌜ k + 2 ≤ length (now words) ⌝ }
+    ensures { λ r. ⌜ r ≡ (isSection (now (words .entry)) k && liesIn width most len (sectionIn (now (words .entry)) k)) ⌝ }
+{
+    let at = words[k];
+    let count = words[k + 1];
+    if (most as u64) < count {
+        return false;
+    }
+    (at < WORD_LIMIT) & (at % WORD_LIMIT + width as u64 * count <= len as u64)
 }
 
 fn put_sections(table: &[u8], words: &mut [u64], s: Sections)

@@ -1,6 +1,7 @@
 -- `nyrkovash::nyr_find` meets its contract.
 -- Assumes nothing.
 use borrow.Author.Needs.{needs}
+use Rattle.nyrkovash.proofs.AsTheyLie.{operations-fit}
 use Rattle.nyrkovash.proofs.Calling.{inside-number, found-there, found-none, outside-number, outside-answer}
 use Rattle.nyrkovash.proofs.tables.nyr_find.Statement.{statement}
 use Rattle.nyrkovash.proofs.tables.nyr_find.Tie as tie
@@ -10,7 +11,8 @@ nyr-find-spec =
     tie.close
     (tie.spec
     (λ c κs. search needs)
-    (λ c κs. search needs)
+    (λ c. search needs)
+    (λ c. search operations-fit)
     (λ c. search needs)
     (λ c. search needs)
     (λ c. search needs)
