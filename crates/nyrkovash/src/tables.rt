@@ -10,9 +10,13 @@ ghost use Rattle.nyrkovash.specs.TableCalls.{sectionsWords, checkNumber,
 use operations::Sought;
 use table::BOUNDS_WORDS;
 use table::Checked;
+use table::MOST_MEMBERS;
+use table::MOST_OPERATIONS;
+use table::MOST_TYPES;
 use table::MOST_VALUES;
 use table::SECTIONS_WORDS;
 use table::Sections;
+use table::WORD_LIMIT;
 use table::layout::MEMBER_WIDTH;
 use table::layout::OPERATION_WIDTH;
 use table::layout::TYPE_WIDTH;
@@ -23,15 +27,6 @@ pub const FOUND_WORDS: usize = 4;
 
 // Where an operation was found.
 pub const FOUND: u64 = 1;
-
-// The most entries of a section, as `table` has them, and one more than its largest number.
-const MOST_TYPES: u16 = 256;
-
-const MOST_MEMBERS: u16 = 1024;
-
-const MOST_OPERATIONS: u16 = 1024;
-
-const WORD_LIMIT: u64 = 65536;
 
 // Checks a table: 30 to 33, or 0, its sections and the index of its operations.
 #[no_mangle]

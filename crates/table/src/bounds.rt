@@ -17,13 +17,13 @@ ghost use Rattle.table.specs.Layout.{sectionEnd, sectionAt, ended, after
 ghost use Rattle.table.specs.Layout.{sectionsOf, liesIn, within, typeWidth, memberWidth, valueWidth};
 
 // The most entries of each section; of types there is at least one.
-const MOST_TYPES: u16 = 256;
+pub const MOST_TYPES: u16 = 256;
 
-const MOST_MEMBERS: u16 = 1024;
+pub const MOST_MEMBERS: u16 = 1024;
 
 pub const MOST_VALUES: u16 = 1024;
 
-const MOST_OPERATIONS: u16 = 1024;
+pub const MOST_OPERATIONS: u16 = 1024;
 
 // Whether the sections could be those of these bytes: each within its limit, and within the bytes. In constant time.
 pub fn within(table: &[u8], s: Sections) -> bool

@@ -7,12 +7,16 @@ pub mod layout;
 mod rules;
 mod stored;
 
+pub use bounds::MOST_MEMBERS;
+pub use bounds::MOST_OPERATIONS;
+pub use bounds::MOST_TYPES;
 pub use bounds::MOST_VALUES;
 pub use bounds::read;
 pub use bounds::within;
 pub use rules::fields_ok;
 pub use stored::BOUNDS_WORDS;
 pub use stored::SECTIONS_WORDS;
+pub use stored::WORD_LIMIT;
 pub use stored::sections_in;
 
 // 01, Numbers given back.

@@ -14,7 +14,7 @@ pub const BOUNDS_WORDS: usize = 8;
 pub const SECTIONS_WORDS: usize = 1032;
 
 // One more than the largest number of a section.
-const WORD_LIMIT: u64 = 65536;
+pub const WORD_LIMIT: u64 = 65536;
 
 // Where the section of each name starts in the words.
 const TYPES: usize = 0;
