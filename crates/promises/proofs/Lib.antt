@@ -65,6 +65,7 @@ pub mod WrongServices
 pub mod Plans
 pub mod WorkedPlans
 pub mod PlanCalls
+mod AnswersKeep
 pub mod ExportsKeep
 mod LinkedRuns
 pub mod Linked
