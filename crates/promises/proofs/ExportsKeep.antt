@@ -144,23 +144,27 @@ exports-keep =
           (now (a .1 .1 .1 .1 .0)) (now (a .1 .1 .1 .1 .1 .0)) (now (a .1 .1 .1 .1 .1 .1 .1 .0)) (now (a .1 .1 .1 .1 .1 .1 .1 .1 .0)) _);
       receive-mixed-in-platform = λ k a n e p.
           let ss = now (a .1 .1 .1 .1 .1 .1 .1 .0) in
+          let t = sections (now (a .1 .1 .1 .1 .1 .1 .0)) (sectionsIn ss) (indexIn ss) in
           by (p .0) (p .1 .0)
-          (mixed-words-keep (sections (now (a .1 .1 .1 .1 .1 .1 .0)) (sectionsIn ss) (indexIn ss)) (a .0) (now (a .1 .0)) (now (a .1 .1 .0)) (now (a .1 .1 .1 .0))
+          (mixed-words-keep t (a .0) (now (a .1 .0)) (now (a .1 .1 .0)) (now (a .1 .1 .1 .0))
           (now (a .1 .1 .1 .1 .0)) (now (a .1 .1 .1 .1 .1 .0)) (now (a .1 .1 .1 .1 .1 .1 .1 .1 .0)) (now (a .1 .1 .1 .1 .1 .1 .1 .1 .1 .0)));
       receive-mixed-in-services = λ k a n e p.
           let ss = now (a .1 .1 .1 .1 .1 .1 .1 .0) in
+          let t = sections (now (a .1 .1 .1 .1 .1 .1 .0)) (sectionsIn ss) (indexIn ss) in
           by (p .0) (p .1 .1 .0)
-          (mixed-services-keep (sections (now (a .1 .1 .1 .1 .1 .1 .0)) (sectionsIn ss) (indexIn ss)) (a .0) (now (a .1 .0)) (now (a .1 .1 .0)) (now (a .1 .1 .1 .0))
+          (mixed-services-keep t (a .0) (now (a .1 .0)) (now (a .1 .1 .0)) (now (a .1 .1 .1 .0))
           (now (a .1 .1 .1 .1 .0)) (now (a .1 .1 .1 .1 .1 .0)) (now (a .1 .1 .1 .1 .1 .1 .1 .1 .0)) (now (a .1 .1 .1 .1 .1 .1 .1 .1 .1 .0)));
       receive-mixed-in-out = λ k a n e p.
           let ss = now (a .1 .1 .1 .1 .1 .1 .1 .0) in
+          let t = sections (now (a .1 .1 .1 .1 .1 .1 .0)) (sectionsIn ss) (indexIn ss) in
           by (p .0) (p .1 .1 .1 .0)
-          (mixed-output-keeps (sections (now (a .1 .1 .1 .1 .1 .1 .0)) (sectionsIn ss) (indexIn ss)) (a .0) (now (a .1 .0)) (now (a .1 .1 .0)) (now (a .1 .1 .1 .0))
+          (mixed-output-keeps t (a .0) (now (a .1 .0)) (now (a .1 .1 .0)) (now (a .1 .1 .1 .0))
           (now (a .1 .1 .1 .1 .0)) (now (a .1 .1 .1 .1 .1 .0)) (now (a .1 .1 .1 .1 .1 .1 .1 .1 .0)) (now (a .1 .1 .1 .1 .1 .1 .1 .1 .1 .0)));
       receive-mixed-in-heard = λ k a n e p.
           let ss = now (a .1 .1 .1 .1 .1 .1 .1 .0) in
+          let t = sections (now (a .1 .1 .1 .1 .1 .1 .0)) (sectionsIn ss) (indexIn ss) in
           by (p .0) (p .1 .1 .1 .1)
-          (mixed-heard-keeps (sections (now (a .1 .1 .1 .1 .1 .1 .0)) (sectionsIn ss) (indexIn ss)) (a .0) (now (a .1 .0)) (now (a .1 .1 .0)) (now (a .1 .1 .1 .0))
+          (mixed-heard-keeps t (a .0) (now (a .1 .0)) (now (a .1 .1 .0)) (now (a .1 .1 .1 .0))
           (now (a .1 .1 .1 .1 .0)) (now (a .1 .1 .1 .1 .1 .0)) (now (a .1 .1 .1 .1 .1 .1 .1 .1 .0)) (now (a .1 .1 .1 .1 .1 .1 .1 .1 .1 .0)) _);
       send-platform = λ k a n e p. by (p .0) (p .1 .0)
           (λ d. send-keeps-words Six (now (a .1 .0)) (now (a .1 .1 .0)) (now (a .1 .1 .1 .0)) (a .1 .1 .1 .1 .0) (now (a .1 .1 .1 .1 .1 .1 .0))
