@@ -20,8 +20,9 @@ use Rattle.mixed.specs.declared.AnyReading.{AnyReading}
 use Rattle.mixed.specs.declared.AnyReading.the-variants.{Refused, Six, Three}
 use Rattle.mixed.specs.Reading.{anyOf}
 use Rattle.mixed.specs.Keeping.{blockOf, withBlock, noteNumber, withNoted, markNumber, withMarked}
+use Rattle.mixed.specs.Receiving.{numberGiven}
 use Rattle.promises.specs.WrongServices.{toldFromRight}
-use Rattle.promises.specs.MixedCalls.{TableGiven, bytes, sections, givenBy, answerOn}
+use Rattle.promises.specs.MixedCalls.{TableGiven, bytes, sections, answerOn}
 use Rattle.promises.specs.MixedServices.{KeepingCall, KeepsServices}
 
 -- what a call does with a status of services, and with DOWN of a platform that is UP: who speaks Issue 3, the platform, its payload, the words
@@ -79,7 +80,7 @@ abbrev pub callBy : Deeds → KeepingCall
 callBy d =
     record {
       number = λ g own i ours p l ws m room.
-          let ours-gives : ℕ = givenBy (answerOn g own i ours p l ws m room .answer) in
+          let ours-gives : ℕ = numberGiven (answerOn g own i ours p l ws m room .answer) in
           cond (eqb (tableRefusal g) 0) (numberRead d own i p ws m ours-gives (anyOf i own m)) ours-gives;
       after = λ g own i ours p ws m room. cond (eqb (tableRefusal g) 0) (wordsRead d own i p ws m (anyOf i own m)) ws;
     }
