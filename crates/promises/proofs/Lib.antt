@@ -151,6 +151,7 @@ mod MixedChanges
 pub mod MixedServices
 pub mod WorkedMixed
 pub mod WrongMixed
+pub mod WrongMixedOrders
 mod MixedKept
 mod MixedReceipts
 mod AnyReceipts

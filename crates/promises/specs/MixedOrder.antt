@@ -2,7 +2,8 @@
 -- of the sender's issue; 61; 10 where the sender's services are to be kept and their words are not there; "63, after 9"; 5 and 10 for the
 -- replies. Fields stand here by their bytes, and limits as the papers have them. Wrong programs that it rules out: 24 bytes asked of both
 -- issues; 9 judged on the first pair only; 63 before 9; 10 for a short output before 5; a length 4 + 8n in 32 bits, by which 2^29 services
--- in four bytes are no 8; 61 for a message of domain 0. The theorem is in proofs/MixedOrder.antt.
+-- in four bytes are no 8; 61 for a message of domain 0. The theorem is in proofs/MixedOrder.antt; calls with 10 before 5 and with 61 in
+-- domain 0 are in specs/WrongMixedOrders.
 use Prim.Native.Nat.{ℕ, _+_, _*_, _%_, _^_, _≤_, _<_}
 use mathlib.Core.Path.{_≡_}
 use mathlib.Core.Bool.{true, cond, _||_}
