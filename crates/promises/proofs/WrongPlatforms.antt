@@ -1,7 +1,7 @@
 -- Platforms that answer UP while UP do not fall silent: eight messages of an exchange, computed.
 -- Assumes nothing.
-use Prim.Native.Nat.{ℕ, zero, suc, _≤_}
-use mathlib.Core.Path.{_≡_, refl}
+use Prim.Native.Nat.{ℕ, _≤_}
+use mathlib.Core.Path.{_≡_}
 use mathlib.Core.List.{[]}
 use native.Mathlib.Omega.{arith}
 use Rattle.table.specs.declared.Section.{Section}
