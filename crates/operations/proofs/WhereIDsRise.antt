@@ -18,7 +18,8 @@ use Rattle.operations.specs.declared.Sought.{Sought}
 use Rattle.operations.specs.declared.Sought.the-variants.{At, Nowhere}
 use Rattle.operations.specs.Entries.{opWidth, opPlace, idAt}
 use Rattle.operations.specs.Rules.{idsRise}
-use Rattle.operations.specs.Search.{half, indexWord, indexed, idIn, placeIn, borne, toldBy, heldTo, middle, halved, soughtIn, orElse, firstBelow, operationOf}
+use Rattle.operations.specs.Search.{half, indexWord, indexed, idIn, placeIn, borne, toldBy, heldTo, middle, halved, soughtIn}
+use Rattle.operations.specs.Search.{orElse, firstBelow, operationOf}
 use Rattle.operations.proofs.Places.{place-most, entry-within}
 use Rattle.operations.proofs.Laying.{word-laid, id-in, place-in}
 use Rattle.operations.proofs.Halving.{reach, by-last, by-look}
