@@ -30,7 +30,7 @@ module _ (t : List ℕ) (first id : ℕ) where
   Bears n (At i p) = (i < n) × ((p ≡ opPlace t first i) × (idAt t first i ≡ id))
   Bears n Nowhere = (k : ℕ) → k < n → idAt t first k ≡ id → ⊥
 
-  scanned : (n : ℕ) → Bears n (firstBelow t first id n)
+  pub scanned : (n : ℕ) → Bears n (firstBelow t first id n)
   unfolding firstBelow
   scanned zero = λ k h. absurd (omega arith)
   scanned (suc n) = go (firstBelow t first id n) (scanned n) (eqb (idAt t first n) id) refl
@@ -55,7 +55,7 @@ module _ (t : List ℕ) (first id : ℕ) where
     unfolding idsRise
     risen j k l h = rising-apart (idAt t first) count rise j k l h
 
-    same-id : (i j : ℕ) → i < count → j < count → idAt t first i ≡ idAt t first j → i ≡ j
+    pub same-id : (i j : ℕ) → i < count → j < count → idAt t first i ≡ idAt t first j → i ≡ j
     same-id i j hi hj q = go (ltb i j) refl (ltb j i) refl
       where
         go : (a : Bool) → ltb i j ≡ a → (b : Bool) → ltb j i ≡ b → i ≡ j
