@@ -12,7 +12,8 @@ use Rattle.operations.specs.Entries.{widthOf, kindAt, opWidth, opPlace}
 use Rattle.operations.specs.Search.{indexWord, indexed, borne, halved, soughtIn}
 use Rattle.pending.specs.Places.{bearing}
 use Rattle.partners.specs.Threes.{bitIn, isThree}
-use Rattle.platform.specs.Receiving.{isSent}
+use Rattle.platform.specs.Reaction.{reactionTo}
+use Rattle.platform.specs.Receiving.{answered, isSent, isAnswer, outcomeOf}
 use Rattle.mixed.specs.Form.{threeForm}
 use Rattle.mixed.specs.Reading.{anyOf}
 use Rattle.mixed.specs.Reaction.{operationFor3, reaction3, onServicesRequest}
@@ -22,8 +23,8 @@ use Rattle.mixed.specs.Receiving.{isAnswer3, settled3, anyOutcomeOf}
 use Rattle.mixed.specs.Tables.{sectionsAnswer}
 use Rattle.promises.specs.MixedCalls.{TableGiven}
 use Rattle.promises.specs.WorkedMixed.{seven, allDown, empty}
-use Rattle.promises.specs.WrongMixedOrders.{Numbering, ourNumber, InMixedOrder, roomFirst, anyDomain, askingTable, allAsked, acknowledged, numberAt}
-use Rattle.promises.specs.WrongMixedOrders.{NoWrongMixedOrder}
+use Rattle.promises.specs.WrongMixedOrders.{Numbering, ourNumber, InMixedOrder, twentyFour, roomFirst, anyDomain, askingTable, allAsked, acknowledged}
+use Rattle.promises.specs.WrongMixedOrders.{statusAsked, numberAt, NoWrongMixedOrder}
 use Rattle.promises.proofs.Demand1.{demand-1}
 use Rattle.promises.proofs.MixedOrder.{mixed-order}
 
@@ -32,6 +33,15 @@ one-number : (X : Numbering) (g : TableGiven) (s m : List ℕ) → InMixedOrder 
 one-number X g s m h =
     demand-1 .one-answer (λ n. n) 0 _ (numberAt X g s m) (numberAt ourNumber g s m) (h g 1 seven s allDown [] [] m 0)
     (mixed-order .any-words g 1 seven s allDown [] [] m 0)
+
+twenty-for-six : (numberAt ourNumber empty [] statusAsked ≡ 10) × (numberAt twentyFour empty [] statusAsked ≡ 1)
+unfolding liesIn within anyOf threeForm isThree bitIn anyOutcomeOf sectionsAnswer reactionTo answered isAnswer outcomeOf
+twenty-for-six = (refl, refl)
+
+no-twenty-four : ¬ (InMixedOrder twentyFour)
+no-twenty-four h =
+    let z : _≡_ {A = ℕ} 1 10 = sym (twenty-for-six .1) ∙ one-number twentyFour empty [] statusAsked h ∙ twenty-for-six .0 in
+    omega (arith, z)
 
 -- 2^29 services are not computed: they are known by their length alone
 module _ (s : List ℕ) (e : length s ≡ 2 ^ 29) where
@@ -67,6 +77,9 @@ unfolding liesIn within anyOf threeForm isThree bitIn operationFor3 reaction3 on
 no-wrong-mixed-order =
     record {
       ours = mixed-order .any-words;
+      twenty-for-six = twenty-for-six .0;
+      twenty-four = no-twenty-four;
+      four-as-ours = refl;
       five-for-all = five-for-all;
       room-first = no-room-first (2 ^ 29) refl;
       room-as-ours = refl;

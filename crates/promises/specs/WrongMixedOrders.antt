@@ -3,7 +3,7 @@
 use Prim.Native.Nat.{ℕ, _+_, _*_, _^_}
 use mathlib.Core.Path.{_≡_}
 use mathlib.Core.Bool.{not, cond, _&&_}
-use mathlib.Core.List.{List, [], _∷_}
+use mathlib.Core.List.{List, [], _∷_, _++_}
 use lib.Dec.{eqb, ltb}
 use lib.ListN.{length, drop}
 use Rattle.wire.specs.Bytes.{bytes, number}
@@ -32,6 +32,10 @@ abbrev pub InMixedOrder : Numbering → Type 1
 InMixedOrder X = (g : TableGiven) (own : ℕ) (i ours : List ℕ) (p : Standing) (l ws m : List ℕ) (room : ℕ) →
     Gives (mixedChecks g own i ours p l ws m room (FindsNoPlace (senderBlock i ws m) (drop 24 m))) (X g own i ours p l ws m room)
 
+-- 1 by a header of 24 bytes in both issues
+abbrev pub twentyFour : Numbering
+twentyFour g own i ours p l ws m room = cond (eqb (tableRefusal g) 0 && ltb (length m) 24) 1 (ourNumber g own i ours p l ws m room)
+
 -- of a message that was read, 10 for a short output before 5 for too many services of ours
 abbrev pub roomFirst : Numbering
 roomFirst g own i ours p l ws m room =
@@ -57,12 +61,20 @@ allAsked = messageFrom 7 4 (bytes 2 0xFFFFFFFF)
 abbrev pub acknowledged : List ℕ
 acknowledged = messageFrom 7 9 (bytes 2 1)
 
+-- platform 3, which speaks Issue 6, asks for our status: 20 bytes
+abbrev pub statusAsked : List ℕ
+statusAsked = 0xEC ∷ 0x0A ∷ 2 ∷ 0 ∷ (bytes 2 3 ++ (bytes 2 2 ++ (bytes 2 0 ++ bytes 2 9)))
+
 -- a call at this table and these services of ours, with no room for replies
 abbrev pub numberAt : Numbering → TableGiven → List ℕ → List ℕ → ℕ
 numberAt X g ours m = X g 1 seven ours allDown [] [] m 0
 
 pub record NoWrongMixedOrder : Type 1 where
   pub ours : InMixedOrder ourNumber
+  -- a request of 20 bytes is read, and its reply does not fit: 10, and not 1. Of Issue 3 it is 10 for both
+  pub twenty-for-six : numberAt ourNumber empty [] statusAsked ≡ 10
+  pub twenty-four : ¬ (InMixedOrder twentyFour)
+  pub four-as-ours : numberAt twentyFour empty [] allAsked ≡ numberAt ourNumber empty [] allAsked
   -- 2^29 of ours and no room: 5, and not 10. With none of ours it is 10 for both
   pub five-for-all : (s : List ℕ) → length s ≡ 2 ^ 29 → numberAt ourNumber empty s allAsked ≡ 5
   pub room-first : ¬ (InMixedOrder roomFirst)
