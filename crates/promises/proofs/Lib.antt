@@ -150,6 +150,7 @@ mod MixedWords
 mod MixedChanges
 pub mod MixedServices
 pub mod WorkedMixed
+mod OurDeeds
 pub mod WrongMixed
 pub mod WrongMixedOrders
 mod MixedKept

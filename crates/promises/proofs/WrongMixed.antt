@@ -28,6 +28,7 @@ use Rattle.promises.specs.WrongMixed.{callBy, dropping, notingSome, firs
 use Rattle.promises.specs.WrongMixed.{almost, five-of-7, five-of-8, WrongInOnePlace, NoWrongMixed}
 use Rattle.promises.proofs.SmallTraffic.{octets-are}
 use Rattle.promises.proofs.Services.{services}
+use Rattle.promises.proofs.OurDeeds.{ours-by-deeds}
 use Rattle.promises.proofs.WrongServices.{numbered, five, twice, more, kempt}
 
 -- platform 7 tells of services
@@ -118,6 +119,7 @@ elsewhere-right =
 pub no-wrong-mixed : NoWrongMixed
 no-wrong-mixed =
     record {
+      ours = ours-by-deeds;
       elsewhere-right = elsewhere-right;
       drops = no-drops;
       notes-some = no-notes-some;

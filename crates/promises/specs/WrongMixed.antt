@@ -89,6 +89,12 @@ callBy d =
       after = λ g own i ours p ws m room. cond (eqb (tableRefusal g) 0) (wordsRead d own i p ws m (anyOf i own m)) ws;
     }
 
+-- with our deeds it is our call, on every input
+abbrev pub OursByDeeds : Type 0
+OursByDeeds = (g : TableGiven) (own : ℕ) (i ours : List ℕ) (p : Standing) (l ws m : List ℕ) (room : ℕ) →
+    (callBy ourDeeds .number g own i ours p l ws m room ≡ ourCall .number g own i ours p l ws m room)
+    × (callBy ourDeeds .after g own i ours p ws m room ≡ ourCall .after g own i ours p ws m room)
+
 -- the 257th dropped and the rest noted
 abbrev pub dropping : Deeds
 dropping =
@@ -181,6 +187,7 @@ pub record WrongInOnePlace : Type 0 where
   pub forgets : AsOurs forgetting five-of-8 (goingDown 7)
 
 pub record NoWrongMixed : Type 0 where
+  pub ours : OursByDeeds
   pub elsewhere-right : WrongInOnePlace
   pub drops : ¬ (KeepsServices (callBy dropping))
   pub notes-some : ¬ (KeepsServices (callBy notingSome))
