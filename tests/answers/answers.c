@@ -1,4 +1,5 @@
-/* answers [FILE]: answers a file of calls, or standard input, a line for each call. */
+/* answers [FILE]: answers a file of calls, or standard input, a line for each call. Ends with 1 where a file could not be
+ * opened, read or written, else with 0, whatever the lines say. */
 #define _POSIX_C_SOURCE 200809L
 #include "answers.h"
 
@@ -14,9 +15,12 @@ enum { INPUT = 720896 }; /* the longest call, of code 87, has 664,364 bytes */
 
 static uint8_t input[INPUT];
 
+static int failed;
+
 static void fail(const char *what)
 {
     fprintf(stderr, "%s: %s\n", what, strerror(errno));
+    failed = 1;
 }
 
 /* Whether the lines so far could be written; where not, that is said. */
@@ -86,14 +90,14 @@ int main(int argc, char **argv)
         if (strlen(argv[1]) > PATH_MAX) {
             errno = ENAMETOOLONG;
             fail("the first argument");
-            return 0;
+            return failed;
         }
         file = open(argv[1], O_RDONLY);
         if (file < 0) {
             fail(argv[1]);
-            return 0;
+            return failed;
         }
     }
     answer_file(file, argc > 1 ? argv[1] : "standard input");
-    return 0;
+    return failed;
 }

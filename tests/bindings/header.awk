@@ -59,7 +59,9 @@ function names(text, count, i, part) {
 END {
     while (match(all, /\/\*([^*]|\*+[^*\/])*\*+\//))
         all = substr(all, 1, RSTART - 1) substr(all, RSTART + RLENGTH)
-    while (match(all, /#define NYR_[A-Z0-9_]*\([a-z, ]*\)|#define NYR_[A-Z0-9_]* [^\n]*|enum [{][^}]*[}]|typedef struct [{][^}]*[}] nyr_[a-z0-9_]*|uint32_t nyr_[a-z0-9_]*\([^)]*\)/)) {
+    defined = "#define NYR_[A-Z0-9_]*[(][a-z, ]*[)]|#define NYR_[A-Z0-9_]* [^\n]*"
+    declared = "enum [{][^}]*[}]|typedef struct [{][^}]*[}] nyr_[a-z0-9_]*|uint32_t nyr_[a-z0-9_]*[(][^)]*[)]"
+    while (match(all, defined "|" declared)) {
         one = substr(all, RSTART, RLENGTH)
         all = substr(all, RSTART + RLENGTH)
         gsub(/[ \n]+/, " ", one)

@@ -5,7 +5,7 @@ use mathlib.Core.Path.{_≡_, refl}
 use mathlib.Core.List.{List, [], _∷_}
 use Rattle.binding.specs.declared.MessagePart.{MessagePart}
 use Rattle.binding.specs.declared.MessagePart.the-variants.{Begin, Middle, End, Whole}
-use Rattle.binding.specs.Header.{largestPiece, headerOf, headerBytes}
+use Rattle.binding.specs.Header.{headerOf, headerBytes}
 
 -- platform 1, channel 2 in each
 abbrev from : MessagePart → ℕ → List ℕ

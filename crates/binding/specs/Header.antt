@@ -1,7 +1,7 @@
 -- The UDP binding header: 000, annex A.3.1, Table 9, with annex A.4's order of bytes and bits.
 use Prim.Native.Nat.{ℕ, _+_, _-_, _*_, _/_, _%_, _^_}
 use mathlib.Core.List.{List, _++_}
-use mathlib.Core.Bool.{Bool, true, false, _&&_, cond}
+use mathlib.Core.Bool.{_&&_, cond}
 use lib.Dec.{leb, eqb}
 use lib.ListN.{length, drop}
 use Rattle.wire.specs.Bytes.{number, bytes}

@@ -2,23 +2,22 @@
 -- byte but 0 is a true boolean. Integer leaves: one fact over the width and the sign.
 -- Assumes nothing.
 use Prim.Native.Nat.{ℕ, zero, suc, _+_, _-_, _*_, _/_, _%_, _^_, _≤_, _<_}
-use mathlib.Core.Path.{_≡_, refl, sym, ap, subst, _∙_}
-use mathlib.Core.Bool.{Bool, true, false, _&&_, _||_}
-use mathlib.Core.Logic.{_⊎_, inl, inr, ⊎-elim}
-use mathlib.Core.List.{List, [], _∷_, _++_}
-use native.Mathlib.Nat.{add-zero, mod-lt, mod-eq-of-lt, one-le-pow, zero-lt-suc, mul-comm}
+use mathlib.Core.Path.{_≡_, refl, sym, ap, _∙_}
+use mathlib.Core.Bool.{Bool, true, false, _&&_}
+use mathlib.Core.List.{List, [], _++_}
+use native.Mathlib.Nat.{add-zero, mod-lt, mod-eq-of-lt, one-le-pow, zero-lt-suc}
 use native.Mathlib.Omega.{arith}
-use borrow.Author.Tests.{ltb-true, ltb-false, leb-true, lt-ltb, le-ltb, eqb-true, eqb-false}
+use borrow.Author.Tests.{ltb-true, ltb-false, leb-true}
 use lib.Arith.{digits-mod}
 use lib.Dec.{ltb, leb, eqb}
 use lib.ListN.{length, getD, take, drop}
 use lib.Pow.{pow-lt}
 use Rattle.wire.specs.Bytes.{span, number, bytes, Octets}
-use Rattle.wire.proofs.Cond.{yes-lt, no-lt, yes-eq, no-eq, and-left, and-right}
+use Rattle.wire.proofs.Cond.{yes-lt, no-lt, and-left, and-right}
 use Rattle.wire.proofs.Numbers.{number-lt, number-append, number-bytes, length-bytes, bytes-number}
-use Rattle.table.specs.Leaf.{Leaf, boolean, signed, unsigned, float, none, codes, base, bytesOf, inSigned, finite, isValue, width, allowed}
+use Rattle.table.specs.Leaf.{Leaf, boolean, signed, unsigned, float, none, base, bytesOf, inSigned, finite, isValue, width}
 use Rattle.table.proofs.Leaves.{no-base, any}
-use Rattle.leaf.specs.Forms.{truth, extended, wordOf, form, wordAt, formOf, Truth, Says}
+use Rattle.leaf.specs.Forms.{truth, extended, wordOf, form, formOf, Says}
 
 -- no base code is wider than 8 bytes, and none takes a number that its bytes do not hold
 abbrev pub Real : Leaf → Type 0

@@ -3,20 +3,20 @@
 use Prim.Native.Nat.{ℕ, zero, suc, _+_, _-_, _*_, _%_, _^_, _≤_, _<_}
 use mathlib.Core.Path.{_≡_, refl, sym, ap, ap₂, subst, _∙_}
 use mathlib.Core.Bool.{Bool, true, false, _&&_, not, cond}
-use mathlib.Core.List.{List, [], _∷_}
+use mathlib.Core.List.{List, []}
 use native.Mathlib.Nat.{mod-eq-of-lt}
 use native.Mathlib.Omega.{arith}
-use borrow.Author.Tests.{eq-eqb, ne-eqb, leb-true, lt-ltb}
+use borrow.Author.Tests.{eq-eqb, ne-eqb, leb-true}
 use mir.Syntax.{w64}
 use mir.Val.{Fits}
-use lib.Dec.{ltb, leb, eqb}
+use lib.Dec.{leb, eqb}
 use lib.ListN.{length, take, drop}
 use Rattle.wire.specs.Bytes.{span, number, whole, bytes, written, Octets}
 use Rattle.wire.specs.LowFirst.{swapped}
-use Rattle.wire.proofs.Cond.{yes-lt, no-lt, yes-eq, no-eq, yes-if, no-if}
+use Rattle.wire.proofs.Cond.{yes-eq, no-eq, yes-if, no-if}
 use Rattle.wire.proofs.Numbers.{number-lt, read-in}
 use Rattle.wire.proofs.Runs.{over-none}
-use Rattle.wire.proofs.Swaps.{swapped-twice, swapped-eqb}
+use Rattle.wire.proofs.Swaps.{swapped-eqb}
 use Rattle.table.specs.declared.Sections.{Sections}
 use Rattle.table.specs.declared.Entry.{Entry}
 use Rattle.wire.specs.All.{allBelow}

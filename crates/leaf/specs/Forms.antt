@@ -2,7 +2,7 @@
 -- wide as 000's Table 6 has it.
 use Prim.Native.Nat.{ℕ, _+_, _-_, _*_, _/_, _%_, _^_, _<_}
 use mathlib.Core.Path.{_≡_}
-use mathlib.Core.Bool.{Bool, cond}
+use mathlib.Core.Bool.{cond}
 use mathlib.Core.List.{List, [], _∷_}
 use lib.Bits.{bitXor}
 use lib.Dec.{ltb, eqb}

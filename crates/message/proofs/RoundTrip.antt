@@ -3,17 +3,16 @@
 -- Assumes nothing.
 use Prim.Native.Nat.{ℕ, _+_, _-_, _^_, _≤_, _<_}
 use mathlib.Core.Path.{_≡_, refl, sym, ap, ap₂, _∙_}
-use mathlib.Core.List.{List, [], _∷_, _++_}
+use mathlib.Core.List.{List, _++_}
 use native.Mathlib.Omega.{arith}
-use lib.ListN.{length, take, drop, length-drop, take-append-drop}
+use lib.ListN.{length, drop, length-drop, take-append-drop}
 use lib.Seq.{take-length, drop-drop}
 use Rattle.wire.specs.Bytes.{Octets, span, number, bytes}
 use Rattle.wire.proofs.Numbers.{number-lt, number-bytes, bytes-number}
 use Rattle.wire.proofs.Runs.{part-in}
 use Rattle.message.specs.declared.Header.{Header}
-use Rattle.message.specs.declared.Reading.{Reading}
 use Rattle.message.specs.declared.Reading.the-variants.{Read}
-use Rattle.message.specs.Header.{headerLength, theMark, theVersion, domainIn, senderIn, idIn, payloadSizeIn, sequenceIn, payloadIn, headerIn, headerBytes}
+use Rattle.message.specs.Header.{headerLength, theVersion, domainIn, senderIn, idIn, payloadSizeIn, sequenceIn, payloadIn, headerIn}
 use Rattle.message.specs.Platform.{messageOf}
 use Rattle.message.specs.Refusal.{contentsRefusal, readRefusal, writeRefusal}
 use Rattle.message.specs.Reading.{answered, readOut, readOf, payloadOf}

@@ -14,7 +14,6 @@ use Rattle.message3.specs.declared.Reading3.{Reading3}
 use Rattle.message3.specs.declared.Reading3.the-variants as three
 use Rattle.message3.specs.Reading.{readOf3}
 use Rattle.platform.specs.declared.reactions.Standing.{Standing}
-use Rattle.mixed.specs.declared.AnyReading.{AnyReading}
 use Rattle.mixed.specs.declared.AnyReading.the-variants as reading
 use Rattle.mixed.specs.declared.AnyReceived.{AnyReceived}
 use Rattle.mixed.specs.Reading.{fromThree}

@@ -23,11 +23,10 @@ use Rattle.mixed.specs.declared.AnyReceived.{AnyReceived}
 use Rattle.mixed.specs.declared.reactions.Deed.{Deed}
 use Rattle.mixed.specs.declared.reactions.Deed.the-variants.{Nothing, One, StartUp, TellAll, TellOne, Note, MarkAll}
 use Rattle.mixed.specs.declared.reactions.Reaction3.{Reaction3}
-use Rattle.mixed.specs.declared.reactions.Room.{Room}
 use Rattle.mixed.specs.declared.reactions.Room.the-variants.{Short, Enough}
 use Rattle.mixed.specs.Reaction.{allServices}
 use Rattle.mixed.specs.Replies.{fieldMessage, statusMessage, replyBytes3, replyLength3, startUpBytes, startUpLength, stateTold, pairsOf}
-use Rattle.mixed.specs.Replies.{servicesMessage, headLength, pairLength, mostOurs, deedBytes, fitting, roomFor}
+use Rattle.mixed.specs.Replies.{servicesMessage, headLength, pairLength, mostOurs, deedBytes, roomFor}
 use Rattle.mixed.specs.Keeping.{keptNumber, keptWords}
 use Rattle.mixed.specs.Receiving.{refusedAny, taken3, settled3, laid3, kept3}
 use Rattle.mixed.proofs.LaidReplies.{length-field, length-status}

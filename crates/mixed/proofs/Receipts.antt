@@ -1,4 +1,4 @@
--- What the functions of `receiving` come to at their returns.
+-- What the functions of `receiving` and `answers` come to at their returns.
 -- Assumes nothing.
 use Prim.Native.Nat.{ℕ}
 use mathlib.Core.Path.{_≡_, refl, sym, ap, ap₂, _∙_}

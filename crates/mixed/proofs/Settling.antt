@@ -2,7 +2,7 @@
 -- of its bytes at the output's start.
 -- Assumes nothing.
 use Prim.Native.Nat.{ℕ, zero, suc, _≤_, _<_}
-use mathlib.Core.Path.{_≡_, refl, sym, ap, subst, _∙_}
+use mathlib.Core.Path.{_≡_, refl, sym, subst}
 use mathlib.Core.Bool.{Bool, true, false}
 use mathlib.Core.List.{List}
 use native.Mathlib.Omega.{arith}
@@ -16,7 +16,6 @@ use Rattle.platform.specs.declared.reactions.Standing.{Standing}
 use Rattle.mixed.specs.declared.AnyReceived.{AnyReceived}
 use Rattle.mixed.specs.declared.reactions.Reaction3.{Reaction3}
 use Rattle.mixed.specs.declared.reactions.Deed.the-variants.{TellAll}
-use Rattle.mixed.specs.declared.reactions.Room.{Room}
 use Rattle.mixed.specs.declared.reactions.Room.the-variants.{Enough}
 use Rattle.mixed.specs.Replies.{mostOurs, deedBytes, roomFor}
 use Rattle.mixed.specs.Keeping.{keptNumber}

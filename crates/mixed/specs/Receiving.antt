@@ -31,6 +31,14 @@ use Rattle.mixed.specs.Reaction.{operationFor3, reaction3}
 use Rattle.mixed.specs.Replies.{deedBytes, roomFor}
 use Rattle.mixed.specs.Keeping.{keptNumber, keptWords}
 
+-- by cases: the number that the call gives back, 0 where it does not refuse
+abbrev pub numberGiven : AnyAnswer → ℕ
+numberGiven (Refused n) = n
+numberGiven (Six h x n) = 0
+numberGiven (SixResponse h i start len) = 0
+numberGiven (Three h x n) = 0
+numberGiven (ThreeResponse h i start len) = 0
+
 -- Issue 6: what `platform` answers
 abbrev pub fromNoting : Noting → AnyAnswer
 fromNoting (noting.Refused n) = Refused n

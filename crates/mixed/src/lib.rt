@@ -1,5 +1,6 @@
 // Partners of both issues (02, request 8): a message is read by its sender's issue, version number included. Who speaks Issue 3 is
 // told by `partners`; a message of Issue 6 is what `message` reads, one of Issue 3 what `message3` reads, and nothing is both.
+mod answers;
 mod keeping;
 mod laying;
 mod ours;
@@ -126,7 +127,7 @@ pub fn receive_within(
         (now (blocks .entry)) (now (message .entry)) (length (now (out .entry))) ⌝ }
 {
     match reader::form_of(partners, message) {
-        Form::Other(number) => receiving::refused(standing, number),
+        Form::Other(number) => answers::refused(standing, number),
         Form::Six => {
             let received = platform::receive_within(
                 own,
@@ -138,7 +139,7 @@ pub fn receive_within(
                 &message[..],
                 out,
             );
-            receiving::from_received(received)
+            answers::from_received(received)
         }
         Form::Three => receiving::of_three(
             own,
@@ -203,7 +204,7 @@ pub fn receive_checked(
             out,
         )
     } else {
-        receiving::refused(standing, CUT_SHORT)
+        answers::refused(standing, CUT_SHORT)
     }
 }
 
@@ -234,7 +235,7 @@ pub fn receive(
         (now (blocks .entry)) (now (message .entry)) (length (now (out .entry))) ⌝ }
 {
     match types::check(table) {
-        Checked::Refused(number) => receiving::refused(standing, number),
+        Checked::Refused(number) => answers::refused(standing, number),
         Checked::Table(s) => receive_indexed(
             own,
             stamp,

@@ -1,7 +1,7 @@
 // What a message of Issue 3 comes to: what it was, the states and the own number after it, and what is to be written.
 ghost use mathlib.Core.Path.{_≡_};
-ghost use Rattle.mixed.specs.Reaction.{operationFor3, deedFor, heardAs, oneHeard, pullHeard, operationHeard, silent3, cameUp3, onStatus3, onServicesRequest};
-ghost use Rattle.mixed.specs.Reaction.{reaction3};
+ghost use Rattle.mixed.specs.Reaction.{operationFor3, deedFor, heardAs, oneHeard, pullHeard, operationHeard};
+ghost use Rattle.mixed.specs.Reaction.{silent3, cameUp3, onStatus3, onServicesRequest, reaction3};
 use crate::ours;
 use crate::reactions::Deed;
 use crate::reactions::Heard3;

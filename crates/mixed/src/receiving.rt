@@ -5,10 +5,10 @@ ghost use Rattle.wire.specs.Bytes.{part};
 ghost use Rattle.message3.specs.Reading.{readOf3};
 ghost use Rattle.mixed.specs.Reading.{fromThree};
 ghost use Rattle.mixed.specs.Reaction.{reaction3};
-ghost use Rattle.mixed.specs.Receiving.{fromReceived, refusedAny, isAnswer3, delivered3, responseTo3, listAnswered3, taken3, settled3, laid3, kept3};
+ghost use Rattle.mixed.specs.Receiving.{isAnswer3, responseTo3, listAnswered3, settled3, laid3, kept3};
 ghost use Rattle.mixed.specs.Receiving.{anyOutcomeOf, anyOutputOf, anyListOf, anyWordsOf};
-use crate::AnyAnswer;
 use crate::AnyReceived;
+use crate::answers;
 use crate::keeping;
 use crate::laying;
 use crate::reacting;
@@ -21,8 +21,6 @@ use message3::Reading3;
 use message3::Stamp;
 use operations::Sought;
 use platform::NOT_AWAITED;
-use platform::Noting;
-use platform::Received;
 use platform::Standing;
 use table::Sections;
 
@@ -57,7 +55,7 @@ pub(crate) fn of_three(
         (now (blocks .entry)) (now (message .entry)) (length (now (out .entry))) (fromThree (readOf3 (own .platform) (now (message .entry)))) ⌝ }
 {
     match message3::read(own, message) {
-        Reading3::Refused(number) => refused(standing, number),
+        Reading3::Refused(number) => answers::refused(standing, number),
         Reading3::Read {
             header,
             message: kind,
@@ -177,14 +175,14 @@ pub(crate) fn settled(
 {
     let deed = reaction.deed;
     match laying::room_for(ours, deed, out.len()) {
-        Room::Short(number) => refused(standing, number),
+        Room::Short(number) => answers::refused(standing, number),
         Room::Enough(written) => {
             let number = keeping::keep(partners, header.platform, deed, payload, blocks);
             if number == 0 {
                 laying::lay(own, stamp, composite, ours, deed, written, out);
-                taken(header, reaction, written)
+                answers::taken(header, reaction, written)
             } else {
-                refused(standing, number)
+                answers::refused(standing, number)
             }
         }
     }
@@ -212,89 +210,8 @@ pub(crate) fn response_to(
     ensures list { λ r. ⌜ now (list .exit) ≡ listAnswered3 (now (list .entry)) header ⌝ }
 {
     if pending::take_response(list, header.sequence, header.id, header.platform as u32) {
-        delivered(found, standing, header, start, length)
+        answers::delivered(found, standing, header, start, length)
     } else {
-        refused(standing, NOT_AWAITED)
-    }
-}
-
-fn delivered(
-    found: Sought,
-    standing: Standing,
-    header: Header3,
-    start: usize,
-    length: usize,
-) -> AnyReceived
-    ensures { λ r. ⌜ r ≡ delivered3 found standing header start length ⌝ }
-{
-    let entry = platform::entry_of(found);
-    AnyReceived {
-        standing,
-        answer: AnyAnswer::ThreeResponse {
-            header,
-            entry,
-            start,
-            length,
-        },
-    }
-}
-
-fn taken(header: Header3, reaction: Reaction3, written: usize) -> AnyReceived
-    ensures { λ r. ⌜ r ≡ taken3 header reaction written ⌝ }
-{
-    let standing = reaction.standing;
-    let heard = reaction.heard;
-    AnyReceived {
-        standing,
-        answer: AnyAnswer::Three {
-            header,
-            heard,
-            written,
-        },
-    }
-}
-
-pub(crate) fn from_received(received: Received) -> AnyReceived
-    ensures { λ r. ⌜ r ≡ fromReceived received ⌝ }
-{
-    let standing = received.standing;
-    let answer = received.answer;
-    match answer {
-        Noting::Refused(number) => refused(standing, number),
-        Noting::Noted {
-            header,
-            heard,
-            written,
-        } => AnyReceived {
-            standing,
-            answer: AnyAnswer::Six {
-                header,
-                heard,
-                written,
-            },
-        },
-        Noting::Response {
-            header,
-            entry,
-            start,
-            length,
-        } => AnyReceived {
-            standing,
-            answer: AnyAnswer::SixResponse {
-                header,
-                entry,
-                start,
-                length,
-            },
-        },
-    }
-}
-
-pub(crate) fn refused(standing: Standing, number: u32) -> AnyReceived
-    ensures { λ r. ⌜ r ≡ refusedAny standing number ⌝ }
-{
-    AnyReceived {
-        standing,
-        answer: AnyAnswer::Refused(number),
+        answers::refused(standing, NOT_AWAITED)
     }
 }

@@ -1,6 +1,6 @@
 // The replies that Issue 3 is owed, laid at the output's start, one behind another: 001, Tables 3 and 4.
 ghost use mathlib.Core.Path.{_≡_};
-ghost use Prim.Native.Nat.{_+_, _*_, _^_, _≤_, _<_};
+ghost use Prim.Native.Nat.{_+_, _≤_};
 ghost use lib.ListN.{length};
 ghost use Rattle.wire.specs.Bytes.{over};
 ghost use Rattle.mixed.specs.Replies.{fieldLength, statusLength, startUpLength, fieldMessage, statusMessage, replyLength3, replyBytes3, startUpBytes};

@@ -1,9 +1,9 @@
 // Our services told, AVAILABILITY_STATUS at the output's start: 001, Table 4.
 ghost use mathlib.Core.Path.{_≡_};
-ghost use mathlib.Core.List.{_++_, [], _∷_};
+ghost use mathlib.Core.List.{[], _∷_};
 ghost use Prim.Native.Nat.{_+_, _*_, _≤_, _<_};
 ghost use lib.ListN.{length};
-ghost use Rattle.wire.specs.Bytes.{bytes, over};
+ghost use Rattle.wire.specs.Bytes.{over};
 ghost use Rattle.message3.specs.Platform.{pairBytes};
 ghost use Rattle.mixed.specs.Replies.{stateTold, pairsOf, servicesMessage, servicesHead, headLength, pairLength, mostOurs};
 use message::Own;

@@ -11,9 +11,10 @@ use Rattle.message3.specs.declared.Stamp.{Stamp}
 use Rattle.platform.specs.declared.reactions.Standing.{Standing}
 use Rattle.mixed.specs.declared.AnyReceived.{AnyReceived}
 use Rattle.mixed.specs.Tables.{answerIf, outIf, pendingIf, wordsIf}
+use Rattle.mixed.specs.Receiving.{numberGiven}
 use Rattle.platform_words.specs.Words.{platformWords, standingLength, standingIn, pendingIn}
 use Rattle.platform_words.proofs.Behind.{lent-behind, back-by}
-use Rattle.mixed_words.specs.HeardWords.{stampIn, ownComposite, anyNumber, anyPlatformAfter, anyHeardAfter}
+use Rattle.mixed_words.specs.HeardWords.{stampIn, ownComposite, anyPlatformAfter, anyHeardAfter}
 use Rattle.mixed_words.specs.TableCalls.{outcomeWith, mixedNumber, mixedWords, mixedServices, mixedOutput, mixedHeard}
 use Rattle.mixed_words.proofs.ToldWords.{told-behind}
 
@@ -40,8 +41,8 @@ module _ (own : ℕ) (i ws t m : List ℕ) where
 
 -- `receive`
 module _ {o : AnyReceived} (own : ℕ) (i ours ws sv t m out : List ℕ) (eo : o ≡ outcomeWith own i ours ws sv t m out) where
-  pub received-number : {n : ℕ} → n ≡ anyNumber (o .answer) → n ≡ mixedNumber own i ours ws sv t m out
-  received-number f = f ∙ ap (λ (x : AnyReceived). anyNumber (x .answer)) eo
+  pub received-number : {n : ℕ} → n ≡ numberGiven (o .answer) → n ≡ mixedNumber own i ours ws sv t m out
+  received-number f = f ∙ ap (λ (x : AnyReceived). numberGiven (x .answer)) eo
 
   pub received-words : {x was : List ℕ} → length ws ≡ platformWords → was ≡ take standingLength ws ++ pendingIf (checked t) own i t (pendingIn ws) m
       → x ≡ anyPlatformAfter o was (pendingIn was) → x ≡ mixedWords own i ours ws sv t m out

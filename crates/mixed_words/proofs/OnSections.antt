@@ -12,11 +12,11 @@ use Rattle.table.specs.Words.{boundsWords, sectionsIn, indexIn}
 use Rattle.operations.specs.declared.Sought.{Sought}
 use Rattle.operations.specs.declared.Sought.the-variants as sought
 use Rattle.mixed.specs.declared.AnyReceived.{AnyReceived}
-use Rattle.mixed.specs.Receiving.{refusedAny, anyList}
+use Rattle.mixed.specs.Receiving.{numberGiven, refusedAny, anyList}
 use Rattle.mixed.specs.Tables.{sectionsAnswer, sectionsOut, sectionsPending, sectionsWords}
 use Rattle.platform_words.specs.Words.{standingLength, standingIn, pendingIn}
 use Rattle.platform_words.proofs.Behind.{lent-behind}
-use Rattle.mixed_words.specs.HeardWords.{anyNumber, anyPlatformAfter, anyHeardAfter}
+use Rattle.mixed_words.specs.HeardWords.{anyPlatformAfter, anyHeardAfter}
 use Rattle.mixed_words.specs.Within.{outcomeWithin, numberWithin, wordsWithin, servicesWithin, outputWithin, heardWithin}
 use Rattle.mixed_words.specs.Within.{sixOperation, sixIn, straightNumber, straightPlatform, straightHeard}
 use Rattle.mixed_words.specs.SectionCalls.{outcomeWith, mixedInNumber, mixedInWords, mixedInServices, mixedInOutput, mixedInHeard}
@@ -45,7 +45,7 @@ module _ {s : Sections} {b : Bool} (own : ℕ) (i ours ws sv t ss m out : List �
 
     pub inside-number : {n : ℕ} → n ≡ numberWithin own i ours ws sv t s (take (length ss - 8) (drop 8 ss)) m out
         → n ≡ mixedInNumber own i ours ws sv t ss m out
-    inside-number f = f ∙ ap (λ (x : AnyReceived). anyNumber (x .answer)) is-meant
+    inside-number f = f ∙ ap (λ (x : AnyReceived). numberGiven (x .answer)) is-meant
 
     pub inside-words : {x : List ℕ} → x ≡ wordsWithin own i ours ws sv t s (take (length ss - 8) (drop 8 ss)) m out
         → x ≡ mixedInWords own i ours ws sv t ss m out
@@ -77,7 +77,7 @@ module _ {s : Sections} {b : Bool} (own : ℕ) (i ours ws sv t ss m out : List �
         (is-within ∙ no))
 
     pub outside-number : cutShort ≡ mixedInNumber own i ours ws sv t ss m out
-    outside-number = ap (λ (x : AnyReceived). anyNumber (x .answer)) is-refused
+    outside-number = ap (λ (x : AnyReceived). numberGiven (x .answer)) is-refused
 
     pub outside-words : ws ≡ mixedInWords own i ours ws sv t ss m out
     unfolding sectionsPending

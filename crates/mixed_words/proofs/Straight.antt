@@ -22,7 +22,7 @@ use Rattle.platform.specs.declared.reactions.Standing.{Standing}
 use Rattle.platform.specs.Receiving.{notAwaited}
 use Rattle.mixed.specs.declared.AnyReceived.{AnyReceived}
 use Rattle.mixed.specs.Form.{threeForm}
-use Rattle.mixed.specs.Receiving.{fromReceived, anyOutcome, anyOutput, anyList, anyWords}
+use Rattle.mixed.specs.Receiving.{numberGiven, fromReceived, anyOutcome, anyOutput, anyList, anyWords}
 use Rattle.mixed.proofs.Issues.{six-readable, of-six-form}
 use Rattle.mixed.proofs.AsBefore.{outcome-before, output-before, list-before, words-before}
 use Rattle.platform_words.specs.Words.{standingLength, standingIn, pendingIn, standingWords, withStanding}
@@ -31,7 +31,7 @@ use Rattle.platform_words.proofs.Behind.{lent-behind, back-by}
 use Rattle.platform_words.proofs.Storing.{kept-standing}
 use Rattle.platform_words.proofs.Answering.{kept-behind}
 use Rattle.platform_words.proofs.Straight.{Straight, straight, never, outcomeBy, kindBy, its-outcome, its-output, its-list}
-use Rattle.mixed_words.specs.HeardWords.{stampIn, ownComposite, behindSix, anyNumber, anyPlatformAfter, anyHeardAfter}
+use Rattle.mixed_words.specs.HeardWords.{stampIn, ownComposite, behindSix, anyPlatformAfter, anyHeardAfter}
 use Rattle.mixed_words.specs.Within.{outcomeWithin, numberWithin, wordsWithin, servicesWithin, outputWithin, heardWithin, sixOperation, sixWords}
 use Rattle.mixed_words.specs.Within.{straightNumber, straightPlatform, straightHeard}
 use Rattle.mixed_words.proofs.ToldWords.{told-behind}
@@ -94,7 +94,7 @@ module _ {kind : ℕ} (ws t : List ℕ) (q : ℕ) (m : List ℕ) (ek : kind ≡ 
 -- an operation; the response to a request; what no pending request asked for. What is told of it is what the general way tells
 module _ (p : Standing) (m : List ℕ) (e : ℕ) where
   record ToldSix (kind : ℕ) (o : AnyReceived) : Type 0 where
-    number-is : cond (eqb kind 0) notAwaited 0 ≡ anyNumber (o .answer)
+    number-is : cond (eqb kind 0) notAwaited 0 ≡ numberGiven (o .answer)
     words-are : (ws l : List ℕ) → cond (eqb kind 0) (take standingLength ws) (standingWords p) ++ l ≡ anyPlatformAfter o ws l
     heard-is : (heard : List ℕ) → cond (eqb kind 0) heard (sixWords kind m e) ≡ anyHeardAfter o heard
 
@@ -146,8 +146,8 @@ module _ {f : Sought} (own : ℕ) (i ours ws sv t : List ℕ) (s : Sections) (in
 -- `answered`
 module _ {o : AnyReceived} (own : ℕ) (i ours ws sv t : List ℕ) (s : Sections) (index m out : List ℕ)
     (eo : o ≡ outcomeWithin own i ours ws sv t s index m out) where
-  pub answered-number : {n : ℕ} → n ≡ anyNumber (o .answer) → n ≡ numberWithin own i ours ws sv t s index m out
-  answered-number e = e ∙ ap (λ (x : AnyReceived). anyNumber (x .answer)) eo
+  pub answered-number : {n : ℕ} → n ≡ numberGiven (o .answer) → n ≡ numberWithin own i ours ws sv t s index m out
+  answered-number e = e ∙ ap (λ (x : AnyReceived). numberGiven (x .answer)) eo
 
   pub answered-words : {x was : List ℕ} → standingLength ≤ length ws → was ≡ take standingLength ws ++ anyList own i t s index (pendingIn ws) m
       → x ≡ anyPlatformAfter o was (pendingIn was) → x ≡ wordsWithin own i ours ws sv t s index m out

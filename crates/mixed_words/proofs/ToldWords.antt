@@ -16,13 +16,14 @@ use Rattle.mixed.specs.declared.reactions.Heard3.the-variants.{Common}
 use Rattle.mixed.specs.declared.AnyAnswer.{AnyAnswer}
 use Rattle.mixed.specs.declared.AnyAnswer.the-variants.{Refused, Six, SixResponse, Three, ThreeResponse}
 use Rattle.mixed.specs.declared.AnyReceived.{AnyReceived}
+use Rattle.mixed.specs.Receiving.{numberGiven}
 use Rattle.mixed.proofs.AnyAnswer.{the-type}
 use Rattle.platform_words.specs.Words.{standingLength, pendingIn, standingWords, withStanding}
 use Rattle.platform_words.specs.HeardWords.{heardWords, responseWords}
 use Rattle.platform_words.proofs.Behind.{front-back, part-back}
 use Rattle.platform_words.proofs.Storing.{kept-standing}
 use Rattle.mixed_words.specs.HeardWords.{kindHeard3, valueHeard3, entryHeard3, startHeard3, lengthHeard3, compositeHeard3, behindSix, behindThree}
-use Rattle.mixed_words.specs.HeardWords.{heardWords3, responseWords3, anyAnswerWords, anyNumber, anyLeftBy, anyPlatformAfter}
+use Rattle.mixed_words.specs.HeardWords.{heardWords3, responseWords3, anyAnswerWords, anyLeftBy, anyPlatformAfter}
 
 -- `put_six`, `put_three`: what their calls told, in their places
 pub six-told : {k v e s l : ℕ} (h : Header) (n : ℕ) (x : Heard) → k ≡ kindIn x → v ≡ valueIn (h .id) x → e ≡ entryIn x → s ≡ startIn x → l ≡ lengthIn x
@@ -60,7 +61,7 @@ module _ {a : AnyAnswer} (was : List ℕ) where
 
 -- `tell`: a refusal
 module _ {a : AnyAnswer} (n : ℕ) (e : a ≡ Refused n) where
-  pub refused-number : n ≡ anyNumber a
+  pub refused-number : n ≡ numberGiven a
   refused-number = rw e
 
   pub refused-words : (ws : List ℕ) (p : Standing) → ws ≡ anyLeftBy a (take standingLength ws) (standingWords p) ++ pendingIn ws
@@ -68,7 +69,7 @@ module _ {a : AnyAnswer} (n : ℕ) (e : a ≡ Refused n) where
       sym (take-append-drop standingLength ws) ∙ ap (λ (x : AnyAnswer). anyLeftBy x (take standingLength ws) (standingWords p) ++ pendingIn ws) (sym e)
 
 -- and all else
-pub told-number : (a : AnyAnswer) → OneOf (1 ∷ 2 ∷ 3 ∷ 4 ∷ []) (tagOf the-type a) → 0 ≡ anyNumber a
+pub told-number : (a : AnyAnswer) → OneOf (1 ∷ 2 ∷ 3 ∷ 4 ∷ []) (tagOf the-type a) → 0 ≡ numberGiven a
 told-number (Refused n) h = absurd (miss (1 ∷ 2 ∷ 3 ∷ 4 ∷ []) 0 tt h)
 told-number (Six h x n) k = refl
 told-number (SixResponse h i start len) k = refl

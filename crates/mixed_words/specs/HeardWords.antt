@@ -109,14 +109,6 @@ anyAnswerWords (SixResponse h i start len) words = responseWords h i start len +
 anyAnswerWords (Three h x n) words = heardWords3 h n x
 anyAnswerWords (ThreeResponse h i start len) words = responseWords3 h i start len
 
--- 0 where nothing is refused
-abbrev pub anyNumber : AnyAnswer → ℕ
-anyNumber (Refused n) = n
-anyNumber (Six h x n) = 0
-anyNumber (SixResponse h i start len) = 0
-anyNumber (Three h x n) = 0
-anyNumber (ThreeResponse h i start len) = 0
-
 -- what a refusal leaves as it was
 abbrev pub anyLeftBy : {A : Type 0} → AnyAnswer → A → A → A
 anyLeftBy (Refused n) was new = was

@@ -14,10 +14,10 @@ use Rattle.message.specs.Header.{senderIn}
 use Rattle.partners.specs.Threes.{isThree}
 use Rattle.platform.specs.Receiving.{notAwaited}
 use Rattle.mixed.specs.declared.AnyReceived.{AnyReceived}
-use Rattle.mixed.specs.Receiving.{anyOutcome, anyOutput, anyList, anyWords}
+use Rattle.mixed.specs.Receiving.{numberGiven, anyOutcome, anyOutput, anyList, anyWords}
 use Rattle.platform_words.specs.Words.{standingLength, standingIn, pendingIn, standingWords}
 use Rattle.platform_words.specs.Within.{operationHeard, kindHeard, listHeard, straightWords}
-use Rattle.mixed_words.specs.HeardWords.{stampIn, ownComposite, behindSix, anyNumber, anyPlatformAfter, anyHeardAfter}
+use Rattle.mixed_words.specs.HeardWords.{stampIn, ownComposite, behindSix, anyPlatformAfter, anyHeardAfter}
 
 -- own number, who speaks Issue 3, our services, the platform's words, those of the partners' services, the table, its sections and its
 -- index, the message and the output, in this order; the three numbers of the stamp stand behind the own number
@@ -25,7 +25,7 @@ abbrev pub outcomeWithin : ℕ → List ℕ → List ℕ → List ℕ → List �
 outcomeWithin own i ours ws sv t s index m out = anyOutcome own i ours t s index (standingIn ws) (pendingIn ws) sv m (length out)
 
 abbrev pub numberWithin : ℕ → List ℕ → List ℕ → List ℕ → List ℕ → List ℕ → Sections → List ℕ → List ℕ → List ℕ → ℕ
-numberWithin own i ours ws sv t s index m out = anyNumber (outcomeWithin own i ours ws sv t s index m out .answer)
+numberWithin own i ours ws sv t s index m out = numberGiven (outcomeWithin own i ours ws sv t s index m out .answer)
 
 abbrev pub wordsWithin : ℕ → List ℕ → List ℕ → List ℕ → List ℕ → List ℕ → Sections → List ℕ → List ℕ → List ℕ → List ℕ
 wordsWithin own i ours ws sv t s index m out =

@@ -6,7 +6,8 @@ ghost use mathlib.Core.List.{_++_};
 ghost use lib.ListN.{length};
 ghost use Rattle.platform_words.specs.Words.{standingLength, pendingIn};
 ghost use Rattle.platform_words.specs.HeardWords.{heardWords, responseWords};
-ghost use Rattle.mixed_words.specs.HeardWords.{behindSix, heardWords3, responseWords3, anyAnswerWords, anyNumber, anyPlatformAfter, anyHeardAfter};
+ghost use Rattle.mixed.specs.Receiving.{numberGiven};
+ghost use Rattle.mixed_words.specs.HeardWords.{behindSix, heardWords3, responseWords3, anyAnswerWords, anyPlatformAfter, anyHeardAfter};
 use crate::telling;
 use message::Header;
 use message3::Header3;
@@ -29,7 +30,7 @@ pub(crate) fn tell(
     heard: &mut [u64; ANY_HEARD_WORDS],
 ) -> u32
     requires { ⌜ standingLength ≤ length (now words) ⌝ }
-    ensures { λ r. ⌜ r ≡ anyNumber (outcome .answer) ⌝ }
+    ensures { λ r. ⌜ r ≡ numberGiven (outcome .answer) ⌝ }
     ensures { λ _. ⌜ now (words .exit) ≡ anyPlatformAfter outcome (now (words .entry)) (pendingIn (now (words .entry))) ⌝ }
     ensures { λ _. ⌜ now (heard .exit) ≡ anyHeardAfter outcome (now (heard .entry)) ⌝ }
 {

@@ -6,9 +6,7 @@ use lib.Dec.{eqb}
 use lib.ListN.{length}
 use Rattle.message.specs.Platform.{kindIn, valueIn}
 use Rattle.message.specs.Writing as writing
-use Rattle.message.specs.declared.Header.{Header}
 use Rattle.message3.specs.declared.Stamp.{Stamp}
-use Rattle.message3.specs.declared.Header3.{Header3}
 use Rattle.message3.specs.Platform.{kindIn3, valueIn3, compositeIn}
 use Rattle.message3.specs.Writing.{writeOf3, outputAfter3}
 use Rattle.partners.specs.Threes.{threeSet}

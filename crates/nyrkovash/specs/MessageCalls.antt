@@ -8,7 +8,6 @@ use Rattle.message.specs.Reading.{readOf}
 use Rattle.message.specs.Reading as reading
 use Rattle.message.specs.Writing.{writeOf}
 use Rattle.message.specs.Writing as writing
-use Rattle.message.specs.declared.Header.{Header}
 use Rattle.message.specs.declared.Reading.{Reading}
 use Rattle.message.specs.declared.Reading.the-variants as read
 use Rattle.message.specs.declared.Writing.{Writing}

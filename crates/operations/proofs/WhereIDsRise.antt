@@ -18,7 +18,8 @@ use Rattle.operations.specs.declared.Sought.{Sought}
 use Rattle.operations.specs.declared.Sought.the-variants.{At, Nowhere}
 use Rattle.operations.specs.Entries.{opWidth, opPlace, idAt}
 use Rattle.operations.specs.Rules.{idsRise}
-use Rattle.operations.specs.Search.{half, indexWord, indexed, idIn, placeIn, borne, toldBy, heldTo, middle, halved, soughtIn, orElse, firstBelow, operationOf}
+use Rattle.operations.specs.Search.{half, indexWord, indexed, idIn, placeIn, borne, toldBy, heldTo, middle, halved, soughtIn}
+use Rattle.operations.specs.Search.{orElse, firstBelow, operationOf}
 use Rattle.operations.proofs.Places.{place-most, entry-within}
 use Rattle.operations.proofs.Laying.{word-laid, id-in, place-in}
 use Rattle.operations.proofs.Halving.{reach, by-last, by-look}
@@ -29,7 +30,7 @@ module _ (t : List ℕ) (first id : ℕ) where
   Bears n (At i p) = (i < n) × ((p ≡ opPlace t first i) × (idAt t first i ≡ id))
   Bears n Nowhere = (k : ℕ) → k < n → idAt t first k ≡ id → ⊥
 
-  scanned : (n : ℕ) → Bears n (firstBelow t first id n)
+  pub scanned : (n : ℕ) → Bears n (firstBelow t first id n)
   unfolding firstBelow
   scanned zero = λ k h. absurd (omega arith)
   scanned (suc n) = go (firstBelow t first id n) (scanned n) (eqb (idAt t first n) id) refl
@@ -54,7 +55,7 @@ module _ (t : List ℕ) (first id : ℕ) where
     unfolding idsRise
     risen j k l h = rising-apart (idAt t first) count rise j k l h
 
-    same-id : (i j : ℕ) → i < count → j < count → idAt t first i ≡ idAt t first j → i ≡ j
+    pub same-id : (i j : ℕ) → i < count → j < count → idAt t first i ≡ idAt t first j → i ≡ j
     same-id i j hi hj q = go (ltb i j) refl (ltb j i) refl
       where
         go : (a : Bool) → ltb i j ≡ a → (b : Bool) → ltb j i ≡ b → i ≡ j

@@ -19,14 +19,11 @@ use Rattle.message.specs.declared.Message.the-variants as message
 use Rattle.message.specs.Refusal.{platforms}
 use Rattle.message.specs.declared.Reading.{Reading}
 use Rattle.message.specs.declared.Reading.the-variants as reading
-use Rattle.wire.proofs.Cond.{yes-if, no-if, yes-lt, no-lt, yes-eq, no-eq}
+use Rattle.wire.proofs.Cond.{yes-lt, no-lt, yes-eq, no-eq}
 use Rattle.states.specs.declared.States.{States}
 use Rattle.platform.specs.declared.reactions.Standing.{Standing}
-use Rattle.platform.specs.declared.reactions.Heard.{Heard}
 use Rattle.platform.specs.declared.reactions.Heard.the-variants as heard
-use Rattle.platform.specs.declared.reactions.Reply.{Reply}
 use Rattle.platform.specs.declared.reactions.Reply.the-variants.{StatusUp, PullAll, Unknown}
-use Rattle.platform.specs.declared.reactions.Owed.{Owed}
 use Rattle.platform.specs.declared.reactions.Owed.the-variants as owed
 use Rattle.platform.specs.declared.reactions.Reaction.{Reaction}
 use Rattle.states.specs.States.{isUp, turned}

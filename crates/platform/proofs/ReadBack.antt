@@ -2,16 +2,14 @@
 -- must, and stands in the output.
 -- Assumes nothing.
 use Prim.{Unit}
-use Prim.Native.Nat.{ℕ, _+_, _%_, _^_, _≤_, _<_}
-use mathlib.Core.Path.{_≡_, refl, sym, ap, ap₂, _∙_}
+use Prim.Native.Nat.{ℕ, _^_, _≤_, _<_}
+use mathlib.Core.Path.{_≡_, refl, sym, ap, _∙_}
 use mathlib.Core.Bool.{Bool, true, false, cond}
-use mathlib.Core.List.{List, [], _∷_, _++_}
+use mathlib.Core.List.{List, [], _∷_}
 use native.Mathlib.Omega.{arith}
-use native.Mathlib.Nat.{mod-lt, zero-lt-suc}
 use borrow.Author.Tests.{lt-ltb}
 use lib.Dec.{eqb, ltb}
 use lib.ListN.{length}
-use lib.Pow.{pow-pos}
 use Rattle.wire.specs.Bytes.{number, bytes, over, part}
 use Rattle.wire.proofs.Numbers.{number-bytes}
 use Rattle.wire.proofs.Runs.{part-over}
@@ -25,7 +23,6 @@ use Rattle.message.specs.declared.Status.{Status}
 use Rattle.message.specs.declared.Status.the-variants.{Down, Up}
 use Rattle.message.specs.declared.Message.{Message}
 use Rattle.message.specs.declared.Message.the-variants as message
-use Rattle.message.specs.declared.Reading.{Reading}
 use Rattle.message.specs.declared.Reading.the-variants.{Read}
 use Rattle.message.specs.Header.{headerLength, platformDomain}
 use Rattle.message.specs.Platform.{messageOf}
@@ -33,7 +30,6 @@ use Rattle.message.specs.Refusal.{platforms}
 use Rattle.message.specs.Reading.{readOf}
 use Rattle.message.proofs.RoundTrip.{reads-back}
 use Rattle.platform.specs.declared.reactions.Standing.{Standing}
-use Rattle.platform.specs.declared.reactions.Heard.{Heard}
 use Rattle.platform.specs.declared.reactions.Heard.the-variants as heard
 use Rattle.platform.specs.declared.reactions.Reply.{Reply}
 use Rattle.platform.specs.declared.reactions.Reply.the-variants.{StatusUp, PullAll, Unknown}
@@ -43,7 +39,7 @@ use Rattle.platform.specs.declared.reactions.Reaction.{Reaction}
 use Rattle.states.specs.States.{isUp}
 use Rattle.platform.specs.Replies.{allData, replyID, replyNumber, replyField, replyBytes, replyHeader, meant, Wide}
 use Rattle.platform.specs.Replies.{replyLength, replies, Each, owedBytes, owedLength}
-use Rattle.platform.specs.Reaction.{someData, isData, silent, replied, noted, cameUp, onState, onStatus, notVersioned, onPullAll, onPullOne}
+use Rattle.platform.specs.Reaction.{someData, isData, silent, noted, cameUp, onState, onStatus, notVersioned, onPullAll, onPullOne}
 use Rattle.platform.specs.Reaction.{onPull, onOperation, reactionTo}
 use Rattle.platform.specs.Receiving.{laidOut}
 use Rattle.platform.proofs.ReactionLaws.{without-state}

@@ -3,9 +3,8 @@
 -- Each message under way has a weight, and so has a platform that holds the other for DOWN; every arrival makes the sum
 -- smaller.
 -- Assumes nothing.
-use Prim.{Unit}
-use Prim.Native.Nat.{ℕ, zero, suc, _+_, _*_, _%_, _^_, _≤_, _<_}
-use mathlib.Core.Path.{_≡_, refl, sym, ap, ap₂, subst, _∙_}
+use Prim.Native.Nat.{ℕ, _+_, _*_, _^_, _≤_, _<_}
+use mathlib.Core.Path.{_≡_, refl, sym, ap, subst, _∙_}
 use mathlib.Core.Bool.{Bool, true, false, not, cond}
 use mathlib.Core.List.{List, [], _∷_, _++_}
 use native.Mathlib.Omega.{arith}
@@ -16,21 +15,16 @@ use lib.Pow.{pow-pos}
 use Rattle.table.specs.declared.Sections.{Sections}
 use Rattle.operations.specs.declared.Sought.{Sought}
 use Rattle.pending.specs.Free.{drawn}
-use Rattle.message.specs.declared.Status.the-variants.{Up}
 use Rattle.message.specs.declared.Reading.{Reading}
-use Rattle.message.specs.declared.Reading.the-variants.{Read}
 use Rattle.message.specs.Header.{headerLength}
 use Rattle.message.specs.Refusal.{noRoom}
-use Rattle.message.specs.Reading.{readOf}
 use Rattle.platform.specs.declared.reactions.Standing.{Standing}
-use Rattle.platform.specs.declared.reactions.Heard.the-variants as heard
-use Rattle.platform.specs.declared.Received.{Received}
 use Rattle.platform.specs.declared.reactions.Reply.{Reply}
 use Rattle.platform.specs.declared.reactions.Reply.the-variants.{StatusUp, PullAll, Unknown}
 use Rattle.platform.specs.declared.reactions.Reaction.{Reaction}
 use Rattle.states.specs.States.{isUp}
-use Rattle.platform.specs.Replies.{allData, replyBytes, replyHeader, meant, Wide, replies, Each, owedLength}
-use Rattle.platform.specs.Reaction.{someData, silent, cameUp, onState, onStatus, notVersioned, onPullAll, onPull, reactionTo}
+use Rattle.platform.specs.Replies.{replyHeader, meant, Wide, replies, Each, owedLength}
+use Rattle.platform.specs.Reaction.{someData, cameUp, onState, onStatus, onPullAll, onPull, reactionTo}
 use Rattle.platform.specs.Receiving.{refused, taken, isAnswer, responseTo, answered, outcomeOf}
 use Rattle.platform.specs.Exchange.{written, sentOf, Setting, keeps, sends, Pair, Step, Exchange, started, longestExchange}
 use Rattle.platform.specs.Exchange.Step.{arrives-at-a, arrives-at-b, lost-to-a, lost-to-b}

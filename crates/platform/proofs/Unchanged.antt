@@ -1,8 +1,8 @@
 -- A refusal changes nothing: no state, no own number and no byte of the output; and the replies that a call writes stand at
 -- the output's start, the rest of it as it was.
 -- Assumes nothing.
-use Prim.Native.Nat.{ℕ, zero, suc, _+_, _-_, _≤_, _<_}
-use mathlib.Core.Path.{_≡_, refl, sym, ap, ap₂, _∙_}
+use Prim.Native.Nat.{ℕ, _+_, _-_, _≤_}
+use mathlib.Core.Path.{_≡_, refl, sym, ap, _∙_}
 use mathlib.Core.Bool.{Bool, true, false, cond}
 use mathlib.Core.List.{List, [], _∷_, _++_, append-nil}
 use native.Mathlib.Omega.{arith}
@@ -14,7 +14,7 @@ use Rattle.wire.specs.Bytes.{over, part}
 use Rattle.wire.proofs.Runs.{part-in, part-over}
 use Rattle.table.specs.declared.Sections.{Sections}
 use Rattle.operations.specs.declared.Sought.{Sought}
-use Rattle.pending.specs.Answers.{isResponse, cancelled, responded}
+use Rattle.pending.specs.Answers.{isResponse, cancelled}
 use Rattle.table.specs.declared.Checked.{Checked}
 use Rattle.table.specs.declared.Checked.the-variants as checked
 use Rattle.table.specs.Layout.{cutShort, within}

@@ -10,7 +10,6 @@ use Rattle.message.specs.declared.Reading.{Reading}
 use Rattle.message.specs.declared.Reading.the-variants as reading
 use Rattle.message.specs.Reading.{readOf}
 use Rattle.platform.specs.declared.reactions.Standing.{Standing}
-use Rattle.platform.specs.declared.Received.{Received}
 use Rattle.platform.specs.declared.reactions.Reply.{Reply}
 use Rattle.platform.specs.declared.reactions.Reply.the-variants.{StatusUp}
 use Rattle.platform.specs.declared.reactions.Reaction.{Reaction}

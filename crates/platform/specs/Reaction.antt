@@ -24,7 +24,6 @@ use Rattle.platform.specs.declared.reactions.Heard.{Heard}
 use Rattle.platform.specs.declared.reactions.Heard.the-variants as heard
 use Rattle.platform.specs.declared.reactions.Reply.{Reply}
 use Rattle.platform.specs.declared.reactions.Reply.the-variants.{StatusUp, PullAll, Unknown}
-use Rattle.platform.specs.declared.reactions.Owed.{Owed}
 use Rattle.platform.specs.declared.reactions.Owed.the-variants as owed
 use Rattle.platform.specs.declared.reactions.Reaction.{Reaction}
 use Rattle.states.specs.States.{isUp, turned}

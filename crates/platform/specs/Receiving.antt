@@ -24,7 +24,6 @@ use Rattle.message.specs.declared.Reading.the-variants as reading
 use Rattle.message.specs.Refusal.{noRoom}
 use Rattle.message.specs.Reading.{readOf}
 use Rattle.platform.specs.declared.reactions.Standing.{Standing}
-use Rattle.platform.specs.declared.Noting.{Noting}
 use Rattle.platform.specs.declared.Noting.the-variants.{Refused, Noted, Response}
 use Rattle.platform.specs.declared.Received.{Received}
 use Rattle.platform.specs.declared.reactions.Reaction.{Reaction}

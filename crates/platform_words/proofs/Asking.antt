@@ -1,7 +1,7 @@
 -- What sending a request shows at its returns.
 -- Assumes nothing.
 use Prim.Native.Nat.{ℕ, _-_, _≤_}
-use mathlib.Core.Path.{_≡_, refl, sym, ap, ap₂, _∙_}
+use mathlib.Core.Path.{_≡_, sym, ap, ap₂, _∙_}
 use mathlib.Core.Bool.{Bool, true, false}
 use mathlib.Core.List.{List, [], _∷_, _++_, append-assoc}
 use native.Mathlib.Omega.{arith}
@@ -12,7 +12,7 @@ use Rattle.wire.specs.Bytes.{over}
 use Rattle.wire.proofs.Cond.{yes-if, no-if}
 use Rattle.table.specs.declared.Sections.{Sections}
 use Rattle.table.specs.Layout.{cutShort, within}
-use Rattle.table.specs.Words.{boundsWords, sectionsIn, indexIn}
+use Rattle.table.specs.Words.{boundsWords, sectionsIn}
 use Rattle.operations.specs.declared.Sought.{Sought}
 use Rattle.operations.specs.declared.Sought.the-variants.{At, Nowhere}
 use Rattle.operations.specs.Entries.{eventKind, kindAt}

@@ -11,7 +11,7 @@ use Rattle.pending.specs.declared.Slot.{Slot}
 use Rattle.pending.specs.declared.Slot.the-variants.{At, Nowhere}
 use Rattle.pending.specs.Places.{placeOf}
 use Rattle.pending.specs.Free.{isAt, isPending}
-use Rattle.pending.specs.Answers.{clearedAt, cancelled}
+use Rattle.pending.specs.Answers.{clearedAt}
 use Rattle.requests.specs.declared.Issue.{Issue}
 use Rattle.requests.specs.declared.Sent.{Sent}
 use Rattle.requests.specs.declared.Sent.the-variants as sent

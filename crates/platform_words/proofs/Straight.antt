@@ -178,7 +178,8 @@ module _ {f : Sought} {kind : ℕ} (own : ℕ) (ws t : List ℕ) (s : Sections) 
   meant : outcomeBy (standingIn ws) m i (eqb (kindAt t q) sentKind) (isAwaited (pendingIn ws) m) ≡ outcomeWithin own ws t s index m out
   meant = sym (its-outcome own t s index (standingIn ws) (pendingIn ws) m i q its (length out))
 
-  its-words : (o : Received) → o ≡ outcomeWithin own ws t s index m out → platformAfter o ws (listHeard (pendingIn ws) t q m) ≡ wordsWithin own ws t s index m out
+  its-words : (o : Received) → o ≡ outcomeWithin own ws t s index m out
+      → platformAfter o ws (listHeard (pendingIn ws) t q m) ≡ wordsWithin own ws t s index m out
   its-words o e =
       ap₂ (λ (x : Received) (l : List ℕ). platformAfter x ws l) e (sym (its-list own t s index (standingIn ws) (pendingIn ws) m i q its))
 

@@ -1,9 +1,9 @@
 -- How many looks a search by halving takes, what a forged index can lead to, and what `nyr_find` tells of a table that was checked.
 -- Assumes nothing.
-use Prim.Native.Nat.{ℕ, _<_}
+use Prim.Native.Nat.{ℕ}
 use mathlib.Core.Path.{_≡_, refl, ap, ap₂, _∙_}
-use mathlib.Core.Bool.{Bool, true, cond}
-use mathlib.Core.List.{List, [], _∷_}
+use mathlib.Core.Bool.{true}
+use mathlib.Core.List.{List}
 use denote.Ref.{now}
 use Rattle.wire.proofs.Cond.{yes-if}
 use Rattle.table.specs.declared.Sections.{Sections}
@@ -18,7 +18,7 @@ use Rattle.operations.specs.Entries.{widthOf, kindAt, opWidth, responseAt, oper
 use Rattle.operations.specs.Search.{halved, soughtIn, borne}
 use Rattle.operations.proofs.Halving as laws
 use Rattle.nyrkovash.specs.TableCalls.{foundWords, findNumber, findAnswer}
-use Rattle.promises.specs.Rules32.{idOf, operationPlace}
+use Rattle.promises.specs.Rules32.{operationPlace}
 use Rattle.promises.specs.Lookups.{laid, lookedUp}
 use Rattle.promises.specs.LinkedReplies.{CheckLeft}
 use Rattle.promises.specs.Halving.{toldOf, Halving}

@@ -65,6 +65,7 @@ pub mod WrongServices
 pub mod Plans
 pub mod WorkedPlans
 pub mod PlanCalls
+mod AnswersKeep
 pub mod ExportsKeep
 mod LinkedRuns
 pub mod Linked
@@ -149,7 +150,9 @@ mod MixedWords
 mod MixedChanges
 pub mod MixedServices
 pub mod WorkedMixed
+mod OurDeeds
 pub mod WrongMixed
+pub mod WrongMixedOrders
 mod MixedKept
 mod MixedReceipts
 mod AnyReceipts

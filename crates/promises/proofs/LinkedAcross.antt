@@ -22,7 +22,8 @@ use Rattle.platform.specs.declared.reactions.Standing.{Standing}
 use Rattle.platform_words.specs.Words.{standingWords}
 use Rattle.mixed.specs.declared.AnyAnswer.{AnyAnswer}
 use Rattle.mixed.specs.Keeping.{blockOf}
-use Rattle.mixed_words.specs.HeardWords.{anyNumber, anyPlatformAfter}
+use Rattle.mixed.specs.Receiving.{numberGiven}
+use Rattle.mixed_words.specs.HeardWords.{anyPlatformAfter}
 use Rattle.mixed_words.specs.ServiceCalls.{availabilityNumber, serviceNumber}
 use Rattle.promises.specs.Owed3.{MixedCall, idOf}
 use Rattle.promises.specs.Replies3.{ourOutcome, ourOutput, ourList, ourWords, ourReceiving3, Receives3}
@@ -84,7 +85,7 @@ module _ (own : ℕ) (st i ours ws sv t m out : List ℕ) (s : Sections) (h : He
     learns : Learns ourReceiving3 us it h
     learns = services-across .learns us it s h hears
 
-    module _ (n : ℕ) (after words output : List ℕ) (en : n ≡ anyNumber (ourOutcome it .answer))
+    module _ (n : ℕ) (after words output : List ℕ) (en : n ≡ numberGiven (ourOutcome it .answer))
         (ea : after ≡ anyPlatformAfter (ourOutcome it) itsWords (ourList it)) (ew : words ≡ ourWords it) (eo : output ≡ ourOutput it) where
       after-is : after ≡ standingWords (ourOutcome it .standing) ++ ourList it
       after-is =
@@ -111,7 +112,7 @@ module _ (own : ℕ) (st i ours ws sv t m out : List ℕ) (s : Sections) (h : He
       pub knows-ours : KnowsOurs us it itsWords n after words output
       knows-ours =
           record {
-            number = en ∙ ap anyNumber (learns .answer);
+            number = en ∙ ap numberGiven (learns .answer);
             each = λ k l last.
                 service-is itsPartners words own (idOf (wordAt us k)) _
                 (of-us (idOf (wordAt us k)) _ (learns .of-ours k l last) ∙ in-numbers (eqb (wordAt us k / 2 ^ 32) 2));

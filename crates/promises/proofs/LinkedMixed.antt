@@ -18,13 +18,12 @@ use Rattle.partners.specs.Threes.{isThree}
 use Rattle.platform.specs.declared.reactions.Standing.{Standing}
 use Rattle.platform_words.specs.Words.{standingIn, pendingIn}
 use Rattle.mixed.specs.declared.AnyAnswer.{AnyAnswer}
-use Rattle.mixed.specs.declared.AnyAnswer.the-variants.{Refused, Six, SixResponse, Three, ThreeResponse}
 use Rattle.mixed.specs.Keeping.{isThere}
-use Rattle.mixed_words.specs.HeardWords.{anyNumber}
+use Rattle.mixed.specs.Receiving.{numberGiven}
 use Rattle.mixed_words.specs.ServiceCalls.{availabilityNumber, serviceNumber}
 use Rattle.promises.specs.Checks.{Gives}
 use Rattle.promises.specs.Services.{namedBy, saidBy, KemptBlock}
-use Rattle.promises.specs.MixedCalls.{givenBy, answerOn, servicesOn}
+use Rattle.promises.specs.MixedCalls.{answerOn, servicesOn}
 use Rattle.promises.specs.MixedOrder.{FindsNoPlace}
 use Rattle.promises.specs.MixedServices.{ourCall, wordsOf, stateOf, ArisesBy, start, call, TellsOf, DownOf}
 use Rattle.promises.specs.LinkedReplies3.{ServiceIs}
@@ -38,14 +37,6 @@ use Rattle.promises.proofs.MixedChanges.{Change, noted, went-down, noth
 use Rattle.promises.proofs.MixedServices.{mixed-services}
 use Rattle.promises.proofs.SomeMixed.{some-call, some-call-in}
 
--- 0, or the number of the refusal
-same-number : (x : AnyAnswer) → anyNumber x ≡ givenBy x
-same-number (Refused n) = refl
-same-number (Six h x n) = refl
-same-number (SixResponse h i at len) = refl
-same-number (Three h x n) = refl
-same-number (ThreeResponse h i at len) = refl
-
 -- what a call that is handed this answers, gives back and leaves
 abbrev answerOf : MixedLent → AnyAnswer
 answerOf c =
@@ -56,14 +47,14 @@ abbrev wordsAfter : MixedLent → List ℕ
 wordsAfter c = servicesOn (c .table) (c .own) (c .partners) (c .ours) (standingIn (c .platform)) (c .services) (c .message) (length (c .output))
 
 abbrev Does : MixedLent → ℕ → List ℕ → Type 0
-Does c n words = (n ≡ anyNumber (answerOf c)) × (words ≡ wordsAfter c)
+Does c n words = (n ≡ numberGiven (answerOf c)) × (words ≡ wordsAfter c)
 
 does : (c : MixedLent) (n : ℕ) (words : List ℕ) → Receives c n words → Does c n words
 does c n words (inl (k, (a, (e, (p, (ec, ew)))))) = subst (λ (x : MixedLent). Does x n words) ec (p .0, sym ew ∙ p .1 .1 .0)
 does c n words (inr (k, (a, (e, (p, (ec, ew)))))) = subst (λ (x : MixedLent). Does x n words) ec (p .0, sym ew ∙ p .1 .1 .0)
 
-gives : (c : MixedLent) (n : ℕ) (words : List ℕ) → Receives c n words → n ≡ givenBy (answerOf c)
-gives c n words r = does c n words r .0 ∙ same-number (answerOf c)
+gives : (c : MixedLent) (n : ℕ) (words : List ℕ) → Receives c n words → n ≡ numberGiven (answerOf c)
+gives c n words r = does c n words r .0
 
 in-order : (c : MixedLent) (n : ℕ) (words : List ℕ) → Receives c n words → Gives (checksOf c (FindsNoPlace (itsBlock c) (drop 24 (c .message)))) n
 in-order c n words r =
@@ -119,7 +110,7 @@ module _ (c : MixedLent) (n : ℕ) (words : List ℕ) (r : Receives c n words) w
   room = length (c .output)
 
   abbrev given : ℕ
-  given = givenBy (answerOf c)
+  given = numberGiven (answerOf c)
 
   state-now : (j x : ℕ) → stateOf i j words x ≡ stateOf i j (wordsAfter c) x
   state-now j x = ap (λ (v : List ℕ). stateOf i j v x) (does c n words r .1)

@@ -26,8 +26,9 @@ use Rattle.mixed.specs.declared.AnyAnswer.the-variants.{Three}
 use Rattle.mixed.specs.declared.AnyReceived.{AnyReceived}
 use Rattle.mixed.specs.Reaction.{operationFor3, commonly, onPull3, onServicesRequest, reaction3}
 use Rattle.mixed.specs.Tables.{sectionsAnswer, sectionsOut, sectionsPending, sectionsWords}
+use Rattle.mixed.specs.Receiving.{numberGiven}
 use Rattle.mixed_words.specs.SectionCalls.{mixedInNumber, mixedInWords, mixedInServices, mixedInOutput, mixedInHeard}
-use Rattle.mixed_words.specs.HeardWords.{heardWords3, anyAnswerWords, anyNumber, anyPlatformAfter, anyHeardAfter}
+use Rattle.mixed_words.specs.HeardWords.{heardWords3, anyAnswerWords, anyPlatformAfter, anyHeardAfter}
 use Rattle.promises.specs.Platforms.{operationWith}
 use Rattle.promises.specs.Owed3.{MixedCall, owedFor3, stateAfter3, bytesOwed}
 use Rattle.promises.specs.Replies3.{ourOutcome, ourOutput, ourList, ourWords, ourReceiving3, Receives3, NotesBy3, RefusesBy3, BlockTakes, Countable}
@@ -109,7 +110,7 @@ module _ (own : ℕ) (st i ours ws sv t m out : List ℕ) (s : Sections) (h : He
         no-response = z .no-response;
       }
 
-  module _ (z : Comes3 c s h kind) (n : ℕ) (after words left heard was : List ℕ) (en : n ≡ anyNumber (ourOutcome c .answer))
+  module _ (z : Comes3 c s h kind) (n : ℕ) (after words left heard was : List ℕ) (en : n ≡ numberGiven (ourOutcome c .answer))
       (ea : after ≡ anyPlatformAfter (ourOutcome c) ws (ourList c)) (ew : words ≡ ourWords c) (el : left ≡ ourOutput c)
       (eh : heard ≡ anyHeardAfter (ourOutcome c) was) where
     r : Receives3 c s h kind
@@ -121,7 +122,7 @@ module _ (own : ℕ) (st i ours ws sv t m out : List ℕ) (s : Sections) (h : He
     refuses : (k : ℕ) → RefusesBy3 ourReceiving3 c k → Refuses3 c ws was k n after words left heard
     refuses k f =
         record {
-          number = en ∙ ap anyNumber (f .answer);
+          number = en ∙ ap numberGiven (f .answer);
           platform =
               ea ∙ ap₂ (λ (a : AnyAnswer) (l : List ℕ). anyPlatformAfter (record { standing = ourOutcome c .standing; answer = a }) ws l) (f .answer) (f .list)
               ∙ take-append-drop 5 ws;
@@ -141,7 +142,7 @@ module _ (own : ℕ) (st i ours ws sv t m out : List ℕ) (s : Sections) (h : He
         let w : after ≡ standingWords q ++ ourList c =
         ea ∙ ap (λ (y : AnyAnswer). anyPlatformAfter (record { standing = q; answer = y }) ws (ourList c)) a in
         record {
-          number = en ∙ ap anyNumber a;
+          number = en ∙ ap numberGiven a;
           replies = rw el (g .written);
           rest = rw el (g .rest);
           heard-is =
@@ -201,7 +202,7 @@ module _ (own : ℕ) (st i ours ws sv t ss m out : List ℕ) (s : Sections) (wor
       → left ≡ mixedInOutput own st i ours ws sv t ss m out → heard ≡ mixedInHeard own i ours ws sv t ss m out was
       → AsOnTable own st i ours ws sv t m out was n after kept left heard
   as-on-table was n after kept left heard en ea ek el eh = (
-    en ∙ ap (λ (x : AnyReceived). anyNumber (x .answer)) outcome-same,
+    en ∙ ap (λ (x : AnyReceived). numberGiven (x .answer)) outcome-same,
     ea ∙ ap₂ (λ (x : AnyReceived) (y : List ℕ). anyPlatformAfter x ws y) outcome-same list-same,
     ek ∙ services-same,
     el ∙ output-same,

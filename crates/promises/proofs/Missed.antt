@@ -2,7 +2,7 @@
 -- Assumes nothing.
 use Prim.Native.Nat.{ℕ, zero, suc, _+_, _-_, _%_}
 use mathlib.Core.Path.{_≡_, refl, sym, ap, subst, _∙_}
-use mathlib.Core.Bool.{Bool, true, false, not, _&&_, true≢false}
+use mathlib.Core.Bool.{true, false, not, true≢false}
 use mathlib.Core.List.{List, [], _∷_, _++_}
 use native.Mathlib.Omega.{arith}
 use borrow.Author.Tests.{eq-eqb, eqb-true}
@@ -30,7 +30,6 @@ use Rattle.joiner.specs.Calls.{outcomeWords, takeNumber, takeAnswer}
 use Rattle.joiner.proofs.Judging.{Moved, judged-moved}
 use Rattle.recording.specs.Decimal.{decimal}
 use Rattle.recording.specs.Line.{lineOf}
-use Rattle.promises.specs.Order.{itsChannel}
 use Rattle.promises.specs.NotRuledOut.{oneMore}
 use Rattle.promises.specs.Missed.{Missing, itsRecord, CarriesMissed, ours, Missed}
 use Rattle.promises.proofs.LinkedRuns.{numbered, taken-numbered}

@@ -29,9 +29,8 @@ use Rattle.mixed.specs.declared.reactions.Reaction3.{Reaction3}
 use Rattle.mixed.specs.Ours.{oursAvailable}
 use Rattle.mixed.specs.Reaction.{operationFor3, deedFor, commonly, onPull3, cameUp3, onStatus3, onServicesRequest, reaction3}
 use Rattle.mixed.specs.Keeping.{isThere, blockOf, noteNumber, markNumber, keptNumber}
-use Rattle.mixed.specs.Receiving.{refusedAny, taken3, settled3}
+use Rattle.mixed.specs.Receiving.{numberGiven, refusedAny, taken3, settled3}
 use Rattle.promises.specs.Platforms.{isThere as isFound}
-use Rattle.promises.specs.MixedCalls.{givenBy}
 use Rattle.promises.proofs.Issue3Messages.{nine}
 use Rattle.promises.proofs.MixedRooms.{lengthFor, shortBy, settled-as}
 
@@ -40,16 +39,16 @@ module _ (own : ℕ) (i ours t : List ℕ) (s : Sections) (index : List ℕ) (p 
   pub numberFor : Deed → ℕ
   numberFor d = cond (eqb (shortBy ours d room) 0) (keptNumber i (h .platform) d payload ws) (shortBy ours d room)
 
-  pub settled-number : (x : Reaction3) → givenBy (settled3 i ours p h x payload ws room .answer) ≡ numberFor (x .deed)
+  pub settled-number : (x : Reaction3) → numberGiven (settled3 i ours p h x payload ws room .answer) ≡ numberFor (x .deed)
   unfolding settled3 numberFor
   settled-number x =
-      ap (λ (y : AnyReceived). givenBy (y .answer)) (settled-as kept p h x ours (x .deed) room) ∙ go (eqb (shortBy ours (x .deed) room) 0) (eqb kept 0) refl
+      ap (λ (y : AnyReceived). numberGiven (y .answer)) (settled-as kept p h x ours (x .deed) room) ∙ go (eqb (shortBy ours (x .deed) room) 0) (eqb kept 0) refl
     where
       kept : ℕ
       kept = keptNumber i (h .platform) (x .deed) payload ws
 
       go : (a b : Bool) → eqb kept 0 ≡ b
-          → givenBy (cond a (cond b (taken3 h x (lengthFor ours (x .deed))) (refusedAny p kept)) (refusedAny p (shortBy ours (x .deed) room)) .answer)
+          → numberGiven (cond a (cond b (taken3 h x (lengthFor ours (x .deed))) (refusedAny p kept)) (refusedAny p (shortBy ours (x .deed) room)) .answer)
           ≡ cond a kept (shortBy ours (x .deed) room)
       go true true e = sym (eqb-true kept 0 e)
       go true false e = refl

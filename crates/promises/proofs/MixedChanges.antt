@@ -25,7 +25,7 @@ use Rattle.states.specs.States.{isUp}
 use Rattle.platform.specs.declared.reactions.Standing.{Standing}
 use Rattle.mixed.specs.Reaction.{operationFor3, reaction3}
 use Rattle.mixed.specs.Keeping.{isThere, blockOf, withNoted, withMarked}
-use Rattle.mixed.specs.Receiving.{isAnswer3, kept3}
+use Rattle.mixed.specs.Receiving.{numberGiven, isAnswer3, kept3}
 use Rattle.promises.specs.AnyOrder.{ThreeForm}
 use Rattle.promises.specs.MixedOrder.{TellsServices, GoesDown}
 use Rattle.promises.proofs.MixedChains.{chain}
@@ -40,10 +40,10 @@ use Rattle.mixed.specs.declared.AnyReading.{AnyReading}
 use Rattle.mixed.specs.declared.AnyReading.the-variants as reading
 use Rattle.mixed.specs.declared.AnyReceived.{AnyReceived}
 use Rattle.mixed.specs.Form.{threeForm}
-use Rattle.mixed.specs.Reading.{otherIssue, fromSix, fromThree, anyOf, numberGiven}
+use Rattle.mixed.specs.Reading.{otherIssue, fromSix, fromThree, anyOf, numberGiven as readNumber}
 use Rattle.mixed.specs.Receiving.{anyOutcomeOf, anyWordsOf}
 use Rattle.mixed.proofs.Issues.{if-three, if-other, if-six}
-use Rattle.promises.specs.MixedCalls.{TableGiven, givenBy, answerOn, servicesOn}
+use Rattle.promises.specs.MixedCalls.{TableGiven, answerOn, servicesOn}
 use Rattle.promises.specs.MixedServices.{GoodTable}
 use Rattle.promises.proofs.AnyOrder.{form-decides}
 use Rattle.promises.proofs.MixedCalls.{Way, refused, goes, way}
@@ -181,18 +181,18 @@ module _ (own : ℕ) (i ours t : List ℕ) (s : Sections) (index : List ℕ) (p 
 -- any message, on sections that lie in the table
 module _ (own : ℕ) (i ours t : List ℕ) (s : Sections) (index : List ℕ) (p : Standing) (l ws m : List ℕ) (room : ℕ) where
   abbrev numberAt : AnyReading → ℕ
-  numberAt x = givenBy (anyOutcomeOf own i ours t s index p l ws m room x .answer)
+  numberAt x = numberGiven (anyOutcomeOf own i ours t s index p l ws m room x .answer)
 
   abbrev wordsAt : AnyReading → List ℕ
   wordsAt x = anyWordsOf own i ours t s index p ws m room x
 
   abbrev ChangeAt : AnyReading → Type 0
-  ChangeAt x = Change (numberGiven (anyOf i own m) ≡ 0) own i p ws m (numberAt x) (wordsAt x)
+  ChangeAt x = Change (readNumber (anyOf i own m) ≡ 0) own i p ws m (numberAt x) (wordsAt x)
 
   refused-change : (n : ℕ) → anyOf i own m ≡ reading.Refused n → ChangeAt (reading.Refused n)
   unfolding anyOutcomeOf anyWordsOf
   refused-change n e =
-      nothing refl (λ z. absurd (⊎-elim (λ (y : numberGiven (anyOf i own m) ≡ 0). any-not-0 i own m n e (sym (ap numberGiven e) ∙ y))
+      nothing refl (λ z. absurd (⊎-elim (λ (y : readNumber (anyOf i own m) ≡ 0). any-not-0 i own m n e (sym (ap readNumber e) ∙ y))
       (λ y. any-not-0 i own m n e y) z))
 
   six-change : threeForm i m ≡ false → (x : Reading) → anyOf i own m ≡ fromSix x → ChangeAt (fromSix x)
@@ -205,7 +205,7 @@ module _ (own : ℕ) (i ours t : List ℕ) (s : Sections) (index : List ℕ) (p 
   unfolding anyOutcomeOf anyWordsOf
   read-change f zero q e =
       three-change own i ours t s index p l ws m room (form-decides i own m .yes-is f) (ap (λ (n : ℕ). answered3 n (readOut3 m)) q)
-      (numberGiven (anyOf i own m) ≡ 0)
+      (readNumber (anyOf i own m) ≡ 0)
   read-change f (suc n) q e = refused-change (suc n) e
 
   pub any-change : ChangeAt (anyOf i own m)
@@ -223,7 +223,7 @@ module _ (own : ℕ) (i ours t : List ℕ) (s : Sections) (index : List ℕ) (p 
           subst ChangeAt (sym q) (six-change ea (readOf own m) q)
 
 abbrev pub Good : TableGiven → ℕ → List ℕ → List ℕ → Type 0
-Good g own i m = GoodTable g × (numberGiven (anyOf i own m) ≡ 0)
+Good g own i m = GoodTable g × (readNumber (anyOf i own m) ≡ 0)
 
 -- of a message that is good on a good table
 widened : {A B : Type 0} {own : ℕ} {i : List ℕ} {p : Standing} {ws m : List ℕ} {n : ℕ} {after : List ℕ} → (B → A)
@@ -233,17 +233,17 @@ widened f (went-down tf ts e q) = went-down tf ts e q
 widened f (nothing e q) = nothing e (λ z. q (⊎-elim (λ b. inl (f b)) (λ y. inr y) z))
 
 pub change : (g : TableGiven) (own : ℕ) (i ours : List ℕ) (p : Standing) (l ws m : List ℕ) (room : ℕ)
-    → Change (Good g own i m) own i p ws m (givenBy (answerOn g own i ours p l ws m room .answer)) (servicesOn g own i ours p ws m room)
+    → Change (Good g own i m) own i p ws m (numberGiven (answerOn g own i ours p l ws m room .answer)) (servicesOn g own i ours p ws m room)
 change g own i ours p l ws m room = go (way g)
   where
     go : Way g
-        → Change (Good g own i m) own i p ws m (givenBy (answerOn g own i ours p l ws m room .answer)) (servicesOn g own i ours p ws m room)
+        → Change (Good g own i m) own i p ws m (numberGiven (answerOn g own i ours p l ws m room .answer)) (servicesOn g own i ours p ws m room)
     go (refused n r) =
         nothing (r .services own i ours p ws m room)
         (λ z. absurd (⊎-elim (λ (y : Good g own i m). r .bad (y .0))
-        (λ y. r .number (sym (ap (λ (x : AnyReceived). givenBy (x .answer)) (r .answer own i ours p l ws m room)) ∙ y)) z))
+        (λ y. r .number (sym (ap (λ (x : AnyReceived). numberGiven (x .answer)) (r .answer own i ours p l ws m room)) ∙ y)) z))
     go (goes t s index r) =
         subst (λ (n : ℕ). Change (Good g own i m) own i p ws m n (servicesOn g own i ours p ws m room))
-        (sym (ap (λ (x : AnyReceived). givenBy (x .answer)) (r .answer own i ours p l ws m room)))
-        (subst (Change (Good g own i m) own i p ws m (givenBy (anyOutcomeOf own i ours t s index p l ws m room (anyOf i own m) .answer)))
+        (sym (ap (λ (x : AnyReceived). numberGiven (x .answer)) (r .answer own i ours p l ws m room)))
+        (subst (Change (Good g own i m) own i p ws m (numberGiven (anyOutcomeOf own i ours t s index p l ws m room (anyOf i own m) .answer)))
         (sym (r .services own i ours p ws m room)) (widened (λ (y : Good g own i m). y .1) (any-change own i ours t s index p l ws m room)))

@@ -8,21 +8,15 @@ use Rattle.platform.specs.declared.reactions.Standing.{Standing}
 use Rattle.mixed.specs.declared.AnyAnswer.{AnyAnswer}
 use Rattle.mixed.specs.declared.AnyAnswer.the-variants.{Refused, Six, SixResponse, Three, ThreeResponse}
 use Rattle.mixed.specs.declared.AnyReceived.{AnyReceived}
+use Rattle.mixed.specs.Receiving.{numberGiven}
 use Rattle.platform_words.specs.Words.{standingLength, standingIn, pendingIn, standingWords}
-use Rattle.mixed_words.specs.HeardWords.{stampIn, ownComposite, anyAnswerWords, anyNumber, anyLeftBy, anyPlatformAfter}
+use Rattle.mixed_words.specs.HeardWords.{stampIn, ownComposite, anyAnswerWords, anyLeftBy, anyPlatformAfter}
 use Rattle.promises.specs.Checks.{Keeps}
-use Rattle.promises.specs.MixedCalls.{TableGiven, givenBy, answerOn, outputOn, listOn, servicesOn}
+use Rattle.promises.specs.MixedCalls.{TableGiven, answerOn, outputOn, listOn, servicesOn}
 use Rattle.promises.specs.MixedRefusals.{KeptMixed}
 use Rattle.promises.proofs.MixedRefusals.{mixed-refusals}
 
-same-number : (a : AnyAnswer) → anyNumber a ≡ givenBy a
-same-number (Refused n) = refl
-same-number (Six h x n) = refl
-same-number (SixResponse h i start len) = refl
-same-number (Three h x n) = refl
-same-number (ThreeResponse h i start len) = refl
-
-words-with : (ws l : List ℕ) (p : Standing) (a : AnyAnswer) → ¬ (anyNumber a ≡ 0) → l ≡ pendingIn ws
+words-with : (ws l : List ℕ) (p : Standing) (a : AnyAnswer) → ¬ (numberGiven a ≡ 0) → l ≡ pendingIn ws
     → anyLeftBy a (take standingLength ws) (standingWords p) ++ l ≡ ws
 words-with ws l p (Refused n) d e = ap (λ (y : List ℕ). take standingLength ws ++ y) e ∙ take-append-drop standingLength ws
 words-with ws l p (Six h x n) d e = absurd (d refl)
@@ -30,7 +24,7 @@ words-with ws l p (SixResponse h i start len) d e = absurd (d refl)
 words-with ws l p (Three h x n) d e = absurd (d refl)
 words-with ws l p (ThreeResponse h i start len) d e = absurd (d refl)
 
-answer-keeps : (was : List ℕ) (a : AnyAnswer) → Keeps (anyNumber a) was (anyAnswerWords a was)
+answer-keeps : (was : List ℕ) (a : AnyAnswer) → Keeps (numberGiven a) was (anyAnswerWords a was)
 answer-keeps was (Refused n) d = refl
 answer-keeps was (Six h x n) d = absurd (d refl)
 answer-keeps was (SixResponse h i start len) d = absurd (d refl)
@@ -45,17 +39,14 @@ module _ (g : TableGiven) (own : ℕ) (st i ours ws sv m out : List ℕ) where
       (listOn g own i (pendingIn ws) m) (servicesOn g own i ours (standingIn ws) sv m (length out))
   kept = mixed-refusals .changes-nothing g own (stampIn st) (ownComposite st) i ours (standingIn ws) (pendingIn ws) sv m out
 
-  refuses : ¬ (anyNumber (outcome .answer) ≡ 0) → ¬ (givenBy (outcome .answer) ≡ 0)
-  refuses d e = d (same-number (outcome .answer) ∙ e)
+  pub mixed-words-keep : Keeps (numberGiven (outcome .answer)) ws (anyPlatformAfter outcome ws (listOn g own i (pendingIn ws) m))
+  mixed-words-keep d = words-with ws _ (outcome .standing) (outcome .answer) d (kept .list d)
 
-  pub mixed-words-keep : Keeps (anyNumber (outcome .answer)) ws (anyPlatformAfter outcome ws (listOn g own i (pendingIn ws) m))
-  mixed-words-keep d = words-with ws _ (outcome .standing) (outcome .answer) d (kept .list (refuses d))
+  pub mixed-services-keep : Keeps (numberGiven (outcome .answer)) sv (servicesOn g own i ours (standingIn ws) sv m (length out))
+  mixed-services-keep = kept .services
 
-  pub mixed-services-keep : Keeps (anyNumber (outcome .answer)) sv (servicesOn g own i ours (standingIn ws) sv m (length out))
-  mixed-services-keep d = kept .services (refuses d)
+  pub mixed-output-keeps : Keeps (numberGiven (outcome .answer)) out (outputOn g own (stampIn st) (ownComposite st) i ours (standingIn ws) sv m out)
+  mixed-output-keeps = kept .output
 
-  pub mixed-output-keeps : Keeps (anyNumber (outcome .answer)) out (outputOn g own (stampIn st) (ownComposite st) i ours (standingIn ws) sv m out)
-  mixed-output-keeps d = kept .output (refuses d)
-
-  pub mixed-heard-keeps : (was : List ℕ) → Keeps (anyNumber (outcome .answer)) was (anyAnswerWords (outcome .answer) was)
+  pub mixed-heard-keeps : (was : List ℕ) → Keeps (numberGiven (outcome .answer)) was (anyAnswerWords (outcome .answer) was)
   mixed-heard-keeps was = answer-keeps was (outcome .answer)

@@ -41,7 +41,7 @@ use Rattle.mixed.specs.declared.AnyReading.the-variants.{Refused}
 use Rattle.mixed.specs.Form.{threeForm}
 use Rattle.mixed.specs.Reading.{otherIssue, fromSix, fromThree, anyOf}
 use Rattle.mixed.specs.Keeping.{isThere, blockOf}
-use Rattle.mixed.specs.Receiving.{refusedAny, anyOutcomeOf, anyOutcome}
+use Rattle.mixed.specs.Receiving.{numberGiven, refusedAny, anyOutcomeOf, anyOutcome}
 use Rattle.mixed.specs.Tables.{sectionsAnswer, answerIf}
 use Rattle.mixed.proofs.Issues.{asSix, asThree, six-back, three-back, if-three, if-other, if-six}
 use Rattle.promises.specs.Checks.{Check, Answers, Gives, this, next}
@@ -51,7 +51,7 @@ use Rattle.promises.specs.Reports.{IsKind2}
 use Rattle.promises.specs.Demand1.{FindsKind2}
 use Rattle.promises.specs.AnyOrder.{ThreeForm, anyChecks, itsReading}
 use Rattle.promises.specs.Services.{pairCount, namedBy, KemptBlock}
-use Rattle.promises.specs.MixedCalls.{TableGiven, bytes, sections, givenBy, answerOn}
+use Rattle.promises.specs.MixedCalls.{TableGiven, bytes, sections, answerOn}
 use Rattle.promises.specs.MixedOrder.{foundOn, Kind2On, NoWords, senderBlock, FindsNoPlace, NeedsMore, behindReading, mixedChecks, MixedOrder}
 use Rattle.promises.proofs.Checks.{Decides, not-decides, decides-same, then}
 use Rattle.promises.proofs.Order.{above-decides}
@@ -77,7 +77,7 @@ module _ (own : ℕ) (i ours t : List ℕ) (s : Sections) (index : List ℕ) (p 
   behind = behindReading t s F K own i ours p l ws m room Full
 
   abbrev given : AnyReading → ℕ
-  given x = givenBy (anyOutcomeOf own i ours t s index p l ws m room x .answer)
+  given x = numberGiven (anyOutcomeOf own i ours t s index p l ws m room x .answer)
 
   three-read : threeForm i m ≡ true → anyOf i own m ≡ fromThree (readOut3 m) → readOf3 own m ≡ readOut3 m
   three-read f e = three-back (readOf3 own m) ∙ ap asThree (sym (if-three i own m f) ∙ e) ∙ sym (three-back (readOut3 m))
@@ -103,7 +103,7 @@ module _ (own : ℕ) (i ours t : List ℕ) (s : Sections) (index : List ℕ) (p 
           three-behind own i ours t s index p l ws m room F finds K sent Full tf (three-read f q) (full tf)
       go false f q = six-behind own i ours t s index p l ws m room F finds K sent Full (form-decides i own m .no-is f) (six-read f q)
 
-  message-in-order : Answers (λ (n : ℕ). n) 0 (anyChecks i own m ++ behind) (givenBy (anyOutcome own i ours t s index p l ws m room .answer))
+  message-in-order : Answers (λ (n : ℕ). n) 0 (anyChecks i own m ++ behind) (numberGiven (anyOutcome own i ours t s index p l ws m room .answer))
   unfolding anyOutcomeOf
   message-in-order = then Refused (itsReading i m) (λ n. n) 0 given (λ n. refl) (any-order .read i own m) behind-in-order
 
@@ -121,29 +121,29 @@ unfolding isAnswer operationFor
 by-table t e id = decides-same (answer-decides t (sectionsIn t) e (headed id) message.Operation) (λ q. q .1) (λ q. (refl, q))
 
 module _ (own : ℕ) (i ours : List ℕ) (p : Standing) (l ws m : List ℕ) (room : ℕ) (Full : Type 0) (full : FullBy i ws m Full) where
-  on-bytes : (t : List ℕ) → Gives (mixedChecks (bytes t) own i ours p l ws m room Full) (givenBy (answerOn (bytes t) own i ours p l ws m room .answer))
+  on-bytes : (t : List ℕ) → Gives (mixedChecks (bytes t) own i ours p l ws m room Full) (numberGiven (answerOn (bytes t) own i ours p l ws m room .answer))
   unfolding answerIf
   on-bytes t =
-      then check.Refused (check.Table (sectionsIn t)) (λ n. n) 0 (λ (x : Checked). givenBy (answerIf x own i ours t p l ws m room .answer))
+      then check.Refused (check.Table (sectionsIn t)) (λ n. n) 0 (λ (x : Checked). numberGiven (answerIf x own i ours t p l ws m room .answer))
       (λ n. refl) (table-in-order t)
       (λ e. message-in-order own i ours t (sectionsIn t) (indexOf t (sectionsIn t)) p l ws m room (foundOn (bytes t)) (looked t (sectionsIn t) e)
       (Kind2On (bytes t))
       (by-table t e) Full full)
 
   on-sections : (t : List ℕ) (s : Sections) (index : List ℕ)
-      → Gives (mixedChecks (sections t s index) own i ours p l ws m room Full) (givenBy (answerOn (sections t s index) own i ours p l ws m room .answer))
+      → Gives (mixedChecks (sections t s index) own i ours p l ws m room Full) (numberGiven (answerOn (sections t s index) own i ours p l ws m room .answer))
   unfolding sectionsAnswer
   on-sections t s index = go (within t s) refl
     where
       go : (b : Bool) → within t s ≡ b → Answers (λ (n : ℕ). n) 0 (mixedChecks (sections t s index) own i ours p l ws m room Full)
-          (givenBy (cond b (anyOutcome own i ours t s index p l ws m room) (refusedAny p cutShort) .answer))
+          (numberGiven (cond b (anyOutcome own i ours t s index p l ws m room) (refusedAny p cutShort) .answer))
       go true e =
           next (λ (z : ¬ (LieIn t s)). z (lie-decides t s .yes-is e))
           (message-in-order own i ours t s index p l ws m room (foundOn (sections t s index)) (λ id. refl) (Kind2On (sections t s index))
           (by-index t s index) Full full)
       go false e = this (lie-decides t s .no-is e)
 
-  on : (g : TableGiven) → Gives (mixedChecks g own i ours p l ws m room Full) (givenBy (answerOn g own i ours p l ws m room .answer))
+  on : (g : TableGiven) → Gives (mixedChecks g own i ours p l ws m room Full) (numberGiven (answerOn g own i ours p l ws m room .answer))
   on (bytes t) = on-bytes t
   on (sections t s index) = on-sections t s index
 

@@ -24,10 +24,9 @@ use Rattle.message3.proofs.Accepted.{Readable}
 use Rattle.platform.specs.declared.reactions.Standing.{Standing}
 use Rattle.mixed.specs.declared.AnyReceived.{AnyReceived}
 use Rattle.mixed.specs.Reaction.{operationFor3, reaction3}
-use Rattle.mixed.specs.Receiving.{isAnswer3, responseTo3, settled3}
+use Rattle.mixed.specs.Receiving.{numberGiven, isAnswer3, responseTo3, settled3}
 use Rattle.mixed.proofs.Issues.{three-readable}
 use Rattle.promises.specs.Checks.{Outside}
-use Rattle.promises.specs.MixedCalls.{givenBy}
 use Rattle.promises.proofs.Checks.{where-is}
 use Rattle.promises.proofs.Issue3Messages.{nine}
 use Rattle.promises.proofs.Issue3Order.{reserved-decides}
@@ -67,7 +66,7 @@ module _ (own : ℕ) (i ours t : List ℕ) (s : Sections) (index : List ℕ) (p 
   -- what a message of this kind gives
   abbrev pub Given : Message3 → ℕ
   Given k =
-      givenBy (cond (isAnswer3 t (operationFor3 t s index h k) k) (responseTo3 l (operationFor3 t s index h k) p h 24 len)
+      numberGiven (cond (isAnswer3 t (operationFor3 t s index h k) k) (responseTo3 l (operationFor3 t s index h k) p h 24 len)
       (settled3 i ours p h (reaction3 own ours t s (operationFor3 t s index h k) p h k 24 len) payload ws room) .answer)
 
   abbrev pub kind : Message3
@@ -104,7 +103,7 @@ module _ (own : ℕ) (i ours t : List ℕ) (s : Sections) (index : List ℕ) (p 
     pub given-is : Given kind ≡ chain own i ours t s index p h payload ws len room ID field
     given-is =
         ap Given kind-is
-        ∙ ap (λ (x : AnyReceived). givenBy (x .answer))
+        ∙ ap (λ (x : AnyReceived). numberGiven (x .answer))
         (no-if {A = AnyReceived} _ _ (no-answer ID (bounds .0) (bounds .1) _ field (secondIn (payloadIn3 m))))
         ∙ settled-number own i ours t s index p h payload ws len room _
         ∙ by-id own i ours t s index p h payload ws len room ID (bounds .0) (bounds .1) field (secondIn (payloadIn3 m))

@@ -36,9 +36,9 @@ use Rattle.mixed.specs.Reading.{anyOf}
 use Rattle.mixed.specs.Reaction.{operationFor3, reaction3}
 use Rattle.mixed.specs.Replies.{deedBytes}
 use Rattle.mixed.specs.Keeping.{isThere, blockOf, withBlock, noteNumber, withNoted, markNumber, withMarked, keptNumber, keptWords}
-use Rattle.mixed.specs.Receiving.{fromNoting, refusedAny, isAnswer3, delivered3, responseTo3, listAnswered3, taken3}
+use Rattle.mixed.specs.Receiving.{numberGiven, fromNoting, refusedAny, isAnswer3, delivered3, responseTo3, listAnswered3, taken3}
 use Rattle.mixed.specs.Receiving.{settled3, laid3, kept3, anyOutcomeOf, anyOutputOf, anyListOf, anyWordsOf}
-use Rattle.promises.specs.MixedCalls.{TableGiven, givenBy, answerOn, outputOn, listOn, servicesOn}
+use Rattle.promises.specs.MixedCalls.{TableGiven, answerOn, outputOn, listOn, servicesOn}
 use Rattle.promises.specs.MixedRefusals.{KeptMixed, MixedRefusals}
 use Rattle.promises.proofs.MixedCalls.{Way, refused, goes, way}
 use Rattle.promises.proofs.MixedRooms.{lengthFor, shortBy, settled-as, laid-as, kept-as}
@@ -213,14 +213,14 @@ kept-by p out l ws r left after words stays =
       services = λ h. all h .services;
     }
   where
-    by : (a : AnyAnswer) → r .answer ≡ a → ¬ (givenBy a ≡ 0) → Stays p out l ws r left after words
+    by : (a : AnyAnswer) → r .answer ≡ a → ¬ (numberGiven a ≡ 0) → Stays p out l ws r left after words
     by (Refused n) e h = stays n e
     by (Six k x n) e h = absurd (h refl)
     by (SixResponse k x a b) e h = absurd (h refl)
     by (Three k x n) e h = absurd (h refl)
     by (ThreeResponse k x a b) e h = absurd (h refl)
 
-    all : ¬ (givenBy (r .answer) ≡ 0) → Stays p out l ws r left after words
+    all : ¬ (numberGiven (r .answer) ≡ 0) → Stays p out l ws r left after words
     all h = by (r .answer) refl h
 
 pub mixed-refusals : MixedRefusals

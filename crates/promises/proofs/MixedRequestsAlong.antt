@@ -32,7 +32,8 @@ use Rattle.promises.specs.MixedResponses.{ToReceive, ourAnyReceiving, An
 use Rattle.promises.specs.MixedAsked.{headOf}
 use Rattle.promises.specs.MixedRequestCalls.{AnyCall, plain, sendAny, receiveAny, FairAny, asBefore, ofAny, ShownAny, shownAny}
 use Rattle.promises.specs.MixedRequestCalls.{arriving, shownReceived, ourAnyShows, ourAnyLeaves}
-use Rattle.promises.specs.MixedRequestRuns.{OnMapAny, mapChecksAny, refusedOnAny, bytesIn, sentOnAny}
+use Rattle.promises.specs.RequestRuns.{mapChecks}
+use Rattle.promises.specs.MixedRequestRuns.{OnMapAny, refusedOnAny, bytesIn, sentOnAny}
 use Rattle.promises.specs.MixedRequestRuns.{MixedMapCall, as-one, sends, delivers, refuses, passes}
 use Rattle.promises.proofs.Requests.{requests}
 use Rattle.promises.proofs.RequestsAlong.{AlongCall, along-call, asks-it, asked-same, sent-fits, call-fits}
@@ -91,7 +92,7 @@ module _ (own : ℕ) (p : Standing) (l : List ℕ) (m : Map) (same : LikeMap l m
 
     record Sending : Type 1 where
       on : OnMapAny
-      says : Answers (refusedOnAny p m out) good (mapChecksAny (headOf issue) t s id m payload (length out)) on
+      says : Answers (refusedOnAny p m out) good (mapChecks (headOf issue) t s id m payload (length out)) on
       seen : on .seen ≡ showsBy refusal
       like : LikeMap (leavesBy refusal) (on .after)
 
@@ -99,7 +100,7 @@ module _ (own : ℕ) (p : Standing) (l : List ℕ) (m : Map) (same : LikeMap l m
     sending = go refusal refl (order-for l m same (p .next) t s e words room id payload (length out) issue (refusedOnAny p m out) good)
       where
         go : (r : ℕ) → refusal ≡ r
-            → Answers (refusedOnAny p m out) good (mapChecksAny (headOf issue) t s id m payload (length out)) (byNumber (refusedOnAny p m out) good r)
+            → Answers (refusedOnAny p m out) good (mapChecks (headOf issue) t s id m payload (length out)) (byNumber (refusedOnAny p m out) good r)
             → Sending
         go (suc k) q a =
             record {

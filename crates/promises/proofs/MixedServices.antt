@@ -22,8 +22,9 @@ use Rattle.services.proofs.WentDown.{marked-long, marked-state}
 use Rattle.partners.specs.Threes.{isThree, threesBefore, blockStart}
 use Rattle.platform.specs.declared.reactions.Standing.{Standing}
 use Rattle.mixed.specs.Keeping.{isThere, blockOf, withBlock, withNoted, withMarked}
+use Rattle.mixed.specs.Receiving.{numberGiven}
 use Rattle.promises.specs.Services.{pairCount, namedBy, KemptBlock, start as fresh}
-use Rattle.promises.specs.MixedCalls.{TableGiven, givenBy, answerOn, servicesOn}
+use Rattle.promises.specs.MixedCalls.{TableGiven, answerOn, servicesOn}
 use Rattle.promises.specs.MixedOrder.{GoesDown}
 use Rattle.promises.specs.MixedServices.{ourCall, wordsOf, stateOf, ArisesBy, start, call, TellsOf, DownOf, MixedServices}
 use Rattle.promises.proofs.Services.{after-note, after-down, is-marked, services as one-platform}
@@ -100,7 +101,7 @@ fresh-words i j n h =
 
 module _ (g : TableGiven) (own : ℕ) (i ours : List ℕ) (p : Standing) (l ws m : List ℕ) (room : ℕ) where
   abbrev gives : ℕ
-  gives = givenBy (answerOn g own i ours p l ws m room .answer)
+  gives = numberGiven (answerOn g own i ours p l ws m room .answer)
 
   abbrev after : List ℕ
   after = servicesOn g own i ours p ws m room
@@ -218,9 +219,9 @@ kempt i ws j (call {ws = was} g own ours p m room o r) t h =
 
 -- for any room
 refusal-keeps : (g : TableGiven) (own : ℕ) (i ours : List ℕ) (p : Standing) (l ws m : List ℕ) (room : ℕ)
-    → ¬ (givenBy (answerOn g own i ours p l ws m room .answer) ≡ 0) → servicesOn g own i ours p ws m room ≡ ws
+    → ¬ (numberGiven (answerOn g own i ours p l ws m room .answer) ≡ 0) → servicesOn g own i ours p ws m room ≡ ws
 refusal-keeps g own i ours p l ws m room =
-    subst (λ (n : ℕ). ¬ (givenBy (answerOn g own i ours p l ws m n .answer) ≡ 0) → servicesOn g own i ours p ws m n ≡ ws)
+    subst (λ (n : ℕ). ¬ (numberGiven (answerOn g own i ours p l ws m n .answer) ≡ 0) → servicesOn g own i ours p ws m n ≡ ws)
     (length-replicate {A = ℕ} room 0)
     (mixed-refusals .changes-nothing g own (record { seconds = 0; nanoseconds = 0 }) 0 i ours p l ws m (replicate room 0) .services)
 

@@ -35,12 +35,11 @@ use Rattle.platform.specs.Reaction.{onPullAll, onPullOne, onPull, onOperation, 
 use Rattle.platform.specs.Receiving.{isSent, isAnswer, outcomeOf, outcomeIn}
 use Rattle.platform.specs.Noting.{numberGiven as receiveNumber}
 use Rattle.platform.specs.declared.reactions.Heard.the-variants as heard
-use Rattle.mixed.specs.Receiving.{fromNoting, fromReceived}
+use Rattle.mixed.specs.Receiving.{numberGiven, fromNoting, fromReceived}
 use Rattle.promises.specs.Checks.{_when_, Answers, Outside, none, this, next}
 use Rattle.promises.specs.Platforms.{isThere as isFound}
 use Rattle.promises.specs.Demand1.{itsMessage, owedIn}
 use Rattle.promises.specs.AnyOrder.{ThreeForm, byForm}
-use Rattle.promises.specs.MixedCalls.{givenBy}
 use Rattle.promises.specs.MixedOrder.{NotAwaited3, NotAwaited6, TellsServices, GoesDown, NoWords, AsksForAll, owed3, owed6, behindReading}
 use Rattle.promises.proofs.Checks.{Decides, decides-same, where-is}
 use Rattle.promises.proofs.Order.{reserved-decides}
@@ -138,7 +137,7 @@ module _ (own : ℕ) (t : List ℕ) (s : Sections) (index : List ℕ) (p : Stand
   of-operation (sought.At j q) = refl
   of-operation sought.Nowhere = refl
 
-number-same : (x : Noting) → givenBy (fromNoting x) ≡ receiveNumber x
+number-same : (x : Noting) → numberGiven (fromNoting x) ≡ receiveNumber x
 number-same (noting.Refused n) = refl
 number-same (noting.Noted h x n) = refl
 number-same (noting.Response h j start len) = refl
@@ -229,7 +228,7 @@ module _ (own : ℕ) (i ours t : List ℕ) (s : Sections) (index : List ℕ) (p 
       last (next w none) = next (no-form w) none
 
   pub six-behind : Answers (λ (n : ℕ). n) 0 (behindReading t s F K own i ours p l ws m room Full)
-      (givenBy (fromReceived (outcomeIn own t s index p l m room) .answer))
+      (numberGiven (fromReceived (outcomeIn own t s index p l m room) .answer))
   unfolding operationIn
   six-behind =
       subst (Answers (λ (n : ℕ). n) 0 (behindReading t s F K own i ours p l ws m room Full))

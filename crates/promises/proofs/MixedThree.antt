@@ -31,11 +31,10 @@ use Rattle.platform.specs.Reaction.{foundData}
 use Rattle.platform.specs.Receiving.{notAwaited, isSent}
 use Rattle.mixed.specs.Reaction.{operationFor3, reaction3}
 use Rattle.mixed.specs.Keeping.{isThere, blockOf}
-use Rattle.mixed.specs.Receiving.{refusedAny, isAnswer3, delivered3, responseTo3}
+use Rattle.mixed.specs.Receiving.{numberGiven, refusedAny, isAnswer3, delivered3, responseTo3}
 use Rattle.promises.specs.Checks.{Check, _when_, Answers, none, this, next}
 use Rattle.promises.specs.Platforms.{isThere as isFound}
 use Rattle.promises.specs.AnyOrder.{ThreeForm, byForm}
-use Rattle.promises.specs.MixedCalls.{givenBy}
 use Rattle.promises.specs.MixedOrder.{NotAwaited3, NotAwaited6, TellsServices, GoesDown, NoWords, AsksForAll, owed3, owed6, behindReading}
 use Rattle.promises.proofs.Checks.{Decides, lt-decides, le-decides, eq-decides, or-decides, and-decides, decides-same, by, by-then}
 use Rattle.promises.proofs.Order.{above-decides}
@@ -181,7 +180,7 @@ module _ (own : ℕ) (i ours t : List ℕ) (s : Sections) (index : List ℕ) (p 
     unfolding isAnswer3 operationFor3 responseTo3
     of-response a = rw a (go matched)
       where
-        go : (b : Bool) → givenBy (cond b (delivered3 (look ID) p h 24 len) (refusedAny p notAwaited) .answer) ≡ cond b 0 61
+        go : (b : Bool) → numberGiven (cond b (delivered3 (look ID) p h 24 len) (refusedAny p notAwaited) .answer) ≡ cond b 0 61
         go true = refl
         go false = refl
 

@@ -17,7 +17,7 @@ use Rattle.table.specs.Entries.{isType}
 use Rattle.walk.specs.declared.Place.{Place}
 use Rattle.walk.specs.declared.Walked.{Walked}
 use Rattle.walk.specs.declared.Walked.the-variants as walked
-use Rattle.walk.specs.Tree.{Tree, leaf, row, array, broken, tree}
+use Rattle.walk.specs.Tree.{Tree, leaf, array, tree}
 use Rattle.walk.specs.Walk.{Step, on, stop, Codec, start, answer, left, walk}
 use Rattle.walk.specs.Planned.{isPlanned, planTree, typeBy}
 use Rattle.walk.proofs.Walks.{Holds}

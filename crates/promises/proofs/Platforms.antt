@@ -32,7 +32,7 @@ states-are =
 abbrev empty : Section
 empty = record { at = 0; count = 0 }
 
-abbrev bare : Setting
+abbrev pub bare : Setting
 bare =
     record {
       table = [];

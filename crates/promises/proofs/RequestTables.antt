@@ -1,16 +1,10 @@
 -- On a table that `check` accepts the operation that is found for an ID is the entry that bears it, and its kind that entry's.
 -- Assumes nothing.
-use Prim.Native.Nat.{ℕ, zero, suc, _≤_, _<_}
+use Prim.Native.Nat.{ℕ, _≤_, _<_}
 use mathlib.Core.Path.{_≡_, refl, sym, ap, ap₂, subst, _∙_}
-use mathlib.Core.Bool.{Bool, true, false, cond}
-use mathlib.Core.Logic.{⊎-elim}
 use mathlib.Core.List.{List}
-use native.Mathlib.Nat.{eq-or-lt-of-le}
 use native.Mathlib.Omega.{arith}
-use borrow.Author.Tests.{eqb-true, eqb-false, ltb-true, ltb-false}
-use lib.Dec.{eqb, ltb}
 use lib.ListN.{length}
-use Rattle.wire.proofs.Rising.{rising-apart}
 use Rattle.table.specs.declared.Sections.{Sections}
 use Rattle.table.specs.declared.Checked.the-variants.{Table}
 use Rattle.types.specs.Table.{checked}
@@ -18,32 +12,10 @@ use Rattle.types.proofs.Accepted.{accepted, ids-rise}
 use Rattle.operations.specs.declared.Sought.{Sought}
 use Rattle.operations.specs.declared.Sought.the-variants.{At, Nowhere}
 use Rattle.operations.specs.Entries.{opPlace, kindAt, idAt}
-use Rattle.operations.specs.Rules.{idsRise}
-use Rattle.operations.specs.Search.{indexed, soughtIn, orElse, firstBelow, operationOf}
+use Rattle.operations.specs.Search.{indexed, soughtIn, operationOf}
+use Rattle.operations.proofs.WhereIDsRise.{Bears, scanned, same-id}
 use Rattle.platform.proofs.Unique.{is-sought}
 use Rattle.promises.specs.RequestCalls.{HasKind, kindFound, kindIn}
-
--- an entry below n that bears the ID, and its place, or none of them does
-module _ (t : List ℕ) (first id : ℕ) where
-  abbrev Bears : ℕ → Sought → Type 0
-  Bears n (At i p) = (i < n) × ((p ≡ opPlace t first i) × (idAt t first i ≡ id))
-  Bears n Nowhere = (k : ℕ) → k < n → idAt t first k ≡ id → ⊥
-
-  scanned : (n : ℕ) → Bears n (firstBelow t first id n)
-  unfolding firstBelow
-  scanned zero = λ k h. absurd (omega arith)
-  scanned (suc n) = go (firstBelow t first id n) (scanned n) (eqb (idAt t first n) id) refl
-    where
-      go : (x : Sought) → Bears n x → (b : Bool) → eqb (idAt t first n) id ≡ b
-          → Bears (suc n) (orElse x (cond b (At n (opPlace t first n)) Nowhere))
-      go (At i p) h b e = (omega arith, h .1)
-      go Nowhere h true e = (omega arith, (refl, eqb-true (idAt t first n) id e))
-      go Nowhere h false e = λ k l q.
-          let m : k ≤ n = omega arith in
-          ⊎-elim
-          (λ (s : k ≡ n). eqb-false (idAt t first n) id e (subst (λ (j : ℕ). idAt t first j ≡ id) s q))
-          (λ (g : k < n). h k g q)
-          (eq-or-lt-of-le m)
 
 module _ (t : List ℕ) (s : Sections) (e : checked t ≡ Table s) where
   abbrev places : ℕ → ℕ
@@ -52,16 +24,8 @@ module _ (t : List ℕ) (s : Sections) (e : checked t ≡ Table s) where
   -- IDs strictly rise: one entry bears an ID
   pub one-entry : (i j : ℕ) → i < s .operations .count → j < s .operations .count
       → idAt t (s .operations .at) i ≡ idAt t (s .operations .at) j → i ≡ j
-  unfolding idsRise
-  one-entry i j hi hj q = go (ltb i j) refl (ltb j i) refl
-    where
-      apart : (m n : ℕ) → m < n → n < s .operations .count → idAt t (s .operations .at) m < idAt t (s .operations .at) n
-      apart m n l h = rising-apart (idAt t (s .operations .at)) (s .operations .count) (ids-rise t s (accepted t s e)) m n l h
-
-      go : (a : Bool) → ltb i j ≡ a → (b : Bool) → ltb j i ≡ b → i ≡ j
-      go true p b r = absurd (omega (arith, apart i j (ltb-true i j p) hj))
-      go false p true r = absurd (omega (arith, apart j i (ltb-true j i r) hi))
-      go false p false r = omega (arith, ltb-false i j p, ltb-false j i r)
+  one-entry i j hi hj q =
+      same-id t (s .operations .at) 0 (s .operations .count) (ids-rise t s (accepted t s e)) i j hi hj q
 
   module _ (words : List ℕ) (room : s .operations .count ≤ length words) (id : ℕ) where
     abbrev sought : Sought

@@ -75,7 +75,7 @@ module _ (own : ℕ) (p : Standing) (l : List ℕ) (m : Map) (same : LikeMap l m
     Along = AlongCall own p l m (send t s words id target payload out)
 
     abbrev Says : OnMap → Type 1
-    Says x = Answers (refusedOn p m out) (sentOn own p m id target payload out n) (mapChecks t s id m payload (length out)) x
+    Says x = Answers (refusedOn p m out) (sentOn own p m id target payload out n) (mapChecks 20 t s id m payload (length out)) x
 
     -- what is shown and left by the number that refuses
     abbrev showsBy : ℕ → Shown

@@ -24,9 +24,8 @@ use Rattle.requests.specs.Sending.{sendRefusalFor, answeredBy, numberGiven}
 use Rattle.requests.proofs.Sends.{Sendable, sendable}
 use Rattle.promises.specs.Checks.{Answers, Gives, none, this, next}
 use Rattle.promises.specs.RequestCalls.{kindIn}
-use Rattle.promises.specs.RequestRuns.{Full}
+use Rattle.promises.specs.RequestRuns.{Full, mapChecks}
 use Rattle.promises.specs.MixedAsked.{headOf}
-use Rattle.promises.specs.MixedRequestRuns.{mapChecksAny}
 use Rattle.promises.proofs.Checks.{numbers}
 use Rattle.promises.proofs.SentFor.{checksAt, refusalAt, order-at}
 use Rattle.promises.proofs.RequestTables.{no-request, some-request}
@@ -65,7 +64,7 @@ module _ (l : List ℕ) (m : Map) (same : LikeMap l m) (from : ℕ) where
     kind = kindIn t s words id
 
     order-on : (header : ℕ) {A : Type 0} (f : ℕ → A) (a : A)
-        → Answers f a (mapChecksAny header t s id m payload space) (byNumber f a (refusalAt header from kind l payload space))
+        → Answers f a (mapChecks header t s id m payload space) (byNumber f a (refusalAt header from kind l payload space))
     order-on header {A} f a =
         go (refusalAt header from kind l payload space)
         (subst (Gives (checksAt header from kind l payload space)) (given (refusalAt header from kind l payload space))
@@ -76,7 +75,7 @@ module _ (l : List ℕ) (m : Map) (same : LikeMap l m) (from : ℕ) where
         given (suc r) = refl
 
         go : (r : ℕ) → Gives (checksAt header from kind l payload space) r
-            → Answers f a (mapChecksAny header t s id m payload space) (byNumber f a r)
+            → Answers f a (mapChecks header t s id m payload space) (byNumber f a r)
         go r (this h) = this (no-request t s e words room id h)
         go r (next a (this h)) = next (some-request t s e words room id a) (this (is-full h))
         go r (next a (next b (this h))) = next (some-request t s e words room id a) (next (not-full b) (this h))
@@ -85,7 +84,7 @@ module _ (l : List ℕ) (m : Map) (same : LikeMap l m) (from : ℕ) where
 
     -- by the issue
     pub order-for : (issue : Issue) {A : Type 0} (f : ℕ → A) (a : A)
-        → Answers f a (mapChecksAny (headOf issue) t s id m payload space) (byNumber f a (sendRefusalFor issue l kind id payload space))
+        → Answers f a (mapChecks (headOf issue) t s id m payload space) (byNumber f a (sendRefusalFor issue l kind id payload space))
     order-for Six f a = order-on 20 f a
     order-for (Three st) f a = order-on 24 f a
 

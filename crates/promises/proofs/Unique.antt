@@ -1,6 +1,6 @@
 -- Two outcomes that one promise allows are equal: each contract is an equation with a definition.
 -- Assumes nothing.
-use mathlib.Core.Path.{_≡_, sym, _∙_}
+use mathlib.Core.Path.{sym, _∙_}
 use mathlib.Core.List.{[]}
 use Rattle.platform.specs.Receiving.{freshStanding}
 use Rattle.platform.proofs.Unique.{same-outcome, same-output, same-list}

@@ -16,7 +16,7 @@ use Rattle.leaf.specs.Forms.{truth, extended, wordOf, form, wordAt, formOf}
 use Rattle.leaf.specs.Choice.{other, otherAt, amongAt, among, choice}
 use Rattle.walk.specs.Tree.{byKind, look, elementsOf, treeOf, trees, tree}
 use Rattle.walk.specs.Runs.{takenBy, runTree, runsTree}
-use Rattle.walk.specs.Planned.{indexed, lying, planOf, isPlanned, runsOf, planTree, treeBy, treesBy, typeBy}
+use Rattle.walk.specs.Planned.{indexed, lying, planOf, isPlanned, runsOf, planTree}
 use Rattle.walk.specs.Walk.{answer, left, next, through, item, counted, walk, typeWalk}
 use Rattle.plan.specs.Leaves.{sumBelow, capped, rowLeaves, leavesMet, leafCounts, leaves}
 use Rattle.plan.specs.Layout.{runWord, leafRun, alike, merged, add, addAll, rowRuns, runsMet, runsWhere, runLists, runs, allRuns}

@@ -2,12 +2,10 @@
 -- Assumes nothing.
 use Prim.Native.Nat.{ℕ, _≤_, _<_}
 use mathlib.Core.Path.{_≡_, refl, sym, ap, _∙_}
-use mathlib.Core.Bool.{true}
 use mathlib.Core.List.{List, [], _∷_}
 use native.Mathlib.Omega.{arith}
 use borrow.Author.Tests.{ltb-true}
 use lib.ListN.{getD}
-use Rattle.wire.specs.Bytes.{bytes}
 use Rattle.table.specs.declared.Sections.{Sections}
 use Rattle.table.specs.declared.Checked.the-variants.{Table}
 use Rattle.wire.specs.All.{allBelow, above}

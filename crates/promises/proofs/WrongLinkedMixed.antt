@@ -19,13 +19,14 @@ use Rattle.promises.specs.Services.{KemptBlock}
 use Rattle.promises.specs.WorkedServices.{full}
 use Rattle.promises.specs.WorkedMixed.{empty}
 use Rattle.promises.specs.WrongServices.{toldFromRight}
-use Rattle.promises.specs.WrongMixed.{callBy, dropping, notingSome, firstWins, oneBlock, markingAll, forgetting}
+use Rattle.promises.specs.WrongMixed.{callBy, dropping, notingSome, firstWins, oneBlock, markingAll, forgetting, both, telling, goingDown}
+use Rattle.promises.specs.WrongMixed.{almost, five-of-7, five-of-8}
 use Rattle.promises.specs.LinkedReplies3.{ServiceIs}
 use Rattle.promises.specs.LinkedMixed.{MixedLent, fresh, AllKempt, Stays}
 use Rattle.promises.specs.WrongLinkedMixed.{TellsRightly, NoWrongLinkedMixed}
 use Rattle.promises.proofs.SmallTraffic.{octets-are}
 use Rattle.promises.proofs.WrongServices.{five, twice, more, kempt}
-use Rattle.promises.proofs.WrongMixed.{both, telling, goingDown, tells7, down7, almost, five-of-8, five-of-7}
+use Rattle.promises.proofs.WrongMixed.{tells7, down7}
 use Rattle.promises.proofs.SomeMixed.{is-told}
 use Rattle.promises.proofs.LinkedMixed.{linked-mixed}
 

@@ -2,43 +2,34 @@
 -- Assumes nothing.
 use Prim.Native.Nat.{ℕ}
 use mathlib.Core.Path.{_≡_, refl, ap}
-use mathlib.Core.List.{List, [], _∷_, _++_}
+use mathlib.Core.List.{List, []}
 use native.Mathlib.Omega.{arith}
 use lib.ListN.{replicate}
 use Rattle.wire.specs.All.{allBelow}
-use Rattle.wire.specs.Bytes.{bytes}
 use Rattle.table.specs.Layout.{liesIn, within}
 use Rattle.services.specs.Word.{says, wordFor}
-use Rattle.services.specs.Block.{pairHasPlace, pairTold, pairsTold, hasPlace, allHavePlaces, statusFits, noteRefusal, statusNoted, availabilityIn}
+use Rattle.services.specs.Block.{pairHasPlace, pairTold, pairsTold, hasPlace, allHavePlaces, statusFits, noteRefusal, statusNoted, availabilityIn, marked}
 use Rattle.services.specs.Known.{known, isIn, with, knownWith}
 use Rattle.partners.specs.Threes.{bitIn, isThree}
 use Rattle.states.specs.States.{wordOf, bitOf, isUp, countBelow}
-use Rattle.platform.specs.declared.reactions.Standing.{Standing}
 use Rattle.mixed.specs.Form.{threeForm}
 use Rattle.mixed.specs.Reading.{anyOf}
-use Rattle.mixed.specs.Keeping.{noteNumber, markNumber}
+use Rattle.mixed.specs.Reaction.{operationFor3, onStatus3, reaction3}
+use Rattle.mixed.specs.Replies.{roomFor}
+use Rattle.mixed.specs.Keeping.{noteNumber, withNoted, markNumber, withMarked, keptNumber, keptWords}
+use Rattle.mixed.specs.Receiving.{isAnswer3, settled3, kept3, anyOutcomeOf, anyWordsOf}
+use Rattle.mixed.specs.Tables.{sectionsAnswer, sectionsWords}
 use Rattle.promises.specs.WorkedServices.{full}
-use Rattle.promises.specs.WorkedMixed.{empty, messageFrom}
+use Rattle.promises.specs.WorkedMixed.{empty}
 use Rattle.promises.specs.WrongServices.{toldFromRight}
 use Rattle.promises.specs.Services.{KemptBlock, start}
 use Rattle.promises.specs.MixedServices.{TellsOf, DownOf, KeepsServices}
-use Rattle.promises.specs.WrongMixed.{callBy, dropping, notingSome, firstWins, oneBlock, markingAll, forgetting, NoWrongMixed}
+use Rattle.promises.specs.WrongMixed.{callBy, dropping, notingSome, firstWins, oneBlock, markingAll, forgetting, both, up, telling, goingDown}
+use Rattle.promises.specs.WrongMixed.{almost, five-of-7, five-of-8, WrongInOnePlace, NoWrongMixed}
 use Rattle.promises.proofs.SmallTraffic.{octets-are}
 use Rattle.promises.proofs.Services.{services}
+use Rattle.promises.proofs.OurDeeds.{ours-by-deeds}
 use Rattle.promises.proofs.WrongServices.{numbered, five, twice, more, kempt}
-
--- platforms 7 and 8 speak Issue 3, and 7 is UP; we are platform 1, and the table is empty
-abbrev pub both : List ℕ
-both = 0x180 ∷ 0 ∷ 0 ∷ 0 ∷ []
-
-abbrev up : Standing
-up = record { states = record { w0 = 0x80; w1 = 0; w2 = 0; w3 = 0 }; next = 0 }
-
-abbrev pub telling : ℕ → List ℕ → List ℕ
-telling k payload = messageFrom k 3 payload
-
-abbrev pub goingDown : ℕ → List ℕ
-goingDown k = messageFrom k 1 (bytes 2 0 ++ bytes 2 0)
 
 -- platform 7 tells of services
 pub tells7 : (payload : List ℕ) → TellsOf both (telling 7 payload) 7
@@ -63,9 +54,6 @@ no-drops h =
     omega arith
 
 -- one place left and two new services: 63, and the first is noted
-abbrev pub almost : List ℕ
-almost = full 255 ++ (0 ∷ [])
-
 no-notes-some : ¬ (KeepsServices (callBy notingSome))
 unfolding liesIn within anyOf threeForm isThree bitIn countBelow allBelow pairHasPlace pairTold pairsTold hasPlace allHavePlaces statusFits
     noteRefusal noteNumber
@@ -98,9 +86,6 @@ no-one-block h =
     omega arith
 
 -- platform 7 goes DOWN: service 5 of platform 8 is marked
-abbrev pub five-of-8 : List ℕ
-five-of-8 = replicate 256 0 ++ (wordFor 5 1 ∷ replicate 255 0)
-
 no-marks-all : ¬ (KeepsServices (callBy markingAll))
 unfolding liesIn within anyOf threeForm isThree bitIn countBelow isUp bitOf wordOf says wordFor
 no-marks-all h =
@@ -110,9 +95,6 @@ no-marks-all h =
     omega arith
 
 -- platform 7 goes DOWN: its service 5 is not known any more
-abbrev pub five-of-7 : List ℕ
-five-of-7 = wordFor 5 1 ∷ replicate 255 0
-
 no-forgets : ¬ (KeepsServices (callBy forgetting))
 unfolding liesIn within anyOf threeForm isThree bitIn countBelow isUp bitOf wordOf markNumber says wordFor
 no-forgets h =
@@ -120,9 +102,25 @@ no-forgets h =
     let z : _≡_ {A = ℕ} 0 1 = ap numbered e in
     omega arith
 
+elsewhere-right : WrongInOnePlace
+unfolding liesIn within anyOf threeForm isThree bitIn countBelow isUp bitOf wordOf allBelow says wordFor pairHasPlace pairTold pairsTold hasPlace
+    allHavePlaces statusFits noteRefusal statusNoted marked toldFromRight operationFor3 onStatus3 reaction3 roomFor noteNumber withNoted markNumber
+    withMarked keptNumber keptWords isAnswer3 settled3 kept3 anyOutcomeOf anyWordsOf sectionsAnswer sectionsWords
+elsewhere-right =
+    record {
+      drops = (refl, refl);
+      notes-some = (refl, refl);
+      first-wins = (refl, refl);
+      one-block = (refl, refl);
+      marks-all = (refl, refl);
+      forgets = (refl, refl);
+    }
+
 pub no-wrong-mixed : NoWrongMixed
 no-wrong-mixed =
     record {
+      ours = ours-by-deeds;
+      elsewhere-right = elsewhere-right;
       drops = no-drops;
       notes-some = no-notes-some;
       first-wins = no-first-wins;

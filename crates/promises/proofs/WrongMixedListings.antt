@@ -29,10 +29,9 @@ use Rattle.platform.specs.Receiving.{freshStanding, isSent}
 use Rattle.mixed.specs.Form.{threeForm}
 use Rattle.mixed.specs.Reading.{anyOf}
 use Rattle.mixed.specs.Reaction.{operationFor3}
-use Rattle.mixed.specs.Receiving.{isAnswer3, responseTo3, anyOutcomeOf, anyListOf}
+use Rattle.mixed.specs.Receiving.{numberGiven, isAnswer3, responseTo3, anyOutcomeOf, anyListOf}
 use Rattle.mixed.specs.Tables.{answerIf, pendingIf}
 use Rattle.promises.specs.RequestCalls.{send, cancel, Fair, Said, ofSend, ofReceive, whether, what}
-use Rattle.promises.specs.MixedCalls.{givenBy}
 use Rattle.promises.specs.MixedSending.{ourAsking}
 use Rattle.promises.specs.MixedResponses.{ourAnyReceiving}
 use Rattle.promises.specs.WrongAsking.{sixForAll}
@@ -57,7 +56,7 @@ saidBefore (what a) = 0
 
 abbrev told : SaidAny → ℕ
 told (asBefore x) = saidBefore x
-told (ofAny x) = givenBy x
+told (ofAny x) = numberGiven x
 
 abbrev last : List ShownAny → ℕ
 last [] = 0

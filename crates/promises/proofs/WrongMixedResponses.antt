@@ -13,7 +13,6 @@ use Rattle.partners.specs.Threes.{bitIn, isThree}
 use Rattle.pending.specs.Places.{bearing, entered}
 use Rattle.pending.specs.Answers.{cancelled}
 use Rattle.pending.specs.PlainMap.{freshList}
-use Rattle.requests.specs.declared.Issue.{Issue}
 use Rattle.requests.specs.declared.Issue.the-variants.{Three}
 use Rattle.platform.specs.declared.reactions.Standing.{Standing}
 use Rattle.platform.specs.Receiving.{freshStanding}

@@ -1,23 +1,21 @@
 -- Platforms that answer UP while UP do not fall silent: eight messages of an exchange, computed.
 -- Assumes nothing.
-use Prim.Native.Nat.{ℕ, zero, suc, _≤_}
-use mathlib.Core.Path.{_≡_, refl}
+use Prim.Native.Nat.{ℕ, _≤_}
+use mathlib.Core.Path.{_≡_}
 use mathlib.Core.List.{[]}
 use native.Mathlib.Omega.{arith}
-use Rattle.table.specs.declared.Section.{Section}
-use Rattle.operations.specs.declared.Sought.the-variants as sought
 use Rattle.operations.specs.Rules.{hasData}
 use Rattle.wire.specs.All.{allBelow}
 use Rattle.states.specs.States.{wordOf, withWord, bitOf, isUp, turned, withOwn}
 use Rattle.platform.specs.Replies.{replyBytes}
 use Rattle.platform.specs.Reaction.{cameUp, onState, onStatus, onPullAll, onPull, reactionTo}
 use Rattle.platform.specs.Receiving.{freshStanding, answered}
-use Rattle.platform.specs.Exchange.{Setting, Pair, Step, Exchange, started}
+use Rattle.platform.specs.Exchange.{Pair, Step, Exchange, started}
 use Rattle.platform.specs.Exchange.Step.{arrives-at-a, arrives-at-b, lost-to-a, lost-to-b}
 use Rattle.platform.specs.Exchange.Exchange.{none, more}
 use Rattle.promises.specs.WrongPlatforms.{ourAnswering, StepBy, at-a, at-b, to-a-lost, to-b-lost, ExchangeBy, ended}
 use Rattle.promises.specs.WrongPlatforms.{goes-on, FallSilentBy, reacting, upAnsweredAgain, NoWrongPlatform}
-use Rattle.promises.proofs.Platforms.{fall-silent}
+use Rattle.promises.proofs.Platforms.{bare, fall-silent}
 
 step : {a b : ℕ} {x y : Pair} → StepBy ourAnswering a b x y → Step a b x y
 step (at-a c p q before after toB r) = arrives-at-a c p q before after toB r
@@ -31,19 +29,6 @@ exchange (goes-on n x y z s e) = more n x y z (step s) (exchange e)
 
 ours-silent : FallSilentBy ourAnswering
 ours-silent a b p q number s n z e = fall-silent .at-most a b p q number s n z (exchange e)
-
-abbrev empty : Section
-empty = record { at = 0; count = 0 }
-
-abbrev bare : Setting
-bare =
-    record {
-      table = [];
-      sections = record { types = empty; members = empty; values = empty; operations = empty };
-      looked = sought.Nowhere;
-      list = [];
-      room = 48;
-    }
 
 eight : (z : Pair) × ExchangeBy (reacting upAnsweredAgain) 1 2 8 (started (freshStanding 1) (freshStanding 2) 0) z
 unfolding allBelow wordOf withWord bitOf isUp turned withOwn hasData replyBytes cameUp onState onStatus onPullAll onPull reactionTo answered

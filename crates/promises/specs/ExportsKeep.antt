@@ -91,7 +91,8 @@ pub record ExportsKeep : Type 0 where
   pub receive-mixed-in-platform : Untouched nyr-receive-mixed-in (λ k a. now (a .1 .1 .1 .1 .0)) (λ k e. now (e .1 .1 .1 .1 .0))
   pub receive-mixed-in-services : Untouched nyr-receive-mixed-in (λ k a. now (a .1 .1 .1 .1 .1 .0)) (λ k e. now (e .1 .1 .1 .1 .1 .0))
   pub receive-mixed-in-out : Untouched nyr-receive-mixed-in (λ k a. now (a .1 .1 .1 .1 .1 .1 .1 .1 .1 .0)) (λ k e. now (e .1 .1 .1 .1 .1 .1 .1 .1 .1 .0))
-  pub receive-mixed-in-heard : Untouched nyr-receive-mixed-in (λ k a. now (a .1 .1 .1 .1 .1 .1 .1 .1 .1 .1 .0)) (λ k e. now (e .1 .1 .1 .1 .1 .1 .1 .1 .1 .1 .0))
+  pub receive-mixed-in-heard :
+      Untouched nyr-receive-mixed-in (λ k a. now (a .1 .1 .1 .1 .1 .1 .1 .1 .1 .1 .0)) (λ k e. now (e .1 .1 .1 .1 .1 .1 .1 .1 .1 .1 .0))
   pub send-platform : Untouched nyr-send (λ k a. now (a .1 .0)) (λ k e. now (e .1 .0))
   pub send-out : Untouched nyr-send (λ k a. now (a .1 .1 .1 .1 .1 .1 .1 .0)) (λ k e. now (e .1 .1 .1 .1 .1 .1 .1 .0))
   pub send-sent : Untouched nyr-send (λ k a. now (a .1 .1 .1 .1 .1 .1 .1 .1 .0)) (λ k e. now (e .1 .1 .1 .1 .1 .1 .1 .1 .0))

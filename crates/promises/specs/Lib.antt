@@ -95,6 +95,7 @@ pub mod MixedOrder
 pub mod MixedServices
 pub mod WorkedMixed
 pub mod WrongMixed
+pub mod WrongMixedOrders
 pub mod MixedResponses
 pub mod MixedAsked
 pub mod WrongMixedResponses

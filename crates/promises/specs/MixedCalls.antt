@@ -6,8 +6,6 @@ use Rattle.table.specs.declared.Sections.{Sections}
 use Rattle.types.specs.Table.{checked}
 use Rattle.message3.specs.declared.Stamp.{Stamp}
 use Rattle.platform.specs.declared.reactions.Standing.{Standing}
-use Rattle.mixed.specs.declared.AnyAnswer.{AnyAnswer}
-use Rattle.mixed.specs.declared.AnyAnswer.the-variants.{Refused, Six, SixResponse, Three, ThreeResponse}
 use Rattle.mixed.specs.declared.AnyReceived.{AnyReceived}
 use Rattle.mixed.specs.Tables.{sectionsAnswer, sectionsOut, sectionsPending, sectionsWords, answerIf, outIf, pendingIf, wordsIf}
 
@@ -15,14 +13,6 @@ use Rattle.mixed.specs.Tables.{sectionsAnswer, sectionsOut, sectionsPending, se
 pub data TableGiven : Type 0 where
   bytes : List ℕ → TableGiven
   sections : List ℕ → Sections → List ℕ → TableGiven
-
--- by cases: the number that a call gives back, 0 where it does not refuse
-abbrev pub givenBy : AnyAnswer → ℕ
-givenBy (Refused n) = n
-givenBy (Six h x n) = 0
-givenBy (SixResponse h i start len) = 0
-givenBy (Three h x n) = 0
-givenBy (ThreeResponse h i start len) = 0
 
 -- the call: table; own number, who speaks Issue 3, our services; what is kept, pending requests, services; message; room for replies.
 -- What it answers, with the states and the own number after it; what it leaves in the output, the list and the services' words

@@ -2,7 +2,8 @@
 -- of the sender's issue; 61; 10 where the sender's services are to be kept and their words are not there; "63, after 9"; 5 and 10 for the
 -- replies. Fields stand here by their bytes, and limits as the papers have them. Wrong programs that it rules out: 24 bytes asked of both
 -- issues; 9 judged on the first pair only; 63 before 9; 10 for a short output before 5; a length 4 + 8n in 32 bits, by which 2^29 services
--- in four bytes are no 8; 61 for a message of domain 0. The theorem is in proofs/MixedOrder.antt.
+-- in four bytes are no 8; 61 for a message of domain 0. The theorem is in proofs/MixedOrder.antt; calls with 10 before 5 and with 61 in
+-- domain 0 are in specs/WrongMixedOrders.
 use Prim.Native.Nat.{ℕ, _+_, _*_, _%_, _^_, _≤_, _<_}
 use mathlib.Core.Path.{_≡_}
 use mathlib.Core.Bool.{true, cond, _||_}
@@ -23,6 +24,7 @@ use Rattle.states.specs.States.{isUp}
 use Rattle.platform.specs.declared.reactions.Standing.{Standing}
 use Rattle.platform.specs.Reaction.{someData, foundData}
 use Rattle.mixed.specs.Keeping.{blockOf}
+use Rattle.mixed.specs.Receiving.{numberGiven}
 use Rattle.promises.specs.Checks.{Check, _when_, Gives}
 use Rattle.promises.specs.TableOrder.{sectionsIn, tableChecks}
 use Rattle.promises.specs.PayloadOrder.{LieIn}
@@ -31,7 +33,7 @@ use Rattle.promises.specs.Platforms.{operationWith, isThere}
 use Rattle.promises.specs.Demand1.{FindsKind2}
 use Rattle.promises.specs.AnyOrder.{ThreeForm, byForm, anyChecks}
 use Rattle.promises.specs.Services.{pairCount, namedBy, KemptBlock}
-use Rattle.promises.specs.MixedCalls.{TableGiven, bytes, sections, givenBy, answerOn}
+use Rattle.promises.specs.MixedCalls.{TableGiven, bytes, sections, answerOn}
 
 -- the table: 30 to 33, or 30 where the sections do not lie in the bytes; which operation has an ID, and whether we send its requests
 abbrev pub tableChecksOn : TableGiven → List Check
@@ -135,7 +137,7 @@ mixedChecks g own i ours p l ws m room Full =
 
 pub record MixedOrder : Type 1 where
   pub any-words : (g : TableGiven) (own : ℕ) (i ours : List ℕ) (p : Standing) (l ws m : List ℕ) (room : ℕ) →
-      Gives (mixedChecks g own i ours p l ws m room (FindsNoPlace (senderBlock i ws m) (drop 24 m))) (givenBy (answerOn g own i ours p l ws m room .answer))
+      Gives (mixedChecks g own i ours p l ws m room (FindsNoPlace (senderBlock i ws m) (drop 24 m))) (numberGiven (answerOn g own i ours p l ws m room .answer))
   pub kempt-words : (g : TableGiven) (own : ℕ) (i ours : List ℕ) (p : Standing) (l ws m : List ℕ) (room : ℕ) →
       Octets m → (ThreeForm i m → ¬ (NoWords i ws m) → KemptBlock (senderBlock i ws m)) →
-      Gives (mixedChecks g own i ours p l ws m room (NeedsMore (senderBlock i ws m) (drop 24 m))) (givenBy (answerOn g own i ours p l ws m room .answer))
+      Gives (mixedChecks g own i ours p l ws m room (NeedsMore (senderBlock i ws m) (drop 24 m))) (numberGiven (answerOn g own i ours p l ws m room .answer))

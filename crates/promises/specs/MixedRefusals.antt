@@ -10,16 +10,17 @@ use Rattle.message3.specs.declared.Stamp.{Stamp}
 use Rattle.platform.specs.declared.reactions.Standing.{Standing}
 use Rattle.mixed.specs.declared.AnyAnswer.the-variants.{Refused}
 use Rattle.mixed.specs.declared.AnyReceived.{AnyReceived}
+use Rattle.mixed.specs.Receiving.{numberGiven}
 use Rattle.promises.specs.Checks.{Keeps}
-use Rattle.promises.specs.MixedCalls.{TableGiven, givenBy, answerOn, outputOn, listOn, servicesOn}
+use Rattle.promises.specs.MixedCalls.{TableGiven, answerOn, outputOn, listOn, servicesOn}
 
 -- what is lent or handed, before and after: states and own number, output, list, services
 pub record KeptMixed (p : Standing) (out l ws : List ℕ) (r : AnyReceived) (left after words : List ℕ) : Type 0 where
-  pub states : Keeps (givenBy (r .answer)) (p .states) (r .standing .states)
-  pub next : Keeps (givenBy (r .answer)) (p .next) (r .standing .next)
-  pub output : Keeps (givenBy (r .answer)) out left
-  pub list : Keeps (givenBy (r .answer)) l after
-  pub services : Keeps (givenBy (r .answer)) ws words
+  pub states : Keeps (numberGiven (r .answer)) (p .states) (r .standing .states)
+  pub next : Keeps (numberGiven (r .answer)) (p .next) (r .standing .next)
+  pub output : Keeps (numberGiven (r .answer)) out left
+  pub list : Keeps (numberGiven (r .answer)) l after
+  pub services : Keeps (numberGiven (r .answer)) ws words
 
 pub record MixedRefusals : Type 0 where
   pub changes-nothing : (g : TableGiven) (own : ℕ) (st : Stamp) (composite : ℕ) (i ours : List ℕ) (p : Standing) (l ws m out : List ℕ) →

@@ -1,7 +1,7 @@
 -- 02, requests 1 and 8: "Over any calls the list answers as a plain map does", with the calls for partners of both issues among the calls
 -- (specs/MixedRequestCalls). Beside what calls answer and leave on the list stands what the same calls answer and leave on the plain map of
 -- specs/RequestRuns, which is one for both issues. The theorem is in proofs/MixedRequestRuns.antt.
-use Prim.Native.Nat.{ℕ, _+_, _%_, _^_, _≤_, _<_}
+use Prim.Native.Nat.{ℕ, _+_, _%_, _^_}
 use mathlib.Core.Path.{_≡_}
 use mathlib.Core.List.{List, [], _∷_, _++_}
 use lib.ListN.{length, drop}
@@ -20,9 +20,9 @@ use Rattle.platform.specs.declared.reactions.Standing.{Standing}
 use Rattle.platform.specs.Receiving.{freshStanding}
 use Rattle.mixed.specs.declared.AnyAnswer.the-variants.{Refused}
 use Rattle.mixed_words.specs.SendCalls.{issueFor}
-use Rattle.promises.specs.Checks.{Check, _when_, Answers}
-use Rattle.promises.specs.RequestCalls.{HasKind, RequestCall, ofSend}
-use Rattle.promises.specs.RequestRuns.{OnMap, Full, MapCall}
+use Rattle.promises.specs.Checks.{Answers}
+use Rattle.promises.specs.RequestCalls.{RequestCall, ofSend}
+use Rattle.promises.specs.RequestRuns.{OnMap, mapChecks, MapCall}
 use Rattle.promises.specs.MixedResponses.{ourAnyReceiving, AnyHeader, idOf, numberOf, senderOf, responseAs, ComesAs}
 use Rattle.promises.specs.MixedAsked.{headOf}
 use Rattle.promises.specs.MixedRequestCalls.{AnyCall, plain, sendAny, receiveAny, AllFairAny, asBefore, ofAny, ShownAny, shownAny, fromShown}
@@ -32,15 +32,6 @@ use Rattle.promises.specs.MixedRequestCalls.{arriving, shownReceived, An
 pub record OnMapAny : Type 0 where
   pub seen : ShownAny
   pub after : Map
-
--- "Sending under an ID that isn't kind 2 is 62, checked first, 60 next, then 01's writing numbers": 10 by the header's length
-abbrev pub mapChecksAny : ℕ → List ℕ → Sections → ℕ → Map → List ℕ → ℕ → List Check
-mapChecksAny header t s id m payload room =
-    62 when ((i : ℕ) → ¬ (HasKind t s id 2 i))
-    ∷ 60 when (Full m)
-    ∷ 5 when (2 ^ 32 ≤ length payload)
-    ∷ 10 when (room < header + length payload)
-    ∷ []
 
 -- a refusal changes nothing
 abbrev pub refusedOnAny : Standing → Map → List ℕ → ℕ → OnMapAny
@@ -70,7 +61,7 @@ pub data MixedMapCall (own : ℕ) (p : Standing) (m : Map) : AnyCall → OnMapAn
   sends : {stamp : Stamp} {partners t : List ℕ} {s : Sections} {words : List ℕ} {id target n : ℕ} {payload out : List ℕ} {x : OnMapAny}
       → IsNextFree (taken m) (p .next) n
       → Answers (refusedOnAny p m out) (sentOnAny (issueFor partners stamp target) own p m id target payload out n)
-      (mapChecksAny (headOf (issueFor partners stamp target)) t s id m payload (length out)) x
+      (mapChecks (headOf (issueFor partners stamp target)) t s id m payload (length out)) x
       → MixedMapCall own p m (sendAny stamp partners t s words id target payload out) x
   -- the response, in its sender's issue: delivered once, and its place is free again
   delivers : {stamp : Stamp} {composite : ℕ} {partners ours t : List ℕ} {s : Sections} {services bytes out : List ℕ} {h : AnyHeader} {i len : ℕ}

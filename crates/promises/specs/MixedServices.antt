@@ -4,7 +4,6 @@
 use Prim.Native.Nat.{ℕ, _+_, _*_, _≤_, _<_}
 use mathlib.Core.Path.{_≡_}
 use mathlib.Core.Bool.{true, cond}
-use mathlib.Core.Logic.{_⊎_}
 use mathlib.Core.List.{List}
 use lib.Dec.{eqb, leb}
 use lib.ListN.{length, take, drop, replicate}
@@ -17,12 +16,13 @@ use Rattle.services.specs.Block.{availabilityIn}
 use Rattle.services.specs.Known.{known, knownWith}
 use Rattle.partners.specs.Threes.{isThree, threesBefore}
 use Rattle.platform.specs.declared.reactions.Standing.{Standing}
-use Rattle.mixed.specs.Reading.{anyOf, numberGiven}
+use Rattle.mixed.specs.Reading.{anyOf, numberGiven as readNumber}
+use Rattle.mixed.specs.Receiving.{numberGiven}
 use Rattle.promises.specs.TableOrder.{sectionsIn}
 use Rattle.promises.specs.PayloadOrder.{LieIn}
 use Rattle.promises.specs.AnyOrder.{ThreeForm}
 use Rattle.promises.specs.Services.{pairCount, namedBy, saidBy, KemptBlock}
-use Rattle.promises.specs.MixedCalls.{TableGiven, bytes, sections, givenBy, answerOn, servicesOn}
+use Rattle.promises.specs.MixedCalls.{TableGiven, bytes, sections, answerOn, servicesOn}
 use Rattle.promises.specs.MixedOrder.{TellsServices, GoesDown}
 
 -- a call, ours or any other: the number that it gives back, and the services' words after it
@@ -31,7 +31,7 @@ pub record KeepingCall : Type 0 where
   pub after : TableGiven → ℕ → List ℕ → List ℕ → Standing → List ℕ → List ℕ → ℕ → List ℕ
 
 abbrev pub ourCall : KeepingCall
-ourCall = record { number = λ g own i ours p l ws m room. givenBy (answerOn g own i ours p l ws m room .answer); after = servicesOn }
+ourCall = record { number = λ g own i ours p l ws m room. numberGiven (answerOn g own i ours p l ws m room .answer); after = servicesOn }
 
 -- the words of platform j, which speaks Issue 3, and what they say of a service
 abbrev pub wordsOf : List ℕ → ℕ → List ℕ → List ℕ
@@ -64,7 +64,7 @@ pub record KeepsServices (X : KeepingCall) : Type 0 where
   -- 63 exactly, for a status that is read: those that are known of its sender, with those that it names, each counted once, are more than 256.
   -- Ruled out: the 257th dropped and the rest noted; one count for all platforms
   pub exactly : (g : TableGiven) (own : ℕ) (i ours : List ℕ) (p : Standing) (l ws m : List ℕ) (room j : ℕ) → Octets m → GoodTable g →
-      numberGiven (anyOf i own m) ≡ 0 → TellsOf i m j → KemptBlock (wordsOf i j ws) →
+      readNumber (anyOf i own m) ≡ 0 → TellsOf i m j → KemptBlock (wordsOf i j ws) →
       X .number g own i ours p l ws m room ≡ cond (leb (length (knownWith (known (wordsOf i j ws)) (drop 24 m) (pairCount (drop 24 m)))) 256) 0 63
   -- Ruled out: 63 with the first pairs noted
   pub refused : (g : TableGiven) (own : ℕ) (i ours : List ℕ) (p : Standing) (l ws m : List ℕ) (room : ℕ) →

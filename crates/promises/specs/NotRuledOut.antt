@@ -1,5 +1,5 @@
 -- What demand 3 alone leaves open: what `take` says of a datagram that delivers nothing, and how many it says were missed.
-use Prim.Native.Nat.{ℕ, _+_}
+use Prim.Native.Nat.{_+_}
 use Rattle.channel.specs.declared.Outcome.{Outcome}
 use Rattle.channel.specs.declared.Outcome.the-variants.{Refused, Repeated, Delivered, Held, Stray, TooLong}
 use Rattle.promises.specs.Traffic.{Joining, fresh, ourJoining}

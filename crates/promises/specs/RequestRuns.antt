@@ -32,13 +32,13 @@ pub record OnMap : Type 0 where
 abbrev pub Full : Map → Type 0
 Full m = m .count ≡ 64
 
--- "Sending under an ID that isn't kind 2 is 62, checked first, 60 next, then 01's writing numbers"
-abbrev pub mapChecks : List ℕ → Sections → ℕ → Map → List ℕ → ℕ → List Check
-mapChecks t s id m payload room =
+-- "Sending under an ID that isn't kind 2 is 62, checked first, 60 next, then 01's writing numbers": 10 by the header's length
+abbrev pub mapChecks : ℕ → List ℕ → Sections → ℕ → Map → List ℕ → ℕ → List Check
+mapChecks header t s id m payload room =
     62 when ((i : ℕ) → ¬ (HasKind t s id 2 i))
     ∷ 60 when (Full m)
     ∷ 5 when (2 ^ 32 ≤ length payload)
-    ∷ 10 when (room < 20 + length payload)
+    ∷ 10 when (room < header + length payload)
     ∷ []
 
 -- a refusal changes nothing
@@ -64,7 +64,7 @@ pub record Responds (own : ℕ) (t : List ℕ) (s : Sections) (bytes : List ℕ)
 pub data MapCall (own : ℕ) (p : Standing) (m : Map) : RequestCall → OnMap → Type 1 where
   -- "A request never takes a number still pending: it takes the next one free, going round at 0xFFFFFFFF"
   sends : {t : List ℕ} {s : Sections} {words : List ℕ} {id target n : ℕ} {payload out : List ℕ} {x : OnMap} → IsNextFree (taken m) (p .next) n
-      → Answers (refusedOn p m out) (sentOn own p m id target payload out n) (mapChecks t s id m payload (length out)) x
+      → Answers (refusedOn p m out) (sentOn own p m id target payload out n) (mapChecks 20 t s id m payload (length out)) x
       → MapCall own p m (send t s words id target payload out) x
   -- "A domain 1 message with that ID, number and sender is the response: it is delivered once and its place is free again"
   delivers : {t : List ℕ} {s : Sections} {bytes out : List ℕ} {h : Header} {i len : ℕ} → Responds own t s bytes h i len

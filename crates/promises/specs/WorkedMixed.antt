@@ -9,7 +9,8 @@ use Rattle.table.specs.declared.Section.{Section}
 use Rattle.services.specs.declared.Availability.the-variants.{Unavailable, Available}
 use Rattle.platform.specs.declared.reactions.Standing.{Standing}
 use Rattle.promises.specs.WorkedServices.{block250, pair, telling}
-use Rattle.promises.specs.MixedCalls.{TableGiven, sections, givenBy, answerOn, servicesOn}
+use Rattle.mixed.specs.Receiving.{numberGiven}
+use Rattle.promises.specs.MixedCalls.{TableGiven, sections, answerOn, servicesOn}
 use Rattle.promises.specs.MixedServices.{stateOf}
 
 abbrev pub seven : List ℕ
@@ -31,7 +32,7 @@ messageFrom k id payload =
 
 -- a status of services from 7, at words that say this of it: the number, and what is said of a service afterwards
 abbrev pub gives : List ℕ → List ℕ → ℕ
-gives ws payload = givenBy (answerOn empty 1 seven [] allDown (replicate 128 0) ws (messageFrom 7 3 payload) 0 .answer)
+gives ws payload = numberGiven (answerOn empty 1 seven [] allDown (replicate 128 0) ws (messageFrom 7 3 payload) 0 .answer)
 
 abbrev pub leaves : List ℕ → List ℕ → List ℕ
 leaves ws payload = servicesOn empty 1 seven [] allDown ws (messageFrom 7 3 payload) 0

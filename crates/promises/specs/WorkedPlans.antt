@@ -1,8 +1,8 @@
 -- 02, request 13: the plans of two small tables, word by word, and payloads by them; and by a plan that is forged. The theorem is in
 -- proofs/WorkedPlans.antt.
-use Prim.Native.Nat.{ℕ, _≤_}
+use Prim.Native.Nat.{ℕ}
 use mathlib.Core.Path.{_≡_}
-use mathlib.Core.Bool.{Bool, true, false}
+use mathlib.Core.Bool.{true, false}
 use mathlib.Core.List.{List, [], _∷_, _++_}
 use lib.ListN.{take, drop, replicate}
 use Rattle.table.specs.declared.Sections.{Sections}
@@ -12,7 +12,7 @@ use Rattle.walk.specs.Planned.{isPlanned}
 use Rattle.plan.specs.declared.Length.the-variants.{Words}
 use Rattle.plan.specs.Layout.{lengthIn, laidNumber, laidOut}
 use Rattle.payload.specs.declared.Answer.the-variants.{Stopped, Gave}
-use Rattle.payload.specs.Calls.{unpackedIn, wordsIn, packedIn}
+use Rattle.payload.specs.Calls.{wordsIn, packedIn}
 use Rattle.payload.specs.ByPlans.{unpackedBy, wordsBy, packedBy, bytesBy}
 use Rattle.promises.specs.Cases.{_behind_}
 

@@ -1,7 +1,6 @@
 -- 02, requests 1 and 8: programs that receive among partners of both issues as ours does but for responses. None of them meets `RespondsAny`. The
 -- theorems are in proofs/WrongMixedResponses.antt.
-use Prim.Native.Nat.{ℕ}
-use mathlib.Core.List.{List, _++_}
+use mathlib.Core.List.{_++_}
 use lib.ListN.{take, replicate}
 use Rattle.wire.specs.Bytes.{number}
 use Rattle.mixed.specs.declared.AnyAnswer.{AnyAnswer}

@@ -14,7 +14,7 @@ use Rattle.joiner.specs.declared.Taken.{Taken}
 use Rattle.recording.specs.Places.{behind}
 use Rattle.recording.specs.Line.{lineLimit, lineOf}
 use Rattle.recording.specs.Datagrams.{nextIn}
-use Rattle.recording.specs.Play.{State, stateOf, following, steppedOf, hasRoom, goingOn, playedFor, played}
+use Rattle.recording.specs.Play.{State, stateOf, steppedOf, hasRoom, goingOn, playedFor, played}
 use Rattle.recording.proofs.Finding.{Within, nothing-next, found-within}
 use Rattle.recording.specs.declared.Run.{Run}
 use Rattle.recording.specs.declared.Coming.{Coming}

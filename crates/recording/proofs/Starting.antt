@@ -1,14 +1,12 @@
 -- How a recording starts: the cases of `openedIn`.
 -- Assumes nothing.
-use Prim.Native.Nat.{ℕ, suc, _+_, _*_, _≤_, _<_}
+use Prim.Native.Nat.{ℕ, _+_, _*_, _≤_, _<_}
 use mathlib.Core.Path.{_≡_, refl, sym, ap, ap₂, subst⁻¹, _∙_}
 use mathlib.Core.Bool.{Bool, true, false, cond, _&&_}
 use mathlib.Core.List.{List, [], _∷_, _++_}
 use native.Mathlib.Numerals.{add-one}
 use native.Mathlib.Omega.{arith}
 use borrow.Author.Tests.{leb-true, ltb-true}
-use mir.Syntax.{w64}
-use mir.Val.{Fits}
 use lib.Dec.{leb, ltb}
 use lib.ListN.{length, set, take, replicate}
 use lib.Seq.{length-take-le, take-suc-set}

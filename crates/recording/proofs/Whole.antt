@@ -9,12 +9,11 @@ use native.Mathlib.Omega.{arith}
 use borrow.Author.Tests.{leb-true}
 use lib.ListN.{length, take, drop, length-append, length-drop}
 use lib.Seq.{take-append-add, take-append-seam, length-take-le, drop-append-le, drop-drop}
-use Rattle.wire.specs.Bytes.{over, written, part}
+use Rattle.wire.specs.Bytes.{over, part}
 use Rattle.wire.proofs.Cond.{yes-if, no-if, yes-le}
 use Rattle.wire.proofs.Runs.{written-in, length-over, part-in}
 use Rattle.joiner.specs.declared.Joiner.{Joiner}
 use Rattle.joiner.specs.Take.{takenOf, roomsAfter}
-use Rattle.recording.specs.Places.{behind}
 use Rattle.recording.specs.Line.{lineLimit, lineOf}
 use Rattle.recording.proofs.LineLaws.{line-limit}
 use Rattle.recording.specs.Datagrams.{nextIn}

@@ -4,7 +4,7 @@ use mathlib.Core.Bool.{cond}
 use mathlib.Core.List.{List}
 use lib.Dec.{leb}
 use lib.ListN.{length}
-use Rattle.wire.specs.Bytes.{number, over, part}
+use Rattle.wire.specs.Bytes.{number}
 use Rattle.recording.specs.declared.Coming.{Coming}
 use Rattle.recording.specs.declared.Coming.the-variants.{Datagram, Unfinished, Nothing}
 

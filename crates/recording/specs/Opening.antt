@@ -8,7 +8,6 @@ use lib.ListN.{length}
 use Rattle.wire.specs.Bytes.{number}
 use Rattle.channel.specs.Record.{channelLimit, badSetup, largestRoom, roomStart}
 use Rattle.joiner.specs.Setup.{freshOf, setupOf, smallestRoom}
-use Rattle.joiner.specs.declared.Joiner.{Joiner}
 use Rattle.joiner.specs.declared.setups.Verdict.{Verdict}
 use Rattle.joiner.specs.declared.setups.Verdict.the-variants as answer
 use Rattle.joiner.specs.declared.setups.NewJoiner.{NewJoiner}

@@ -1,12 +1,11 @@
 -- Playing: the whole datagrams of an input, taken one after the other, each with its line put into an output.
 use Prim.Native.Nat.{ℕ, zero, suc, _+_, _-_, _%_, _^_}
-use mathlib.Core.Bool.{Bool, cond, _&&_}
+use mathlib.Core.Bool.{Bool, cond}
 use mathlib.Core.List.{List}
 use lib.Dec.{leb}
 use lib.ListN.{length}
 use Rattle.wire.specs.Bytes.{written, part}
 use Rattle.joiner.specs.Take.{takenOf, roomsAfter}
-use Rattle.joiner.specs.declared.Taken.{Taken}
 use Rattle.recording.specs.Places.{behind}
 use Rattle.recording.specs.Line.{lineLimit, lineOf}
 use Rattle.recording.specs.Datagrams.{nextIn}

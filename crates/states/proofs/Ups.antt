@@ -2,7 +2,7 @@
 -- the count is the number of platforms that are UP.
 -- Assumes nothing.
 use Prim.Native.Nat.{ℕ, zero, suc, _+_, _-_, _*_, _/_, _%_, _^_, _≤_, _<_}
-use mathlib.Core.Path.{_≡_, refl, sym, ap, ap₂, subst, _∙_}
+use mathlib.Core.Path.{_≡_, refl, sym, ap, ap₂, _∙_}
 use mathlib.Core.Bool.{Bool, true, false, not, cond, _||_}
 use native.Mathlib.Omega.{arith}
 use native.Mathlib.Nat.{zero-add, mod-lt, div-eq-of-lt, zero-lt-suc}
@@ -14,7 +14,7 @@ use lib.Count.{ones}
 use Rattle.states.specs.declared.States.{States}
 use Rattle.states.specs.States.{wordOf, withWord, mask, bitOf, isUp, turned, withOwn, sumOfOnes, howManyUp, countBelow, Words, noneUp, freshStates}
 use Rattle.states.proofs.WordLaws.{not-turned}
-use Rattle.states.proofs.Bits.{bit, bit-or, set-there, set-elsewhere, turned-there, turned-elsewhere, isSet, count-split, count-same, ones-count}
+use Rattle.states.proofs.Bits.{bit, set-there, set-elsewhere, turned-there, turned-elsewhere, isSet, count-split, count-same, ones-count}
 
 -- 01: this platform is UP
 pub own-is-up : (own : ℕ) (s : States) → isUp own s own ≡ true

@@ -1,7 +1,6 @@
 -- 01, "Platform states and replies": the states of the 256 platforms as four words of 64 bits. Platform k is bit k % 64 of
 -- word k / 64, and a bit that is set says UP.
 use Prim.Native.Nat.{ℕ, zero, suc, _+_, _/_, _%_, _^_, _<_}
-use mathlib.Core.Path.{_≡_}
 use mathlib.Core.Bool.{Bool, cond, _&&_, _||_}
 use lib.Dec.{eqb, ltb}
 use lib.Bits.{bitOr, bitXor}

@@ -3,7 +3,7 @@
 use message::Own;
 ghost use mathlib.Core.Path.{_≡_};
 ghost use Prim.Native.Nat.{_/_, _%_, _^_};
-ghost use Rattle.states.specs.States.{wordBits, wordOf, withWord, mask, bitOf, isUp, turned, withOwn, sumOfOnes, howManyUp, freshStates};
+ghost use Rattle.states.specs.States.{wordOf, withWord, mask, bitOf, isUp, turned, withOwn, sumOfOnes, howManyUp, freshStates};
 
 pub struct States {
     pub w0: u64,

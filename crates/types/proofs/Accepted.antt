@@ -2,18 +2,17 @@
 -- Assumes nothing.
 use Prim.Native.Nat.{ℕ, _+_, _≤_, _<_}
 use mathlib.Core.Path.{_≡_, refl, subst, _∙_}
-use mathlib.Core.Bool.{Bool, true, false, _&&_, _||_, cond}
-use mathlib.Core.Logic.{_⊎_, inl, inr, ⊎-elim}
+use mathlib.Core.Bool.{Bool, true, false, cond}
 use mathlib.Core.List.{List}
 use native.Mathlib.Omega.{arith}
-use borrow.Author.Tests.{eqb-true, eqb-false, leb-true, leb-false, ltb-true, lt-ltb, le-leb, not-true}
+use borrow.Author.Tests.{eqb-false, leb-true, leb-false, ltb-true, lt-ltb, le-leb, not-true}
 use lib.Dec.{ltb, leb, eqb}
 use Rattle.table.specs.declared.Sections.{Sections}
 use Rattle.table.specs.declared.Entry.{Entry}
 use Rattle.table.specs.declared.Checked.{Checked}
 use Rattle.table.specs.declared.Checked.the-variants.{Refused, Table}
 use Rattle.types.specs.declared.Largest.the-variants.{Bytes}
-use Rattle.wire.specs.All.{allBelow, above}
+use Rattle.wire.specs.All.{allBelow}
 use Rattle.table.specs.Leaf.{isBase, isEnumBase, allowed}
 use Rattle.table.specs.Layout.{mostTypes, sectionsOf, within}
 use Rattle.table.specs.Entries.{typeAt, memberAt, valueAt}
@@ -24,7 +23,7 @@ use Rattle.operations.specs.Rules.{idsRise}
 use Rattle.operations.proofs.Passing.{good-rise}
 use Rattle.types.specs.Sizes.{mostBytes, largest, sizeFits, bytesUpTo, largestBelow, largestOf}
 use Rattle.types.specs.Table.{ruleBroken, tooLarge, operationsKeep, entriesOk, sizesOk, judged, judging, checked}
-use Rattle.wire.proofs.Cond.{and-left, and-right, either}
+use Rattle.wire.proofs.Cond.{and-left, and-right}
 use Rattle.wire.proofs.AllBelow.{at-below, all-below}
 use Rattle.table.proofs.Fields.{three, base-entry, enum-entry, record-entry, fixed-entry, array-entry, no-entry}
 use Rattle.types.proofs.TypeRules.{points-to-values, points-to-members}

@@ -14,7 +14,7 @@ use Rattle.table.specs.declared.Checked.the-variants.{Table}
 use Rattle.table.specs.Layout.{typePlace, memberPlace, valuePlace, sectionsOf}
 use Rattle.table.specs.Entries.{typeAt, memberAt, valueAt}
 use Rattle.types.specs.Inside.{Lying}
-use Rattle.table.proofs.Chain.{Chain, chain}
+use Rattle.table.proofs.Chain.{chain}
 use Rattle.table.proofs.Lookups.{type-read, member-read}
 
 module _ (t : List ℕ) (s : Sections) (i : ℕ) where

@@ -2,32 +2,25 @@
 -- to 33; and a walk's own numbers are 40 to 43.
 -- Assumes nothing.
 use Prim.Native.Nat.{ℕ, zero, suc, _+_, _≤_, _<_}
-use mathlib.Core.Path.{_≡_, refl, sym, ap, subst, _∙_}
+use mathlib.Core.Path.{_≡_, refl, sym, ap, subst}
 use mathlib.Core.Bool.{Bool, true, false, _&&_, cond}
 use mathlib.Core.Logic.{_⊎_, inl, inr}
 use mathlib.Core.List.{List, []}
 use native.Mathlib.Omega.{arith}
 use borrow.Author.Tests.{ltb-true, leb-true, leb-false, eqb-true, eqb-false}
 use lib.Dec.{ltb, leb, eqb}
-use lib.ListN.{length, getD}
+use lib.ListN.{getD}
 use Rattle.wire.proofs.Cond.{no-eq}
 use Rattle.table.specs.declared.Sections.{Sections}
 use Rattle.table.specs.declared.Entry.{Entry}
 use Rattle.table.specs.declared.Checked.{Checked}
 use Rattle.table.specs.declared.Checked.the-variants as check
-use Rattle.table.specs.Layout.{within}
-use Rattle.table.specs.Entries.{typeAt, memberAt, valueAt, isType}
+use Rattle.table.specs.Entries.{typeAt, memberAt, valueAt}
 use Rattle.table.specs.Leaf.{base, bytesOf, width, allowed}
-use Rattle.table.specs.Fields.{fieldsOk}
 use Rattle.types.specs.Table.{checked}
 use Rattle.table.proofs.Leaves.{each}
-use Rattle.types.proofs.Accepted.{Accepted, accepted, is-within, fields-keep, kind-known, base-is, enum-is, record-is, fixed-is, array-is}
-use Rattle.leaf.specs.Choice.{choice}
+use Rattle.types.proofs.Accepted.{Accepted, is-within, fields-keep, kind-known, base-is, enum-is, record-is, fixed-is, array-is}
 use Rattle.walk.specs.declared.Place.{Place}
-use Rattle.walk.specs.declared.Met.{Met}
-use Rattle.walk.specs.declared.Met.the-variants.{Leaf, Members, Elements, Broken}
-use Rattle.walk.specs.declared.Walked.{Walked}
-use Rattle.walk.specs.declared.Walked.the-variants as walked
 use Rattle.payload.specs.declared.Answer.{Answer}
 use Rattle.payload.specs.declared.Answer.the-variants.{Refused, Stopped, Gave}
 use Rattle.walk.specs.Tree.{Tree, leaf, row, array, broken, byKind, look, elementsOf, treeOf, trees, tree}

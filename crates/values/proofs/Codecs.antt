@@ -12,16 +12,14 @@ use lib.ListN.{length, getD, take, drop, length-append, length-drop, take-append
 use lib.Seq.{drop-cons, drop-drop, length-take-le, getD-drop}
 use Rattle.wire.specs.Bytes.{Octets}
 use Rattle.table.specs.Leaf.{Leaf, base, bytesOf, width, allowed}
-use Rattle.leaf.specs.Forms.{wordOf, form, wordAt, formOf, Says}
+use Rattle.leaf.specs.Forms.{wordOf, wordAt, formOf, Says}
 use Rattle.leaf.proofs.Leaves.{real, length-form, length-said, word-said, word-append, said-there}
 use Rattle.walk.specs.declared.Place.{Place}
-use Rattle.walk.specs.Tree.{leaf}
-use Rattle.walk.specs.Walk.{left}
 use Rattle.unpack.specs.Reading.{reader}
 use Rattle.pack.specs.Writing.{writer}
 use Rattle.values.specs.Values.{exact, loose}
 use Rattle.walk.proofs.Walks.{value-bytes}
-use Rattle.values.proofs.Belonging.{behind, Sound, Complete}
+use Rattle.values.proofs.Belonging.{Sound, Complete}
 
 -- what is left of a list behind its first part
 split : (input : List ℕ) (p n : ℕ) → drop p input ≡ take n (drop p input) ++ drop (p + n) input

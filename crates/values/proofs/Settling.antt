@@ -11,15 +11,15 @@ use lib.ListN.{length, getD, take, drop, length-append}
 use Rattle.wire.specs.Bytes.{over, Octets}
 use Rattle.table.specs.declared.Sections.{Sections}
 use Rattle.table.specs.Leaf.{Leaf, boolean, signed, unsigned, float, none, base, bytesOf, width, allowed}
-use Rattle.leaf.specs.Forms.{truth, form, wordAt, formOf, Says}
+use Rattle.leaf.specs.Forms.{truth, form, wordAt, formOf}
 use Rattle.leaf.proofs.Leaves.{length-form, length-said}
 use Rattle.walk.specs.declared.Place.{Place}
 use Rattle.walk.specs.Tree.{Tree, tree}
-use Rattle.walk.specs.Walk.{Step, on, start, Codec, walk}
+use Rattle.walk.specs.Walk.{on, start, Codec, walk}
 use Rattle.unpack.specs.Reading.{reader}
 use Rattle.payload.specs.declared.Answer.the-variants.{Gave}
 use Rattle.payload.specs.Calls.{unpackedIn, wordsIn, bytesIn}
-use Rattle.values.specs.Values.{Over, settled, Settled, AsOne, BooleansAsOne}
+use Rattle.values.specs.Values.{Over, settled, Settled, BooleansAsOne}
 use Rattle.values.proofs.Belonging.{Goes, behind, Complete, walk-complete}
 use Rattle.values.proofs.Codecs.{read-complete, the-place}
 use Rattle.values.proofs.RoundTrip.{take-front, settles, PacksAgain, unpack-then-pack}

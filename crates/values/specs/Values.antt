@@ -8,7 +8,7 @@ use mathlib.Core.List.{List, [], _∷_, _++_}
 use lib.Dec.{leb}
 use Rattle.table.specs.declared.Sections.{Sections}
 use Rattle.table.specs.Leaf.{Leaf, boolean, signed, unsigned, float, none, base, allowed}
-use Rattle.leaf.specs.Forms.{truth, formOf, Truth, Says}
+use Rattle.leaf.specs.Forms.{truth, formOf, Says}
 use Rattle.walk.specs.Tree.{Tree, leaf, row, array, broken, tree}
 use Rattle.walk.specs.Walk.{countCode}
 

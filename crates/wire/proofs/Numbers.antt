@@ -2,8 +2,8 @@
 -- Assumes nothing.
 use Prim.Native.Nat.{ℕ, zero, suc, _+_, _-_, _*_, _/_, _%_, _^_, _≤_, _<_}
 use mathlib.Core.Path.{_≡_, refl, sym, ap, subst, _∙_}
-use mathlib.Core.List.{List, [], _∷_, _++_, append-assoc}
-use native.Mathlib.Nat.{add-assoc, add-zero, zero-add, add-sub-cancel-left, pow-suc, one-le-pow, zero-lt-suc, mod-lt, div-lt-iff-lt-mul, div-add-mod'}
+use mathlib.Core.List.{List, _++_, append-assoc}
+use native.Mathlib.Nat.{add-assoc, add-zero, add-sub-cancel-left, one-le-pow, zero-lt-suc, mod-lt, div-lt-iff-lt-mul, div-add-mod'}
 use native.Mathlib.Omega.{arith}
 use mathlib.Core.Bool.{Bool, true, false}
 use borrow.Author.Tests.{ltb-true, ltb-false}

@@ -1,6 +1,5 @@
 -- `states::sum_of_ones` meets its contract: four counts of at most 64 each.
 -- Assumes nothing.
-use borrow.Author.Needs.{needs}
 use Rattle.states.proofs.WordLaws.{two-fit, three-fit, four-fit, the-sum}
 use Rattle.states.proofs.sum_of_ones.Statement.{statement}
 use Rattle.states.proofs.sum_of_ones.Tie as tie

@@ -1,6 +1,5 @@
 -- `states::with_word` meets its contract.
 -- Assumes nothing.
-use borrow.Author.Needs.{needs}
 use Rattle.states.proofs.WordLaws.{with-0, with-1, with-2, with-3}
 use Rattle.states.proofs.with_word.Statement.{statement}
 use Rattle.states.proofs.with_word.Tie as tie

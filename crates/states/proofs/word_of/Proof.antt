@@ -1,6 +1,5 @@
 -- `states::word_of` meets its contract.
 -- Assumes nothing.
-use borrow.Author.Needs.{needs}
 use Rattle.states.proofs.WordLaws.{word-0, word-1, word-2, word-3}
 use Rattle.states.proofs.word_of.Statement.{statement}
 use Rattle.states.proofs.word_of.Tie as tie

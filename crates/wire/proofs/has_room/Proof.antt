@@ -1,7 +1,5 @@
 -- `wire::has_room` meets its contract: with `count` within the length, it fits from `at` on exactly where `at` leaves it.
 -- Assumes nothing.
-use borrow.Author.Needs.{needs}
-use native.Mathlib.Omega.{arith}
 use Rattle.wire.proofs.Runs.{room-left, too-many}
 use Rattle.wire.proofs.has_room.Statement.{statement}
 use Rattle.wire.proofs.has_room.Tie as tie

@@ -1,7 +1,6 @@
 -- `wire::part` meets its contract: the bytes that the test found room for, or none.
 -- Assumes nothing.
 use borrow.Author.Needs.{needs}
-use native.Mathlib.Omega.{arith}
 use Rattle.wire.proofs.Runs.{held, in-room, the-part, no-part}
 use Rattle.wire.proofs.part.Statement.{statement}
 use Rattle.wire.proofs.part.Tie as tie

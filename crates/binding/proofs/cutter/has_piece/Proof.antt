@@ -1,6 +1,5 @@
 -- `binding::has_piece` meets its contract: a piece is there where it starts within the message.
 -- Assumes nothing.
-use borrow.Author.Needs.{needs}
 use Rattle.binding.proofs.Cuts.{product-fits, there-is, there-is-none}
 use Rattle.binding.proofs.cutter.has_piece.Statement.{statement}
 use Rattle.binding.proofs.cutter.has_piece.Tie as tie

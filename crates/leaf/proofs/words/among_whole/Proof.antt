@@ -4,7 +4,6 @@ use borrow.Author.Needs.{needs}
 use Prim.Native.Nat.{_-_, _≤_}
 use mathlib.Core.Path.{_≡_}
 use mathlib.Core.Bool.{true}
-use native.Mathlib.Omega.{arith}
 use Rattle.wire.specs.All.{allBelow}
 use Rattle.wire.specs.LowFirst.{swapped}
 use Rattle.wire.proofs.AllBelow.{none-below}

@@ -1,6 +1,5 @@
 -- `leaf::truth` meets its contract.
 -- Assumes nothing.
-use borrow.Author.Needs.{needs}
 use Rattle.leaf.proofs.Returns.{is-false, is-true}
 use Rattle.leaf.proofs.words.truth.Statement.{statement}
 use Rattle.leaf.proofs.words.truth.Tie as tie

@@ -1,6 +1,5 @@
 -- `mixed::laying::fitting` meets its contract.
 -- Assumes nothing.
-use borrow.Author.Needs.{needs}
 use Rattle.mixed.proofs.Rooms.{fits-not, fits}
 use Rattle.mixed.proofs.laying.fitting.Statement.{statement}
 use Rattle.mixed.proofs.laying.fitting.Tie as tie

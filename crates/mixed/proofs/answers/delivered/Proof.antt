@@ -1,9 +1,9 @@
--- `mixed::receiving::delivered` meets its contract.
+-- `mixed::answers::delivered` meets its contract.
 -- Assumes nothing.
 use borrow.Author.Needs.{needs}
 use Rattle.mixed.proofs.Receipts.{delivered-is}
-use Rattle.mixed.proofs.receiving.delivered.Statement.{statement}
-use Rattle.mixed.proofs.receiving.delivered.Tie as tie
+use Rattle.mixed.proofs.answers.delivered.Statement.{statement}
+use Rattle.mixed.proofs.answers.delivered.Tie as tie
 
 pub delivered-spec : {M : Type 1} → statement M
 delivered-spec =

@@ -1,9 +1,9 @@
--- `mixed::receiving::from_received` meets its contract: as Issue 6 has it.
+-- `mixed::answers::from_received` meets its contract: as Issue 6 has it.
 -- Assumes nothing.
 use borrow.Author.Needs.{needs}
 use Rattle.mixed.proofs.Receipts.{six-refused, six-noted, six-response}
-use Rattle.mixed.proofs.receiving.from_received.Statement.{statement}
-use Rattle.mixed.proofs.receiving.from_received.Tie as tie
+use Rattle.mixed.proofs.answers.from_received.Statement.{statement}
+use Rattle.mixed.proofs.answers.from_received.Tie as tie
 
 pub from-received-spec : {M : Type 1} → statement M
 from-received-spec =
