@@ -15,7 +15,7 @@ use Rattle.channel.specs.declared.Step.{Step}
 use Rattle.channel.specs.Channel.{missedOf, repeated, keeping, notedOf, begunOf, followedOf, placedOf, steppedOf}
 use Rattle.joiner.specs.View.{View, leading, heldBy, givenBy, viewAfter, viewGiven}
 use Rattle.promises.specs.Traffic.{Datagram}
-use Rattle.promises.proofs.Machine.{Memory, Event, kept, moved, deliveries}
+use Rattle.promises.proofs.Machine.{Memory, Passage, Event, kept, moved, deliveries}
 use Rattle.promises.proofs.Apart.{given, viewDelivers}
 
 abbrev pub machine : View → Memory
@@ -28,17 +28,19 @@ eventIn d = record { mark = partIn d; counter = counterIn d; bytes = pieceIn d }
 abbrev pub Matched : View → Type 0
 Matched v = v .channel .held ≡ length (v .bytes)
 
-module _ (room : Room) (v : View) (p : MessagePart) (c : ℕ) (q : List ℕ) where
-  abbrev step : Step
-  step = steppedOf room (v .channel) p c (length q)
+-- a step of the view, whose piece q goes behind `lead`, and a passage of the machine come to the same. Step and passage are arguments, so that
+-- what is tested is rewritten once in both
+module _ (v : View) (lead q : List ℕ) where
+  abbrev heldAfter : Step → List ℕ
+  heldAfter s = heldBy (v .bytes) (lead ++ q) (s .outcome)
 
-  abbrev after : View
-  after = record { channel = step .channel; bytes = heldBy (v .bytes) (leading v p c ++ q) (step .outcome) }
+  pub record Alike (s : Step) (x : Passage) : Type 0 where
+    pub channel : machine (record { channel = s .channel; bytes = heldAfter s }) ≡ x .channel
+    pub delivered : given (s .outcome) (givenBy q (lead ++ q) (s .outcome)) ≡ x .delivered
+    pub matched : s .channel .held ≡ length (heldAfter s)
 
-  pub record Agrees : Type 0 where
-    pub channel : machine after ≡ moved (room .size) (machine v) p c q .channel
-    pub delivered : given (step .outcome) (givenBy q (leading v p c ++ q) (step .outcome)) ≡ moved (room .size) (machine v) p c q .delivered
-    pub matched : Matched after
+abbrev pub Agrees : Room → View → MessagePart → ℕ → List ℕ → Type 0
+Agrees room v p c q = Alike v (leading v p c) q (steppedOf room (v .channel) p c (length q)) (moved (room .size) (machine v) p c q)
 
 module _ (room : Room) (v : View) (c : ℕ) (q : List ℕ) (m : Matched v) (r : repeated (v .channel) c ≡ false) where
   abbrev h : List ℕ
@@ -54,41 +56,40 @@ module _ (room : Room) (v : View) (c : ℕ) (q : List ℕ) (m : Matched v) (r : 
 
   whole : Agrees room v Whole c q
   unfolding steppedOf placedOf notedOf
-  whole = record { channel = rw r; delivered = rw r; matched = rw r }
+  whole = rw r (record { channel = refl; delivered = refl; matched = refl })
 
   begins : Agrees room v Begin c q
   unfolding steppedOf placedOf begunOf notedOf
   begins = go (leb (length q) (room .size)) refl
     where
       go : (t : Bool) → leb (length q) (room .size) ≡ t → Agrees room v Begin c q
-      go true e = record { channel = rw (r, e); delivered = rw (r, e); matched = rw (r, e) }
-      go false e = record { channel = rw (r, e); delivered = rw (r, e); matched = rw (r, e) }
+      go true e = rw (r, e) (record { channel = refl; delivered = refl; matched = refl })
+      go false e = rw (r, e) (record { channel = refl; delivered = refl; matched = refl })
 
   middle : Agrees room v Middle c q
   unfolding steppedOf placedOf followedOf notedOf missedOf
   middle = go (eqb (length h) 0) refl (leb (length h + length q) (room .size)) refl
     where
       go : (a : Bool) → eqb (length h) 0 ≡ a → (b : Bool) → leb (length h + length q) (room .size) ≡ b → Agrees room v Middle c q
-      go true e b f = record { channel = rw (r, counted, e); delivered = rw (r, counted, e); matched = rw (r, counted, e) (eqb-true (length h) 0 e) }
-      go false e true f = record
-          { channel = rw (r, counted, e, f); delivered = rw (r, counted, e, f); matched = rw (r, counted, e, f) (sym (length-append h q)) }
-      go false e false f = record { channel = rw (r, counted, e, f); delivered = rw (r, counted, e, f); matched = rw (r, counted, e, f) }
+      go true e b f = rw (r, counted, e) (record { channel = refl; delivered = refl; matched = eqb-true (length h) 0 e })
+      go false e true f = rw (r, counted, e, f) (record { channel = refl; delivered = refl; matched = sym (length-append h q) })
+      go false e false f = rw (r, counted, e, f) (record { channel = refl; delivered = refl; matched = refl })
 
   ends : Agrees room v End c q
   unfolding steppedOf placedOf followedOf notedOf missedOf
   ends = go (eqb (length h) 0) refl (leb (length h + length q) (room .size)) refl
     where
       go : (a : Bool) → eqb (length h) 0 ≡ a → (b : Bool) → leb (length h + length q) (room .size) ≡ b → Agrees room v End c q
-      go true e b f = record { channel = rw (r, counted, e); delivered = rw (r, counted, e); matched = rw (r, counted, e) (eqb-true (length h) 0 e) }
-      go false e true f = record { channel = rw (r, counted, e, f); delivered = rw (r, counted, e, f); matched = rw (r, counted, e, f) }
-      go false e false f = record { channel = rw (r, counted, e, f); delivered = rw (r, counted, e, f); matched = rw (r, counted, e, f) }
+      go true e b f = rw (r, counted, e) (record { channel = refl; delivered = refl; matched = eqb-true (length h) 0 e })
+      go false e true f = rw (r, counted, e, f) (record { channel = refl; delivered = refl; matched = refl })
+      go false e false f = rw (r, counted, e, f) (record { channel = refl; delivered = refl; matched = refl })
 
 agrees : (room : Room) (v : View) (p : MessagePart) (c : ℕ) (q : List ℕ) → Matched v → Agrees room v p c q
 unfolding steppedOf
 agrees room v p c q m = go (repeated (v .channel) c) refl p
   where
     go : (t : Bool) → repeated (v .channel) c ≡ t → (p : MessagePart) → Agrees room v p c q
-    go true e p = record { channel = rw e; delivered = rw e; matched = rw e m }
+    go true e p = rw e (record { channel = refl; delivered = refl; matched = m })
     go false e Whole = whole room v c q m e
     go false e Begin = begins room v c q m e
     go false e Middle = middle room v c q m e

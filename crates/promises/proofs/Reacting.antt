@@ -112,12 +112,16 @@ module _ (own : ℕ) (t : List ℕ) (s : Sections) (index : List ℕ) (p : Stand
       go true false = refl
       go false b = refl
 
-  pub record Reacts (kind : Message) : Type 0 where
-    pub owed-is : map said (replies (X kind .owed)) ≡ owedFor own t s p h kind
-    pub long : owedLength (X kind .owed) ≡ replyLength * length (replies (X kind .owed))
-    pub wide : Each (λ r. Wide r) (replies (X kind .owed))
-    pub next : X kind .standing .next ≡ nextAfter own p h kind
-    pub states : (k : ℕ) → k < platforms → isUp own (X kind .standing .states) k ≡ stateAfter own p h kind k
+  -- a reaction, and the replies and the next own number that are wanted: arguments, so that what was tested is rewritten in all of them once
+  pub record ReactsBy (kind : Message) (x : Reaction) (owed : List OwedReply) (n : ℕ) : Type 0 where
+    pub owed-is : map said (replies (x .owed)) ≡ owed
+    pub long : owedLength (x .owed) ≡ replyLength * length (replies (x .owed))
+    pub wide : Each (λ r. Wide r) (replies (x .owed))
+    pub next : x .standing .next ≡ n
+    pub states : (k : ℕ) → k < platforms → isUp own (x .standing .states) k ≡ stateAfter own p h kind k
+
+  abbrev pub Reacts : Message → Type 0
+  Reacts kind = ReactsBy kind (X kind) (owedFor own t s p h kind) (nextAfter own p h kind)
 
   module _ (hn : p .next < 2 ^ 32) (other : h .platform ≡ own → ⊥) where
     on-up : Reacts (message.PlatformStatus Up)
@@ -125,33 +129,27 @@ module _ (own : ℕ) (t : List ℕ) (s : Sections) (index : List ℕ) (p : Stand
     on-up = go (ltb (h .platform) platforms) (isUp own (p .states) (h .platform)) refl refl
       where
         go : (a b : Bool) → ltb (h .platform) platforms ≡ a → isUp own (p .states) (h .platform) ≡ b → Reacts (message.PlatformStatus Up)
-        go true true c e = record {
-          owed-is = rw (c, e);
-          long = rw (c, e);
-          wide = rw (c, e) tt;
-          next = rw (c, e);
-          states = λ k l. rw (c, e) (as-it-was own (p .states) k (h .platform) true e);
-        }
+        go true true c e = rw (c, e) (record {
+          owed-is = refl;
+          long = refl;
+          wide = tt;
+          next = refl;
+          states = λ k l. as-it-was own (p .states) k (h .platform) true e;
+        })
         go true false c e =
             let hs : h .platform < platforms = ltb-true (h .platform) platforms c in
             let d : leb platforms (h .platform) ≡ false = lt-leb platforms (h .platform) hs in
-            record {
-              owed-is = rw (c, e, d);
-              long = rw (c, e);
-              wide = rw (c, e) (record { number = hn; field = omega arith }, (record { number = mod-lt (p .next + 1) (pow-pos 32); field = omega arith }, tt));
-              next = rw (c, e, d);
-              states = λ k l. rw (c, e) (now-turned own (p .states) k (h .platform) false e l hs other);
-            }
+            rw (c, e, d) (record {
+              owed-is = refl;
+              long = refl;
+              wide = (record { number = hn; field = omega arith }, (record { number = mod-lt (p .next + 1) (pow-pos 32); field = omega arith }, tt));
+              next = refl;
+              states = λ k l. now-turned own (p .states) k (h .platform) false e l hs other;
+            })
         go false b c e =
             let hs : platforms ≤ h .platform = ltb-false (h .platform) platforms c in
             let d : noNews own p h ≡ true = either-way (isUp own (p .states) (h .platform)) (le-leb platforms (h .platform) hs) in
-            record {
-              owed-is = rw (c, d);
-              long = rw c;
-              wide = rw c tt;
-              next = rw (c, d);
-              states = λ k l. rw c (none-there own (p .states) k (h .platform) true l hs);
-            }
+            rw (c, d) (record { owed-is = refl; long = refl; wide = tt; next = refl; states = λ k l. none-there own (p .states) k (h .platform) true l hs })
 
     on-down : Reacts (message.PlatformStatus Down)
     unfolding reactionTo onStatus onState
@@ -160,29 +158,23 @@ module _ (own : ℕ) (t : List ℕ) (s : Sections) (index : List ℕ) (p : Stand
         go : (a b : Bool) → ltb (h .platform) platforms ≡ a → isUp own (p .states) (h .platform) ≡ b → Reacts (message.PlatformStatus Down)
         go true true c e =
             let hs : h .platform < platforms = ltb-true (h .platform) platforms c in
-            record {
-              owed-is = rw (c, e);
-              long = rw (c, e);
-              wide = rw (c, e) tt;
-              next = rw (c, e);
-              states = λ k l. rw (c, e) (now-turned own (p .states) k (h .platform) true e l hs other);
-            }
-        go true false c e = record {
-          owed-is = rw (c, e);
-          long = rw (c, e);
-          wide = rw (c, e) tt;
-          next = rw (c, e);
-          states = λ k l. rw (c, e) (as-it-was own (p .states) k (h .platform) false e);
-        }
+            rw (c, e) (record {
+              owed-is = refl;
+              long = refl;
+              wide = tt;
+              next = refl;
+              states = λ k l. now-turned own (p .states) k (h .platform) true e l hs other;
+            })
+        go true false c e = rw (c, e) (record {
+          owed-is = refl;
+          long = refl;
+          wide = tt;
+          next = refl;
+          states = λ k l. as-it-was own (p .states) k (h .platform) false e;
+        })
         go false b c e =
             let hs : platforms ≤ h .platform = ltb-false (h .platform) platforms c in
-            record {
-              owed-is = rw c;
-              long = rw c;
-              wide = rw c tt;
-              next = rw c;
-              states = λ k l. rw c (none-there own (p .states) k (h .platform) false l hs);
-            }
+            rw c (record { owed-is = refl; long = refl; wide = tt; next = refl; states = λ k l. none-there own (p .states) k (h .platform) false l hs })
 
     module _ (hq : h .sequence < 2 ^ 32) (hi : h .id < 2 ^ 32) (scan : (id : ℕ) → Finds t s index id) where
       on-request : Reacts message.PlatformStatusRequest
@@ -200,44 +192,43 @@ module _ (own : ℕ) (t : List ℕ) (s : Sections) (index : List ℕ) (p : Stand
           go : Pull t s index id → Reacts (message.VersionedDataPull id)
           go (all-of-none e d) =
               let q : id ≡ allData = eqb-true id allData e in
-              record {
-                owed-is = rw (e, d) (ap (λ (n : ℕ). record { number = h .sequence; means = message.UnknownOperation n } ∷ []) (sym q));
-                long = rw (e, d);
-                wide = rw (e, d) (record { number = hq; field = omega arith }, tt);
-                next = rw (e, d);
-                states = λ k l. rw (e, d) refl;
-              }
-          go (all-of-some e d) = record { owed-is = rw (e, d); long = rw (e, d); wide = rw (e, d) tt; next = rw (e, d); states = λ k l. rw (e, d) refl }
-          go (one-entry i q e f g true d) = record
-              { owed-is = rw (e, g, f, d); long = rw (e, g, f, d); wide = rw (e, g, f, d) tt; next = rw (e, g, f, d); states = λ k l. rw (e, g, f, d) refl }
-          go (one-entry i q e f g false d) = record {
-            owed-is = rw (e, g, f, d);
-            long = rw (e, g, f, d);
-            wide = rw (e, g, f, d) (record { number = hq; field = l }, tt);
-            next = rw (e, g, f, d);
-            states = λ k l. rw (e, g, f, d) refl;
-          }
-          go (no-entry e f g) = record {
-            owed-is = rw (e, g, f);
-            long = rw (e, g, f);
-            wide = rw (e, g, f) (record { number = hq; field = l }, tt);
-            next = rw (e, g, f);
-            states = λ k l. rw (e, g, f) refl;
-          }
+              rw (e, d) (record {
+                owed-is = ap (λ (n : ℕ). record { number = h .sequence; means = message.UnknownOperation n } ∷ []) (sym q);
+                long = refl;
+                wide = (record { number = hq; field = omega arith }, tt);
+                next = refl;
+                states = λ k l. refl;
+              })
+          go (all-of-some e d) = rw (e, d) (record { owed-is = refl; long = refl; wide = tt; next = refl; states = λ k l. refl })
+          go (one-entry i q e f g true d) = rw (e, g, f, d) (record { owed-is = refl; long = refl; wide = tt; next = refl; states = λ k l. refl })
+          go (one-entry i q e f g false d) = rw (e, g, f, d) (record {
+            owed-is = refl;
+            long = refl;
+            wide = (record { number = hq; field = l }, tt);
+            next = refl;
+            states = λ k l. refl;
+          })
+          go (no-entry e f g) = rw (e, g, f) (record {
+            owed-is = refl;
+            long = refl;
+            wide = (record { number = hq; field = l }, tt);
+            next = refl;
+            states = λ k l. refl;
+          })
 
       on-operation : Reacts message.Operation
       unfolding reactionTo operationFor onOperation
       on-operation = go (operationWith t s (h .id)) refl (scan (h .id))
         where
           go : (x : Sought) → operationWith t s (h .id) ≡ x → Finds t s index (h .id) → Reacts message.Operation
-          go (sought.At i q) f g = record { owed-is = rw (g, f); long = rw (g, f); wide = rw (g, f) tt; next = rw (g, f); states = λ k l. rw (g, f) refl }
-          go sought.Nowhere f g = record {
-            owed-is = rw (g, f);
-            long = rw (g, f);
-            wide = rw (g, f) (record { number = hq; field = hi }, tt);
-            next = rw (g, f);
-            states = λ k l. rw (g, f) refl;
-          }
+          go (sought.At i q) f g = rw (g, f) (record { owed-is = refl; long = refl; wide = tt; next = refl; states = λ k l. refl })
+          go sought.Nowhere f g = rw (g, f) (record {
+            owed-is = refl;
+            long = refl;
+            wide = (record { number = hq; field = hi }, tt);
+            next = refl;
+            states = λ k l. refl;
+          })
 
       pub reacts : (kind : Message) → fieldOf kind < 2 ^ 32 → Reacts kind
       reacts (message.PlatformStatus Up) l = on-up

@@ -27,7 +27,7 @@ use Rattle.mixed.specs.Keeping.{noteNumber, markNumber, keptNumber, keptWords}
 use Rattle.mixed.specs.Reaction.{allServices, operationFor3, commonly, onPull3, cameUp3, onStatus3, onServicesRequest, reaction3}
 use Rattle.mixed.proofs.Deeds.{tooMany}
 use Rattle.promises.specs.Platforms.{operationWith}
-use Rattle.promises.specs.Owed3.{MixedCall, tellsThese, upBefore, owedFor3, stateAfter3, nextAfter3}
+use Rattle.promises.specs.Owed3.{MixedCall, OwedReply3, tellsThese, upBefore, owedFor3, stateAfter3, nextAfter3}
 use Rattle.promises.specs.Replies3.{movesServices, BlockTakes, Countable}
 use Rattle.promises.proofs.Reacting.{Finds, Pull, all-of-none, all-of-some, one-entry, no-entry, pulled, as-it-was, now-turned}
 use Rattle.promises.proofs.OneOfOurs.{its-state}
@@ -50,16 +50,19 @@ module _ (c : MixedCall) (s : Sections) (index : List ℕ) (h : Header3) (start 
   abbrev pub X3 : Message3 → Reaction3
   X3 kind = reaction3 (c .own) (c .ours) (c .table) s (operationFor3 (c .table) s index h kind) (c .standing) h kind start len
 
-  pub record Reacts3 (kind : Message3) : Type 0 where
-    pub owed-is : meantBy c (X3 kind .deed) ≡ owedFor3 c s h kind
-    pub wide : WideDeed (X3 kind .deed)
-    pub next : X3 kind .standing .next ≡ nextAfter3 c h kind
-    pub states : (k : ℕ) → k < platforms → isUp (c .own) (X3 kind .standing .states) k ≡ stateAfter3 c h kind k
+  -- a reaction, and the replies and the next own number that are wanted: arguments, so that what was tested is rewritten in all of them once
+  pub record ReactsBy (kind : Message3) (x : Reaction3) (owed : List OwedReply3) (n : ℕ) : Type 0 where
+    pub owed-is : meantBy c (x .deed) ≡ owed
+    pub wide : WideDeed (x .deed)
+    pub next : x .standing .next ≡ n
+    pub states : (k : ℕ) → k < platforms → isUp (c .own) (x .standing .states) k ≡ stateAfter3 c h kind k
     -- the words of services: no number where the block takes what is told, and as they were
-    pub kept : BlockTakes c h kind → keptNumber (c .partners) (h .platform) (X3 kind .deed) (drop 24 (c .message)) (c .services) ≡ 0
-    pub stay : movesServices c h kind ≡ false →
-        keptWords (c .partners) (h .platform) (X3 kind .deed) (drop 24 (c .message)) (c .services) ≡ c .services
-    pub few : Countable c kind → tooMany (c .ours) (X3 kind .deed) ≡ false
+    pub kept : BlockTakes c h kind → keptNumber (c .partners) (h .platform) (x .deed) (drop 24 (c .message)) (c .services) ≡ 0
+    pub stay : movesServices c h kind ≡ false → keptWords (c .partners) (h .platform) (x .deed) (drop 24 (c .message)) (c .services) ≡ c .services
+    pub few : Countable c kind → tooMany (c .ours) (x .deed) ≡ false
+
+  abbrev pub Reacts3 : Message3 → Type 0
+  Reacts3 kind = ReactsBy kind (X3 kind) (owedFor3 c s h kind) (nextAfter3 c h kind)
 
   module _ (hn : c .standing .next < 2 ^ 32) (hp : h .platform < platforms) (other : h .platform ≡ c .own → ⊥) where
     on-up3 : (composite : ℕ) → Reacts3 (PlatformStatus Up composite)
@@ -67,48 +70,48 @@ module _ (c : MixedCall) (s : Sections) (index : List ℕ) (h : Header3) (start 
     on-up3 composite = go (upBefore c h) refl
       where
         go : (b : Bool) → upBefore c h ≡ b → Reacts3 (PlatformStatus Up composite)
-        go true e = record {
-          owed-is = rw e;
-          wide = rw e tt;
-          next = rw e;
-          states = λ k l. rw e (as-it-was (c .own) (c .standing .states) k (h .platform) true e);
-          kept = λ z. rw e;
-          stay = λ z. rw e;
-          few = λ z. rw e;
-        }
-        go false e = record {
-          owed-is = rw e;
-          wide = rw e hn;
-          next = rw e;
-          states = λ k l. rw e (now-turned (c .own) (c .standing .states) k (h .platform) false e l hp other);
-          kept = λ z. rw e;
-          stay = λ z. rw e;
-          few = λ z. rw e;
-        }
+        go true e = rw e (record {
+          owed-is = refl;
+          wide = tt;
+          next = refl;
+          states = λ k l. as-it-was (c .own) (c .standing .states) k (h .platform) true e;
+          kept = λ z. refl;
+          stay = λ z. refl;
+          few = λ z. refl;
+        })
+        go false e = rw e (record {
+          owed-is = refl;
+          wide = hn;
+          next = refl;
+          states = λ k l. now-turned (c .own) (c .standing .states) k (h .platform) false e l hp other;
+          kept = λ z. refl;
+          stay = λ z. refl;
+          few = λ z. refl;
+        })
 
     on-down3 : (composite : ℕ) → Reacts3 (PlatformStatus Down composite)
     unfolding reaction3 onStatus3 keptNumber keptWords markNumber
     on-down3 composite = go (upBefore c h) refl
       where
         go : (b : Bool) → upBefore c h ≡ b → Reacts3 (PlatformStatus Down composite)
-        go true e = record {
-          owed-is = rw e;
-          wide = rw e tt;
-          next = rw e;
-          states = λ k l. rw e (now-turned (c .own) (c .standing .states) k (h .platform) true e l hp other);
-          kept = λ z. rw e (yes-le 0 10 _ _ (z e));
+        go true e = rw e (record {
+          owed-is = refl;
+          wide = tt;
+          next = refl;
+          states = λ k l. now-turned (c .own) (c .standing .states) k (h .platform) true e l hp other;
+          kept = λ z. yes-le 0 10 _ _ (z e);
           stay = λ z. absurd (true≢false (sym e ∙ z));
-          few = λ z. rw e;
-        }
-        go false e = record {
-          owed-is = rw e;
-          wide = rw e tt;
-          next = rw e;
-          states = λ k l. rw e (as-it-was (c .own) (c .standing .states) k (h .platform) false e);
-          kept = λ z. rw e;
-          stay = λ z. rw e;
-          few = λ z. rw e;
-        }
+          few = λ z. refl;
+        })
+        go false e = rw e (record {
+          owed-is = refl;
+          wide = tt;
+          next = refl;
+          states = λ k l. as-it-was (c .own) (c .standing .states) k (h .platform) false e;
+          kept = λ z. refl;
+          stay = λ z. refl;
+          few = λ z. refl;
+        })
 
     module _ (hq : h .sequence < 2 ^ 32) (hi : h .id < 2 ^ 32) (scan : (id : ℕ) → Finds (c .table) s index id) where
       on-request3 : Reacts3 PlatformStatusRequest
@@ -133,24 +136,24 @@ module _ (c : MixedCall) (s : Sections) (index : List ℕ) (h : Header3) (start 
       on-services-request id l = go (eqb id allServices) refl
         where
           go : (b : Bool) → eqb id allServices ≡ b → Reacts3 (AvailabilityStatusRequest id)
-          go true e = record {
-            owed-is = rw e;
-            wide = rw e hq;
+          go true e = rw e (record {
+            owed-is = refl;
+            wide = hq;
             next = refl;
             states = λ k l. refl;
-            kept = λ z. rw e;
-            stay = λ z. rw e;
-            few = λ z. rw e (lt-leb (2 ^ 29) (length (c .ours)) (z (ap AvailabilityStatusRequest (eqb-true id allServices e))));
-          }
-          go false e = record {
-            owed-is = rw e (ap (λ (n : ℕ). tellsThese (h .sequence) ((id, n) ∷ []) ∷ []) (its-state id (c .ours)));
-            wide = rw e (hq, l);
+            kept = λ z. refl;
+            stay = λ z. refl;
+            few = λ z. lt-leb (2 ^ 29) (length (c .ours)) (z (ap AvailabilityStatusRequest (eqb-true id allServices e)));
+          })
+          go false e = rw e (record {
+            owed-is = ap (λ (n : ℕ). tellsThese (h .sequence) ((id, n) ∷ []) ∷ []) (its-state id (c .ours));
+            wide = (hq, l);
             next = refl;
             states = λ k l. refl;
-            kept = λ z. rw e;
-            stay = λ z. rw e;
-            few = λ z. rw e;
-          }
+            kept = λ z. refl;
+            stay = λ z. refl;
+            few = λ z. refl;
+          })
 
       on-unknown3 : (id : ℕ) → Reacts3 (UnknownOperation id)
       unfolding reaction3 commonly reactionTo keptNumber keptWords
@@ -169,70 +172,62 @@ module _ (c : MixedCall) (s : Sections) (index : List ℕ) (h : Header3) (start 
       on-pull3 id l = go (pulled (c .table) s index id (scan id))
         where
           of-all : eqb id allData ≡ true → Reacts3 (VersionedDataPull id)
-          of-all e = record {
-            owed-is = rw e;
-            wide = rw e tt;
-            next = rw e;
-            states = λ k l. rw e refl;
-            kept = λ z. rw e;
-            stay = λ z. rw e;
-            few = λ z. rw e;
-          }
+          of-all e = rw e (record { owed-is = refl; wide = tt; next = refl; states = λ k l. refl; kept = λ z. refl; stay = λ z. refl; few = λ z. refl })
 
           go : Pull (c .table) s index id → Reacts3 (VersionedDataPull id)
           go (all-of-none e d) = of-all e
           go (all-of-some e d) = of-all e
-          go (one-entry i q e f g true d) = record {
-            owed-is = rw (e, g, f, d);
-            wide = rw (e, g, f, d) tt;
-            next = rw (e, g, f, d);
-            states = λ k l. rw (e, g, f, d) refl;
-            kept = λ z. rw (e, g, f, d);
-            stay = λ z. rw (e, g, f, d);
-            few = λ z. rw (e, g, f, d);
-          }
-          go (one-entry i q e f g false d) = record {
-            owed-is = rw (e, g, f, d);
-            wide = rw (e, g, f, d) (hq, l);
-            next = rw (e, g, f, d);
-            states = λ k l. rw (e, g, f, d) refl;
-            kept = λ z. rw (e, g, f, d);
-            stay = λ z. rw (e, g, f, d);
-            few = λ z. rw (e, g, f, d);
-          }
-          go (no-entry e f g) = record {
-            owed-is = rw (e, g, f);
-            wide = rw (e, g, f) (hq, l);
-            next = rw (e, g, f);
-            states = λ k l. rw (e, g, f) refl;
-            kept = λ z. rw (e, g, f);
-            stay = λ z. rw (e, g, f);
-            few = λ z. rw (e, g, f);
-          }
+          go (one-entry i q e f g true d) = rw (e, g, f, d) (record {
+            owed-is = refl;
+            wide = tt;
+            next = refl;
+            states = λ k l. refl;
+            kept = λ z. refl;
+            stay = λ z. refl;
+            few = λ z. refl;
+          })
+          go (one-entry i q e f g false d) = rw (e, g, f, d) (record {
+            owed-is = refl;
+            wide = (hq, l);
+            next = refl;
+            states = λ k l. refl;
+            kept = λ z. refl;
+            stay = λ z. refl;
+            few = λ z. refl;
+          })
+          go (no-entry e f g) = rw (e, g, f) (record {
+            owed-is = refl;
+            wide = (hq, l);
+            next = refl;
+            states = λ k l. refl;
+            kept = λ z. refl;
+            stay = λ z. refl;
+            few = λ z. refl;
+          })
 
       on-operation3 : Reacts3 Operation
       unfolding reaction3 operationFor3 commonly reactionTo onOperation keptNumber keptWords
       on-operation3 = go (operationWith (c .table) s (h .id)) refl (scan (h .id))
         where
           go : (x : Sought) → operationWith (c .table) s (h .id) ≡ x → Finds (c .table) s index (h .id) → Reacts3 Operation
-          go (sought.At i q) f g = record {
-            owed-is = rw (g, f);
-            wide = rw (g, f) tt;
-            next = rw (g, f);
-            states = λ k l. rw (g, f) refl;
-            kept = λ z. rw (g, f);
-            stay = λ z. rw (g, f);
-            few = λ z. rw (g, f);
-          }
-          go sought.Nowhere f g = record {
-            owed-is = rw (g, f);
-            wide = rw (g, f) (hq, hi);
-            next = rw (g, f);
-            states = λ k l. rw (g, f) refl;
-            kept = λ z. rw (g, f);
-            stay = λ z. rw (g, f);
-            few = λ z. rw (g, f);
-          }
+          go (sought.At i q) f g = rw (g, f) (record {
+            owed-is = refl;
+            wide = tt;
+            next = refl;
+            states = λ k l. refl;
+            kept = λ z. refl;
+            stay = λ z. refl;
+            few = λ z. refl;
+          })
+          go sought.Nowhere f g = rw (g, f) (record {
+            owed-is = refl;
+            wide = (hq, hi);
+            next = refl;
+            states = λ k l. refl;
+            kept = λ z. refl;
+            stay = λ z. refl;
+            few = λ z. refl;
+          })
 
       pub reacts3 : (kind : Message3) → fieldOf3 kind < 2 ^ 32 → Reacts3 kind
       unfolding reaction3 keptNumber keptWords
