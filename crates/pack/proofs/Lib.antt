@@ -5,7 +5,10 @@ mod JudgedRuns
 mod AlikeLeaves
 mod PlanWalks
 mod PlanLeaves
+mod Anew
 mod PlanStores
+mod WholeStores
+mod WholePlan
 mod PlanReturns
 mod PlanEach
 mod LaidBases

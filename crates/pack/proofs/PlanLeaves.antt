@@ -19,7 +19,6 @@ use Rattle.walk.specs.Runs.{codeIn, manyIn, valuesIn, placeIn, takenBy}
 use Rattle.walk.proofs.Walks.{few-bytes, went, through-more, through-stop, through-done}
 use Rattle.walk.proofs.Returns.{item-short, item-bad, item-on}
 use Rattle.pack_leaves.specs.Stored.{isThere}
-use Rattle.pack.specs.JudgedRuns.{AllThere}
 use Rattle.pack.specs.Writing.{writer, Writing}
 use Rattle.pack.specs.ByPlan.{AllAmong, AllTaken, RunTaken}
 use Rattle.pack_leaves.proofs.There.{judged}
@@ -70,10 +69,6 @@ module _ (ws t : List ℕ) (w from : ℕ) where
   pub all-taken : (n p m : ℕ) → n ≡ valuesIn w → p ≡ placeIn w → m ≡ manyIn w → AllAmong ws t p n from m → AllTaken ws t w from (manyIn w)
   all-taken n p m count place many among k l =
       is-among t w n count p place true (getD ws (from + k) 0) (sym (among k (omega arith))) refl
-
-  pub run-taken : (code n : ℕ) → from ≤ length ws → n ≤ length ws - from → n ≡ manyIn w → code ≡ codeIn w → AllThere ws code from n
-      → AllTaken ws t w from (manyIn w) → RunTaken ws t w from
-  run-taken code n a b many is there taken = record { inside = omega arith; there = rw (← is, ← many) there; taken = taken }
 
   -- a run of one
   pub one-taken : (n : ℕ) (r : Bool) → from ≤ length ws → n ≤ length ws - from → n ≡ manyIn w → n ≡ 1 → r

@@ -36,7 +36,7 @@ wordOf (Went q) = q .from
 wordOf (Stopped n q) = q .from
 
 -- a walk over n leaves of one code has passed all of them, or stopped at one
-data RunEnds (ws : List ℕ) (code : ℕ) (p : Place) (x : List ℕ) (n : ℕ) (st : Step) : Type 0 where
+pub data RunEnds (ws : List ℕ) (code : ℕ) (p : Place) (x : List ℕ) (n : ℕ) (st : Step) : Type 0 where
   whole : st ≡ on (behindAll code p n) (storedAll ws code p n x) → RunEnds ws code p x n st
   part : (j m : ℕ) → j ≤ n → st ≡ stop m (behindAll code p j) (storedAll ws code p j x) → RunEnds ws code p x n st
 
@@ -67,7 +67,7 @@ module _ (ws t : List ℕ) where
               part n 40 (omega arith) (step (stop 40 (behindAll (codeIn w) p n) (storedAll ws (codeIn w) p n x))
               (item-short (writer ws) 42 (codeIn w) (takenBy t w) (behindAll (codeIn w) p n) (storedAll ws (codeIn w) p n x) g))
 
-  run-ends : (w : ℕ) (p : Place) (x : List ℕ) → RunEnds ws (codeIn w) p x (manyIn w) (overRun ws t w p x)
+  pub run-ends : (w : ℕ) (p : Place) (x : List ℕ) → RunEnds ws (codeIn w) p x (manyIn w) (overRun ws t w p x)
   unfolding storedAll
   run-ends w p x = rw (run-leaves ws t w p x) (ends-so w p x (manyIn w))
 

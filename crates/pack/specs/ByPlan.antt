@@ -1,5 +1,5 @@
 -- 02, request 13: writing by the runs of a plan: a run whose words are all taken, and what is stored of runs.
-use Prim.Native.Nat.{ℕ, min, _+_, _-_, _≤_, _<_}
+use Prim.Native.Nat.{ℕ, zero, suc, min, _+_, _-_, _≤_, _<_}
 use mathlib.Core.Path.{_≡_}
 use mathlib.Core.Bool.{true}
 use mathlib.Core.List.{List, [], _∷_}
@@ -7,7 +7,7 @@ use lib.ListN.{length, getD}
 use Rattle.leaf.specs.Choice.{amongAt}
 use Rattle.walk.specs.declared.Place.{Place}
 use Rattle.walk.specs.Runs.{codeIn, manyIn, takenBy, runsTree}
-use Rattle.walk.specs.Walk.{Step, walk}
+use Rattle.walk.specs.Walk.{Step, start, walk}
 use Rattle.pack.specs.JudgedRuns.{AllThere}
 use Rattle.pack_leaves.specs.StoredRuns.{behindAll, storedAll}
 use Rattle.pack.specs.Writing.{writer}
@@ -34,3 +34,12 @@ unfoldable pub storedRuns : List ℕ → List ℕ → Place → ℕ → List ℕ
 storedRuns ws [] p upto x = x
 storedRuns ws (w ∷ rs) p upto x =
     storedRuns ws rs (behindAll (codeIn w) p (manyIn w)) upto (storedAll ws (codeIn w) p (min (manyIn w) (upto - p .from)) x)
+
+-- the place behind so many runs from the start, and what is left of the bytes where the leaves of all of them are stored
+unfoldable pub wholeAt : List ℕ → ℕ → Place
+wholeAt rs zero = start
+wholeAt rs (suc k) = behindAll (codeIn (getD rs k 0)) (wholeAt rs k) (manyIn (getD rs k 0))
+
+unfoldable pub storedWhole : List ℕ → List ℕ → ℕ → List ℕ → List ℕ
+storedWhole ws rs zero x = x
+storedWhole ws rs (suc k) x = storedAll ws (codeIn (getD rs k 0)) (wholeAt rs k) (manyIn (getD rs k 0)) (storedWhole ws rs k x)

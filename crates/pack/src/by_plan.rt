@@ -8,8 +8,7 @@ ghost use mathlib.Core.List.{[]};
 ghost use Prim.Native.Nat.{_+_, _≤_};
 ghost use lib.ListN.{length, drop};
 ghost use Rattle.table.specs.Leaf.{allowed};
-ghost use Rattle.walk.specs.Walk.{start, answer, left, walk};
-ghost use Rattle.walk.specs.Whole.{allOrNothing};
+ghost use Rattle.walk.specs.Walk.{answer, left, walk};
 ghost use Rattle.walk.specs.Runs.{codeIn, manyIn, takenBy, runTree, runsTree};
 ghost use Rattle.walk.specs.Planned.{planTree};
 ghost use Rattle.pack.specs.Writing.{writer, Writing};
@@ -57,26 +56,6 @@ fn write_runs(table: &[u8], runs: &[u64], words: &[u64], out: &mut [u8], p: Plac
     }
 }
 
-// From the start, and stored where all the words were read and there is room for all the bytes.
-pub(crate) fn write_whole(table: &[u8], runs: &[u64], words: &[u64], out: &mut [u8]) -> Walked
-    ensures { λ r. ⌜ r ≡ answer (walk (writer (now (words .entry))) (runsTree (now (table .entry)) (now (runs .entry))) start []) ⌝ }
-    ensures { λ _. ⌜ now (out .exit)
-        ≡ allOrNothing (writer (now (words .entry))) (length (now (words .entry))) (runsTree (now (table .entry)) (now (runs .entry))) (now (out .entry)) ⌝ }
-{
-    let p = Place { from: 0, to: 0 };
-    match judge_runs(table, runs, words, p) {
-        Walked::Stopped(n, q) => Walked::Stopped(n, q),
-        Walked::Went(q) => {
-            if walk::fits(q, words.len(), out.len()) {
-                store_runs(words, out, runs, p, q.from);
-                Walked::Went(q)
-            } else {
-                Walked::Went(q)
-            }
-        }
-    }
-}
-
 // Judges the words from p on, and stores nothing. Run by run, as long as all words of a run are taken; and from one on that is
 // not, leaf by leaf.
 pub(crate) fn judge_runs(table: &[u8], runs: &[u64], words: &[u64], p: Place) -> Walked
@@ -114,7 +93,18 @@ fn takes_run(table: &[u8], run: u64, words: &[u64], from: usize) -> bool
     if many == 1 {
         return takes_word(table, run, words[from]);
     }
-    if limits::judged(words, from, plans::code_in(run), many) {
+    takes_many(table, run, words, from)
+}
+
+// The same where the words are there. A slice that goes on to a call is made anew there: handed on as it came, it would be kept in memory,
+// and waited for, where no call is made too.
+pub(crate) fn takes_many(table: &[u8], run: u64, words: &[u64], from: usize) -> bool
+    requires { ⌜ from + manyIn run ≤ length (now words) ⌝ }
+    ensures { λ r. ⌜ (r ≡ true → RunTaken (now (words .entry)) (now (table .entry)) run from) ⌝ }
+{
+    let many = plans::many_in(run) as usize;
+    let len = words.len();
+    if limits::judged(&words[..len], from, plans::code_in(run), many) {
         among_all(table, run, words, from)
     } else {
         false
@@ -131,7 +121,16 @@ fn among_all(table: &[u8], run: u64, words: &[u64], from: usize) -> bool
         return true;
     }
     let many = plans::many_in(run) as usize;
-    are_among(table, plans::place_in(run), count, words, from, many)
+    let all = table.len();
+    let len = words.len();
+    are_among(
+        &table[..all],
+        plans::place_in(run),
+        count,
+        &words[..len],
+        from,
+        many,
+    )
 }
 
 // Whether so many words are among the values that stand at a place of the table.
@@ -158,7 +157,13 @@ pub(crate) fn are_among(
 }
 
 // Judges the words of the runs from the first-th on, leaf by leaf.
-fn judge_rest(table: &[u8], runs: &[u64], words: &[u64], first: usize, p: Place) -> Walked
+pub(crate) fn judge_rest(
+    table: &[u8],
+    runs: &[u64],
+    words: &[u64],
+    first: usize,
+    p: Place,
+) -> Walked
     requires { ⌜ Writing (now words) p ⌝ }
     ensures { λ r. ⌜ r ≡ answer (walk (writer (now (words .entry))) (runsTree (now (table .entry)) (drop first (now (runs .entry)))) p []) ⌝ }
 {
@@ -208,7 +213,7 @@ fn takes_word(table: &[u8], run: u64, word: u64) -> bool
     leaf::allowed(plans::code_in(run), word) & is_chosen(table, run, word)
 }
 
-fn is_chosen(table: &[u8], run: u64, word: u64) -> bool
+pub(crate) fn is_chosen(table: &[u8], run: u64, word: u64) -> bool
     ensures { λ r. ⌜ r ≡ takenBy (now (table .entry)) run word ⌝ }
 {
     let count = plans::values_in(run);

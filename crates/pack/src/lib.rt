@@ -5,6 +5,7 @@ mod by_plan;
 mod each;
 mod limits;
 mod walking;
+mod whole;
 
 use table::Sections;
 use walk::Walked;
@@ -67,5 +68,5 @@ pub fn write_plan(table: &[u8], plans: &[u64], i: u16, words: &[u64], out: &mut 
     let plan = walk::plans::plan_of(plans, i);
     let first = plan.first;
     let end = first + plan.runs;
-    by_plan::write_whole(table, &plans[first..end], words, out)
+    whole::write_whole(table, &plans[first..end], words, out)
 }

@@ -1,7 +1,10 @@
 -- `pack::by_plan::among_all` meets its contract.
 -- Assumes nothing.
+use mathlib.Core.Path.{sym}
 use borrow.Author.Needs.{needs}
-use Rattle.pack.proofs.PlanLeaves.{any-taken, all-taken}
+use lib.Seq.{length-take-le}
+use Rattle.pack.proofs.PlanLeaves.{any-taken}
+use Rattle.pack.proofs.Anew.{there-anew, among-anew}
 use Rattle.pack.proofs.by_plan.among_all.Statement.{statement}
 use Rattle.pack.proofs.by_plan.among_all.Tie as tie
 
@@ -13,12 +16,11 @@ among-all-spec =
     (λ c t. search any-taken)
     (λ c κs. search needs)
     (λ c. search needs)
+    (λ c. sym (length-take-le _ _ (search needs)))
     (λ c κs. search needs)
-    (λ c κs. search needs)
+    (λ c. sym (length-take-le _ _ (search needs)))
+    (λ c κs. search there-anew)
     (λ c t.
-    let placed = c .before in
-    let many = placed .before in
-    let counted = many .before .before in
-    let start = counted .before .before .before .args in
-    all-taken (start .words .now) (start .table .now) (start .run) (start .from) _ _ _ (counted .values-in .ensures) (placed .place-in .ensures)
-    (many .many-in .ensures) (c .are-among .ensures t)))
+    let start = c .before .before .before .before .before .before .before .before .before .args in
+    among-anew (start .words .now) (start .table .now) (start .run) (start .from) _ _ _ (c .are-among .ensures t) (search needs) (search needs)
+    (search needs)))
