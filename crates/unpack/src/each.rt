@@ -1,6 +1,7 @@
 // The elements of an array, each by the plan of their type or by the codes of its members: these are looked up once for all of them.
 use crate::at_once::MOST_CODES;
 use crate::at_once::Reached;
+use crate::bases;
 use crate::by_plan;
 use table::Entry;
 use table::Sections;
@@ -8,12 +9,13 @@ use walk::Place;
 use walk::Walked;
 ghost use mathlib.Core.Path.{_≡_};
 ghost use mathlib.Core.Bool.{true};
-ghost use Prim.Native.Nat.{ℕ, _≤_};
-ghost use lib.ListN.{length};
+ghost use Prim.Native.Nat.{ℕ, _+_, _≤_};
+ghost use lib.ListN.{length, take};
 ghost use mathlib.Core.List.{List};
 ghost use Rattle.walk.specs.Tree.{Tree};
 ghost use Rattle.walk.specs.Planned.{planTree};
 ghost use Rattle.walk.specs.Walk.{Going};
+ghost use Rattle.unpack_leaves.specs.Leaves.{laid, wholeCount};
 ghost use Rattle.unpack.specs.Reading.{Reading, treeRead, recordOf, Alike, Coded};
 ghost use Rattle.unpack.specs.RunByRun.{isSingle, Single, runsRead};
 
@@ -177,7 +179,7 @@ fn read_coded(payload: &[u8], words: &mut [u64], codes: &[u8], count: u32, p: Pl
         if part.count < codes.len() {
             return Reached { upto: k, at };
         }
-        unpack_leaves::store_codes(payload, words, codes, at);
+        store_codes(payload, words, codes, at);
         at = Place {
             from: part.from,
             to: at.to + codes.len(),
@@ -185,4 +187,38 @@ fn read_coded(payload: &[u8], words: &mut [u64], codes: &[u8], count: u32, p: Pl
         k += 1;
     }
     Reached { upto: k, at }
+}
+
+// As `unpack_leaves::store_codes`, under the same laws: with a second caller that would be a call where a record's members are read.
+fn store_codes(payload: &[u8], words: &mut [u64], codes: &[u8], p: Place)
+    ensures { λ _. ⌜ now (words .exit)
+        ≡ laid (now (payload .entry)) (take (wholeCount (now (payload .entry)) (now (codes .entry)) (p .from)) (now (codes .entry))) p (now (words .entry)) ⌝ }
+{
+    if payload.len() < p.from {
+        return;
+    }
+    if words.len() <= p.to {
+        return;
+    }
+    let room = wire::least(codes.len(), words.len() - p.to);
+    store_within(payload, words, &codes[..room], p);
+}
+
+fn store_within(payload: &[u8], words: &mut [u64], codes: &[u8], p: Place)
+    requires { ⌜ (p .from ≤ length (now payload)) × (p .to + length (now codes) ≤ length (now words)) ⌝ }
+    ensures { λ _. ⌜ now (words .exit)
+        ≡ laid (now (payload .entry)) (take (wholeCount (now (payload .entry)) (now (codes .entry)) (p .from)) (now (codes .entry))) p (now (words .entry)) ⌝ }
+{
+    let mut from = p.from;
+    let mut k: usize = 0;
+    while k < codes.len() {
+        let code = codes[k] as u16;
+        let width = leaf::width(code);
+        if payload.len() - from < width {
+            return;
+        }
+        words[p.to + k] = bases::leaf_in(payload, from, code);
+        from = from + width;
+        k += 1;
+    }
 }
