@@ -1,10 +1,7 @@
-// Leaves of base codes, one behind another, and their words: judged and stored by the codes alone, with no table.
-use walk::Place;
+// Leaves of base codes, one behind another, and their words: judged by the codes alone, with no table.
 ghost use mathlib.Core.Path.{_≡_};
-ghost use Prim.Native.Nat.{_-_};
-ghost use lib.ListN.{length, take};
-ghost use Rattle.pack_leaves.specs.Stored.{takenCount, ends, laid};
-use crate::bases;
+ghost use lib.ListN.{take};
+ghost use Rattle.pack_leaves.specs.Stored.{takenCount, ends};
 
 // How many leaves, and how many bytes they have.
 pub struct Passed {
@@ -33,27 +30,4 @@ pub fn judge_codes(words: &[u64], codes: &[u8], from: usize) -> Passed
         }
     }
     Passed { count: k, bytes }
-}
-
-// Stores the bytes of leaves of these codes for the words from p.from on, each where there is room for it, as long as there are
-// words. Behind a leaf that has no room a narrower one may have it: so only the room's end ends the loop.
-pub fn store_codes(words: &[u64], out: &mut [u8], codes: &[u8], p: Place)
-    ensures { λ _. ⌜ now (out .exit) ≡ laid (now (words .entry)) (take (length (now (words .entry)) - p .from) (now (codes .entry))) p (now (out .entry)) ⌝ }
-{
-    let from = p.from;
-    if words.len() <= from {
-        return;
-    }
-    let n = wire::least(codes.len(), words.len() - from);
-    let mut to = p.to;
-    let mut k: usize = 0;
-    while k < n {
-        if out.len() <= to {
-            return;
-        }
-        let code = codes[k] as u16;
-        bases::put_base(out, to, code, words[from + k]);
-        to = to + leaf::width(code);
-        k += 1;
-    }
 }

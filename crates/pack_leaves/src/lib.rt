@@ -5,6 +5,5 @@ mod by_codes;
 mod runs;
 
 pub use by_codes::judge_codes;
-pub use by_codes::store_codes;
 pub use runs::store_leaves;
 pub use runs::store_run;

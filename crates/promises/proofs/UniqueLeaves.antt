@@ -30,7 +30,6 @@ pack =
       store-run-out = λ k a z z′ e e′ p q. p ∙ sym q;
       store-leaves-out = λ k a z z′ e e′ p q. p ∙ sym q;
       judge-codes = λ k a z z′ e e′ p q. same-words z z′ (p .0 ∙ sym (q .0)) (p .1 ∙ sym (q .1));
-      store-codes-out = λ k a z z′ e e′ p q. p ∙ sym q;
     }
 
 pub unique-leaves : UniqueLeaves

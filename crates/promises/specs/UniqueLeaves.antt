@@ -11,7 +11,6 @@ use Rattle.unpack_leaves.proofs.store_codes.Reads.{Post as unpack-store-codes}
 use Rattle.pack_leaves.proofs.store_run.Reads.{Post as pack-store-run}
 use Rattle.pack_leaves.proofs.store_leaves.Reads.{Post as pack-store-leaves}
 use Rattle.pack_leaves.proofs.judge_codes.Reads.{Post as pack-judge-codes}
-use Rattle.pack_leaves.proofs.store_codes.Reads.{Post as pack-store-codes}
 
 -- leaves of a payload, and their words
 pub record UnpackLeavesUnique : Type 0 where
@@ -27,7 +26,6 @@ pub record PackLeavesUnique : Type 0 where
   pub store-run-out : Lent pack-store-run (λ k e. now (e .1 .0))
   pub store-leaves-out : Lent pack-store-leaves (λ k e. now (e .1 .0))
   pub judge-codes : Answer pack-judge-codes
-  pub store-codes-out : Lent pack-store-codes (λ k e. now (e .1 .0))
 
 pub record UniqueLeaves : Type 0 where
   pub unpack : UnpackLeavesUnique
