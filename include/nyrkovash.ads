@@ -20,8 +20,8 @@ package Nyrkovash is
    type Nyr_Ids is array (Nyr_Size range <>) of Unsigned_16 with Convention => C;
    type Nyr_Words is array (Nyr_Size range <>) of Unsigned_64 with Convention => C;
 
-   Nyr_Library_Version : constant := 40_300;
-   Nyr_Library_Version_Text : constant String := "4.3.0";
+   Nyr_Library_Version : constant := 40_301;
+   Nyr_Library_Version_Text : constant String := "4.3.1";
 
    function Nyr_Linked_Version return Unsigned_32
      with Import, Convention => C, External_Name => "nyr_library_version";

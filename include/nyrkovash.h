@@ -36,8 +36,8 @@ extern "C" {
  * neither is so. So a program asks at its start, and goes on where the archive's first number is that of its header and
  * the whole is not less than its header's.
  */
-#define NYR_LIBRARY_VERSION 40300
-#define NYR_LIBRARY_VERSION_TEXT "4.3.0"
+#define NYR_LIBRARY_VERSION 40301
+#define NYR_LIBRARY_VERSION_TEXT "4.3.1"
 
 /* The version of the archive that was linked.  Stack 256. */
 uint32_t nyr_library_version(void);
@@ -55,7 +55,7 @@ enum {
     NYR_PLATFORM_ID = 7,       /* domain 0, and the ID is not 1 to 4 */
     NYR_PLATFORM_LENGTH = 8,   /* domain 0, and the payload is not 4 bytes long (a request's: 0) */
     NYR_PLATFORM_VALUE = 9,    /* a status that is neither DOWN nor UP */
-    NYR_NO_ROOM = 10,          /* output shorter than what must be written */
+    NYR_NO_ROOM = 10,          /* output, or lent words, shorter than what must be written */
     /* Joining. */
     NYR_NO_JOINER = 20,        /* a set-up that cannot be, or values that are no joiner */
     NYR_DATAGRAM_LENGTH = 21,  /* not 5 to 65,507 bytes */

@@ -1,7 +1,7 @@
 //! The names of `include/nyrkovash.h`, without their `NYR_`; what each means stands there.
 
-pub const LIBRARY_VERSION: u32 = 40_300;
-pub const LIBRARY_VERSION_TEXT: &str = "4.3.0";
+pub const LIBRARY_VERSION: u32 = 40_301;
+pub const LIBRARY_VERSION_TEXT: &str = "4.3.1";
 
 // The numbers that refuse.
 pub const OK: u32 = 0;

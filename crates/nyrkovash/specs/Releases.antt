@@ -6,4 +6,4 @@ abbrev pub versionOf : ℕ → ℕ → ℕ → ℕ
 versionOf first second third = first * 10000 + second * 100 + third
 
 abbrev pub libraryVersion : ℕ
-libraryVersion = versionOf 4 3 0
+libraryVersion = versionOf 4 3 1
