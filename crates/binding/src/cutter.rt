@@ -8,14 +8,14 @@ ghost use Rattle.binding.specs.Cutting.{can_cut, can_head, piece_count, part_of_
 use crate::{BindingHeader, COUNTERS, MessagePart, SENDERS};
 
 // How many pieces there are, or the number of the refusal.
-#[derive(Drop)]
+#[derive(Clone, Copy)]
 pub enum Counted {
     Refused(u32),
     Pieces(usize),
 }
 
 // What cutting a piece out gives: the number of a refusal, or the length of the datagram that was written.
-#[derive(Drop)]
+#[derive(Clone, Copy)]
 pub enum Made {
     Refused(u32),
     Datagram(usize),

@@ -10,7 +10,7 @@ pub use cutter::{
 };
 
 // Which part of its message a datagram carries (000, Table 9). `Whole` is the table's "begin and end".
-#[derive(Drop)]
+#[derive(Clone, Copy)]
 pub enum MessagePart {
     Begin,
     Middle,
@@ -19,7 +19,7 @@ pub enum MessagePart {
 }
 
 // The header before each piece. `sender` is platform times 256 plus channel; the version is not kept, as there is one.
-#[derive(Drop)]
+#[derive(Clone, Copy)]
 pub struct BindingHeader {
     pub part: MessagePart,
     pub sender: u16,
@@ -27,7 +27,7 @@ pub struct BindingHeader {
 }
 
 // What reading a datagram's header finds: a refusal's number, or the header. The piece is all that follows it.
-#[derive(Drop)]
+#[derive(Clone, Copy)]
 pub enum Heading {
     Refused(u32),
     Piece(BindingHeader),

@@ -18,7 +18,7 @@ pub const LARGEST_ROOM: u32 = 65560;
 
 // One channel: whether a counter was seen, the last counter, and how many bytes are held (0: nothing). Each number is
 // wider than its range, so that one handed in can be judged.
-#[derive(Drop)]
+#[derive(Clone, Copy)]
 pub struct Channel {
     pub sender: u16,
     pub seen: bool,
@@ -27,13 +27,13 @@ pub struct Channel {
 }
 
 // The lent slice that holds a delivered message, the datagram it came in or the rooms, and the part of it.
-#[derive(Drop)]
+#[derive(Clone, Copy)]
 pub enum Slice {
     Datagram { start: usize, length: usize },
     Rooms { start: usize, length: usize },
 }
 
-#[derive(Drop)]
+#[derive(Clone, Copy)]
 pub enum Outcome {
     Refused(u32),
     Repeated,
@@ -44,21 +44,21 @@ pub enum Outcome {
 }
 
 // A channel's part of the lent buffer.
-#[derive(Drop)]
+#[derive(Clone, Copy)]
 pub struct Room {
     pub start: usize,
     pub size: u32,
 }
 
 // Where a datagram's piece is to be written in the rooms, if at all.
-#[derive(Drop)]
+#[derive(Clone, Copy)]
 pub enum Put {
     Nowhere,
     At(usize),
 }
 
 // What a datagram does to its channel: the outcome, the record after it, and where its piece goes.
-#[derive(Drop)]
+#[derive(Clone, Copy)]
 pub struct Step {
     pub outcome: Outcome,
     pub channel: Channel,
@@ -66,7 +66,7 @@ pub struct Step {
 }
 
 // What a datagram comes to before anything is written: a refusal, or a step of the channel `at`.
-#[derive(Drop)]
+#[derive(Clone, Copy)]
 pub enum Judged {
     Refusal(u32),
     Move { at: usize, step: Step },

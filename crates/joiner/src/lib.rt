@@ -21,7 +21,7 @@ pub const NOT_SET_UP: u32 = 23;
 
 // The first `count` records are the channels, in set-up order; the others are never looked at. Each channel's room is
 // `room` bytes long.
-#[derive(Drop)]
+#[derive(Clone, Copy)]
 pub struct Joiner {
     pub channels: [Channel; CHANNELS],
     pub count: usize,

@@ -19,7 +19,7 @@ pub const FIRST_RECORD: usize = 2;
 pub const JOINER_WORDS: usize = FIRST_RECORD + RECORD_WORDS * CHANNELS;
 
 // What the look at a joiner for a sender ID finds: it is not good, nobody bears the ID, or this channel.
-#[derive(Drop)]
+#[derive(Clone, Copy)]
 pub enum Looked {
     Bad,
     Nobody,

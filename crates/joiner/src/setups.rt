@@ -6,7 +6,7 @@ ghost use Rattle.joiner.specs.Setup.{good, fresh_of, refused_setup, setup_of};
 use crate::{Joiner, in_words, looking};
 use channel::{BAD_SETUP, CHANNELS, Channel};
 
-#[derive(Drop)]
+#[derive(Clone, Copy)]
 pub enum Verdict {
     Accepted,
     Refused(u32),

@@ -53,7 +53,7 @@ const LAST_OF_NONE: u64 = 0;
 
 // The words of a leaf, counted from the least as 0: how many are below 0, and the last. And whether every word that its bytes can be
 // is one of them.
-#[derive(Drop)]
+#[derive(Clone, Copy)]
 pub struct Range {
     pub below: u64,
     pub last: u64,

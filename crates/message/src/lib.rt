@@ -18,13 +18,13 @@ pub use refusal::{
 pub use writer::{NO_ROOM, SIZE_LIMIT, put_header, write};
 
 // The caller's own values. 000, 6.3: a platform is one of 256 (docs/DECISIONS.md, 4).
-#[derive(Drop)]
+#[derive(Clone, Copy)]
 pub struct Own {
     pub platform: u8,
 }
 
 // 000, Table 2, but for mark and version, which are the same in every message.
-#[derive(Drop)]
+#[derive(Clone, Copy)]
 pub struct Header {
     pub domain: u8,
     pub platform: u32,
@@ -34,14 +34,14 @@ pub struct Header {
 }
 
 // 000, Table 4.
-#[derive(Drop)]
+#[derive(Clone, Copy)]
 pub enum Status {
     Down,
     Up,
 }
 
 // 000, Table 3; an operation is any message of domain 1, whose ID is the header's.
-#[derive(Drop)]
+#[derive(Clone, Copy)]
 pub enum Message {
     PlatformStatus(Status),
     PlatformStatusRequest,
@@ -50,7 +50,7 @@ pub enum Message {
     Operation,
 }
 
-#[derive(Drop)]
+#[derive(Clone, Copy)]
 pub enum Reading {
     Refused(u32),
     // The payload is the `length` bytes from `start` on: `payload` hands them back.
@@ -62,7 +62,7 @@ pub enum Reading {
     },
 }
 
-#[derive(Drop)]
+#[derive(Clone, Copy)]
 pub enum Writing {
     Refused(u32),
     // So many bytes were written.

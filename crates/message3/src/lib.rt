@@ -15,14 +15,14 @@ pub use reader::{payload, read};
 pub use writer::{put_platform_header, write};
 
 // When a message is sent: 001, Table 2. Any two numbers are a timestamp.
-#[derive(Drop)]
+#[derive(Clone, Copy)]
 pub struct Stamp {
     pub seconds: u32,
     pub nanoseconds: u32,
 }
 
 // 001, Table 2, but for mark and version, which are the same in every message.
-#[derive(Drop)]
+#[derive(Clone, Copy)]
 pub struct Header3 {
     pub domain: u8,
     pub platform: u8,
@@ -34,7 +34,7 @@ pub struct Header3 {
 }
 
 // 001, Table 4: what a platform says to a change of its composite.
-#[derive(Drop)]
+#[derive(Clone, Copy)]
 pub enum Agreement {
     Disagree,
     Agree,
@@ -42,7 +42,7 @@ pub enum Agreement {
 
 // 001, Table 3; an operation is any message of domain 1, whose ID is the header's. A status tells the composite's ID too, a status of
 // services how many pairs of ID and state its payload has.
-#[derive(Drop)]
+#[derive(Clone, Copy)]
 pub enum Message3 {
     PlatformStatus(Status, u32),
     PlatformStatusRequest,
@@ -56,7 +56,7 @@ pub enum Message3 {
     Operation,
 }
 
-#[derive(Drop)]
+#[derive(Clone, Copy)]
 pub enum Reading3 {
     Refused(u32),
     // The payload is the `length` bytes from `start` on: `payload` hands them back.

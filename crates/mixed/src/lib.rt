@@ -25,7 +25,7 @@ pub use reader::{form_of, payload, read};
 use table::{CUT_SHORT, Checked, Sections};
 
 // Which issue a message is read by, its sender's, or the number that refuses one in the form of the issue that its sender does not speak.
-#[derive(Drop)]
+#[derive(Clone, Copy)]
 pub enum Form {
     Three,
     Six,
@@ -33,7 +33,7 @@ pub enum Form {
 }
 
 // What a message is, by its sender's issue.
-#[derive(Drop)]
+#[derive(Clone, Copy)]
 pub enum AnyReading {
     Refused(u32),
     // The payload is the `length` bytes from `start` on: `payload` hands them back.
@@ -51,7 +51,7 @@ pub enum AnyReading {
     },
 }
 
-#[derive(Drop)]
+#[derive(Clone, Copy)]
 pub enum AnyAnswer {
     Refused(u32),
     // Of a partner of Issue 6, as `platform` has it. The replies are owed to the header's platform.
@@ -82,7 +82,7 @@ pub enum AnyAnswer {
     },
 }
 
-#[derive(Drop)]
+#[derive(Clone, Copy)]
 pub struct AnyReceived {
     pub standing: Standing,
     pub answer: AnyAnswer,

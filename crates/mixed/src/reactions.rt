@@ -5,7 +5,7 @@ use message3::Agreement;
 use platform::{Heard, Reply, Standing};
 
 // What a message of Issue 3 was.
-#[derive(Drop)]
+#[derive(Clone, Copy)]
 pub enum Heard3 {
     // What both issues have, in Issue 6's words: a request, an unknown operation, a pull, an operation.
     Common(Heard),
@@ -22,7 +22,7 @@ pub enum Heard3 {
 }
 
 // What is to be written. Services and replies are never written for the same message.
-#[derive(Drop)]
+#[derive(Clone, Copy)]
 pub enum Deed {
     Nothing,
     One(Reply),
@@ -41,7 +41,7 @@ pub enum Deed {
 }
 
 // What a message comes to where nothing refuses it.
-#[derive(Drop)]
+#[derive(Clone, Copy)]
 pub struct Reaction3 {
     pub standing: Standing,
     pub heard: Heard3,

@@ -22,7 +22,7 @@ pub const REQUEST_SERVED: u16 = 3;
 
 // An operation's entry; `carries` is its type and `responds` the type of its response, or 0xFFFF for
 // none.
-#[derive(Drop)]
+#[derive(Clone, Copy)]
 pub struct Operation {
     pub id: u32,
     pub kind: u16,
@@ -31,7 +31,7 @@ pub struct Operation {
 }
 
 // What looking up an operation finds: the number of its entry, and where it stands.
-#[derive(Drop)]
+#[derive(Clone, Copy)]
 pub enum Sought {
     At(u16, usize),
     Nowhere,

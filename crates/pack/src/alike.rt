@@ -15,7 +15,7 @@ use table::{Entry, Sections};
 use walk::{Met, Place};
 
 // How far a run of leaves was written: up to which member or element, and where it ends.
-#[derive(Drop)]
+#[derive(Clone, Copy)]
 pub struct Reached {
     pub upto: u32,
     pub at: Place,

@@ -17,14 +17,14 @@ pub const OUTPUT_TOO_SHORT: u32 = 45;
 
 // Where a walk stopped: the byte of the payload, packing the word, at which the refused item begins, or the first that is left over;
 // and how many leaves come before it, counts of arrays among them.
-#[derive(Drop)]
+#[derive(Clone, Copy)]
 pub struct Spot {
     pub at: usize,
     pub leaves: usize,
 }
 
 // What unpacking and packing answer: a number; one of the walk's own (40 to 43) and where; or how many words or bytes were given.
-#[derive(Drop)]
+#[derive(Clone, Copy)]
 pub enum Answer {
     Refused(u32),
     Stopped(u32, Spot),

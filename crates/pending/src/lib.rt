@@ -7,14 +7,14 @@ ghost use Rattle.pending.specs.Free.{drawn, is_at, is_pending, blocked, next_fre
 ghost use Rattle.pending.specs.Answers.{awaited_of, cancelled, bears, is_response, responded};
 
 // Which place of a list.
-#[derive(Drop)]
+#[derive(Clone, Copy)]
 pub enum Slot {
     At(usize),
     Nowhere,
 }
 
 // What was asked under a number: the operation of this ID, of this platform. A target above 0xFFFFFFFF is nobody's.
-#[derive(Drop)]
+#[derive(Clone, Copy)]
 pub enum Asked {
     Of { id: u32, target: u64 },
     Nothing,

@@ -10,7 +10,7 @@ pub use leaves::length_in;
 pub const TOO_SHORT: u32 = 10;
 
 // How many words the plans can take, or the number of a refusal.
-#[derive(Drop)]
+#[derive(Clone, Copy)]
 pub enum Length {
     Refused(u32),
     Words(usize),

@@ -21,7 +21,7 @@ pub use reactions::{Heard, Owed, REPLY_LENGTH, Reaction, Reply, Standing};
 pub use replies::ALL_DATA;
 use table::{CUT_SHORT, Checked, Sections};
 
-#[derive(Drop)]
+#[derive(Clone, Copy)]
 pub enum Noting {
     Refused(u32),
     // The replies are owed to the header's platform.
@@ -40,7 +40,7 @@ pub enum Noting {
     },
 }
 
-#[derive(Drop)]
+#[derive(Clone, Copy)]
 pub struct Received {
     pub standing: Standing,
     pub answer: Noting,

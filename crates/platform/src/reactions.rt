@@ -7,14 +7,14 @@ use states::States;
 pub const REPLY_LENGTH: usize = 24;
 
 // What a platform keeps from one message to the next: the states, and its next own sequence number.
-#[derive(Drop)]
+#[derive(Clone, Copy)]
 pub struct Standing {
     pub states: States,
     pub next: u32,
 }
 
 // What a message was.
-#[derive(Drop)]
+#[derive(Clone, Copy)]
 pub enum Heard {
     Status(Status),
     Request,
@@ -35,7 +35,7 @@ pub enum Heard {
 }
 
 // A reply, with its sequence number.
-#[derive(Drop)]
+#[derive(Clone, Copy)]
 pub enum Reply {
     StatusUp(u32),
     PullAll(u32),
@@ -43,7 +43,7 @@ pub enum Reply {
     Unknown(u32, u32),
 }
 
-#[derive(Drop)]
+#[derive(Clone, Copy)]
 pub enum Owed {
     Nothing,
     One(Reply),
@@ -51,7 +51,7 @@ pub enum Owed {
 }
 
 // What a message comes to where the replies fit.
-#[derive(Drop)]
+#[derive(Clone, Copy)]
 pub struct Reaction {
     pub standing: Standing,
     pub heard: Heard,

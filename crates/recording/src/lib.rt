@@ -16,7 +16,7 @@ pub use lines::{Ending, LINE_LIMIT, put_ending};
 pub use start::{Opened, Opening, open};
 
 // What stands at a place of the recording: a datagram that is all there, part of one, or nothing.
-#[derive(Drop)]
+#[derive(Clone, Copy)]
 pub enum Coming {
     Datagram { start: usize, length: usize },
     Unfinished,

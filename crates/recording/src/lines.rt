@@ -11,7 +11,7 @@ use crate::text;
 use channel::{Outcome, Slice};
 
 // How a run ends: after the last datagram, in the middle of something, or at its start.
-#[derive(Drop)]
+#[derive(Clone, Copy)]
 pub enum Ending {
     Whole,
     CutShort,

@@ -15,7 +15,7 @@ const ROOMS: usize = 65536;
 
 // How a recording starts: more bytes are needed, it is refused, or its datagrams start at `start` and its rooms are
 // `rooms` bytes together.
-#[derive(Drop)]
+#[derive(Clone, Copy)]
 pub enum Opening {
     Unfinished,
     Refused(u32),

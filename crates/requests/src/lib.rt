@@ -10,21 +10,21 @@ use operations::REQUEST_SENT;
 use pending::Slot;
 
 // The issue that a target speaks: what is written for Issue 3 bears a timestamp.
-#[derive(Drop)]
+#[derive(Clone, Copy)]
 pub enum Issue {
     Six,
     Three(Stamp),
 }
 
 // What became of a request: the number that refuses it, or its own number and how many bytes were written.
-#[derive(Drop)]
+#[derive(Clone, Copy)]
 pub enum Sent {
     Refused(u32),
     Under { number: u32, written: usize },
 }
 
 // The next own number afterwards beside it.
-#[derive(Drop)]
+#[derive(Clone, Copy)]
 pub struct Sending {
     pub next: u32,
     pub answer: Sent,

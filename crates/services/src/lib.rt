@@ -7,7 +7,7 @@ ghost use Rattle.services.specs.Block.{service_place, availability_in, pairs_in,
 ghost use Rattle.services.specs.Block.{note_refusal, status_noted, marked};
 
 // What is known of a service.
-#[derive(Drop)]
+#[derive(Clone, Copy)]
 pub enum Availability {
     Unheard,
     Unavailable,

@@ -5,7 +5,7 @@ ghost use Rattle.states.specs.States.{word_of, with_word, mask, bit_of, stands_u
 
 use message::Own;
 
-#[derive(Drop)]
+#[derive(Clone, Copy)]
 pub struct States {
     pub w0: u64,
     pub w1: u64,

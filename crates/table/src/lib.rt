@@ -26,14 +26,14 @@ pub const RECORD: u16 = 2;
 pub const FIXED: u16 = 3;
 
 // A section of a table: where its first entry stands, and how many there are.
-#[derive(Drop)]
+#[derive(Clone, Copy)]
 pub struct Section {
     pub at: u16,
     pub count: u16,
 }
 
 // The sections of a table, in reading order.
-#[derive(Drop)]
+#[derive(Clone, Copy)]
 pub struct Sections {
     pub types: Section,
     pub members: Section,
@@ -42,14 +42,14 @@ pub struct Sections {
 }
 
 // What is answered of table bytes: the number of a refusal, or the sections.
-#[derive(Drop)]
+#[derive(Clone, Copy)]
 pub enum Checked {
     Refused(u32),
     Table(Sections),
 }
 
 // A type's entry.
-#[derive(Drop)]
+#[derive(Clone, Copy)]
 pub struct Entry {
     pub kind: u16,
     pub of: u16,
@@ -58,7 +58,7 @@ pub struct Entry {
 }
 
 // What reading a section finds.
-#[derive(Drop)]
+#[derive(Clone, Copy)]
 pub enum Part {
     Missing(u32),
     Found(Section),

@@ -16,7 +16,7 @@ use walk::{Met, Place};
 pub(crate) const MOST_CODES: usize = 64;
 
 // How far a run of leaves was read: up to which member or element, and where it ends.
-#[derive(Drop)]
+#[derive(Clone, Copy)]
 pub struct Reached {
     pub upto: u32,
     pub at: Place,

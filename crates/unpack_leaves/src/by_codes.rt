@@ -7,7 +7,7 @@ use crate::{bases, runs};
 use walk::Place;
 
 // How many leaves, and where they end.
-#[derive(Drop)]
+#[derive(Clone, Copy)]
 pub struct Passed {
     pub count: usize,
     pub from: usize,

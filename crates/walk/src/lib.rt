@@ -33,21 +33,21 @@ const NO_ENTRY: u64 = 18446744073709551615;
 
 // A walk's place: how far it has come in what it reads, and in what it writes. One of the two counts words, so the leaves
 // completed, array counts included.
-#[derive(Drop)]
+#[derive(Clone, Copy)]
 pub struct Place {
     pub from: usize,
     pub to: usize,
 }
 
 // What a walk comes to: the place behind what was walked, or the number of a refusal and the place of what was refused.
-#[derive(Drop)]
+#[derive(Clone, Copy)]
 pub enum Walked {
     Went(Place),
     Stopped(u32, Place),
 }
 
 // What a walk meets at an entry of the table: an entry that breaks a rule is not walked into.
-#[derive(Drop)]
+#[derive(Clone, Copy)]
 pub enum Met {
     Leaf(Entry),
     Members(Entry),

@@ -16,7 +16,7 @@ const VALUES: u64 = 16777216;
 const PLACE: u64 = 1099511627776;
 
 // A type's plan: its first run, and how many.
-#[derive(Drop)]
+#[derive(Clone, Copy)]
 pub struct Plan {
     pub first: usize,
     pub runs: usize,
