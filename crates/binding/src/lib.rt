@@ -1,5 +1,7 @@
 // The UDP binding header of 000, annex A: what stands before each piece of a message, and how it is read.
 // A message is cut into datagrams by `cutter`.
+#![tactic(auto)]
+
 mod cutter;
 
 ghost use Rattle.std.specs.Prelude.{◌≡◌};

@@ -1,5 +1,7 @@
 // One channel: its record, and what a datagram does to it before anything is written (01, Joining, steps 1 to 5). `joiner` sets
 // channels up, finds the one that a datagram is for, and writes what its step says.
+#![tactic(auto)]
+
 ghost use Rattle.std.specs.Prelude.{◌≡◌};
 ghost use Rattle.channel.specs.Channel.{can_move, moved_of};
 ghost use Rattle.channel.specs.Record.{room_start};

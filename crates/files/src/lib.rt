@@ -1,6 +1,8 @@
 // A program's files: where its input comes from, a read of it, and what it writes. Which bytes come in or go out no contract
 // can say, since those of the system's calls do not; these say which answer is given when, and every other byte of what is
 // lent.
+#![tactic(auto)]
+
 ghost use Rattle.std.specs.Prelude.{◌≡◌, true, [], ◌+◌, ◌-◌, ◌≤◌, length, take, drop};
 ghost use Rattle.wire.specs.Bytes.{part};
 ghost use Rattle.files.specs.Reading.{Brought, came_in};

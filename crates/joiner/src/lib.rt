@@ -1,6 +1,8 @@
 // Datagrams taken one at a time, each channel's pieces put behind one another in its own room, and the messages that they
 // make handed back. The state goes in by value and comes back by value; the rooms are lent. `words` has the same calls with the
 // state in words that the caller keeps: both share every step, and the one look at a joiner (`looking`).
+#![tactic(auto)]
+
 mod in_words;
 mod looking;
 mod records;

@@ -1,4 +1,6 @@
 // The 13 base codes: how wide a leaf is on the wire and which words it takes (`codes`), its word and its bytes (`words`).
+#![tactic(auto)]
+
 mod codes;
 mod words;
 

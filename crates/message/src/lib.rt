@@ -1,5 +1,7 @@
 // ELI messages: the generic header of 000, Table 2, the platform-level messages of Tables 3 and 4, and the numbers 1 to 9
 // that refuse bytes. `reader` reads a message and `writer` writes one: what both answer is declared here.
+#![tactic(auto)]
+
 mod kind;
 mod reader;
 mod refusal;

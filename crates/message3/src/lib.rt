@@ -1,6 +1,8 @@
 // ELI messages of Issue 3: the generic header of 001, Table 2, the platform-level messages of Tables 3 and 4, and the numbers 1 to 9
 // that refuse bytes. `reader` reads a message and `writer` writes one: what both answer is declared here. What Issue 3 has in
 // common with Issue 6 is `message`'s: the mark, the domains, UP and DOWN, and the numbers.
+#![tactic(auto)]
+
 mod kind;
 mod reader;
 mod refusal;

@@ -1,5 +1,7 @@
 // Partners of both issues (02, request 8): a message is read by its sender's issue, version number included. Who speaks Issue 3 is
 // told by `partners`; a message of Issue 6 is what `message` reads, one of Issue 3 what `message3` reads, and nothing is both.
+#![tactic(auto)]
+
 mod answers;
 mod keeping;
 mod laying;

@@ -1,6 +1,8 @@
 // The library as programs in C, C++, Ada and Rust link it (include/nyrkovash.h): a slice is a pointer and a length, and what has a
 // fixed size an array behind a reference. A call answers 0 or 01's number, but for the three that ask states or a service and the one that asks
 // which library this is; where it is refused all that was lent is as it was, but for the place that 40 to 43 leave.
+#![tactic(auto)]
+
 mod asking;
 mod issues;
 mod joining;

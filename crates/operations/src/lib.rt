@@ -1,6 +1,8 @@
 // Section four of a type table (01, "The type table"; 02, 1): operations, whose entries have 8 bytes or 10. Where they stand and
 // what they say (`entries`), their rules (`rules`), and an operation looked up by its ID, over an index in words that the caller
 // lends (`index`, `lookup`). Every call answers for any bytes, any place and any count: a byte or a word past the end reads as 0.
+#![tactic(auto)]
+
 mod entries;
 mod index;
 mod lookup;

@@ -1,5 +1,7 @@
 // Words are packed whole or not at all: what is refused, even at its end, changes nothing. So they are judged before any byte is
 // stored.
+#![tactic(auto)]
+
 mod alike;
 mod by_plan;
 mod each;

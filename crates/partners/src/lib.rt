@@ -1,6 +1,8 @@
 // Which platforms speak Issue 3: four words that the caller lends, in which platform k is bit k % 64 of word k / 64. Any words are
 // a set-up, and a word that is not there counts as 0: without words all speak Issue 6. Each platform that speaks Issue 3 has a
 // block of services, one behind another in the order of their numbers.
+#![tactic(auto)]
+
 ghost use Rattle.std.specs.Prelude.{◌≡◌, min};
 ghost use Rattle.message.specs.Refusal.{platforms};
 ghost use Rattle.states.specs.States.{mask};

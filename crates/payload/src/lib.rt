@@ -1,5 +1,7 @@
 // Payloads unpacked to words and packed from words, by a type of a table (01, "Payload and words"), whole or not at all; and where
 // one was refused (02, request 3).
+#![tactic(auto)]
+
 mod by_plans;
 
 ghost use Rattle.std.specs.Prelude.{◌≡◌, length};

@@ -1,6 +1,8 @@
 // The requests that are pending: a list of 64 places in words that the caller lends. Word k is the number and the ID of place
 // k, word 64 + k the platform that was asked. Any words are a list: a place is free where its number is 0, a word that is not
 // there reads as 0, and a write outside does nothing.
+#![tactic(auto)]
+
 ghost use Rattle.std.specs.Prelude.{◌≡◌, ◌<◌, length, nat_le, slice_set};
 ghost use Rattle.pending.specs.Places.{places, number_at, pending_id_at, target_at, first_bearing, place_of, free_place, placed, entered, cleared};
 ghost use Rattle.pending.specs.Free.{drawn, is_at, is_pending, blocked, next_free};

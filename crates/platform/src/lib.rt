@@ -2,6 +2,8 @@
 // a message, notes the state it tells, and writes the owed replies one behind another; or delivers the response to a request that
 // is pending (02, 1). A refused call (1 to 10, 61, and 30 to 33 for the type table) changes no state, own number, list or output
 // byte.
+#![tactic(auto)]
+
 mod answering;
 mod reacting;
 mod reactions;

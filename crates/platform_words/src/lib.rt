@@ -1,6 +1,8 @@
 // The platform call with its state and what was heard in words that the caller keeps: a platform fresh and asked, a message noted
 // and answered by a table's bytes (`on_table`) or by the sections that a check gave (`on_sections`), a request sent (`sending`), and
 // the requests that are pending (`pending_words`).
+#![tactic(auto)]
+
 mod heard_words;
 mod on_sections;
 mod on_table;

@@ -1,6 +1,8 @@
 // A recording: where its datagrams stand, and how they are played, one after the other. It is read a block at a time: each call
 // is handed what has come so far and says what it needs more of. How it starts is `start`'s, and what a line
 // says `lines`'s.
+#![tactic(auto)]
+
 mod blocks;
 mod lines;
 mod start;

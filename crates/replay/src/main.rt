@@ -1,4 +1,6 @@
 // Replays the recording that its first argument names; with no argument, the one on standard input.
+#![tactic(auto)]
+
 mod player;
 
 use files::Source;

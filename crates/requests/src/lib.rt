@@ -1,5 +1,7 @@
 // Requests: a message that asks another platform's operation is written in that platform's issue and entered among those that are
 // pending, or 62, 60, 5 or 10 is answered, the first that applies, and nothing changes.
+#![tactic(auto)]
+
 ghost use Rattle.std.specs.Prelude.{◌≡◌, length};
 ghost use Rattle.requests.specs.Sending.{sent_for, list_sent_for, output_sent_for, refused_with};
 ghost use Rattle.requests.specs.Sending.{written_of, list_written, output_written, write_for, output_for};

@@ -1,6 +1,8 @@
 // The services of one platform that speaks Issue 3, as it told of them (001, Table 4): a block of 256 words that the caller
 // lends. A word is a service's ID and, as its upper half, its state. Any words are a block: a word whose state is 0 is free, and
 // what stands behind the first free one is not looked at.
+#![tactic(auto)]
+
 ghost use Rattle.std.specs.Prelude.{◌≡◌, true, ◌<◌, length};
 ghost use Rattle.services.specs.Word.{is_free, is_place_for, says, word_for, unavailable_of};
 ghost use Rattle.services.specs.Block.{service_place, availability_in, pairs_in, pair_has_place, pair_told, pairs_told, all_have_places};

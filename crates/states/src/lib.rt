@@ -1,5 +1,7 @@
 // The states of the 256 platforms, four words of 64 bits: platform k is bit k % 64 of word k / 64, and UP is a bit that
 // is set.
+#![tactic(auto)]
+
 ghost use Rattle.std.specs.Prelude.{◌≡◌, ◌/◌, ◌%◌, ◌^◌};
 ghost use Rattle.states.specs.States.{word_of, with_word, mask, bit_of, stands_up, turned, with_own, sum_of_ones, how_many_up, fresh_states};
 

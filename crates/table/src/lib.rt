@@ -1,6 +1,8 @@
 // The bytes of a type table (01, "The type table"): where its four sections lie (`bounds`, and in words `stored`), where
 // their entries stand and what they say (`layout`, `entries`), and the rule of one entry by itself (`rules`). What stands in the
 // last section is told by `operations`, and a table is judged as a whole by `types`.
+#![tactic(auto)]
+
 mod bounds;
 pub mod entries;
 pub mod layout;

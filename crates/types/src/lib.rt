@@ -1,6 +1,8 @@
 // The rules of a type table (01, "The type table"): checked once, which answers its sections, and looked up ever after by its
 // bytes and those sections. A bad table is refused: 30 and 31 by its sections, 32 for an entry that breaks a rule, 33 for a
 // type that can exceed 65,536 bytes.
+#![tactic(auto)]
+
 mod alike;
 mod enums;
 mod inside;

@@ -1,5 +1,7 @@
 // A payload is unpacked whole or not at all: what is refused, even at its end, changes nothing. So it is judged before any word is
 // stored.
+#![tactic(auto)]
+
 mod at_once;
 mod bases;
 mod by_plan;

@@ -1,5 +1,7 @@
 // A walk over a type of a table, leaf by leaf from left to right (01, "Payload and words"): what it meets at an entry, how far it
 // has come, and what it comes to. Unpacking and packing are such walks.
+#![tactic(auto)]
+
 pub mod plans;
 pub mod runs;
 

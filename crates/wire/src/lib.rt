@@ -1,5 +1,7 @@
 // Big-endian numbers and runs of bytes in lent slices. Every call is total: a byte past the end reads as 0, and a write
 // or a copy that does not fit changes nothing.
+#![tactic(auto)]
+
 ghost use Rattle.std.specs.Prelude.{◌≡◌, min, ◌+◌, ◌≤◌, leb, length};
 ghost use Rattle.wire.specs.Bytes.{number, whole, bytes, over, written, part};
 ghost use Rattle.wire.specs.LowFirst.{swapped};

@@ -1,0 +1,44 @@
+-- `joiner::take` meets its contract: what was judged, and only then written.
+-- Assumes nothing.
+use mathlib.Core.Path.{◌≡◌}
+use borrow.Author.Rules.{rules}
+use lib.ListN.{length, length-map}
+use Rattle.channel.specs.Record.{channel_limit}
+use Rattle.joiner.proofs.Taking.{moved-known, moved-fits, refused, moved}
+use Rattle.joiner.proofs.take.Goals as goal
+
+pub offset_bounds-after-moved : goal.offset_bounds-after-moved
+offset_bounds-after-moved c =
+    let j = c.args.joiner in
+    let rooms = c.args.rooms.now in
+    let d = c.args.datagram.now in
+    let w : length j.channels ≡ channel_limit = simp length-map at c.well_formed.0.1.1.0.1.0.1 in
+    moved-fits j rooms d w c.read-heading.ensures c.sender_of.ensures c.words_of-words.ensures c.look-found.ensures c.judge.ensures
+    _ _ c.in-Move.is
+
+pub bounds-after-moved : goal.bounds-after-moved
+bounds-after-moved c =
+    let j = c.args.joiner in
+    let rooms = c.args.rooms.now in
+    let d = c.args.datagram.now in
+    let w : length j.channels ≡ channel_limit = simp length-map at c.well_formed.0.1.1.0.1.0.1 in
+    moved-known j rooms d w c.read-heading.ensures c.sender_of.ensures c.words_of-words.ensures c.look-found.ensures c.judge.ensures
+    _ _ c.in-Move.is
+
+pub returns-in-Refusal : goal.returns-in-Refusal
+returns-in-Refusal c =
+    let t = let j = c.args.joiner in
+    let rooms = c.args.rooms.now in
+    let d = c.args.datagram.now in
+    let w : length j.channels ≡ channel_limit = simp length-map at c.well_formed.0.1.1.0.1.0.1 in
+    refused j rooms d w c.read-heading.ensures c.sender_of.ensures c.words_of-words.ensures c.look-found.ensures c.judge.ensures
+    _ c.in-Refusal.is in record { value = t.0; rooms_after = t.1 }
+
+pub returns-in-Move : goal.returns-in-Move
+returns-in-Move c =
+    let t = let j = c.args.joiner in
+    let rooms = c.args.rooms.now in
+    let d = c.args.datagram.now in
+    let w : length j.channels ≡ channel_limit = simp length-map at c.well_formed.0.1.1.0.1.0.1 in
+    moved j rooms d w c.read-heading.ensures c.sender_of.ensures c.words_of-words.ensures c.look-found.ensures c.judge.ensures
+    _ _ c.in-Move.is c.write_piece.ensures in record { value = t.0; rooms_after = t.1 }

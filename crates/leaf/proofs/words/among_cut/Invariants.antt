@@ -1,0 +1,14 @@
+-- `leaf::among_cut` meets its contract: the word is none of the first k values.
+-- Assumes nothing.
+use Rattle.std.proofs.Common.{◌≡◌, ◌-◌, ◌≤◌, true, rules}
+use Rattle.wire.specs.All.{all_below}
+use Rattle.wire.proofs.AllBelow.{none_below, next-below, stop-below, done_below}
+use Rattle.leaf.specs.Choice.{other_at}
+use Rattle.leaf.proofs.Returns.{hit, missed}
+use Rattle.leaf.proofs.words.among_cut.Given as goal
+
+abbrev pub invariant-loop-k : goal.invariant-loop-k
+invariant-loop-k l = (l.k ≤ l.count) × (all_below (other_at l.table l.at l.word) l.k ≡ true)
+
+abbrev pub decreases-loop-k : goal.decreases-loop-k
+decreases-loop-k l = l.count - l.k

@@ -1,0 +1,9 @@
+-- `leaf::other_cut` meets its contract.
+-- Assumes nothing.
+use Rattle.std.proofs.Common.{rules}
+use Rattle.leaf.proofs.Returns.{compared-cut}
+use Rattle.leaf.proofs.words.other_cut.Goals as goal
+
+pub returns : goal.returns
+returns c =
+    search compared-cut

@@ -1,0 +1,17 @@
+-- `message3::refusal::address_refusal` meets its contract: each return is the first number that applies.
+-- Assumes nothing.
+use borrow.Author.Rules.{rules}
+use Rattle.message3.proofs.Refusals.{address-0, address-5, address-6}
+use Rattle.message3.proofs.refusal.address_refusal.Goals as goal
+
+pub returns-then-u32_at-payload_length : goal.returns-then-u32_at-payload_length
+returns-then-u32_at-payload_length c =
+    search address-5
+
+pub returns-then-u8_at-own : goal.returns-then-u8_at-own
+returns-then-u8_at-own c =
+    search address-6
+
+pub returns : goal.returns
+returns c =
+    search address-0

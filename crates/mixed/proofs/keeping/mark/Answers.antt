@@ -1,0 +1,25 @@
+-- `mixed::keeping::mark` meets its contract.
+-- Assumes nothing.
+use borrow.Author.Rules.{rules}
+use Rattle.mixed.proofs.Kept.{end_fits, marked-number, marked-words, no-mark-number, no-mark-words}
+use Rattle.mixed.proofs.keeping.mark.Goals as goal
+
+pub overflow_add-end : goal.overflow_add-end
+overflow_add-end c =
+    search end_fits
+
+pub returns-then-end-blocks-clause-answer : goal.returns-then-end-blocks-clause-answer
+returns-then-end-blocks-clause-answer c =
+    search marked-number
+
+pub returns-then-end-blocks-clause-blocks : goal.returns-then-end-blocks-clause-blocks
+returns-then-end-blocks-clause-blocks c =
+    search marked-words
+
+pub returns-else-end-blocks-clause-answer : goal.returns-else-end-blocks-clause-answer
+returns-else-end-blocks-clause-answer c =
+    search no-mark-number
+
+pub returns-else-end-blocks-clause-blocks : goal.returns-else-end-blocks-clause-blocks
+returns-else-end-blocks-clause-blocks c =
+    search no-mark-words

@@ -1,0 +1,17 @@
+-- `mixed::reacting::look_up` meets its contract.
+-- Assumes nothing.
+use borrow.Author.Rules.{rules}
+use Rattle.mixed.proofs.ReactionLaws.{for-pull, for-operation, for-no-other}
+use Rattle.mixed.proofs.reacting.look_up.Goals as goal
+
+pub returns-in-VersionedDataPull : goal.returns-in-VersionedDataPull
+returns-in-VersionedDataPull c =
+    search for-pull
+
+pub returns-in-Operation : goal.returns-in-Operation
+returns-in-Operation c =
+    search for-operation
+
+pub returns-in_default : goal.returns-in_default
+returns-in_default c =
+    search for-no-other

@@ -1,0 +1,13 @@
+-- `mixed::receiving::is_answer` meets its contract.
+-- Assumes nothing.
+use borrow.Author.Rules.{rules}
+use Rattle.mixed.proofs.Receipts.{of_operation, of-another}
+use Rattle.mixed.proofs.receiving.is_answer.Goals as goal
+
+pub returns-in-Operation : goal.returns-in-Operation
+returns-in-Operation c =
+    search of_operation
+
+pub returns-in_default : goal.returns-in_default
+returns-in_default c =
+    search of-another

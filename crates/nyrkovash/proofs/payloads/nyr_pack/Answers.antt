@@ -1,0 +1,13 @@
+-- `nyrkovash::nyr_pack` meets its contract.
+-- Assumes nothing.
+use borrow.Author.Rules.{rules}
+use Rattle.nyrkovash.proofs.Giving.{given-number, given-words}
+use Rattle.nyrkovash.proofs.payloads.nyr_pack.Goals as goal
+
+pub returns-clause-value : goal.returns-clause-value
+returns-clause-value c =
+    search given-number
+
+pub returns-clause-walked_after : goal.returns-clause-walked_after
+returns-clause-walked_after c =
+    search given-words

@@ -1,0 +1,9 @@
+-- `nyrkovash::reading::put_reading` meets its contract: the words by the bytes.
+-- Assumes nothing.
+use borrow.Author.Rules.{rules}
+use Rattle.nyrkovash.proofs.Words.{words_read}
+use Rattle.nyrkovash.proofs.reading.put_reading.Goals as goal
+
+pub returns : goal.returns
+returns c =
+    search words_read

@@ -1,0 +1,12 @@
+-- `operations::lookup::said` meets its contract: what is left says what the whole index does.
+-- Assumes nothing.
+use borrow.Author.Rules.{rules}
+use lib.ListN.{length-drop}
+use Rattle.operations.proofs.Looking.{Left, Ends, all_left, all-ends, goes_on, ends_on, unlaid, last-told, none_said}
+use Rattle.operations.proofs.lookup.said.Given as goal
+
+abbrev pub invariant-loop-size : goal.invariant-loop-size
+invariant-loop-size l = Left l.index l.count l.id l.base l.size × Ends l.index l.count l.base l.size l.word
+
+abbrev pub decreases-loop-size : goal.decreases-loop-size
+decreases-loop-size l = l.size

@@ -1,0 +1,20 @@
+-- `operations::rules::are_good` meets its contract: the first i operations have passed, and the last ID is carried along.
+-- Assumes nothing.
+use borrow.Author.Rules.{rules}
+use Prim.Native.Nat.{◌-◌, ◌≤◌}
+use mathlib.Core.Path.{◌≡◌}
+use mathlib.Core.Bool.{true}
+use Rattle.wire.specs.All.{all_below}
+use Rattle.operations.specs.Entries.{op_place, id_at}
+use Rattle.operations.specs.Rules.{operation_ok}
+use Rattle.wire.proofs.Rising.{Carried}
+use Rattle.operations.proofs.Places.{first-place, next-by-entry, step-by-kind}
+use Rattle.operations.proofs.Passing.{none-judged, no-id-yet, all-judged, operation-next, id_next, bad-operation, falls}
+use Rattle.operations.proofs.rules.are_good.Given as goal
+
+abbrev pub invariant-loop-i : goal.invariant-loop-i
+invariant-loop-i l =
+    (l.i ≤ l.count) × ((all_below (operation_ok l.table l.at l.types) l.i ≡ true) × (Carried (id_at l.table l.at) l.i l.last × (l.place ≡ op_place l.table l.at l.i)))
+
+abbrev pub decreases-loop-i : goal.decreases-loop-i
+decreases-loop-i l = l.count - l.i

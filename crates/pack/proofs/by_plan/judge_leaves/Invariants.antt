@@ -1,0 +1,19 @@
+-- `pack::by_plan::judge_leaves` meets its contract. The loop's invariant: so many leaves are walked over, and the walk is at this
+-- place.
+-- Assumes nothing.
+use Prim.Native.Nat.{◌-◌, ◌≤◌}
+use borrow.Author.Rules.{rules}
+use Rattle.walk.proofs.Walks.{width_few}
+use Rattle.pack.specs.Writing.{Writing}
+use Rattle.pack.proofs.WriteReturns.{next_to}
+use Rattle.pack.proofs.PlanLeaves.{So-far, none-walked, leaf-short, leaf-bad, leaf-next, leaves-done, writing_leaf}
+use Rattle.pack.proofs.by_plan.judge_leaves.Given as goal
+
+abbrev pub invariant-loop-k : goal.invariant-loop-k
+invariant-loop-k l =
+    So-far l.words l.table l.run (record { l.from = l.initial.from; l.to = l.initial.to }) l.k (record { l.from = l.from; l.to = l.to })
+    × Writing l.words (record { l.from = l.from; l.to = l.to })
+    × (l.k ≤ l.many)
+
+abbrev pub decreases-loop-k : goal.decreases-loop-k
+decreases-loop-k l = l.many - l.k

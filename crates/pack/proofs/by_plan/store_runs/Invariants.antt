@@ -1,0 +1,22 @@
+-- `pack::by_plan::store_runs` meets its contract. The loop's invariant: what is left to store leads from here to the whole.
+-- Assumes nothing.
+use Prim.Native.Nat.{◌-◌, ◌≤◌}
+use mathlib.Core.Path.{◌≡◌, refl, ◌∙◌}
+use borrow.Author.Rules.{rules}
+use lib.ListN.{length}
+use Rattle.walk.specs.declared.Place.{Place}
+use Rattle.pack.specs.Writing.{Writing}
+use Rattle.pack.specs.ByPlan.{stored_runs}
+use Rattle.pack.proofs.JudgedRuns.{run-times, run_end}
+use Rattle.pack.proofs.PlanStores.{Stores, runs-outside, stores-end, stores-long, stores-on, stores-writing}
+use Rattle.pack.proofs.by_plan.store_runs.Given as goal
+
+abbrev pub invariant-loop-k : goal.invariant-loop-k
+invariant-loop-k l =
+    Stores l.words l.runs l.upto (stored_runs l.words l.runs (record { l.from = l.initial.from; l.to = l.initial.to }) l.upto l.initial.out) l.k (record { l.from = l.from; l.to = l.to }) l.out
+    × Writing l.words (record { l.from = l.from; l.to = l.to })
+    × (l.from ≤ l.upto)
+    × (length l.out ≡ length l.initial.out)
+
+abbrev pub decreases-loop-k : goal.decreases-loop-k
+decreases-loop-k l = length l.runs - l.k

@@ -1,0 +1,27 @@
+-- `pack::by_plan::write_planned` meets its contract.
+-- Assumes nothing.
+use native.Mathlib.Omega.{arith}
+use borrow.Author.Rules.{rules}
+use Rattle.walk.proofs.WherePlans.{plan_in}
+use Rattle.pack.proofs.PlanReturns.{planned-did}
+use Rattle.pack.proofs.by_plan.write_planned.Goals as goal
+
+pub overflow_add-end : goal.overflow_add-end
+overflow_add-end c =
+    record { fits = omega (arith, plan_in _ _ _ c.plan_of-plan.ensures) }
+
+pub offset_bounds-plans-first : goal.offset_bounds-plans-first
+offset_bounds-plans-first c =
+    record { fits = omega (arith, plan_in _ _ _ c.plan_of-plan.ensures) }
+
+pub slice_bounds-write_runs-start : goal.slice_bounds-write_runs-start
+slice_bounds-write_runs-start c =
+    omega (arith, plan_in _ _ _ c.plan_of-plan.ensures)
+
+pub slice_bounds-write_runs-end : goal.slice_bounds-write_runs-end
+slice_bounds-write_runs-end c =
+    omega (arith, plan_in _ _ _ c.plan_of-plan.ensures)
+
+pub returns : goal.returns
+returns c =
+    let t = planned-did _ _ _ _ c.plan_of-plan.ensures _ _ _ _ _ c.write_runs.ensures in record { value = t.0; out_after = t.1 }

@@ -1,0 +1,24 @@
+-- `pack::first_write` meets its contract: there is no room to store in.
+-- Assumes nothing.
+use borrow.Author.Rules.{rules}
+use mathlib.Core.Path.{sym}
+use native.Mathlib.Omega.{arith}
+use lib.Seq.{length-take-le}
+use Rattle.walk.proofs.Whole.{nothing_left}
+use Rattle.pack.proofs.first_write.Goals as goal
+
+pub slice_bounds-write_once-end-2 : goal.slice_bounds-write_once-end-2
+slice_bounds-write_once-end-2 c =
+    sym (length-take-le _ c.args.out.now (omega arith))
+
+pub write_once-requires : goal.write_once-requires
+write_once-requires c =
+    absurd (omega arith)
+
+pub returns : goal.returns
+returns c =
+    (
+      nothing_left c.write_once.new.1.1.1.1.1.0 c.args.out.now
+          c.write_once.auto.1.1.1.1.1.0,
+      c.write_once.ensures.0,
+    )

@@ -1,0 +1,49 @@
+use Prim.Native.Nat.{◌-◌, ◌≤◌}
+use mathlib.Core.Path.{◌≡◌}
+use native.Mathlib.Omega.{arith}
+use borrow.Author.Rules.{rules}
+use lib.ListN.{take}
+use Rattle.pack_leaves.specs.Stored.{ends}
+use Rattle.pack_leaves.proofs.OneMore.{So-far, none_there, none_ends, end_at, none-judged, more-judged, one-refused, all-judged, more-fits, more-ends}
+use Rattle.pack_leaves.proofs.by_codes.judge_codes.Goals as goal
+
+pub returns-then-words-from : goal.returns-then-words-from
+returns-then-words-from c =
+    let t = let none = none_there _ _ _ c.if-words-from.true in (none, end_at _ _ _ _ none_ends none) in record { count_value = t.0; bytes_value = t.1 }
+
+pub loop-k-init : goal.loop-k-init
+loop-k-init c =
+    (none-judged _ _ _, none_ends, search rules)
+
+pub overflow_cast-code : goal.overflow_cast-code
+overflow_cast-code c =
+    record { fits = omega (arith, c.type_inv.codes c.loop-k.k) }
+
+pub overflow_add-bytes : goal.overflow_add-bytes
+overflow_add-bytes c =
+    search more-fits
+
+pub loop-k-preserved : goal.loop-k-preserved
+loop-k-preserved c =
+    let l = c.least-n.ensures in
+    let i = c.loop-k.invariant in
+    let below = c.loop-k-test.true in
+    (
+      more-judged _ _ _ _ _ below l i.0 _ c.allowed.ensures c.if-allowed.true,
+      more-ends _ _ _ _ _ below l _ _ c.width-bytes.ensures i.1,
+      search rules,
+    )
+
+pub returns-else-allowed : goal.returns-else-allowed
+returns-else-allowed c =
+    let t = let l = c.least-n.ensures in
+    let i = c.loop-k.invariant in
+    let here = one-refused _ _ _ _ _ c.loop-k-test.true l i.0 _ c.allowed.ensures c.if-allowed.false in
+    (here, end_at _ _ _ _ i.1 here) in record { count_value = t.0; bytes_value = t.1 }
+
+pub returns : goal.returns
+returns c =
+    let t = let l = c.least-n.ensures in
+    let i = c.loop-k.invariant in
+    let all = all-judged _ _ _ _ _ c.loop-k-test.false i.2 l i.0 in
+    (all, end_at _ _ _ _ i.1 all) in record { count_value = t.0; bytes_value = t.1 }

@@ -1,0 +1,16 @@
+-- `pack::judge_codes` meets its contract. The loop's invariant: so many words are taken, and they have so many bytes.
+-- Assumes nothing.
+use Prim.Native.Nat.{◌-◌, ◌≤◌}
+use mathlib.Core.Path.{◌≡◌}
+use native.Mathlib.Omega.{arith}
+use borrow.Author.Rules.{rules}
+use lib.ListN.{take}
+use Rattle.pack_leaves.specs.Stored.{ends}
+use Rattle.pack_leaves.proofs.OneMore.{So-far, none_there, none_ends, end_at, none-judged, more-judged, one-refused, all-judged, more-fits, more-ends}
+use Rattle.pack_leaves.proofs.by_codes.judge_codes.Given as goal
+
+abbrev pub invariant-loop-k : goal.invariant-loop-k
+invariant-loop-k l = So-far l.words l.codes l.from l.k × (l.bytes ≡ ends (take l.k l.codes) 0) × (l.k ≤ l.n)
+
+abbrev pub decreases-loop-k : goal.decreases-loop-k
+decreases-loop-k l = l.n - l.k

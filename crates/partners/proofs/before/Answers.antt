@@ -1,0 +1,24 @@
+use Prim.Native.Nat.{◌-◌, ◌≤◌, min}
+use mathlib.Core.Path.{◌≡◌}
+use borrow.Author.Rules.{rules}
+use Rattle.message.specs.Refusal.{platforms}
+use Rattle.states.specs.States.{count_below}
+use Rattle.partners.specs.Threes.{is_three}
+use Rattle.partners.proofs.Returns.{none-counted, one-more-fits, one-more-most, one-counted, all_counted}
+use Rattle.partners.proofs.before.Goals as goal
+
+pub loop-j-init : goal.loop-j-init
+loop-j-init c =
+    (search none-counted, search rules, search rules, search rules)
+
+pub overflow_add-count : goal.overflow_add-count
+overflow_add-count c =
+    search one-more-fits
+
+pub loop-j-preserved : goal.loop-j-preserved
+loop-j-preserved c =
+    (search one-counted, search one-more-most, search rules, search rules)
+
+pub returns : goal.returns
+returns c =
+    search all_counted

@@ -1,0 +1,11 @@
+-- `payload::by_plans::pack_type` meets its contract: what is stored goes by the answer.
+-- Assumes nothing.
+use borrow.Author.Rules.{rules}
+use Rattle.pack.specs.Writing.{writer}
+use Rattle.payload.proofs.Calls.{tree_answered}
+use Rattle.payload.proofs.by_plans.pack_type.Goals as goal
+
+pub returns : goal.returns
+unfolding writer
+returns c =
+    let t = tree_answered _ _ _ _ _ _ _ c.write_type-walked.ensures.0 c.write_type-walked.ensures.1 c.written_to.ensures in record { value = t.0; out_after = t.1 }

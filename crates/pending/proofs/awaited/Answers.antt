@@ -1,0 +1,17 @@
+-- `pending::awaited` meets its contract.
+-- Assumes nothing.
+use Rattle.std.proofs.Common.{rules}
+use Rattle.pending.proofs.Returns.{in_list, what-was-asked, nothing-asked}
+use Rattle.pending.proofs.awaited.Goals as goal
+
+pub target_at-requires : goal.target_at-requires
+target_at-requires c =
+    search in_list
+
+pub returns-in-At : goal.returns-in-At
+returns-in-At c =
+    search what-was-asked
+
+pub returns-in-Nowhere : goal.returns-in-Nowhere
+returns-in-Nowhere c =
+    search nothing-asked

@@ -1,0 +1,13 @@
+use Rattle.std.proofs.Common.{◌≡◌, ◌-◌, ◌≤◌, ◌||◌, rules}
+use Rattle.pending.specs.Places.{bearing, first_bearing}
+use Rattle.pending.specs.Free.{is_at}
+use Rattle.pending.proofs.Returns.{borne-on, borne-all}
+use Rattle.pending.proofs.is_borne.Goals as goal
+
+pub loop-k-preserved : goal.loop-k-preserved
+loop-k-preserved c =
+    (search borne-on, search rules)
+
+pub returns : goal.returns
+returns c =
+    search borne-all

@@ -1,0 +1,48 @@
+-- `plan::front::lay_within` meets its contract: too short, or laid out.
+-- Assumes nothing.
+use borrow.Author.Rules.{rules}
+use mathlib.Core.Path.{sym}
+use lib.Seq.{length-take-le}
+use Rattle.plan.proofs.LeafLaws.{few_taken}
+use Rattle.plan.proofs.WholePlans.{short-number, short-held, laid-number, laid-held, counts-long, counts_all, counts-room}
+use Rattle.plan.proofs.front.lay_within.Goals as goal
+
+pub slice_bounds-sum-end : goal.slice_bounds-sum-end
+slice_bounds-sum-end c =
+    sym (length-take-le _ _ (search rules))
+
+pub sum-requires : goal.sum-requires
+sum-requires c =
+    search few_taken
+
+pub returns-then-words-n-clause-value : goal.returns-then-words-n-clause-value
+returns-then-words-n-clause-value c =
+    search short-number
+
+pub returns-then-words-n-clause-words_after : goal.returns-then-words-n-clause-words_after
+returns-then-words-n-clause-words_after c =
+    search short-held
+
+pub slice_bounds-lay_out-end : goal.slice_bounds-lay_out-end
+slice_bounds-lay_out-end c =
+    sym (length-take-le _ _ (search rules))
+
+pub lay_out-requires : goal.lay_out-requires
+lay_out-requires c =
+    let t = let p = c.requires in
+    let h = c.if-words-n.false in
+    (
+      (p.0, counts-long _ _ c.args.words.now _ _ p.1 c.fill.ensures c.sum.ensures.0 h (search rules)),
+      (
+        counts_all _ _ c.args.words.now _ _ p.1 c.fill.ensures c.sum.ensures.0 h (search rules),
+        counts-room _ _ c.args.words.now _ _ p.1 c.fill.ensures c.sum.ensures.0 h (search rules),
+      ),
+    ) in record { count_le_most_types = t.0; counts_value = t.1.0; counts_in_bounds = t.1.1 }
+
+pub returns-clause-value : goal.returns-clause-value
+returns-clause-value c =
+    search laid-number
+
+pub returns-clause-words_after : goal.returns-clause-words_after
+returns-clause-words_after c =
+    search laid-held

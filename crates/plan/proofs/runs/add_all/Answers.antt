@@ -1,0 +1,29 @@
+use borrow.Author.Rules.{rules}
+use Prim.Native.Nat.{◌+◌, ◌-◌, ◌≤◌}
+use mathlib.Core.Path.{◌≡◌}
+use lib.ListN.{length}
+use Rattle.wire.specs.Bytes.{over}
+use Rattle.plan.specs.Layout.{add_all}
+use Rattle.plan.specs.Laying.{between}
+use Rattle.plan.proofs.Adding.{start-end, start-held, turn-room, turn_end, turn-held, all_end, all_held}
+use Rattle.plan.proofs.runs.add_all.Goals as goal
+
+pub loop-k-init : goal.loop-k-init
+loop-k-init c =
+    (search rules, search rules, search rules, search start-held, search start-end)
+
+pub add-to-requires : goal.add-to-requires
+add-to-requires c =
+    search turn-room
+
+pub loop-k-preserved : goal.loop-k-preserved
+loop-k-preserved c =
+    (search rules, search rules, search rules, search turn-held, search turn_end)
+
+pub returns-clause-value : goal.returns-clause-value
+returns-clause-value c =
+    search all_end
+
+pub returns-clause-words_after : goal.returns-clause-words_after
+returns-clause-words_after c =
+    search all_held

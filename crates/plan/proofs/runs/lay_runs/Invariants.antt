@@ -1,0 +1,21 @@
+-- `plan::runs::lay_runs` meets its contract: the runs of the first i types are laid out.
+-- Assumes nothing.
+use borrow.Author.Rules.{rules}
+use Prim.Native.Nat.{◌-◌, ◌≤◌}
+use mathlib.Core.Path.{◌≡◌, sym}
+use native.Mathlib.Omega.{arith}
+use lib.ListN.{length, take, length-set}
+use lib.Seq.{length-take-le}
+use Rattle.wire.specs.Bytes.{over}
+use Rattle.plan.specs.Layout.{all_runs}
+use Rattle.plan.specs.Laying.{starts_of}
+use Rattle.plan.proofs.AllTypes.{none-held, none_end, no_start, its-count, more-laid, more-end, more-held, more-starts, all_laid, all-started}
+use Rattle.plan.proofs.runs.lay_runs.Given as goal
+
+abbrev pub invariant-loop-i : goal.invariant-loop-i
+invariant-loop-i l =
+    (l.i ≤ length l.counts) × (length l.words ≡ length l.initial.words) × (length l.starts ≡ length l.initial.starts) × (l.words ≡ over l.initial.words 0 (all_runs l.table l.s l.i))
+    × (l.end ≡ length (all_runs l.table l.s l.i)) × (take l.i l.starts ≡ starts_of l.table l.s l.i)
+
+abbrev pub decreases-loop-i : goal.decreases-loop-i
+decreases-loop-i l = length l.counts - l.i

@@ -1,0 +1,9 @@
+-- `platform::reacting::came_up` meets its contract: two own numbers are drawn.
+-- Assumes nothing.
+use borrow.Author.Rules.{rules}
+use Rattle.platform.proofs.ReactionLaws.{came_up_is}
+use Rattle.platform.proofs.reacting.came_up.Goals as goal
+
+pub returns : goal.returns
+returns c =
+    search came_up_is

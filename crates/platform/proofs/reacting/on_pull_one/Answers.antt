@@ -1,0 +1,17 @@
+-- `platform::reacting::on_pull_one` meets its contract.
+-- Assumes nothing.
+use borrow.Author.Rules.{rules}
+use Rattle.platform.proofs.ReactionLaws.{one-data, one-event, one_missing}
+use Rattle.platform.proofs.reacting.on_pull_one.Goals as goal
+
+pub returns-then-is_data : goal.returns-then-is_data
+returns-then-is_data c =
+    search one-data
+
+pub returns-else-is_data : goal.returns-else-is_data
+returns-else-is_data c =
+    search one-event
+
+pub returns-in-Nowhere : goal.returns-in-Nowhere
+returns-in-Nowhere c =
+    search one_missing

@@ -1,0 +1,17 @@
+-- `platform_words::taken` meets its contract: the list is lent by itself.
+-- Assumes nothing.
+use borrow.Author.Rules.{rules}
+use Rattle.platform_words.proofs.Calling.{taken-outcome, taken-list, taken-output}
+use Rattle.platform_words.proofs.on_table.taken.Goals as goal
+
+pub returns-clause-value : goal.returns-clause-value
+returns-clause-value c =
+    search taken-outcome
+
+pub returns-clause-words_after : goal.returns-clause-words_after
+returns-clause-words_after c =
+    search taken-list
+
+pub returns-clause-out_after : goal.returns-clause-out_after
+returns-clause-out_after c =
+    search taken-output

@@ -1,0 +1,19 @@
+use borrow.Author.Rules.{rules}
+use Prim.Native.Nat.{◌≤◌}
+use mathlib.Core.Path.{◌≡◌}
+use lib.ListN.{length}
+use Rattle.replay.specs.Bounds.{input_length}
+use Rattle.replay.proofs.Bounds.{filled-part, next-filled, next-ending}
+use Rattle.replay.proofs.player.play_all.Goals as goal
+
+pub slice_bounds-play-end-in-loop-turns : goal.slice_bounds-play-end-in-loop-turns
+slice_bounds-play-end-in-loop-turns c =
+    search filled-part
+
+pub loop-turns-preserved : goal.loop-turns-preserved
+loop-turns-preserved c =
+    (search rules, search rules, search rules, search rules, search next-filled)
+
+pub finish-requires : goal.finish-requires
+finish-requires c =
+    search next-ending

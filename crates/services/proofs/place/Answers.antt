@@ -1,0 +1,22 @@
+use Prim.Native.Nat.{◌-◌, ◌≤◌}
+use borrow.Author.Rules.{rules}
+use lib.ListN.{length}
+use Rattle.services.specs.Block.{service_place}
+use Rattle.services.proofs.Places.{from_start, found_here, not-here, found_nowhere}
+use Rattle.services.proofs.place.Goals as goal
+
+pub loop-i-init : goal.loop-i-init
+loop-i-init c =
+    (search rules, search from_start)
+
+pub returns-then-is_place_for : goal.returns-then-is_place_for
+returns-then-is_place_for c =
+    search found_here
+
+pub loop-i-preserved : goal.loop-i-preserved
+loop-i-preserved c =
+    (search rules, search not-here)
+
+pub returns : goal.returns
+returns c =
+    search found_nowhere

@@ -1,0 +1,9 @@
+-- `states::how_many_up` meets its contract.
+-- Assumes nothing.
+use borrow.Author.Rules.{rules}
+use Rattle.states.proofs.WordLaws.{many_are}
+use Rattle.states.proofs.how_many_up.Goals as goal
+
+pub returns : goal.returns
+returns c =
+    search many_are

@@ -1,0 +1,16 @@
+use Rattle.std.proofs.Common.{◌≡◌, ◌-◌, ◌≤◌, length, arith, length-set, rules}
+use Rattle.types.specs.Alike.{Alikes}
+use Rattle.types.proofs.Distinctness.{fill_alikes, alikes_done}
+use Rattle.types.proofs.alike.fill.Goals as goal
+
+pub loop-k-init : goal.loop-k-init
+loop-k-init c =
+    (search rules, search rules, λ j h. absurd (omega arith))
+
+pub loop-k-preserved : goal.loop-k-preserved
+loop-k-preserved c =
+    (search rules, simp length-set (search rules), search fill_alikes)
+
+pub returns : goal.returns
+returns c =
+    search alikes_done

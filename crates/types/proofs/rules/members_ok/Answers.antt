@@ -1,0 +1,26 @@
+use Rattle.std.proofs.Common.{◌≡◌, ◌-◌, ◌≤◌, true, rules}
+use Rattle.wire.specs.All.{all_below}
+use Rattle.types.specs.Rules.{member_ok, members_ok}
+use Rattle.wire.proofs.AllBelow.{none_below, done_below}
+use Rattle.types.proofs.TypeRules.{member-next, member-ends}
+use Rattle.types.proofs.rules.members_ok.Goals as goal
+
+pub loop-k-init : goal.loop-k-init
+unfolding members_ok
+loop-k-init c =
+    (search rules, search none_below)
+
+pub loop-k-preserved : goal.loop-k-preserved
+unfolding members_ok
+loop-k-preserved c =
+    (search rules, search member-next)
+
+pub returns-else-member_in-i : goal.returns-else-member_in-i
+unfolding members_ok
+returns-else-member_in-i c =
+    search member-ends
+
+pub returns : goal.returns
+unfolding members_ok
+returns c =
+    search done_below

@@ -1,0 +1,14 @@
+-- `types::rules::members_ok` meets its contract: the first k members have passed.
+-- Assumes nothing.
+use Rattle.std.proofs.Common.{◌≡◌, ◌-◌, ◌≤◌, true, rules}
+use Rattle.wire.specs.All.{all_below}
+use Rattle.types.specs.Rules.{member_ok, members_ok}
+use Rattle.wire.proofs.AllBelow.{none_below, done_below}
+use Rattle.types.proofs.TypeRules.{member-next, member-ends}
+use Rattle.types.proofs.rules.members_ok.Given as goal
+
+abbrev pub invariant-loop-k : goal.invariant-loop-k
+invariant-loop-k l = (l.k ≤ l.e.count) × (all_below (member_ok l.table l.s l.i l.e) l.k ≡ true)
+
+abbrev pub decreases-loop-k : goal.decreases-loop-k
+decreases-loop-k l = l.e.count - l.k

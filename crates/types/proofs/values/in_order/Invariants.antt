@@ -1,0 +1,15 @@
+-- `types::values::in_order` meets its contract: the first k values rise, and the last of them is carried along.
+-- Assumes nothing.
+use Rattle.std.proofs.Common.{◌≡◌, ◌-◌, ◌≤◌, true, rules}
+use Rattle.wire.specs.All.{all_below}
+use Rattle.types.specs.Passes.{rank, next}
+use Rattle.wire.proofs.AllBelow.{none_below}
+use Rattle.wire.proofs.Rising.{Carried, carried_none}
+use Rattle.types.proofs.ValueRules.{order-next, order-carried, order-ends, order_done}
+use Rattle.types.proofs.values.in_order.Given as goal
+
+abbrev pub invariant-loop-k : goal.invariant-loop-k
+invariant-loop-k l = (l.k ≤ l.e.count) × (all_below (next l.table l.s l.e) l.k ≡ true) × Carried (rank l.table l.s l.e) l.k l.last
+
+abbrev pub decreases-loop-k : goal.decreases-loop-k
+decreases-loop-k l = l.e.count - l.k

@@ -1,0 +1,26 @@
+use borrow.Author.Rules.{rules}
+use Prim.Native.Nat.{◌-◌}
+use mathlib.Core.List.{[]}
+use lib.ListN.{length}
+use Rattle.walk.specs.Walk.{Going}
+use Rattle.walk.proofs.Turns.{going_start}
+use Rattle.unpack.specs.Reading.{Reading}
+use Rattle.unpack.specs.RunByRun.{run_read}
+use Rattle.unpack.proofs.LeafByLeaf.{runs-went, runs-stop, runs_done}
+use Rattle.unpack.proofs.by_plan.judge_rest.Goals as goal
+
+pub loop-k-init : goal.loop-k-init
+loop-k-init c =
+    going_start (search rules) (search rules)
+
+pub loop-k-preserved : goal.loop-k-preserved
+loop-k-preserved c =
+    search runs-went
+
+pub returns-in-Stopped : goal.returns-in-Stopped
+returns-in-Stopped c =
+    search runs-stop
+
+pub returns : goal.returns
+returns c =
+    search runs_done

@@ -1,0 +1,37 @@
+use borrow.Author.Rules.{rules}
+use Prim.Native.Nat.{◌-◌, ◌≤◌}
+use mathlib.Core.Path.{◌≡◌, refl}
+use lib.ListN.{length}
+use Rattle.walk.specs.declared.Place.{Place}
+use Rattle.unpack.specs.RunByRun.{place_at, stored_upto}
+use Rattle.unpack.proofs.StoredRuns.{place_start, stored_start, stored_end, some_fit, place-next, bytes-in, from-fits, stored_next}
+use Rattle.unpack.proofs.Upto.{none_stored}
+use Rattle.unpack.proofs.by_plan.store_runs.Goals as goal
+
+pub returns-then-words-p : goal.returns-then-words-p
+returns-then-words-p c =
+    search none_stored
+
+pub loop-k-init : goal.loop-k-init
+loop-k-init c =
+    (search stored_start, search place_start, search rules, search rules, refl)
+
+pub store_leaves-requires : goal.store_leaves-requires
+store_leaves-requires c =
+    search bytes-in
+
+pub overflow_mul-from : goal.overflow_mul-from
+overflow_mul-from c =
+    search some_fit
+
+pub overflow_add-from : goal.overflow_add-from
+overflow_add-from c =
+    search from-fits
+
+pub loop-k-preserved : goal.loop-k-preserved
+loop-k-preserved c =
+    (search stored_next, search place-next, search rules, search rules, search rules)
+
+pub returns : goal.returns
+returns c =
+    search stored_end

@@ -1,0 +1,18 @@
+-- `unpack::copy` meets its contract. The loop's invariant: the first k words are written, and the rest is as it was.
+-- Assumes nothing.
+use Prim.Native.Nat.{ℕ, ◌+◌, ◌-◌, ◌≤◌, ◌<◌}
+use mathlib.Core.Path.{◌≡◌, sym, ap, ◌∙◌}
+use native.Mathlib.Nat.{zero-add}
+use native.Mathlib.Omega.{arith}
+use mathlib.Core.List.{List}
+use lib.ListN.{length, get_or, set, take}
+use borrow.Author.Rules.{rules}
+use Rattle.wire.specs.Bytes.{over}
+use Rattle.wire.proofs.Runs.{over_none, over_more, over_whole}
+use Rattle.unpack.proofs.copy.Given as goal
+
+abbrev pub invariant-loop-k : goal.invariant-loop-k
+invariant-loop-k l = (l.k ≤ length l.these) × (length l.these ≤ length l.initial.words) × (length l.words ≡ length l.initial.words) × (l.words ≡ over l.initial.words 0 (take l.k l.these))
+
+abbrev pub decreases-loop-k : goal.decreases-loop-k
+decreases-loop-k l = length l.these - l.k

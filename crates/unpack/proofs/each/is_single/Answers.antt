@@ -1,0 +1,9 @@
+-- `unpack::each::is_single` meets its contract.
+-- Assumes nothing.
+use borrow.Author.Rules.{rules}
+use Rattle.unpack.proofs.SingleRuns.{single_is}
+use Rattle.unpack.proofs.each.is_single.Goals as goal
+
+pub returns : goal.returns
+returns c =
+    search single_is

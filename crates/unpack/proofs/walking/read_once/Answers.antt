@@ -1,0 +1,37 @@
+-- `unpack::read_once` meets its contract: by what stands at the entry.
+-- Assumes nothing.
+use borrow.Author.Rules.{rules}
+use native.Mathlib.Omega.{arith}
+use Rattle.walk.proofs.Returns.{tree_looked, met-leaf, met-members, met-elements, met-broken}
+use Rattle.unpack.proofs.walking.read_once.Goals as goal
+
+pub read_leaf-requires : goal.read_leaf-requires
+read_leaf-requires c =
+    (omega arith, omega arith)
+
+pub read_members-requires : goal.read_members-requires
+read_members-requires c =
+    (omega arith, omega arith)
+
+pub read_elements-requires : goal.read_elements-requires
+read_elements-requires c =
+    (omega arith, omega arith)
+
+pub returns-in-Leaf : goal.returns-in-Leaf
+returns-in-Leaf c =
+    let t = met-leaf _ _ _ _ _ _ _ _ _ (tree_looked _ _ _ _ _ c.look.ensures) _ _ _ c.in-Leaf.is
+    c.read_leaf.ensures.0 c.read_leaf.ensures.1 in record { value = t.0; words_after = t.1 }
+
+pub returns-in-Members : goal.returns-in-Members
+returns-in-Members c =
+    let t = met-members _ _ _ _ _ _ _ _ _ (tree_looked _ _ _ _ _ c.look.ensures) _ _ _ c.in-Members.is
+    c.read_members.ensures.0 c.read_members.ensures.1 in record { value = t.0; words_after = t.1 }
+
+pub returns-in-Elements : goal.returns-in-Elements
+returns-in-Elements c =
+    let t = met-elements _ _ _ _ _ _ _ _ _ (tree_looked _ _ _ _ _ c.look.ensures) _ _ _ c.in-Elements.is
+    c.read_elements.ensures.0 c.read_elements.ensures.1 in record { value = t.0; words_after = t.1 }
+
+pub returns-in-Broken : goal.returns-in-Broken
+returns-in-Broken c =
+    let t = met-broken _ _ _ _ _ _ _ _ _ (tree_looked _ _ _ _ _ c.look.ensures) c.in-Broken.is in record { value = t.0; words_after = t.1 }

@@ -1,0 +1,9 @@
+-- `wire::order::set_le64` meets its contract: its two halves, one behind the other.
+-- Assumes nothing.
+use borrow.Author.Rules.{rules}
+use Rattle.wire.proofs.Swaps.{halves}
+use Rattle.wire.proofs.order.set_le64.Goals as goal
+
+pub returns : goal.returns
+returns c =
+    search (halves 2)

@@ -1,9 +1,0 @@
--- `wire::u8_at` meets its contract: past the end it is 0.
--- Assumes nothing.
-use borrow.Author.Rules.{rules}
-use Rattle.wire.proofs.Numbers.{past}
-use Rattle.wire.proofs.u8_at.Statement.{statement}
-use Rattle.wire.proofs.u8_at.Tie as tie
-
-pub u8_at_spec : {M : Type 1} → statement M
-u8_at_spec = tie.close (tie.spec (λ c. search rules) (λ c. search rules) (λ c. search (past 0)))
