@@ -1,7 +1,7 @@
 -- The plain map tells one thing only of each turn, and so over any turns: two maps that have the same under every number, and count
 -- the same, go on so.
 -- Assumes nothing.
-use Rattle.std.proofs.Common.{◌≡◌, ℕ, ◌+◌, ◌-◌, true, false, cond, eqb, List, [], ◌∷◌, sym, refl, ap, ◌∙◌, ap₂, true≢false, arith}
+use Rattle.std.proofs.Common.{◌≡◌, ℕ, ◌+◌, ◌-◌, cond, eqb, List, [], ◌∷◌, sym, refl, ap, ◌∙◌, ap₂, true≢false, arith}
 use Rattle.pending.specs.declared.Asked.{Asked}
 use Rattle.pending.specs.declared.Asked.TheVariants.{Of, Nothing}
 use Rattle.pending.specs.PlainMap.{Map, is_asked, taken, asks, empty_map, inserted, deleted, fresh_list}
