@@ -16,13 +16,12 @@ loop-i-preserved-then-quick_ok c =
     (search rules, search (quick-loose, octets), λ h. search (quick-next, octets))
 
 pub loop-i-preserved : goal.loop-i-preserved
-loop-i-preserved c =
-    (
-      search rules,
-      loose-next _ _ _ _ c.enum_ok.ensures c.if-enum_ok.true
-          c.loop-i.invariant.1,
-      λ h. search not_risen,
-    )
+loop-i-preserved c = (
+  search rules,
+  loose-next _ _ _ _ c.enum_ok.ensures c.if-enum_ok.true
+      c.loop-i.invariant.1,
+  λ h. search not_risen,
+)
 
 pub returns-else-enum_ok : goal.returns-else-enum_ok
 returns-else-enum_ok c =
