@@ -1,7 +1,4 @@
-use Rattle.std.proofs.Common.{◌≡◌, ◌-◌, ◌≤◌, true, rules}
-use Rattle.wire.specs.All.{all_below}
-use Rattle.types.specs.Rules.{type_ok}
-use Rattle.types.specs.Passes.{loose_ok}
+use Rattle.std.proofs.Common.{true, rules}
 use Rattle.wire.proofs.AllBelow.{none_below}
 use Rattle.types.proofs.TypePasses.{quick-loose, quick-next, loose-next, not_risen, types-end, types_rise, types_compared}
 use Rattle.types.proofs.rules.types_ok.Goals as goal
