@@ -14,4 +14,4 @@ returns-in-Rooms c =
 
 pub returns-in_default : goal.returns-in_default
 returns-in_default c =
-    search not_delivered
+    not_delivered _ _ _ c.in_default.not-Delivered
