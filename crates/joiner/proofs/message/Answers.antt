@@ -1,6 +1,5 @@
 -- `joiner::message` meets its contract: the part that the place names, or none.
 -- Assumes nothing.
-use borrow.Author.Rules.{rules}
 use Rattle.joiner.proofs.Taking.{in-datagram, in-rooms, not_delivered}
 use Rattle.joiner.proofs.message.Goals as goal
 

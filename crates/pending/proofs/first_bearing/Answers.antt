@@ -1,7 +1,7 @@
 -- `pending::first_bearing` meets its contract: of a turn's four places the first that bears the number is what all of them find, and
 -- a turn of which none does leaves the places behind it.
 -- Assumes nothing.
-use Rattle.std.proofs.Common.{◌≡◌, ℕ, ◌+◌, ◌-◌, ◌<◌, ◌≤◌, List, arith, rules}
+use Rattle.std.proofs.Common.{◌≡◌, ℕ, ◌+◌, ◌-◌, ◌≤◌, List, arith}
 use Rattle.pending.specs.Places.{number_at, bearing, first_bearing}
 use Rattle.pending.proofs.Returns.{bears-it, bears-another, next-bears-another, none-bears}
 use Rattle.pending.proofs.first_bearing.Goals as goal

@@ -1,6 +1,5 @@
 -- `binding::cut` meets its contract: 50, then 51, then the datagram or 52.
 -- Assumes nothing.
-use borrow.Author.Rules.{rules}
 use Rattle.binding.proofs.Cuts.{cut_in, here, header-in, sender_fits, size_in, cut-starts, cut-start-fits, counter_fits}
 use Rattle.binding.proofs.Cuts.{answer-50, output-50, answer-51, output-51, answer-made, output-made}
 use Rattle.binding.proofs.cutter.cut.Goals as goal

@@ -1,10 +1,7 @@
-use Prim.Native.Nat.{◌-◌, ◌≤◌}
 use mathlib.Core.Path.{◌≡◌, refl}
 use borrow.Author.Rules.{rules}
-use lib.ListN.{length, take, length-map}
-use Rattle.wire.specs.Bytes.{over}
+use lib.ListN.{length}
 use Rattle.channel.specs.Record.{channel_limit}
-use Rattle.joiner.specs.JoinerWords.{records_words}
 use Rattle.joiner.proofs.Storing.{sized, write_none, write-more, write_all, words-none}
 use Rattle.joiner.proofs.in_words.words_of.Goals as goal
 

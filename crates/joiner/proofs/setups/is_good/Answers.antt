@@ -2,7 +2,7 @@
 -- Assumes nothing.
 use mathlib.Core.Path.{◌≡◌}
 use borrow.Author.Rules.{rules}
-use lib.ListN.{length, length-map}
+use lib.ListN.{length}
 use Rattle.channel.specs.Record.{channel_limit}
 use Rattle.joiner.proofs.Making.{judged_good}
 use Rattle.joiner.proofs.setups.is_good.Goals as goal

@@ -1,6 +1,5 @@
 -- `message3::put_header` meets its contract: its eight fields, one behind the other.
 -- Assumes nothing.
-use borrow.Author.Rules.{rules}
 use Rattle.message3.proofs.Written.{header_laid}
 use Rattle.message3.proofs.writer.put_header.Goals as goal
 
