@@ -18,17 +18,17 @@ slice_bounds-read_codes-end c =
 
 pub read_codes-requires : goal.read_codes-requires
 read_codes-requires c = (
-      c.requires.0,
-      members-few _ _ _ _ _ _ (replicate 64 0) _ c.base_codes-n.ensures.value c.base_codes-n.ensures.codes_after c.requires.1 (search rules),
-    )
+  c.requires.0,
+  members-few _ _ _ _ _ _ (replicate 64 0) _ c.base_codes-n.ensures.value c.base_codes-n.ensures.codes_after c.requires.1 (search rules),
+)
 
 pub returns : goal.returns
 returns c = λ ps. record {
-      onward = c.read_codes.ensures.from_le_upto.0;
-      most = upto-in _ _ _ _ _ _ (replicate 64 0) _ c.base_codes-n.ensures.value c.base_codes-n.ensures.codes_after _
-          c.requires.1 c.read_codes.ensures.from_le_upto.1;
-      here = c.read_codes.ensures.from_le_upto.2;
-      as_long = c.read_codes.ensures.words_len_unchanged;
-      goes = c.read_codes.ensures.by_index _
-          (codes-read _ _ _ _ _ _ (replicate 64 0) _ c.base_codes-n.ensures.value c.base_codes-n.ensures.codes_after _ ps);
-    }
+  onward = c.read_codes.ensures.from_le_upto.0;
+  most = upto-in _ _ _ _ _ _ (replicate 64 0) _ c.base_codes-n.ensures.value c.base_codes-n.ensures.codes_after _
+      c.requires.1 c.read_codes.ensures.from_le_upto.1;
+  here = c.read_codes.ensures.from_le_upto.2;
+  as_long = c.read_codes.ensures.words_len_unchanged;
+  goes = c.read_codes.ensures.by_index _
+      (codes-read _ _ _ _ _ _ (replicate 64 0) _ c.base_codes-n.ensures.value c.base_codes-n.ensures.codes_after _ ps);
+}
