@@ -11,10 +11,9 @@ pub slice_bounds-read_once-end-2 : goal.slice_bounds-read_once-end-2
 slice_bounds-read_once-end-2 c =
     sym (length-take-le _ c.args.words.now (omega arith))
 
-pub returns : goal.returns
-returns c =
-    (
-      nothing_left c.read_once.new.1.1.1.1.1.0 c.args.words.now
-          c.read_once.auto.1.1.1.1.1.0,
-      c.read_once.ensures.0,
-    )
+pub returns-clause-words_unchanged : goal.returns-clause-words_unchanged
+returns-clause-words_unchanged c =
+    nothing_left c.read_once.new.words c.args.words.now c.read_once.auto.words
+
+pub returns-clause-value : goal.returns-clause-value
+returns-clause-value c = c.read_once.ensures.value

@@ -15,7 +15,7 @@ use Rattle.unpack.proofs.by_plan.judge_runs.Given as goal
 
 abbrev pub invariant-loop-k : goal.invariant-loop-k
 invariant-loop-k l =
-    Going (Reading l.payload) (run_read l.payload l.table l.runs) (length l.runs) 0 (record { l.from = l.initial.from; l.to = l.initial.to }) [] l.k (record { l.from = l.from; l.to = l.to }) []
+    Going (Reading l.payload) (run_read l.payload l.table l.runs) (length l.runs) 0 (record { from = l.initial.from; to = l.initial.to }) [] l.k (record { from = l.from; to = l.to }) []
 
 abbrev pub decreases-loop-k : goal.decreases-loop-k
 decreases-loop-k l = length l.runs - l.k

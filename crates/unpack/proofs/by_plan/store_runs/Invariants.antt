@@ -12,8 +12,8 @@ use Rattle.unpack.proofs.by_plan.store_runs.Given as goal
 
 abbrev pub invariant-loop-k : goal.invariant-loop-k
 invariant-loop-k l =
-    (l.words ≡ stored_upto l.payload l.runs (record { l.from = l.initial.from; l.to = l.initial.to }) l.upto l.k l.initial.words)
-    × (◌≡◌ {A = Place} (record { l.from = l.from; l.to = l.to }) (place_at l.runs (record { l.from = l.initial.from; l.to = l.initial.to }) l.upto l.k)) × (l.to ≤ l.upto) × (l.k ≤ length l.runs)
+    (l.words ≡ stored_upto l.payload l.runs (record { from = l.initial.from; to = l.initial.to }) l.upto l.k l.initial.words)
+    × (◌≡◌ {A = Place} (record { from = l.from; to = l.to }) (place_at l.runs (record { from = l.initial.from; to = l.initial.to }) l.upto l.k)) × (l.to ≤ l.upto) × (l.k ≤ length l.runs)
     × (length l.words ≡ length l.initial.words)
 
 abbrev pub decreases-loop-k : goal.decreases-loop-k

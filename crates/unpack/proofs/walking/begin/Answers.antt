@@ -21,7 +21,7 @@ overflow_add-result-then-count-e c =
 pub returns-then-count-e : goal.returns-then-count-e
 returns-then-count-e c =
     let t = count-went c.args.e _ c.args.p _ c.if-e-eq-FIXED.false _ c.has_room.ensures c.if-has_room.true _
-    c.u32_at-count.ensures _ c.if-count-e.true c.u32_at-count.type-inv c.put_word.ensures in record { value = t.0; words_after = t.1 }
+    c.u32_at-count.ensures _ c.if-count-e.true c.u32_at-count.type_inv c.put_word.ensures in record { value = t.0; words_after = t.1 }
 
 pub returns-else-count-e : goal.returns-else-count-e
 returns-else-count-e c =

@@ -12,7 +12,7 @@ use Rattle.unpack.proofs.whole.store_whole.Given as goal
 
 abbrev pub invariant-loop-k : goal.invariant-loop-k
 invariant-loop-k l =
-    (l.words ≡ stored_whole l.payload l.runs l.k l.initial.words) × (◌≡◌ {A = Place} (record { l.from = l.from; l.to = l.to }) (whole_at l.runs l.k)) × (l.k ≤ length l.runs)
+    (l.words ≡ stored_whole l.payload l.runs l.k l.initial.words) × (◌≡◌ {A = Place} (record { from = l.from; to = l.to }) (whole_at l.runs l.k)) × (l.k ≤ length l.runs)
     × (length l.words ≡ length l.initial.words)
 
 abbrev pub decreases-loop-k : goal.decreases-loop-k
