@@ -17,8 +17,7 @@ write_once-requires c =
 
 pub returns : goal.returns
 returns c =
-    (
-      nothing_left c.write_once.new.1.1.1.1.1.0 c.args.out.now
-          c.write_once.auto.1.1.1.1.1.0,
-      c.write_once.ensures.0,
-    )
+    record {
+      out_unchanged = nothing_left c.write_once.new.out c.args.out.now c.write_once.auto.out;
+      value = c.write_once.ensures.value;
+    }
