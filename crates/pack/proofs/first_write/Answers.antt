@@ -12,7 +12,7 @@ slice_bounds-write_once-end-2 c =
     sym (length-take-le _ c.args.out.now (omega arith))
 
 pub write_once-requires : goal.write_once-requires
-write_once-requires c =
+write_once-requires c h =
     absurd (omega arith)
 
 pub returns : goal.returns

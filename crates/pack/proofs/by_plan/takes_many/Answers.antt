@@ -4,11 +4,8 @@ use mathlib.Core.Path.{sym}
 use mathlib.Core.Bool.{true≢false}
 use borrow.Author.Rules.{rules}
 use lib.Seq.{length-take-le}
-use Rattle.pack.proofs.Anew.{there_anew, taken_anew}
+use Rattle.pack.proofs.Anew.{taken_anew}
 use Rattle.pack.proofs.by_plan.takes_many.Goals as goal
-
-pub among_all-requires : goal.among_all-requires
-among_all-requires c = search there_anew
 
 pub returns-then-judged : goal.returns-then-judged
 returns-then-judged c t =
