@@ -9,7 +9,8 @@ use Rattle.pack_leaves.proofs.by_codes.judge_codes.Goals as goal
 
 pub returns-then-words-from : goal.returns-then-words-from
 returns-then-words-from c =
-    let t = let none = none_there _ _ _ c.if-words-from.true in (none, end_at _ _ _ _ none_ends none) in record { count_value = t.0; bytes_value = t.1 }
+    let none = none_there _ _ _ c.if-words-from.true in
+    record { count_value = none; bytes_value = end_at _ _ _ _ none_ends none }
 
 pub loop-k-init : goal.loop-k-init
 loop-k-init c =
@@ -36,14 +37,12 @@ loop-k-preserved c =
 
 pub returns-else-allowed : goal.returns-else-allowed
 returns-else-allowed c =
-    let t = let l = c.least-n.ensures in
     let i = c.loop-k.invariant in
-    let here = one-refused _ _ _ _ _ c.loop-k-test.true l i.0 _ c.allowed.ensures c.if-allowed.false in
-    (here, end_at _ _ _ _ i.1 here) in record { count_value = t.0; bytes_value = t.1 }
+    let here = one-refused _ _ _ _ _ c.loop-k-test.true c.least-n.ensures i.0 _ c.allowed.ensures c.if-allowed.false in
+    record { count_value = here; bytes_value = end_at _ _ _ _ i.1 here }
 
 pub returns : goal.returns
 returns c =
-    let t = let l = c.least-n.ensures in
     let i = c.loop-k.invariant in
-    let all = all-judged _ _ _ _ _ c.loop-k-test.false i.2 l i.0 in
-    (all, end_at _ _ _ _ i.1 all) in record { count_value = t.0; bytes_value = t.1 }
+    let all = all-judged _ _ _ _ _ c.loop-k-test.false i.2 c.least-n.ensures i.0 in
+    record { count_value = all; bytes_value = end_at _ _ _ _ i.1 all }
