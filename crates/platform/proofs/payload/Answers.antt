@@ -10,4 +10,4 @@ returns-in-Operation c =
 
 pub returns-in_default : goal.returns-in_default
 returns-in_default c =
-    search no_payload
+    no_payload _ _ c.in_default.not-Operation

@@ -22,8 +22,8 @@ returns-in-MarkAll-clause-blocks c =
 
 pub returns-in_default-clause-answer : goal.returns-in_default-clause-answer
 returns-in_default-clause-answer c =
-    search no_number
+    no_number _ _ _ _ _ c.in_default.not-Note c.in_default.not-MarkAll
 
 pub returns-in_default-clause-blocks : goal.returns-in_default-clause-blocks
 returns-in_default-clause-blocks c =
-    search same_words
+    same_words _ _ _ _ _ c.in_default.not-Note c.in_default.not-MarkAll

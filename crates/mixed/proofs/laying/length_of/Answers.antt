@@ -6,4 +6,4 @@ use Rattle.mixed.proofs.laying.length_of.Goals as goal
 
 pub returns-in_default : goal.returns-in_default
 returns-in_default c =
-    search field_long
+    field_long _ c.in_default.not-StatusUp

@@ -18,4 +18,4 @@ returns-in-NotInTable c =
 
 pub returns-in_default : goal.returns-in_default
 returns-in_default c =
-    search deed-none
+    deed-none _ _ c.in_default.not-Request c.in_default.not-NotVersionedData c.in_default.not-NotInTable

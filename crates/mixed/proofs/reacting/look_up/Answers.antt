@@ -14,4 +14,4 @@ returns-in-Operation c =
 
 pub returns-in_default : goal.returns-in_default
 returns-in_default c =
-    search for-no-other
+    for-no-other _ _ _ _ _ c.in_default.not-VersionedDataPull c.in_default.not-Operation

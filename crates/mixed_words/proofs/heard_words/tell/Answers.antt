@@ -18,8 +18,8 @@ returns-in-Refused-clause-heard_after c =
 
 pub returns-in_default-clause-value : goal.returns-in_default-clause-value
 returns-in_default-clause-value c =
-    search told_number
+    told_number _ c.in_default.not-Refused
 
 pub returns-in_default-clause-words_after : goal.returns-in_default-clause-words_after
 returns-in_default-clause-words_after c =
-    search told_words
+    told_words _ c.in_default.not-Refused _ _ c.requires c.keep_standing.ensures
