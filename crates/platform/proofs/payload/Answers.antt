@@ -1,6 +1,5 @@
 -- `platform::payload` meets its contract.
 -- Assumes nothing.
-use borrow.Author.Rules.{rules}
 use Rattle.platform.proofs.Receipts.{operation_payload, no_payload}
 use Rattle.platform.proofs.payload.Goals as goal
 

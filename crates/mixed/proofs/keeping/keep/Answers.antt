@@ -1,6 +1,5 @@
 -- `mixed::keeping::keep` meets its contract.
 -- Assumes nothing.
-use borrow.Author.Rules.{rules}
 use Rattle.mixed.proofs.Kept.{note-number, note-words, mark-number, mark-words, no_number, same_words}
 use Rattle.mixed.proofs.keeping.keep.Goals as goal
 

@@ -1,6 +1,5 @@
 -- `mixed::laying::length_of` meets its contract.
 -- Assumes nothing.
-use borrow.Author.Rules.{rules}
 use Rattle.mixed.proofs.Rooms.{field_long}
 use Rattle.mixed.proofs.laying.length_of.Goals as goal
 

@@ -1,6 +1,5 @@
 -- `mixed::reacting::deed_for` meets its contract: replies repeat the number.
 -- Assumes nothing.
-use borrow.Author.Rules.{rules}
 use Rattle.mixed.proofs.ReactionLaws.{deed-request, deed-no-data, deed-not-in-table, deed-none}
 use Rattle.mixed.proofs.reacting.deed_for.Goals as goal
 

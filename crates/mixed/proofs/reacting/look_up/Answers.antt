@@ -1,6 +1,5 @@
 -- `mixed::reacting::look_up` meets its contract.
 -- Assumes nothing.
-use borrow.Author.Rules.{rules}
 use Rattle.mixed.proofs.ReactionLaws.{for-pull, for-operation, for-no-other}
 use Rattle.mixed.proofs.reacting.look_up.Goals as goal
 

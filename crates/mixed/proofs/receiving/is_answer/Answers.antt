@@ -1,6 +1,5 @@
 -- `mixed::receiving::is_answer` meets its contract.
 -- Assumes nothing.
-use borrow.Author.Rules.{rules}
 use Rattle.mixed.proofs.Receipts.{of_operation, of-another}
 use Rattle.mixed.proofs.receiving.is_answer.Goals as goal
 

@@ -1,6 +1,5 @@
 -- `mixed_words::heard_words::tell` meets its contract: a refusal, or what was heard.
 -- Assumes nothing.
-use borrow.Author.Rules.{rules}
 use Rattle.mixed_words.proofs.ToldWords.{refused-number, refused-words, none_told, told_number, told_words}
 use Rattle.mixed_words.proofs.heard_words.tell.Goals as goal
 

@@ -1,6 +1,5 @@
 -- `platform::answering::is_answer` meets its contract.
 -- Assumes nothing.
-use borrow.Author.Rules.{rules}
 use Rattle.platform.proofs.ResponseLaws.{of_operation, of-another}
 use Rattle.platform.proofs.answering.is_answer.Goals as goal
 
