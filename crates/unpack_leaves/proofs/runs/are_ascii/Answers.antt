@@ -1,9 +1,4 @@
 use borrow.Author.Rules.{rules}
-use Prim.Native.Nat.{◌-◌, ◌≤◌, ◌<◌}
-use mathlib.Core.Path.{◌≡◌}
-use lib.Dec.{leb}
-use Rattle.wire.specs.All.{all_below}
-use Rattle.unpack_leaves.specs.OneCode.{is_good}
 use Rattle.unpack_leaves.proofs.Ascii.{still_byte, none-ascii, more-ascii, all_ascii}
 use Rattle.unpack_leaves.proofs.runs.are_ascii.Goals as goal
 
