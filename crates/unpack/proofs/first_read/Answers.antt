@@ -1,6 +1,5 @@
 -- `unpack::first_read` meets its contract: there is no room to store in.
 -- Assumes nothing.
-use borrow.Author.Rules.{rules}
 use mathlib.Core.Path.{sym}
 use native.Mathlib.Omega.{arith}
 use lib.Seq.{length-take-le}

@@ -1,6 +1,5 @@
 -- `unpack::read_long` meets its contract: the second walk ends as the first.
 -- Assumes nothing.
-use borrow.Author.Rules.{rules}
 use Rattle.walk.proofs.Whole.{refused, not-whole, all_stored}
 use Rattle.unpack.proofs.read_long.Goals as goal
 

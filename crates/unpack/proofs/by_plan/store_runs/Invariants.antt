@@ -1,13 +1,10 @@
 -- `unpack::by_plan::store_runs` meets its contract: behind so many runs, as far as the last word.
 -- Assumes nothing.
-use borrow.Author.Rules.{rules}
 use Prim.Native.Nat.{◌-◌, ◌≤◌}
-use mathlib.Core.Path.{◌≡◌, refl}
+use mathlib.Core.Path.{◌≡◌}
 use lib.ListN.{length}
 use Rattle.walk.specs.declared.Place.{Place}
 use Rattle.unpack.specs.RunByRun.{place_at, stored_upto}
-use Rattle.unpack.proofs.StoredRuns.{place_start, stored_start, stored_end, some_fit, place-next, bytes-in, from-fits, stored_next}
-use Rattle.unpack.proofs.Upto.{none_stored}
 use Rattle.unpack.proofs.by_plan.store_runs.Given as goal
 
 abbrev pub invariant-loop-k : goal.invariant-loop-k

@@ -1,6 +1,5 @@
 -- `unpack::each::read_by_runs` meets its contract: runs of one leaf each are leaves of their codes.
 -- Assumes nothing.
-use borrow.Author.Rules.{rules}
 use mathlib.Core.Path.{sym}
 use lib.ListN.{replicate}
 use lib.Seq.{length-take-le}

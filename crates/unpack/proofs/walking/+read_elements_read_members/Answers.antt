@@ -8,7 +8,7 @@ use Rattle.unpack.specs.Reading.{reader}
 use Rattle.walk.proofs.Trees.{members-smaller, elements-smaller}
 use Rattle.walk.proofs.Returns.{Did, member_step, element_step, members-planned, elements-planned, elements-stopped}
 use Rattle.walk.proofs.Turns.{begun_here, leaf-stepped, members-stepped, elements-stepped, broken-stepped}
-use Rattle.walk.proofs.Turns.{going_start, going_on, going_next, members-done, members-stop, elements-done, elements-stop}
+use Rattle.walk.proofs.Turns.{going_on, going_next, members-done, members-stop, elements-done, elements-stop}
 use Rattle.unpack.proofs.ReadReturns.{reader_keeps}
 use Rattle.unpack.proofs.walking.+read_elements_read_members.Goals as goal
 use Rattle.unpack.proofs.walking.+read_elements_read_members.Goals.{read_elements-in-Leaf, read_elements-in-Members, read_elements-in-Elements, read_elements-in-Broken}

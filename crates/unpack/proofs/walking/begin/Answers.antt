@@ -1,6 +1,5 @@
 -- `unpack::begin` meets its contract: nothing before a fixed array, and the three ends of a count.
 -- Assumes nothing.
-use borrow.Author.Rules.{rules}
 use native.Mathlib.Omega.{arith}
 use Rattle.walk.proofs.Returns.{fixed-begun}
 use Rattle.unpack.proofs.ReadReturns.{count-short, count-over, count-went, next_from, next_to}
