@@ -8,7 +8,7 @@ loop-seen-init c =
 
 pub loop-seen-preserved : goal.loop-seen-preserved
 loop-seen-preserved c =
-    (search more-ascii, search (still_byte, c.type_inv.payload), search rules)
+    (search more-ascii, search still_byte, search rules)
 
 pub returns : goal.returns
 returns c =
