@@ -48,9 +48,9 @@ module _ {came : Came} (s t : List ℕ) (filled room : ℕ) (f : room ≤ length
       let w : Brought 0 (length (take room t)) (More n) = subst (Brought 0 (length (take room t))) e b in
       (omega arith, omega (arith, w.0, w.1, length-take room t))
 
-  pub failed-within : came ≡ Failed → Brought filled (length s) Failed
-  failed-within e =
-      let w : Brought 0 (length (take room t)) Failed = subst (Brought 0 (length (take room t))) e b in
+  pub failed-within : (error : _) → came ≡ Failed error → Brought filled (length s) (Failed error)
+  failed-within error e =
+      let w : Brought 0 (length (take room t)) (Failed error) = subst (Brought 0 (length (take room t))) e b in
       omega (arith, length-take room t)
 
 -- so many bytes from the chunk, or none where it is shorter

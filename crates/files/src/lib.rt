@@ -6,16 +6,29 @@
 ghost use Rattle.std.specs.Prelude.{◌≡◌, true, [], ◌+◌, ◌-◌, ◌≤◌, length, take, drop};
 ghost use Rattle.wire.specs.Bytes.{part};
 ghost use Rattle.files.specs.Reading.{Brought, came_in};
-ghost use Rattle.files.specs.Sources.{SourceWithin, Opens};
+ghost use Rattle.files.specs.Sources.{SourceWithin, Opens, source_of};
+ghost use Rattle.files.specs.declared.Source.TheVariants.{Missing};
 
-use libc::{PATH_MAX, STDOUT_FILENO};
+use std::env::FillError;
+use std::fs::File;
+use std::io::{Error, ErrorKind, Read};
+use std::rt::{Env, Files};
+
+// The bytes of the longest name of a file, with the 0 that ends it.
+const PATH: usize = 4096;
+
+// The most that one read brings.
+const CHUNK: usize = 65536;
+
+// The system's number for a name that is too long.
+const NAME_TOO_LONG: i32 = 36;
 
 // Where a program's input comes from.
 #[derive(Drop)]
 pub enum Source {
     StandardInput,
     // The file that the first argument names, in so many bytes.
-    File { fd: i32, length: usize },
+    File { file: File, length: usize },
     // It cannot be opened, and that was said.
     Missing,
 }
@@ -24,7 +37,7 @@ pub enum Source {
 #[derive(Drop)]
 pub struct Input {
     pub source: Source,
-    pub path: [u8; PATH_MAX],
+    pub path: [u8; PATH],
 }
 
 // What one read brought.
@@ -34,64 +47,93 @@ pub enum Came {
     More(usize),
     // The file ends here, or the buffer is full.
     Nothing,
-    Failed,
+    Failed(Error),
 }
 
 // The file that the program's first argument names, or standard input with no argument.
-pub fn open_input() -> Input
+pub fn open_input(rt: &(impl Env + Files<File = File> + Eprint)) -> Input
     ensures { Opens result }
 {
-    let mut path = io::buffer();
-    if os::arg_count() <= 1 {
-        return Input {
+    let mut path = [0u8; PATH];
+    match rt.arg(1, &mut path) {
+        Ok(length) => {
+            let source = open_file(rt, &path[..length]);
+            Input { source, path }
+        }
+        Err(FillError::NotPresent) => Input {
             source: Source::StandardInput,
             path,
-        };
-    }
-    let length = os::arg(1, &mut path);
-    if os::errno() != 0 {
-        os::fail(b"the first argument");
-        return Input {
-            source: Source::Missing,
+        },
+        Err(FillError::TooLong) => Input {
+            source: missing(
+                rt,
+                b"the first argument",
+                Error::from_raw_os_error(NAME_TOO_LONG),
+            ),
             path,
-        };
+        },
     }
-    let source = open_file(&path[..length]);
-    Input { source, path }
 }
 
-fn open_file(name: &[u8]) -> Source
+// std opens no file whose name is not UTF-8.
+fn open_file(rt: &(impl Files<File = File> + Eprint), name: &[u8]) -> Source
     ensures { SourceWithin (length name.now) result }
 {
-    let fd = os::open_read(name);
-    if fd < 0 {
-        os::fail(name);
-        return Source::Missing;
+    let opened = match str::from_utf8(name) {
+        Ok(path) => File::open(rt, path),
+        Err(_) => Err(Error::new(ErrorKind::InvalidFilename, "file name is not UTF-8")),
+    };
+    source_of(rt, name, opened)
+}
+
+fn source_of(rt: &impl Eprint, name: &[u8], opened: Result<File, Error>) -> Source
+    ensures { result ≡ source_of opened (length name.now) }
+{
+    match opened {
+        Ok(file) => Source::File {
+            file,
+            length: name.len(),
+        },
+        Err(error) => missing(rt, name, error),
     }
-    Source::File {
-        fd,
-        length: name.len(),
-    }
+}
+
+// Says why a file is missing.
+fn missing(rt: &impl Eprint, name: &[u8], error: Error) -> Source
+    ensures { result ≡ Missing }
+{
+    fail(rt, name, error);
+    Source::Missing
+}
+
+// Writes a line to standard error: what failed, as the caller names it, a colon and why. A name that is not UTF-8 is called the
+// first argument. Whether that can be written is of no account.
+pub fn fail(rt: &impl Eprint, what: &[u8], error: Error) {
+    let name = match str::from_utf8(what) {
+        Ok(text) => text,
+        Err(_) => "the first argument",
+    };
+    let _ = rt.eprintln(format_args!("{name}: {error}"));
 }
 
 // Reads once, behind what is filled already, by way of a buffer of its own: a read may change what lies behind the bytes
 // that it brings.
-pub fn fill(fd: i32, buffer: &mut [u8], filled: usize) -> Came
+pub fn fill(from: &mut impl Read, buffer: &mut [u8], filled: usize) -> Came
     ensures brought { Brought filled (length buffer.old) result }
     ensures buffer_unchanged { take filled buffer.new ≡ take filled buffer.old }
     ensures buffer_unchanged_2 { drop (filled + came_in result) buffer.new ≡ drop (filled + came_in result) buffer.old }
     ensures buffer_len_unchanged { length buffer.new ≡ length buffer.old }
 {
-    let mut space = io::large_buffer();
+    let mut space = [0u8; CHUNK];
     let chunk: &mut [u8] = &mut space;
     let room = room_behind(filled, buffer.len(), chunk.len());
-    match read_once(fd, &mut chunk[..room]) {
+    match read_once(from, &mut chunk[..room]) {
         Came::More(n) => {
             put_front(buffer, filled, chunk, n);
             Came::More(n)
         }
         Came::Nothing => Came::Nothing,
-        Came::Failed => Came::Failed,
+        Came::Failed(error) => Came::Failed(error),
     }
 }
 
@@ -113,35 +155,33 @@ fn room_behind(filled: usize, len: usize, chunk: usize) -> usize
     wire::least(len - filled, chunk)
 }
 
-fn read_once(fd: i32, chunk: &mut [u8]) -> Came
+fn read_once(from: &mut impl Read, chunk: &mut [u8]) -> Came
     ensures { Brought 0 (length chunk.old) result }
 {
     if chunk.len() == 0 {
         return Came::Nothing;
     }
-    let got = libc::read(fd, chunk);
-    if got < 0 {
-        return Came::Failed;
+    match from.read(chunk) {
+        Ok(0) => Came::Nothing,
+        Ok(n) => Came::More(n),
+        Err(error) => Came::Failed(error),
     }
-    let n = io::count(got, chunk);
-    if n == 0 {
-        return Came::Nothing;
-    }
-    Came::More(n)
 }
 
 // Writes the first `made` bytes to standard output, and answers whether that went well; where it did not, that was said.
 // With nothing to write nothing can go wrong.
-pub fn flush(output: &[u8], made: usize) -> bool
+pub fn flush(rt: &(impl Print + Eprint), output: &[u8], made: usize) -> bool
     ensures { part output.now 0 made ≡ [] → result ≡ true }
 {
     let bytes = wire::part(output, 0, made);
     if bytes.len() == 0 {
         return true;
     }
-    if io::write_all(STDOUT_FILENO, bytes) {
-        return true;
+    match rt.write_all(bytes) {
+        Ok(()) => true,
+        Err(error) => {
+            fail(rt, b"standard output", error);
+            false
+        }
     }
-    os::fail(b"standard output");
-    false
 }

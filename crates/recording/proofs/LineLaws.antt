@@ -1,14 +1,11 @@
 -- What the functions that make a line ask at their returns: its words are put one behind another, and what they make
 -- together is the line.
 -- Assumes nothing.
-use Rattle.std.proofs.Common.{◌≡◌, ℕ, ◌+◌, ◌≤◌, List, [], ◌∷◌, ◌++◌, length, refl, ap, ◌∙◌, ⊎_elim, arith, length-append}
-use denote.Enum.Declared.{tag_of}
-use types.Run.{OneOf}
+use Rattle.std.proofs.Common.{◌≡◌, ℕ, ◌+◌, ◌≤◌, List, [], ◌∷◌, ◌++◌, length, refl, ap, ◌∙◌, arith, length-append}
 use Rattle.wire.specs.Bytes.{written, part}
 use Rattle.channel.specs.Outcomes.{name_of, missed_in, bytes_in}
 use Rattle.channel.specs.declared.Outcome.{Outcome}
 use Rattle.channel.specs.declared.Outcome.TheVariants.{Refused, Repeated, Delivered, Held, Stray, TooLong}
-use Rattle.channel.specs.contracts.Outcome.{the_type}
 use Rattle.recording.specs.Decimal.{digit_limit, decimal}
 use Rattle.recording.specs.Places.{behind, spaced, joined, put_all, end_all}
 use Rattle.recording.proofs.Decimals.{digits_few}
@@ -31,14 +28,13 @@ module _ {x o : Outcome} (h : o ≡ x) where
   pub value-put : {u : List ℕ} (w : List ℕ) (at : ℕ) → u ≡ put_all (value_words x) w at → u ≡ put_all (value_words o) w at
   value-put w at e = rw h e
 
--- any outcome but a refusal, by the places of their variants
-module _ {m b : ℕ} (o : Outcome) (t : OneOf (1 ∷ 2 ∷ 3 ∷ 4 ∷ 5 ∷ []) (tag_of the_type o)) (e : m ≡ missed_in o) (f : b ≡ bytes_in o) where
+-- any outcome but a refusal
+module _ {m b : ℕ} (o : Outcome) (t : (n : ℕ) → o ≡ Refused n → ⊥) (e : m ≡ missed_in o) (f : b ≡ bytes_in o) where
   counted : count_words m b ≡ value_words o
   counted = go o t e f
     where
-      go : (x : Outcome) → OneOf (1 ∷ 2 ∷ 3 ∷ 4 ∷ 5 ∷ []) (tag_of the_type x) → m ≡ missed_in x → b ≡ bytes_in x → count_words m b ≡ value_words x
-      go (Refused n) s g h =
-          absurd (⊎_elim (λ e. omega arith) (⊎_elim (λ e. omega arith) (⊎_elim (λ e. omega arith) (⊎_elim (λ e. omega arith) (λ e. omega arith)))) s)
+      go : (x : Outcome) → ((n : ℕ) → x ≡ Refused n → ⊥) → m ≡ missed_in x → b ≡ bytes_in x → count_words m b ≡ value_words x
+      go (Refused n) s g h = absurd (s n refl)
       go Repeated s g h = rw (g, h)
       go (Delivered x y) s g h = rw (g, h)
       go (Held x y) s g h = rw (g, h)

@@ -30,4 +30,4 @@ abbrev pub NextWithin : Next → Type 0
 NextWithin Write = Unit {0}
 NextWithin (Filled n) = n ≤ input_length
 NextWithin (End e) = Says20 e
-NextWithin Failed = Unit {0}
+NextWithin (Failed e) = Unit {0}

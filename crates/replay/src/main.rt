@@ -4,19 +4,20 @@
 mod player;
 
 use files::Source;
-use libc::STDIN_FILENO;
 
-fn main() {
-    let input = files::open_input();
+fn main(rt: HostRuntime) {
+    let input = files::open_input(&rt);
     let path = input.path;
     let source = input.source;
     match source {
+        // Nothing says whether standard input is a file, all of whose bytes are there.
         Source::StandardInput => {
-            player::replay(STDIN_FILENO, b"standard input");
+            player::replay(&rt, &mut rt.stdin(), true, b"standard input");
         }
-        Source::File { fd, length } => {
-            player::replay(fd, wire::part(&path, 0, length));
-            libc::close(fd);
+        Source::File { file, length } => {
+            let mut file = file;
+            let waits = player::may_wait(&mut file);
+            player::replay(&rt, &mut file, waits, wire::part(&path, 0, length));
         }
         Source::Missing => {}
     }

@@ -6,11 +6,14 @@ ghost use Rattle.replay.specs.Endings.{Says20, Refuses20, RefusalIs20, NextWithi
 ghost use Rattle.replay.specs.declared.player.Next.TheVariants.{Write};
 
 use files::Came;
-use libc::SEEK_CUR;
 use recording::{Coming, Ending, Opened, Opening, Run};
+use std::io::{Error, Read, Seek};
 
 // Some four of the longest datagrams.
 const INPUT: usize = 262144;
+
+// Lines that wait to be written, and the rooms of a recording.
+const BLOCK: usize = 65536;
 
 // How a replay came to its end: its lines say so, or the recording could not be read, or its lines not be written.
 #[derive(Drop)]
@@ -25,7 +28,7 @@ pub enum Replayed {
 struct Begun {
     opened: Opened,
     filled: usize,
-    failed: bool,
+    failed: Option<Error>,
 }
 
 // What is to be done once all that came was played: its lines are written first, or so much of the input is filled anew,
@@ -35,18 +38,24 @@ enum Next {
     Write,
     Filled(usize),
     End(Ending),
-    Failed,
+    Failed(Error),
 }
 
-// Replays the recording that can be read at `fd`. `name` is what a message on standard error calls it.
-pub fn replay(fd: i32, name: &[u8]) -> Replayed
+// Replays the recording that can be read from `from`. `name` is what a message on standard error calls it, and `waits` says
+// whether a read may wait for bytes that are not there yet.
+pub fn replay(
+    rt: &(impl Print + Eprint),
+    from: &mut impl Read,
+    waits: bool,
+    name: &[u8],
+) -> Replayed
     ensures { Refuses20 result }
 {
     let mut block = input_buffer();
     let input: &mut [u8] = &mut block;
-    let mut text = io::large_buffer();
+    let mut text = [0u8; BLOCK];
     let output: &mut [u8] = &mut text;
-    let begun = begin(fd, input);
+    let begun = begin(from, input);
     let opened = begun.opened;
     let opening = opened.opening;
     match opening {
@@ -58,16 +67,23 @@ pub fn replay(fd: i32, name: &[u8]) -> Replayed
                 at: start,
                 made: 0,
             };
-            play_in(fd, name, run, rooms, input, begun.filled, output)
+            play_in(
+                rt,
+                from,
+                waits,
+                name,
+                run,
+                rooms,
+                input,
+                begun.filled,
+                output,
+            )
         }
-        Opening::Refused(number) => finish(output, 0, Ending::RefusedSetup(number)),
-        Opening::Unfinished => {
-            if begun.failed {
-                fail(name, output, 0)
-            } else {
-                finish(output, 0, Ending::CutShort)
-            }
-        }
+        Opening::Refused(number) => finish(rt, output, 0, Ending::RefusedSetup(number)),
+        Opening::Unfinished => match begun.failed {
+            Some(error) => fail(rt, name, error, output, 0),
+            None => finish(rt, output, 0, Ending::CutShort),
+        },
     }
 }
 
@@ -78,7 +94,7 @@ fn input_buffer() -> [u8; INPUT]
 }
 
 // Reads until the start of the recording is known, or nothing more comes.
-fn begin(fd: i32, input: &mut [u8]) -> Begun
+fn begin(from: &mut impl Read, input: &mut [u8]) -> Begun
     requires { length input.old ≡ input_length }
     ensures { (result.filled ≤ input_length) × RoomsFit result.opened × RefusalIs20 result.opened }
 {
@@ -87,20 +103,20 @@ fn begin(fd: i32, input: &mut [u8]) -> Begun
         let opened = recording::open(&input[..filled]);
         let opening = opened.opening;
         match opening {
-            Opening::Unfinished => match files::fill(fd, input, filled) {
+            Opening::Unfinished => match files::fill(from, input, filled) {
                 Came::More(n) => filled += n,
                 Came::Nothing => {
                     return Begun {
                         opened,
                         filled,
-                        failed: false,
+                        failed: None,
                     };
                 }
-                Came::Failed => {
+                Came::Failed(error) => {
                     return Begun {
                         opened,
                         filled,
-                        failed: true,
+                        failed: Some(error),
                     };
                 }
             },
@@ -108,7 +124,7 @@ fn begin(fd: i32, input: &mut [u8]) -> Begun
                 return Begun {
                     opened,
                     filled,
-                    failed: false,
+                    failed: None,
                 };
             }
         }
@@ -117,7 +133,9 @@ fn begin(fd: i32, input: &mut [u8]) -> Begun
 
 // Plays the recording in rooms of `total` bytes.
 fn play_in(
-    fd: i32,
+    rt: &(impl Print + Eprint),
+    from: &mut impl Read,
+    waits: bool,
     name: &[u8],
     run: Run,
     total: usize,
@@ -128,14 +146,26 @@ fn play_in(
     requires { (length input.old ≡ input_length) × (filled ≤ input_length) × (total ≤ rooms_length) }
     ensures { Refuses20 result }
 {
-    let mut rooms = io::large_buffer();
-    play_all(fd, name, run, &mut rooms[..total], input, filled, output)
+    let mut rooms = [0u8; BLOCK];
+    play_all(
+        rt,
+        from,
+        waits,
+        name,
+        run,
+        &mut rooms[..total],
+        input,
+        filled,
+        output,
+    )
 }
 
 // Plays what is filled, and reads on, until nothing more comes. A proved loop has to end, and nothing says that a file
 // does: so it counts its turns down, from a number that no run uses up.
 fn play_all(
-    fd: i32,
+    rt: &(impl Print + Eprint),
+    from: &mut impl Read,
+    waits: bool,
     name: &[u8],
     run: Run,
     rooms: &mut [u8],
@@ -146,16 +176,15 @@ fn play_all(
     requires { (length input.old ≡ input_length) × (filled ≤ input_length) }
     ensures { Refuses20 result }
 {
-    let waits = may_wait(fd);
     let mut run = run;
     let mut filled = filled;
     let mut turns = u64::MAX;
     while turns > 0 {
         turns -= 1;
         run = recording::play(run, rooms, &input[..filled], output);
-        match read_on(fd, input, filled, run.at, waits & (run.made > 0)) {
+        match read_on(from, input, filled, run.at, waits & (run.made > 0)) {
             Next::Write => {
-                if files::flush(output, run.made) {
+                if files::flush(rt, output, run.made) {
                     run.made = 0;
                 } else {
                     return Replayed::Unwritable;
@@ -165,22 +194,22 @@ fn play_all(
                 filled = n;
                 run.at = 0;
             }
-            Next::End(ending) => return finish(output, run.made, ending),
-            Next::Failed => return fail(name, output, run.made),
+            Next::End(ending) => return finish(rt, output, run.made, ending),
+            Next::Failed(error) => return fail(rt, name, error, output, run.made),
         }
     }
     Replayed::Unreadable
 }
 
-// Whether a read may wait for bytes that are not there yet. A file has a place from which it is read, and all its bytes are
-// there; a pipe, a socket and a terminal have none.
-fn may_wait(fd: i32) -> bool {
-    libc::lseek(fd, 0, SEEK_CUR) < 0
+// Whether a read of a file may wait for bytes that are not there yet. A file has a place from which it is read, and all its
+// bytes are there; a pipe and a terminal, which may have names too, have none.
+pub fn may_wait(file: &mut impl Seek) -> bool {
+    file.stream_position().is_err()
 }
 
 // Reads on behind what is left of the input, unless lines are to be written before: those that are owed to whoever waits for
 // them, or a whole datagram is left, for whose line the output had no room.
-fn read_on(fd: i32, input: &mut [u8], filled: usize, at: usize, owed: bool) -> Next
+fn read_on(from: &mut impl Read, input: &mut [u8], filled: usize, at: usize, owed: bool) -> Next
     requires { (length input.old ≡ input_length) × (filled ≤ input_length) }
     ensures next_within { NextWithin result }
     ensures value { owed ≡ true → result ≡ Write }
@@ -195,20 +224,20 @@ fn read_on(fd: i32, input: &mut [u8], filled: usize, at: usize, owed: bool) -> N
         } => Next::Write,
         Coming::Unfinished => {
             let kept = recording::keep(input, at, filled - at);
-            read_behind(fd, input, kept)
+            read_behind(from, input, kept)
         }
-        Coming::Nothing => read_behind(fd, input, 0),
+        Coming::Nothing => read_behind(from, input, 0),
     }
 }
 
-fn read_behind(fd: i32, input: &mut [u8], kept: usize) -> Next
+fn read_behind(from: &mut impl Read, input: &mut [u8], kept: usize) -> Next
     requires { (length input.old ≡ input_length) × (kept < input_length) }
     ensures { NextWithin result }
 {
-    match files::fill(fd, input, kept) {
+    match files::fill(from, input, kept) {
         Came::More(n) => Next::Filled(kept + n),
         Came::Nothing => Next::End(ending_after(kept)),
-        Came::Failed => Next::Failed,
+        Came::Failed(error) => Next::Failed(error),
     }
 }
 
@@ -224,13 +253,13 @@ fn ending_after(kept: usize) -> Ending
 }
 
 // Writes the lines that are made, and the one that the run ends with.
-fn finish(output: &mut [u8], made: usize, ending: Ending) -> Replayed
+fn finish(rt: &(impl Print + Eprint), output: &mut [u8], made: usize, ending: Ending) -> Replayed
     requires { Says20 ending }
     ensures { Refuses20 result }
 {
-    if files::flush(output, made) {
+    if files::flush(rt, output, made) {
         let last = recording::put_ending(output, 0, ending);
-        if files::flush(output, last) {
+        if files::flush(rt, output, last) {
             return Replayed::Told(ending);
         }
     }
@@ -238,11 +267,17 @@ fn finish(output: &mut [u8], made: usize, ending: Ending) -> Replayed
 }
 
 // Writes the lines that are made, and then what is wrong with the recording.
-fn fail(name: &[u8], output: &[u8], made: usize) -> Replayed
+fn fail(
+    rt: &(impl Print + Eprint),
+    name: &[u8],
+    error: Error,
+    output: &[u8],
+    made: usize,
+) -> Replayed
     ensures { Refuses20 result }
 {
-    if files::flush(output, made) {
-        os::fail(name);
+    if files::flush(rt, output, made) {
+        files::fail(rt, name, error);
         return Replayed::Unreadable;
     }
     Replayed::Unwritable

@@ -9,9 +9,9 @@ slice_bounds-read_once-end-2 c =
     search (rules, chunk_part)
 
 pub returns-in-More-clause-brought : goal.returns-in-More-clause-brought
-returns-in-More-clause-brought c =
+returns-in-More-clause-brought g c =
     search more-fits
 
 pub returns-in-Failed-clause-brought : goal.returns-in-Failed-clause-brought
-returns-in-Failed-clause-brought c =
+returns-in-Failed-clause-brought g c =
     search failed-within
