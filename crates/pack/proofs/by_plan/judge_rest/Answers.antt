@@ -1,11 +1,6 @@
-use Prim.Native.Nat.{◌-◌}
 use mathlib.Core.Path.{refl, sym, ◌∙◌}
-use mathlib.Core.List.{[]}
 use borrow.Author.Rules.{rules}
-use lib.ListN.{length, drop}
-use Rattle.walk.specs.Walk.{answer}
-use Rattle.pack.specs.Writing.{Writing}
-use Rattle.pack.proofs.PlanWalks.{overRuns, Leads, leads-went, leads-stop, leads-end, run-keeps}
+use Rattle.pack.proofs.PlanWalks.{leads-went, leads-stop, leads-end, run-keeps}
 use Rattle.pack.proofs.by_plan.judge_rest.Goals as goal
 
 pub loop-k-init : goal.loop-k-init
@@ -13,11 +8,10 @@ loop-k-init c =
     (refl, search rules)
 
 pub loop-k-preserved : goal.loop-k-preserved
-loop-k-preserved c =
-    (
-      leads-went _ _ _ _ _ _ _ c.loop-k-test.true c.loop-k.invariant.0 (sym c.in-Went.is ∙ c.judge_leaves.ensures),
-      run-keeps _ _ _ _ _ _ _ c.loop-k.invariant.1 c.judge_leaves.ensures c.in-Went.is,
-    )
+loop-k-preserved c = (
+  leads-went _ _ _ _ _ _ _ c.loop-k-test.true c.loop-k.invariant.0 (sym c.in-Went.is ∙ c.judge_leaves.ensures),
+  run-keeps _ _ _ _ _ _ _ c.loop-k.invariant.1 c.judge_leaves.ensures c.in-Went.is,
+)
 
 pub returns-in-Stopped : goal.returns-in-Stopped
 returns-in-Stopped c =

@@ -37,9 +37,8 @@ write_elements-write_run-run-requires t c =
     let start = c.args in
     let begun : Did (begun (writer start.words.now) start.e start.p start.out.now) c.begin.result c.begin.new.out = (c.begin.ensures.value, c.begin.ensures.out_after) in
     let whole : 0 < length c.begin.new.out → Goes_on (through c.times-count.result (element_step (writer start.words.now) start.plans.now start.table.now start.s start.i start.e.of) c.in-Went.q c.begin.new.out) =
-        λ r. elements-sure _ _ _ _ _ _ c.is_planned.ensures c.if-is_planned.false _ _ _ _ begun _ _ c.in-Went.is c.times-count.ensures
-        (c.requires.1 (omega (arith, c.begin.auto.out))) in
-    (
+    λ r. elements-sure _ _ _ _ _ _ c.is_planned.ensures c.if-is_planned.false _ _ _ _ begun _ _ c.in-Went.is c.times-count.ensures
+    (c.requires.1 (omega (arith, c.begin.auto.out))) in (
       begun_here _ _ _ _ _ _ (writer_keeps _) c.requires.0 begun c.in-Went.is,
       λ h base. run_sure _ _ _ _ _ _ _ c.base_at-code.ensures base _ _ _ (whole h),
     )
@@ -58,10 +57,9 @@ write_elements-write_met-rest-requires t c =
     let start = c.args in
     let begun : Did (begun (writer start.words.now) start.e start.p start.out.now) c.begin.result c.begin.new.out = (c.begin.ensures.value, c.begin.ensures.out_after) in
     let whole : 0 < length c.begin.new.out → Goes_on (through c.times-count.result (element_step (writer start.words.now) start.plans.now start.table.now start.s start.i start.e.of) c.in-Went.q c.begin.new.out) =
-        λ r. elements-sure _ _ _ _ _ _ c.is_planned.ensures c.if-is_planned.false _ _ _ _ begun _ _ c.in-Went.is c.times-count.ensures
-        (c.requires.1 (omega (arith, c.begin.auto.out))) in
-    let run = c.write_run-run.ensures _ (element_writes _ start.plans.now _ _ _ _ _ c.base_at-code.ensures) in
-    (
+    λ r. elements-sure _ _ _ _ _ _ c.is_planned.ensures c.if-is_planned.false _ _ _ _ begun _ _ c.in-Went.is c.times-count.ensures
+    (c.requires.1 (omega (arith, c.begin.auto.out))) in
+    let run = c.write_run-run.ensures _ (element_writes _ start.plans.now _ _ _ _ _ c.base_at-code.ensures) in (
       run.here,
       run.most,
       λ h e is. going_leaves _ _ _ e run whole (leaf_written _ _ _ e _ ((element_met start.plans.now _ _ _ _ _ c.meet-met.ensures).of_leaf e is)) h,
@@ -78,12 +76,11 @@ write_elements-write_leaf-step-requires t c =
     let start = c.args in
     let begun : Did (begun (writer start.words.now) start.e start.p start.out.now) c.begin.result c.begin.new.out = (c.begin.ensures.value, c.begin.ensures.out_after) in
     let whole : 0 < length c.begin.new.out → Goes_on (through c.times-count.result (element_step (writer start.words.now) start.plans.now start.table.now start.s start.i start.e.of) c.in-Went.q c.begin.new.out) =
-        λ r. elements-sure _ _ _ _ _ _ c.is_planned.ensures c.if-is_planned.false _ _ _ _ begun _ _ c.in-Went.is c.times-count.ensures
-        (c.requires.1 (omega (arith, c.begin.auto.out))) in
+    λ r. elements-sure _ _ _ _ _ _ c.is_planned.ensures c.if-is_planned.false _ _ _ _ begun _ _ c.in-Went.is c.times-count.ensures
+    (c.requires.1 (omega (arith, c.begin.auto.out))) in
     let run = c.write_run-run.ensures _ (element_writes _ start.plans.now _ _ _ _ _ c.base_at-code.ensures) in
     let met = c.write_met-rest.ensures _ (element_met start.plans.now _ _ _ _ _ c.meet-met.ensures) in
-    let so_far = going_on run (going_on met c.loop-k.invariant) in
-    (
+    let so_far = going_on run (going_on met c.loop-k.invariant) in (
       c.loop-k.invariant.here,
       λ h. sure-leaf _ _ _ _ _ _ _ refl _ _ _ c.meet-met.ensures _ (going_sure so_far whole c.loop-k-test.true h) c.in-Leaf.is,
     )
@@ -93,40 +90,45 @@ write_elements-write_members-step-requires t c =
     let start = c.args in
     let begun : Did (begun (writer start.words.now) start.e start.p start.out.now) c.begin.result c.begin.new.out = (c.begin.ensures.value, c.begin.ensures.out_after) in
     let whole : 0 < length c.begin.new.out → Goes_on (through c.times-count.result (element_step (writer start.words.now) start.plans.now start.table.now start.s start.i start.e.of) c.in-Went.q c.begin.new.out) =
-        λ r. elements-sure _ _ _ _ _ _ c.is_planned.ensures c.if-is_planned.false _ _ _ _ begun _ _ c.in-Went.is c.times-count.ensures
-        (c.requires.1 (omega (arith, c.begin.auto.out))) in
+    λ r. elements-sure _ _ _ _ _ _ c.is_planned.ensures c.if-is_planned.false _ _ _ _ begun _ _ c.in-Went.is c.times-count.ensures
+    (c.requires.1 (omega (arith, c.begin.auto.out))) in
     let run = c.write_run-run.ensures _ (element_writes _ start.plans.now _ _ _ _ _ c.base_at-code.ensures) in
     let met = c.write_met-rest.ensures _ (element_met start.plans.now _ _ _ _ _ c.meet-met.ensures) in
-    let so_far = going_on run (going_on met c.loop-k.invariant) in
-    (members-smaller _ _ _ _ _ c.decreases _ _ c.meet-met.ensures c.in-Members.is, (
-      c.loop-k.invariant.here,
-      λ h. sure-members _ _ _ _ _ _ _ refl _ _ _ c.meet-met.ensures _ (going_sure so_far whole c.loop-k-test.true h) c.in-Members.is,
-    ))
+    let so_far = going_on run (going_on met c.loop-k.invariant) in (
+      members-smaller _ _ _ _ _ c.decreases _ _ c.meet-met.ensures c.in-Members.is,
+      (
+        c.loop-k.invariant.here,
+        λ h. sure-members _ _ _ _ _ _ _ refl _ _ _ c.meet-met.ensures _ (going_sure so_far whole c.loop-k-test.true h) c.in-Members.is,
+      ),
+    )
 
 pub write_elements-write_elements-step-requires : goal.write_elements-write_elements-step-requires
 write_elements-write_elements-step-requires t c =
     let start = c.args in
     let begun : Did (begun (writer start.words.now) start.e start.p start.out.now) c.begin.result c.begin.new.out = (c.begin.ensures.value, c.begin.ensures.out_after) in
     let whole : 0 < length c.begin.new.out → Goes_on (through c.times-count.result (element_step (writer start.words.now) start.plans.now start.table.now start.s start.i start.e.of) c.in-Went.q c.begin.new.out) =
-        λ r. elements-sure _ _ _ _ _ _ c.is_planned.ensures c.if-is_planned.false _ _ _ _ begun _ _ c.in-Went.is c.times-count.ensures
-        (c.requires.1 (omega (arith, c.begin.auto.out))) in
+    λ r. elements-sure _ _ _ _ _ _ c.is_planned.ensures c.if-is_planned.false _ _ _ _ begun _ _ c.in-Went.is c.times-count.ensures
+    (c.requires.1 (omega (arith, c.begin.auto.out))) in
     let run = c.write_run-run.ensures _ (element_writes _ start.plans.now _ _ _ _ _ c.base_at-code.ensures) in
     let met = c.write_met-rest.ensures _ (element_met start.plans.now _ _ _ _ _ c.meet-met.ensures) in
-    let so_far = going_on run (going_on met c.loop-k.invariant) in
-    (elements-smaller _ _ _ _ _ c.decreases _ _ c.meet-met.ensures c.in-Elements.is, (
-      c.loop-k.invariant.here,
-      λ h. sure-elements _ _ _ _ _ _ _ refl _ _ _ c.meet-met.ensures _ (going_sure so_far whole c.loop-k-test.true h) c.in-Elements.is,
-    ))
+    let so_far = going_on run (going_on met c.loop-k.invariant) in (
+      elements-smaller _ _ _ _ _ c.decreases _ _ c.meet-met.ensures c.in-Elements.is,
+      (
+        c.loop-k.invariant.here,
+        λ h. sure-elements _ _ _ _ _ _ _ refl _ _ _ c.meet-met.ensures _ (going_sure so_far whole c.loop-k-test.true h) c.in-Elements.is,
+      ),
+    )
 
 pub write_elements-loop-k-preserved : goal.write_elements-loop-k-preserved
 write_elements-loop-k-preserved t c =
     let start = c.args in
     let stepped : Did (element_step (writer start.words.now) start.plans.now start.table.now start.s start.i start.e.of c.loop-k.k c.loop-k.at c.loop-k.out) c.match-here.step c.match-here.out =
-        elim c.match-here.branch [
-        write_elements-in-Leaf w ↦ leaf-stepped _ _ _ _ _ _ _ refl _ _ _ c.meet-met.ensures _ _ _ _ _ w.in-Leaf.is (w.write_leaf-step.ensures.value, w.write_leaf-step.ensures.out_after) w.out-is w.step-is
-        | write_elements-in-Members w ↦ members-stepped _ _ _ _ _ _ _ refl _ _ _ c.meet-met.ensures _ _ _ _ _ w.in-Members.is (w.write_members-step.ensures.value, w.write_members-step.ensures.out_after) w.out-is w.step-is
-        | write_elements-in-Elements w ↦ elements-stepped _ _ _ _ _ _ _ refl _ _ _ c.meet-met.ensures _ _ _ _ _ w.in-Elements.is (w.write_elements-step.ensures.value, w.write_elements-step.ensures.out_after) w.out-is w.step-is
-        | write_elements-in-Broken w ↦ broken-stepped _ _ _ _ _ _ _ refl _ _ _ c.meet-met.ensures _ _ w.in-Broken.is w.out-is w.step-is ] in
+    elim c.match-here.branch [
+      | write_elements-in-Leaf w ↦ leaf-stepped _ _ _ _ _ _ _ refl _ _ _ c.meet-met.ensures _ _ _ _ _ w.in-Leaf.is (w.write_leaf-step.ensures.value, w.write_leaf-step.ensures.out_after) w.out-is w.step-is
+      | write_elements-in-Members w ↦ members-stepped _ _ _ _ _ _ _ refl _ _ _ c.meet-met.ensures _ _ _ _ _ w.in-Members.is (w.write_members-step.ensures.value, w.write_members-step.ensures.out_after) w.out-is w.step-is
+      | write_elements-in-Elements w ↦ elements-stepped _ _ _ _ _ _ _ refl _ _ _ c.meet-met.ensures _ _ _ _ _ w.in-Elements.is (w.write_elements-step.ensures.value, w.write_elements-step.ensures.out_after) w.out-is w.step-is
+      | write_elements-in-Broken w ↦ broken-stepped _ _ _ _ _ _ _ refl _ _ _ c.meet-met.ensures _ _ w.in-Broken.is w.out-is w.step-is
+    ] in
     let g = c.loop-k.invariant in
     going_next g _ _ _ ((writer_keeps _).walks _ _ _ g.here) c.loop-k-test.true stepped c.in-Went-step.is
 
@@ -138,11 +140,12 @@ write_elements-returns-in-Stopped-step t c =
     let met = c.write_met-rest.ensures _ (element_met start.plans.now _ _ _ _ _ c.meet-met.ensures) in
     let so_far = going_on run (going_on met c.loop-k.invariant) in
     let stepped : Did (element_step (writer start.words.now) start.plans.now start.table.now start.s start.i start.e.of c.loop-k.k c.loop-k.at c.loop-k.out) c.match-here.step c.match-here.out =
-        elim c.match-here.branch [
-        write_elements-in-Leaf w ↦ leaf-stepped _ _ _ _ _ _ _ refl _ _ _ c.meet-met.ensures _ _ _ _ _ w.in-Leaf.is (w.write_leaf-step.ensures.value, w.write_leaf-step.ensures.out_after) w.out-is w.step-is
-        | write_elements-in-Members w ↦ members-stepped _ _ _ _ _ _ _ refl _ _ _ c.meet-met.ensures _ _ _ _ _ w.in-Members.is (w.write_members-step.ensures.value, w.write_members-step.ensures.out_after) w.out-is w.step-is
-        | write_elements-in-Elements w ↦ elements-stepped _ _ _ _ _ _ _ refl _ _ _ c.meet-met.ensures _ _ _ _ _ w.in-Elements.is (w.write_elements-step.ensures.value, w.write_elements-step.ensures.out_after) w.out-is w.step-is
-        | write_elements-in-Broken w ↦ broken-stepped _ _ _ _ _ _ _ refl _ _ _ c.meet-met.ensures _ _ w.in-Broken.is w.out-is w.step-is ] in
+    elim c.match-here.branch [
+      | write_elements-in-Leaf w ↦ leaf-stepped _ _ _ _ _ _ _ refl _ _ _ c.meet-met.ensures _ _ _ _ _ w.in-Leaf.is (w.write_leaf-step.ensures.value, w.write_leaf-step.ensures.out_after) w.out-is w.step-is
+      | write_elements-in-Members w ↦ members-stepped _ _ _ _ _ _ _ refl _ _ _ c.meet-met.ensures _ _ _ _ _ w.in-Members.is (w.write_members-step.ensures.value, w.write_members-step.ensures.out_after) w.out-is w.step-is
+      | write_elements-in-Elements w ↦ elements-stepped _ _ _ _ _ _ _ refl _ _ _ c.meet-met.ensures _ _ _ _ _ w.in-Elements.is (w.write_elements-step.ensures.value, w.write_elements-step.ensures.out_after) w.out-is w.step-is
+      | write_elements-in-Broken w ↦ broken-stepped _ _ _ _ _ _ _ refl _ _ _ c.meet-met.ensures _ _ w.in-Broken.is w.out-is w.step-is
+    ] in
     let did = elements-stop _ _ _ _ _ _ c.is_planned.ensures c.if-is_planned.false _ _ _ begun c.in-Went.is c.times-count.ensures
     so_far _ _ _ _ c.loop-k-test.true stepped c.in-Stopped-step.is in
     record { value = did.0; out_after = did.1 }
@@ -176,7 +179,7 @@ pub write_members-write_bases-run-requires : goal.write_members-write_bases-run-
 write_members-write_bases-run-requires t c =
     let start = c.args in
     let whole : 0 < length start.out.now → Goes_on (through start.e.count (member_step (writer start.words.now) start.plans.now start.table.now start.s start.i start.e) start.p start.out.now) =
-        λ r. members-sure _ _ _ _ _ _ c.is_planned.ensures c.if-is_planned.false _ _ (c.requires.1 r) in
+    λ r. members-sure _ _ _ _ _ _ c.is_planned.ensures c.if-is_planned.false _ _ (c.requires.1 r) in
     let g = c.loop-k.invariant in
     (g.here, g.most, λ h. going_codes _ start.plans.now _ _ _ _ g whole h)
 
@@ -197,9 +200,8 @@ pub write_members-write_leaf-step-requires : goal.write_members-write_leaf-step-
 write_members-write_leaf-step-requires t c =
     let start = c.args in
     let whole : 0 < length start.out.now → Goes_on (through start.e.count (member_step (writer start.words.now) start.plans.now start.table.now start.s start.i start.e) start.p start.out.now) =
-        λ r. members-sure _ _ _ _ _ _ c.is_planned.ensures c.if-is_planned.false _ _ (c.requires.1 r) in
-    let so_far = going_on c.loop-k.invariant (c.write_bases-run.ensures start.plans.now) in
-    (
+    λ r. members-sure _ _ _ _ _ _ c.is_planned.ensures c.if-is_planned.false _ _ (c.requires.1 r) in
+    let so_far = going_on c.loop-k.invariant (c.write_bases-run.ensures start.plans.now) in (
       so_far.here,
       λ h. sure-leaf _ _ _ _ _ _ _ c.member_at-child.ensures _ _ _ c.meet.ensures _ (going_sure so_far whole (omega (arith, so_far.most, c.if-next-count.false)) h) c.in-Leaf.is,
     )
@@ -208,23 +210,27 @@ pub write_members-write_members-step-requires : goal.write_members-write_members
 write_members-write_members-step-requires t c =
     let start = c.args in
     let whole : 0 < length start.out.now → Goes_on (through start.e.count (member_step (writer start.words.now) start.plans.now start.table.now start.s start.i start.e) start.p start.out.now) =
-        λ r. members-sure _ _ _ _ _ _ c.is_planned.ensures c.if-is_planned.false _ _ (c.requires.1 r) in
-    let so_far = going_on c.loop-k.invariant (c.write_bases-run.ensures start.plans.now) in
-    (members-smaller _ _ _ _ _ c.decreases _ _ c.meet.ensures c.in-Members.is, (
-      so_far.here,
-      λ h. sure-members _ _ _ _ _ _ _ c.member_at-child.ensures _ _ _ c.meet.ensures _ (going_sure so_far whole (omega (arith, so_far.most, c.if-next-count.false)) h) c.in-Members.is,
-    ))
+    λ r. members-sure _ _ _ _ _ _ c.is_planned.ensures c.if-is_planned.false _ _ (c.requires.1 r) in
+    let so_far = going_on c.loop-k.invariant (c.write_bases-run.ensures start.plans.now) in (
+      members-smaller _ _ _ _ _ c.decreases _ _ c.meet.ensures c.in-Members.is,
+      (
+        so_far.here,
+        λ h. sure-members _ _ _ _ _ _ _ c.member_at-child.ensures _ _ _ c.meet.ensures _ (going_sure so_far whole (omega (arith, so_far.most, c.if-next-count.false)) h) c.in-Members.is,
+      ),
+    )
 
 pub write_members-write_elements-step-requires : goal.write_members-write_elements-step-requires
 write_members-write_elements-step-requires t c =
     let start = c.args in
     let whole : 0 < length start.out.now → Goes_on (through start.e.count (member_step (writer start.words.now) start.plans.now start.table.now start.s start.i start.e) start.p start.out.now) =
-        λ r. members-sure _ _ _ _ _ _ c.is_planned.ensures c.if-is_planned.false _ _ (c.requires.1 r) in
-    let so_far = going_on c.loop-k.invariant (c.write_bases-run.ensures start.plans.now) in
-    (elements-smaller _ _ _ _ _ c.decreases _ _ c.meet.ensures c.in-Elements.is, (
-      so_far.here,
-      λ h. sure-elements _ _ _ _ _ _ _ c.member_at-child.ensures _ _ _ c.meet.ensures _ (going_sure so_far whole (omega (arith, so_far.most, c.if-next-count.false)) h) c.in-Elements.is,
-    ))
+    λ r. members-sure _ _ _ _ _ _ c.is_planned.ensures c.if-is_planned.false _ _ (c.requires.1 r) in
+    let so_far = going_on c.loop-k.invariant (c.write_bases-run.ensures start.plans.now) in (
+      elements-smaller _ _ _ _ _ c.decreases _ _ c.meet.ensures c.in-Elements.is,
+      (
+        so_far.here,
+        λ h. sure-elements _ _ _ _ _ _ _ c.member_at-child.ensures _ _ _ c.meet.ensures _ (going_sure so_far whole (omega (arith, so_far.most, c.if-next-count.false)) h) c.in-Elements.is,
+      ),
+    )
 
 pub write_members-overflow_add-k : goal.write_members-overflow_add-k
 write_members-overflow_add-k t c =
@@ -243,11 +249,12 @@ write_members-loop-k-preserved t c =
     let start = c.args in
     let so_far = going_on c.loop-k.invariant (c.write_bases-run.ensures start.plans.now) in
     let stepped : Did (member_step (writer start.words.now) start.plans.now start.table.now start.s start.i start.e c.write_bases-run.result.upto c.write_bases-run.result.at c.write_bases-run.new.out) c.match-meet.step c.match-meet.out =
-        elim c.match-meet.branch [
-        write_members-in-Leaf w ↦ leaf-stepped _ _ _ _ _ _ _ c.member_at-child.ensures _ _ _ c.meet.ensures _ _ _ _ _ w.in-Leaf.is (w.write_leaf-step.ensures.value, w.write_leaf-step.ensures.out_after) w.out-is w.step-is
-        | write_members-in-Members w ↦ members-stepped _ _ _ _ _ _ _ c.member_at-child.ensures _ _ _ c.meet.ensures _ _ _ _ _ w.in-Members.is (w.write_members-step.ensures.value, w.write_members-step.ensures.out_after) w.out-is w.step-is
-        | write_members-in-Elements w ↦ elements-stepped _ _ _ _ _ _ _ c.member_at-child.ensures _ _ _ c.meet.ensures _ _ _ _ _ w.in-Elements.is (w.write_elements-step.ensures.value, w.write_elements-step.ensures.out_after) w.out-is w.step-is
-        | write_members-in-Broken w ↦ broken-stepped _ _ _ _ _ _ _ c.member_at-child.ensures _ _ _ c.meet.ensures _ _ w.in-Broken.is w.out-is w.step-is ] in
+    elim c.match-meet.branch [
+      | write_members-in-Leaf w ↦ leaf-stepped _ _ _ _ _ _ _ c.member_at-child.ensures _ _ _ c.meet.ensures _ _ _ _ _ w.in-Leaf.is (w.write_leaf-step.ensures.value, w.write_leaf-step.ensures.out_after) w.out-is w.step-is
+      | write_members-in-Members w ↦ members-stepped _ _ _ _ _ _ _ c.member_at-child.ensures _ _ _ c.meet.ensures _ _ _ _ _ w.in-Members.is (w.write_members-step.ensures.value, w.write_members-step.ensures.out_after) w.out-is w.step-is
+      | write_members-in-Elements w ↦ elements-stepped _ _ _ _ _ _ _ c.member_at-child.ensures _ _ _ c.meet.ensures _ _ _ _ _ w.in-Elements.is (w.write_elements-step.ensures.value, w.write_elements-step.ensures.out_after) w.out-is w.step-is
+      | write_members-in-Broken w ↦ broken-stepped _ _ _ _ _ _ _ c.member_at-child.ensures _ _ _ c.meet.ensures _ _ w.in-Broken.is w.out-is w.step-is
+    ] in
     going_next so_far _ _ _ ((writer_keeps _).walks _ _ _ so_far.here) (search rules) stepped c.in-Went.is
 
 pub write_members-returns-in-Stopped : goal.write_members-returns-in-Stopped
@@ -255,11 +262,12 @@ write_members-returns-in-Stopped t c =
     let start = c.args in
     let so_far = going_on c.loop-k.invariant (c.write_bases-run.ensures start.plans.now) in
     let stepped : Did (member_step (writer start.words.now) start.plans.now start.table.now start.s start.i start.e c.write_bases-run.result.upto c.write_bases-run.result.at c.write_bases-run.new.out) c.match-meet.step c.match-meet.out =
-        elim c.match-meet.branch [
-        write_members-in-Leaf w ↦ leaf-stepped _ _ _ _ _ _ _ c.member_at-child.ensures _ _ _ c.meet.ensures _ _ _ _ _ w.in-Leaf.is (w.write_leaf-step.ensures.value, w.write_leaf-step.ensures.out_after) w.out-is w.step-is
-        | write_members-in-Members w ↦ members-stepped _ _ _ _ _ _ _ c.member_at-child.ensures _ _ _ c.meet.ensures _ _ _ _ _ w.in-Members.is (w.write_members-step.ensures.value, w.write_members-step.ensures.out_after) w.out-is w.step-is
-        | write_members-in-Elements w ↦ elements-stepped _ _ _ _ _ _ _ c.member_at-child.ensures _ _ _ c.meet.ensures _ _ _ _ _ w.in-Elements.is (w.write_elements-step.ensures.value, w.write_elements-step.ensures.out_after) w.out-is w.step-is
-        | write_members-in-Broken w ↦ broken-stepped _ _ _ _ _ _ _ c.member_at-child.ensures _ _ _ c.meet.ensures _ _ w.in-Broken.is w.out-is w.step-is ] in
+    elim c.match-meet.branch [
+      | write_members-in-Leaf w ↦ leaf-stepped _ _ _ _ _ _ _ c.member_at-child.ensures _ _ _ c.meet.ensures _ _ _ _ _ w.in-Leaf.is (w.write_leaf-step.ensures.value, w.write_leaf-step.ensures.out_after) w.out-is w.step-is
+      | write_members-in-Members w ↦ members-stepped _ _ _ _ _ _ _ c.member_at-child.ensures _ _ _ c.meet.ensures _ _ _ _ _ w.in-Members.is (w.write_members-step.ensures.value, w.write_members-step.ensures.out_after) w.out-is w.step-is
+      | write_members-in-Elements w ↦ elements-stepped _ _ _ _ _ _ _ c.member_at-child.ensures _ _ _ c.meet.ensures _ _ _ _ _ w.in-Elements.is (w.write_elements-step.ensures.value, w.write_elements-step.ensures.out_after) w.out-is w.step-is
+      | write_members-in-Broken w ↦ broken-stepped _ _ _ _ _ _ _ c.member_at-child.ensures _ _ _ c.meet.ensures _ _ w.in-Broken.is w.out-is w.step-is
+    ] in
     let did = members-stop _ _ _ _ _ _ c.is_planned.ensures c.if-is_planned.false so_far _ _ _ _ (search rules) stepped c.in-Stopped.is in
     record { value = did.0; out_after = did.1 }
 

@@ -1,10 +1,6 @@
-use Prim.Native.Nat.{◌-◌, ◌≤◌}
-use mathlib.Core.Path.{◌≡◌}
 use native.Mathlib.Omega.{arith}
 use borrow.Author.Rules.{rules}
-use lib.ListN.{take}
-use Rattle.pack_leaves.specs.Stored.{ends}
-use Rattle.pack_leaves.proofs.OneMore.{So-far, none_there, none_ends, end_at, none-judged, more-judged, one-refused, all-judged, more-fits, more-ends}
+use Rattle.pack_leaves.proofs.OneMore.{none_there, none_ends, end_at, none-judged, more-judged, one-refused, all-judged, more-fits, more-ends}
 use Rattle.pack_leaves.proofs.by_codes.judge_codes.Goals as goal
 
 pub returns-then-words-from : goal.returns-then-words-from
@@ -28,8 +24,7 @@ pub loop-k-preserved : goal.loop-k-preserved
 loop-k-preserved c =
     let l = c.least-n.ensures in
     let i = c.loop-k.invariant in
-    let below = c.loop-k-test.true in
-    (
+    let below = c.loop-k-test.true in (
       more-judged _ _ _ _ _ below l i.0 _ c.allowed.ensures c.if-allowed.true,
       more-ends _ _ _ _ _ below l _ _ c.width-bytes.ensures i.1,
       search rules,
