@@ -65,7 +65,11 @@ pub fn open_input(rt: &(impl Env + Files<File = File> + Eprint)) -> Input
             path,
         },
         Err(FillError::TooLong) => Input {
-            source: missing(rt, b"the first argument", Error::from_raw_os_error(NAME_TOO_LONG)),
+            source: missing(
+                rt,
+                b"the first argument",
+                Error::from_raw_os_error(NAME_TOO_LONG),
+            ),
             path,
         },
     }
@@ -77,10 +81,7 @@ fn open_file(rt: &(impl Files<File = File> + Eprint), name: &[u8]) -> Source
 {
     let opened = match str::from_utf8(name) {
         Ok(path) => File::open(rt, path),
-        Err(_) => Err(Error::new(
-            ErrorKind::InvalidFilename,
-            "file name is not UTF-8",
-        )),
+        Err(_) => Err(Error::new(ErrorKind::InvalidFilename, "file name is not UTF-8")),
     };
     source_of(rt, name, opened)
 }

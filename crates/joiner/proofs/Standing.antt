@@ -1,7 +1,7 @@
 -- A set-up that was accepted stays good: no datagram can bring 20 afterwards, and senders, count and room size never
 -- change. A refusal changes no record and no byte of the rooms; a datagram of channel k changes no other record.
 -- Assumes nothing.
-use Prim.Native.Nat.{ℕ, ◌-◌, ◌≤◌, ◌<◌}
+use Prim.Native.Nat.{ℕ, ◌≤◌, ◌<◌}
 use mathlib.Core.Path.{◌≡◌, refl, sym, ap, ◌∙◌}
 use mathlib.Core.Bool.{Bool, true, false, ◌&&◌}
 use mathlib.Core.List.{List, map}

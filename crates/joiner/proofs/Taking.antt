@@ -3,8 +3,7 @@
 use Prim.Native.Nat.{ℕ, ◌+◌, ◌-◌, ◌*◌, ◌<◌}
 use mathlib.Core.Path.{◌≡◌, refl, sym, ap, ◌∙◌}
 use mathlib.Core.Bool.{Bool, true, false}
-use mathlib.Core.List.{List, [], ◌∷◌}
-use mathlib.Core.Logic.{⊎_elim}
+use mathlib.Core.List.{List, []}
 use native.Mathlib.Omega.{arith}
 use mir.Syntax.{w64}
 use mir.Val.{Fits}
@@ -12,9 +11,6 @@ use lib.Dec.{leb}
 use borrow.Author.Tests.{leb-true}
 use lib.ListN.{length, take, drop, length-drop}
 use lib.Seq.{take_all}
-use denote.Enum.Declared.{tag_of}
-use types.Run.{OneOf}
-use Rattle.channel.specs.contracts.Outcome.{the_type}
 use Rattle.wire.specs.Bytes.{written, part}
 use Rattle.wire.proofs.Runs.{over_none, over_all, no_run}
 use Rattle.binding.specs.Header.{header_length, heading_in}
@@ -65,13 +61,12 @@ put_none rooms d a e h = rw e (go (leb (a + length (drop header_length d)) (leng
         (leb-true (a + length (drop header_length d)) (length rooms) q)
     go false q = no_run rooms a (drop header_length d) refl q
 
--- any outcome but a delivery, by the places of their variants
-pub not_delivered : (o : Outcome) (d rooms : List ℕ) → OneOf (0 ∷ 1 ∷ 3 ∷ 4 ∷ 5 ∷ []) (tag_of the_type o) → [] ≡ message_of o d rooms
+-- any outcome but a delivery
+pub not_delivered : (o : Outcome) (d rooms : List ℕ) → ((m : ℕ) (p : Slice) → o ≡ Delivered m p → ⊥) → [] ≡ message_of o d rooms
 unfolding message_of
 not_delivered (Refused n) d rooms t = refl
 not_delivered Repeated d rooms t = refl
-not_delivered (Delivered m p) d rooms t =
-    absurd (⊎_elim (λ e. omega arith) (⊎_elim (λ e. omega arith) (⊎_elim (λ e. omega arith) (⊎_elim (λ e. omega arith) (λ e. omega arith)))) t)
+not_delivered (Delivered m p) d rooms t = absurd (t m p refl)
 not_delivered (Held m n) d rooms t = refl
 not_delivered (Stray m) d rooms t = refl
 not_delivered (TooLong m) d rooms t = refl

@@ -1,7 +1,7 @@
 -- A message of Issue 3 that is written reads back as the same header, timestamp too, kind and payload at every platform but its
 -- sender, and a message that is read gives the same bytes when it is written again with the same fields.
 -- Assumes nothing.
-use Prim.Native.Nat.{ℕ, ◌+◌, ◌-◌, ◌≤◌, ◌<◌}
+use Prim.Native.Nat.{ℕ, ◌+◌, ◌≤◌, ◌<◌}
 use mathlib.Core.Path.{◌≡◌, refl, sym, ap, ◌∙◌}
 use mathlib.Core.List.{List, [], ◌++◌}
 use native.Mathlib.Omega.{arith}

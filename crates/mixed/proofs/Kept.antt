@@ -2,12 +2,10 @@
 -- Assumes nothing.
 use Prim.Native.Nat.{ℕ, ◌+◌, ◌-◌, ◌≤◌, ◌<◌}
 use mathlib.Core.Path.{◌≡◌, refl, sym, ap, ap₂, ◌∙◌}
-use mathlib.Core.List.{List, [], ◌∷◌, ◌++◌}
+use mathlib.Core.List.{List, ◌++◌}
 use native.Mathlib.Omega.{arith}
 use mir.Syntax.{w64}
 use mir.Val.{Fits}
-use denote.Enum.Declared.{tag_of}
-use types.Run.{OneOf, miss}
 use borrow.Rule.Slice.PartMut.{put_mid}
 use lib.ListN.{length, take, drop}
 use Rattle.wire.proofs.Cond.{yes_le, no_le}
@@ -18,7 +16,6 @@ use Rattle.partners.proofs.Counting.{at_most}
 use Rattle.mixed.specs.declared.reactions.Deed.{Deed}
 use Rattle.mixed.specs.declared.reactions.Deed.TheVariants.{Nothing, One, StartUp, TellAll, TellOne, Note, MarkAll}
 use Rattle.mixed.specs.Keeping.{block_of, with_block, note_number, with_noted, mark_number, with_marked, kept_number, kept_words}
-use Rattle.mixed.specs.contracts.reactions.Deed.{the_type as deed-type}
 
 module _ (i : List ℕ) (k start : ℕ) (e : start ≡ block_start i k) where
   pub end_fits : Fits w64 (start + services)
@@ -87,9 +84,6 @@ module _ (i : List ℕ) (k start : ℕ) (e : start ≡ block_start i k) where
       no-mark-words = sym (no_le (with_block i k ws (marked (block_of i k ws))) ws (block_start i k + services) (length ws) not_there)
 
 -- a deed
-abbrev others : List ℕ
-others = 0 ∷ 1 ∷ 2 ∷ 3 ∷ 4 ∷ []
-
 module _ (i : List ℕ) (k : ℕ) (payload ws : List ℕ) where
   module _ (d : Deed) where
     pub note-number : {r : ℕ} → d ≡ Note → r ≡ note_number i k payload ws → r ≡ kept_number i k d payload ws
@@ -108,22 +102,22 @@ module _ (i : List ℕ) (k : ℕ) (payload ws : List ℕ) where
     unfolding kept_words
     mark-words e q = rw e q
 
-  pub no_number : (d : Deed) → OneOf others (tag_of deed-type d) → 0 ≡ kept_number i k d payload ws
+  pub no_number : (d : Deed) → (d ≡ Note → ⊥) → (d ≡ MarkAll → ⊥) → 0 ≡ kept_number i k d payload ws
   unfolding kept_number
-  no_number Nothing h = refl
-  no_number (One r) h = refl
-  no_number (StartUp n) h = refl
-  no_number (TellAll n) h = refl
-  no_number (TellOne n id b) h = refl
-  no_number Note h = absurd (miss others 5 tt h)
-  no_number MarkAll h = absurd (miss others 6 tt h)
+  no_number Nothing h m = refl
+  no_number (One r) h m = refl
+  no_number (StartUp n) h m = refl
+  no_number (TellAll n) h m = refl
+  no_number (TellOne n id b) h m = refl
+  no_number Note h m = absurd (h refl)
+  no_number MarkAll h m = absurd (m refl)
 
-  pub same_words : (d : Deed) → OneOf others (tag_of deed-type d) → ws ≡ kept_words i k d payload ws
+  pub same_words : (d : Deed) → (d ≡ Note → ⊥) → (d ≡ MarkAll → ⊥) → ws ≡ kept_words i k d payload ws
   unfolding kept_words
-  same_words Nothing h = refl
-  same_words (One r) h = refl
-  same_words (StartUp n) h = refl
-  same_words (TellAll n) h = refl
-  same_words (TellOne n id b) h = refl
-  same_words Note h = absurd (miss others 5 tt h)
-  same_words MarkAll h = absurd (miss others 6 tt h)
+  same_words Nothing h m = refl
+  same_words (One r) h m = refl
+  same_words (StartUp n) h m = refl
+  same_words (TellAll n) h m = refl
+  same_words (TellOne n id b) h m = refl
+  same_words Note h m = absurd (h refl)
+  same_words MarkAll h m = absurd (m refl)

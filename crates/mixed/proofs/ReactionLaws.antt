@@ -3,9 +3,7 @@
 use Prim.Native.Nat.{ℕ}
 use mathlib.Core.Path.{◌≡◌, refl, sym, ap, ◌∙◌}
 use mathlib.Core.Bool.{Bool, true, false, cond}
-use mathlib.Core.List.{List, [], ◌∷◌}
-use denote.Enum.Declared.{tag_of}
-use types.Run.{OneOf, miss}
+use mathlib.Core.List.{List}
 use lib.Dec.{eqb}
 use Rattle.wire.proofs.Cond.{yes-eq, no_eq}
 use Rattle.table.specs.declared.Sections.{Sections}
@@ -22,14 +20,12 @@ use Rattle.message3.specs.declared.Agreement.{Agreement}
 use Rattle.message3.specs.declared.Header3.{Header3}
 use Rattle.message3.specs.declared.Message3.{Message3}
 use Rattle.message3.specs.declared.Message3.TheVariants as message3
-use Rattle.message3.specs.contracts.Message3.{the_type as message3-type}
 use Rattle.platform.specs.declared.reactions.Standing.{Standing}
 use Rattle.platform.specs.declared.reactions.Heard.{Heard}
 use Rattle.platform.specs.declared.reactions.Heard.TheVariants as heard
 use Rattle.platform.specs.declared.reactions.Reply.TheVariants.{StatusUp, Unknown}
 use Rattle.platform.specs.Replies.{all_data}
 use Rattle.platform.specs.Reaction.{is_data, silent, noted, not_versioned, on_pull_all, on_pull_one, on_pull, on_operation, reaction_to}
-use Rattle.platform.specs.contracts.reactions.Heard.{the_type as heard-type}
 use Rattle.mixed.specs.declared.reactions.Heard3.TheVariants as heard3
 use Rattle.mixed.specs.declared.reactions.Deed.{Deed}
 use Rattle.mixed.specs.declared.reactions.Deed.TheVariants.{Nothing, One, StartUp, TellAll, TellOne, Note, MarkAll}
@@ -49,15 +45,16 @@ module _ (n : ℕ) where
   pub deed-not-in-table : (x : Heard) (id : ℕ) → x ≡ heard.NotInTable id → One (Unknown n id) ≡ deed_for n x
   deed-not-in-table x id e = rw e refl
 
-  pub deed-none : (x : Heard) → OneOf (0 ∷ 2 ∷ 3 ∷ 4 ∷ 6 ∷ []) (tag_of heard-type x) → Nothing ≡ deed_for n x
-  deed-none (heard.Status y) h = refl
-  deed-none heard.Request h = absurd (miss (0 ∷ 2 ∷ 3 ∷ 4 ∷ 6 ∷ []) 1 tt h)
-  deed-none (heard.UnknownOperation id) h = refl
-  deed-none heard.PullOfAll h = refl
-  deed-none (heard.PullOfOne id i) h = refl
-  deed-none (heard.NotVersionedData id) h = absurd (miss (0 ∷ 2 ∷ 3 ∷ 4 ∷ 6 ∷ []) 5 tt h)
-  deed-none (heard.Operation i start len) h = refl
-  deed-none (heard.NotInTable id) h = absurd (miss (0 ∷ 2 ∷ 3 ∷ 4 ∷ 6 ∷ []) 7 tt h)
+  pub deed-none : (x : Heard) → (x ≡ heard.Request → ⊥) → ((id : ℕ) → x ≡ heard.NotVersionedData id → ⊥) → ((id : ℕ) → x ≡ heard.NotInTable id → ⊥)
+      → Nothing ≡ deed_for n x
+  deed-none (heard.Status y) a b d = refl
+  deed-none heard.Request a b d = absurd (a refl)
+  deed-none (heard.UnknownOperation id) a b d = refl
+  deed-none heard.PullOfAll a b d = refl
+  deed-none (heard.PullOfOne id i) a b d = refl
+  deed-none (heard.NotVersionedData id) a b d = absurd (b id refl)
+  deed-none (heard.Operation i start len) a b d = refl
+  deed-none (heard.NotInTable id) a b d = absurd (d id refl)
 
 -- what is looked up
 module _ (t : List ℕ) (s : Sections) (index : List ℕ) (h : Header3) where
@@ -71,21 +68,19 @@ module _ (t : List ℕ) (s : Sections) (index : List ℕ) (h : Header3) where
   unfolding operation_for3
   for-operation m f e a = rw e a
 
-  abbrev others : List ℕ
-  others = 0 ∷ 1 ∷ 2 ∷ 3 ∷ 4 ∷ 5 ∷ 7 ∷ 8 ∷ []
-
-  pub for-no-other : (m : Message3) → OneOf others (tag_of message3-type m) → sought.Nowhere ≡ operation_for3 t s index h m
+  pub for-no-other : (m : Message3) → ((id : ℕ) → m ≡ message3.VersionedDataPull id → ⊥) → (m ≡ message3.Operation → ⊥)
+      → sought.Nowhere ≡ operation_for3 t s index h m
   unfolding operation_for3
-  for-no-other (message3.PlatformStatus x c) k = refl
-  for-no-other message3.PlatformStatusRequest k = refl
-  for-no-other (message3.AvailabilityStatus n) k = refl
-  for-no-other (message3.AvailabilityStatusRequest id) k = refl
-  for-no-other (message3.UnknownOperation id) k = refl
-  for-no-other (message3.ServiceNotAvailable id) k = refl
-  for-no-other (message3.VersionedDataPull id) k = absurd (miss others 6 tt k)
-  for-no-other (message3.CompositeChangeRequest c) k = refl
-  for-no-other (message3.CompositeChangeRequestAck a) k = refl
-  for-no-other message3.Operation k = absurd (miss others 9 tt k)
+  for-no-other (message3.PlatformStatus x c) k o = refl
+  for-no-other message3.PlatformStatusRequest k o = refl
+  for-no-other (message3.AvailabilityStatus n) k o = refl
+  for-no-other (message3.AvailabilityStatusRequest id) k o = refl
+  for-no-other (message3.UnknownOperation id) k o = refl
+  for-no-other (message3.ServiceNotAvailable id) k o = refl
+  for-no-other (message3.VersionedDataPull id) k o = absurd (k id refl)
+  for-no-other (message3.CompositeChangeRequest c) k o = refl
+  for-no-other (message3.CompositeChangeRequestAck a) k o = refl
+  for-no-other message3.Operation k o = absurd (o refl)
 
 -- a status
 pub came_up_is : (p q : Standing) (sender c a b d : ℕ) → a ≡ drawn p.next → b ≡ drawn a → d ≡ drawn b → q ≡ noted p sender d

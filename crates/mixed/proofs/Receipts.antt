@@ -3,9 +3,7 @@
 use Prim.Native.Nat.{ℕ}
 use mathlib.Core.Path.{◌≡◌, refl, sym, ap, ap₂, ◌∙◌}
 use mathlib.Core.Bool.{Bool, true, false}
-use mathlib.Core.List.{List, [], ◌∷◌}
-use denote.Enum.Declared.{tag_of}
-use types.Run.{OneOf, miss}
+use mathlib.Core.List.{List}
 use lib.ListN.{length}
 use Rattle.wire.specs.Bytes.{over}
 use Rattle.wire.proofs.Cond.{yes-eq, no_eq}
@@ -16,7 +14,6 @@ use Rattle.message3.specs.declared.Stamp.{Stamp}
 use Rattle.message3.specs.declared.Header3.{Header3}
 use Rattle.message3.specs.declared.Message3.{Message3}
 use Rattle.message3.specs.declared.Message3.TheVariants as message3
-use Rattle.message3.specs.contracts.Message3.{the_type as message3-type}
 use Rattle.platform.specs.declared.reactions.Standing.{Standing}
 use Rattle.platform.specs.declared.reactions.Heard.{Heard}
 use Rattle.platform.specs.declared.Noting.{Noting}
@@ -55,10 +52,7 @@ module _ (t : List ℕ) (f : Sought) where
   unfolding is_answer3
   of_operation m r e a = rw e a
 
-  abbrev others : List ℕ
-  others = 0 ∷ 1 ∷ 2 ∷ 3 ∷ 4 ∷ 5 ∷ 6 ∷ 7 ∷ 8 ∷ []
-
-  pub of-another : (m : Message3) → OneOf others (tag_of message3-type m) → false ≡ is_answer3 t f m
+  pub of-another : (m : Message3) → (m ≡ message3.Operation → ⊥) → false ≡ is_answer3 t f m
   unfolding is_answer3
   of-another (message3.PlatformStatus x c) k = refl
   of-another message3.PlatformStatusRequest k = refl
@@ -69,7 +63,7 @@ module _ (t : List ℕ) (f : Sought) where
   of-another (message3.VersionedDataPull id) k = refl
   of-another (message3.CompositeChangeRequest c) k = refl
   of-another (message3.CompositeChangeRequestAck a) k = refl
-  of-another message3.Operation k = absurd (miss others 9 tt k)
+  of-another message3.Operation k = absurd (k refl)
 
 pub delivered_is : (f : Sought) (p : Standing) (h : Header3) (start len i : ℕ) → i ≡ entry_of f
     → ◌≡◌ {A = AnyReceived} (record { standing = p; answer = ThreeResponse h i start len }) (delivered3 f p h start len)

@@ -16,7 +16,6 @@ use Rattle.message.specs.Refusal.{wrong_size, no_room}
 use Rattle.message3.specs.declared.Stamp.{Stamp}
 use Rattle.platform.specs.declared.reactions.Reply.{Reply}
 use Rattle.platform.specs.declared.reactions.Reply.TheVariants.{StatusUp, PullAll, Unknown}
-use Rattle.platform.specs.contracts.reactions.Reply.{the_type as reply-type}
 use Rattle.mixed.specs.declared.reactions.Deed.{Deed}
 use Rattle.mixed.specs.declared.reactions.Deed.TheVariants.{Nothing, One, StartUp, TellAll, TellOne, Note, MarkAll}
 use Rattle.mixed.specs.declared.reactions.Room.{Room}
@@ -31,8 +30,8 @@ fits_not n room h = sym (yes_lt {A = Room} (Short no_room) (Enough n) room n h)
 pub fits : (n room : ℕ) → n ≤ room → Enough n ≡ fitting n room
 fits n room h = sym (no_lt {A = Room} (Short no_room) (Enough n) room n h)
 
-pub field_long : (r : Reply) → OneOf (1 ∷ 2 ∷ []) (tag_of reply-type r) → field_length ≡ reply_length3 r
-field_long (StatusUp n) h = absurd (miss (1 ∷ 2 ∷ []) 0 tt h)
+pub field_long : (r : Reply) → ((n : ℕ) → r ≡ StatusUp n → ⊥) → field_length ≡ reply_length3 r
+field_long (StatusUp n) h = absurd (h n refl)
 field_long (PullAll n) h = refl
 field_long (Unknown n id) h = refl
 

@@ -2,9 +2,7 @@
 -- Assumes nothing.
 use Prim.Native.Nat.{ℕ, ◌≤◌}
 use mathlib.Core.Path.{◌≡◌, refl, sym, ap, ap₂, ◌∙◌}
-use mathlib.Core.List.{List, [], ◌∷◌, ◌++◌}
-use denote.Enum.Declared.{tag_of}
-use types.Run.{OneOf, miss}
+use mathlib.Core.List.{List, ◌∷◌, ◌++◌}
 use lib.ListN.{length, take, take-append-drop}
 use Rattle.message.specs.declared.Header.{Header}
 use Rattle.message3.specs.declared.Header3.{Header3}
@@ -17,7 +15,6 @@ use Rattle.mixed.specs.declared.AnyAnswer.{AnyAnswer}
 use Rattle.mixed.specs.declared.AnyAnswer.TheVariants.{Refused, Six, SixResponse, Three, ThreeResponse}
 use Rattle.mixed.specs.declared.AnyReceived.{AnyReceived}
 use Rattle.mixed.specs.Receiving.{number_given}
-use Rattle.mixed.specs.contracts.AnyAnswer.{the_type}
 use Rattle.platform_words.specs.Words.{standing_length, pending_in, standing_words, with_standing}
 use Rattle.platform_words.specs.HeardWords.{heard_words, response_words}
 use Rattle.platform_words.proofs.Behind.{front-back, part-back}
@@ -69,21 +66,21 @@ module _ {a : AnyAnswer} (n : ℕ) (e : a ≡ Refused n) where
       sym (take-append-drop standing_length ws) ∙ ap (λ (x : AnyAnswer). any_left_by x (take standing_length ws) (standing_words p) ++ pending_in ws) (sym e)
 
 -- and all else
-pub told_number : (a : AnyAnswer) → OneOf (1 ∷ 2 ∷ 3 ∷ 4 ∷ []) (tag_of the_type a) → 0 ≡ number_given a
-told_number (Refused n) h = absurd (miss (1 ∷ 2 ∷ 3 ∷ 4 ∷ []) 0 tt h)
+pub told_number : (a : AnyAnswer) → ((n : ℕ) → a ≡ Refused n → ⊥) → 0 ≡ number_given a
+told_number (Refused n) h = absurd (h n refl)
 told_number (Six h x n) k = refl
 told_number (SixResponse h i start len) k = refl
 told_number (Three h x n) k = refl
 told_number (ThreeResponse h i start len) k = refl
 
-is_new : {A : Type 0} (a : AnyAnswer) → OneOf (1 ∷ 2 ∷ 3 ∷ 4 ∷ []) (tag_of the_type a) → (was new : A) → new ≡ any_left_by a was new
-is_new (Refused n) h was new = absurd (miss (1 ∷ 2 ∷ 3 ∷ 4 ∷ []) 0 tt h)
+is_new : {A : Type 0} (a : AnyAnswer) → ((n : ℕ) → a ≡ Refused n → ⊥) → (was new : A) → new ≡ any_left_by a was new
+is_new (Refused n) h was new = absurd (h n refl)
 is_new (Six h x n) k was new = refl
 is_new (SixResponse h i start len) k was new = refl
 is_new (Three h x n) k was new = refl
 is_new (ThreeResponse h i start len) k was new = refl
 
-pub told_words : {x : List ℕ} (a : AnyAnswer) → OneOf (1 ∷ 2 ∷ 3 ∷ 4 ∷ []) (tag_of the_type a) → (ws : List ℕ) (p : Standing)
+pub told_words : {x : List ℕ} (a : AnyAnswer) → ((n : ℕ) → a ≡ Refused n → ⊥) → (ws : List ℕ) (p : Standing)
     → standing_length ≤ length ws → x ≡ with_standing ws p → x ≡ any_left_by a (take standing_length ws) (standing_words p) ++ pending_in ws
 told_words a h ws p l f =
     kept-standing ws p l f ∙ ap (λ (y : List ℕ). y ++ pending_in ws) (is_new a h (take standing_length ws) (standing_words p))

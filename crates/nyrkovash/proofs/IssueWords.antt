@@ -4,8 +4,6 @@ use Prim.Native.Nat.{ℕ, zero, suc}
 use mathlib.Core.Path.{◌≡◌, refl, sym, ap, ap₂, ◌∙◌}
 use mathlib.Core.Bool.{cond}
 use mathlib.Core.List.{List, [], ◌∷◌, ◌++◌}
-use denote.Enum.Declared.{tag_of}
-use types.Run.{OneOf, miss}
 use lib.Dec.{eqb}
 use Rattle.wire.specs.Bytes.{number}
 use Rattle.message.specs.Header.{header_length, platform_domain, domain_in, sender_in, id_in, payload_size_in, sequence_in, payload_in}
@@ -13,13 +11,13 @@ use Rattle.message.specs.Platform.{kind_in}
 use Rattle.message.specs.Refusal.{contents_refusal, read_refusal}
 use Rattle.message.specs.Reading.{answered, reading_out, read_of}
 use Rattle.message.specs.declared.Message.TheVariants as six
+use Rattle.message.specs.declared.Status.{Status}
 use Rattle.message3.specs.declared.Header3.{Header3}
 use Rattle.message3.specs.declared.Message3.{Message3}
 use Rattle.message3.specs.declared.Message3.TheVariants.{PlatformStatus, PlatformStatusRequest, AvailabilityStatus, AvailabilityStatusRequest}
 use Rattle.message3.specs.declared.Message3.TheVariants.{UnknownOperation, ServiceNotAvailable, VersionedDataPull}
 use Rattle.message3.specs.declared.Message3.TheVariants.{CompositeChangeRequest, CompositeChangeRequestAck, Operation}
 use Rattle.message3.specs.Platform.{kind_in3, value_in3, composite_in}
-use Rattle.message3.specs.contracts.Message3.{the_type}
 use Rattle.mixed.specs.declared.Form.{Form}
 use Rattle.mixed.specs.declared.AnyReading.TheVariants.{Three}
 use Rattle.mixed.specs.Reading.{form_of, from_six, number_given}
@@ -28,8 +26,8 @@ use Rattle.nyrkovash.specs.IssueCalls.{any_left, any_number, any_answer}
 use Rattle.nyrkovash.proofs.Words.{words_read}
 
 -- a message that is no status tells no composite ID
-pub no-composite : (m : Message3) → OneOf (1 ∷ 2 ∷ 3 ∷ 4 ∷ 5 ∷ 6 ∷ 7 ∷ 8 ∷ 9 ∷ []) (tag_of the_type m) → 0 ≡ composite_in m
-no-composite (PlatformStatus x c) h = absurd (miss (1 ∷ 2 ∷ 3 ∷ 4 ∷ 5 ∷ 6 ∷ 7 ∷ 8 ∷ 9 ∷ []) 0 tt h)
+pub no-composite : (m : Message3) → ((x : Status) (c : ℕ) → m ≡ PlatformStatus x c → ⊥) → 0 ≡ composite_in m
+no-composite (PlatformStatus x c) h = absurd (h x c refl)
 no-composite PlatformStatusRequest h = refl
 no-composite (AvailabilityStatus n) h = refl
 no-composite (AvailabilityStatusRequest i) h = refl

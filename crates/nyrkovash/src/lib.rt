@@ -21,7 +21,7 @@ pub use issues::{ANY_READING_WORDS, nyr_partners_set, nyr_read_mixed, nyr_write_
 pub use joining::{nyr_setup, nyr_take};
 pub use messages::{nyr_cut, nyr_pieces, nyr_write};
 pub use partnered::{nyr_receive_mixed, nyr_receive_mixed_in, nyr_service};
-pub use payloads::{nyr_pack, nyr_pack_in, nyr_unpack, nyr_unpack_in};
+pub use payloads::{WALKED_WORDS, nyr_pack, nyr_pack_in, nyr_unpack, nyr_unpack_in};
 pub use plans::{nyr_pack_by, nyr_plans, nyr_plans_length, nyr_unpack_by};
 pub use platforms::{nyr_how_many_up, nyr_is_up, nyr_receive, nyr_receive_in, nyr_start};
 pub use reading::{READING_WORDS, nyr_read};

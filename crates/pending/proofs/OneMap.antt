@@ -1,7 +1,7 @@
 -- The plain map tells one thing only of each turn, and so over any turns: two maps that have the same under every number, and count
 -- the same, go on so.
 -- Assumes nothing.
-use Rattle.std.proofs.Common.{◌≡◌, ℕ, ◌+◌, ◌-◌, true, false, cond, eqb, List, ◌∷◌, sym, refl, ap, ◌∙◌, ap₂, true≢false, arith}
+use Rattle.std.proofs.Common.{◌≡◌, ℕ, ◌+◌, ◌-◌, cond, eqb, List, [], ◌∷◌, sym, refl, ap, ◌∙◌, ap₂, true≢false, arith}
 use Rattle.pending.specs.declared.Asked.{Asked}
 use Rattle.pending.specs.declared.Asked.TheVariants.{Of, Nothing}
 use Rattle.pending.specs.PlainMap.{Map, is_asked, taken, asks, empty_map, inserted, deleted, fresh_list}
@@ -51,6 +51,7 @@ one_told m w (ask k) a b n v same looks looks = (ap what (same.everywhere k), sa
 
 one_run : (m w : Map) (ts : List Turn) (as' bs : List Told) → SameMap m w → MapRun m ts as' → MapRun w ts bs → as' ≡ bs
 one_run m w ts as' bs same ended ended = refl
+one_run _ w (_ ∷ _) (_ ∷ _) [] same (then p r) x = elim x [ ]
 one_run m w (t ∷ ts) (a ∷ as') (b ∷ bs) same (then {n = n} p r) (then {n = v} q s) =
     let o : (a ≡ b) × SameMap n v = one_told m w t a b n v same p q in
     ap₂ ◌∷◌ o.0 (one_run n v ts as' bs o.1 r s)

@@ -1,6 +1,6 @@
 -- A list tells over any turns what the plain map does, and the map tells one thing only.
 -- Assumes nothing.
-use Rattle.std.proofs.Common.{◌≡◌, ℕ, ◌+◌, ◌-◌, ◌*◌, ◌^◌, ◌<◌, Bool, true, false, eqb, List, [], ◌∷◌, length, sym, refl, ap, ◌∙◌, subst, arith, eqb-true}
+use Rattle.std.proofs.Common.{◌≡◌, ℕ, ◌+◌, ◌*◌, ◌^◌, ◌<◌, Bool, true, false, eqb, List, [], ◌∷◌, length, sym, refl, ap, ◌∙◌, subst, arith, eqb-true}
 use borrow.Author.Tests.{eqb-false}
 use lib.ListN.{get_or-replicate}
 use Rattle.wire.proofs.Cond.{yes-if, no-if}

@@ -3,9 +3,7 @@
 use Prim.Native.Nat.{ℕ, ◌+◌}
 use mathlib.Core.Path.{◌≡◌, refl, sym, ap, ◌∙◌}
 use mathlib.Core.Bool.{Bool, true, false, cond}
-use mathlib.Core.List.{List, [], ◌∷◌}
-use denote.Enum.Declared.{tag_of}
-use types.Run.{OneOf, miss}
+use mathlib.Core.List.{List, []}
 use lib.Dec.{leb}
 use lib.ListN.{length, take, drop}
 use Rattle.wire.specs.Bytes.{part}
@@ -31,7 +29,6 @@ use Rattle.platform.specs.Receiving.{refused, answered, laid_out, is_answer, lis
 use Rattle.platform.specs.Receiving.{outcome_in, output_in, list_in, index_of, received_by, received_of, left_if, left_of, list_if, list_after}
 use Rattle.platform.specs.Receiving.{sections_outcome, sections_output, sections_list}
 use Rattle.platform.specs.Heard.{payload_heard}
-use Rattle.platform.specs.contracts.reactions.Heard.{the_type}
 
 -- the message was refused, answers a request, or has a reaction
 module _ (own : ℕ) (t : List ℕ) (s : Sections) (f : Sought) (p : Standing) (l : List ℕ) (x : Reading) where
@@ -167,12 +164,12 @@ no_part m = go (leb (0 + 0) (length m))
     go true = refl
     go false = refl
 
-pub no_payload : (m : List ℕ) (x : Heard) → OneOf (0 ∷ 1 ∷ 2 ∷ 3 ∷ 4 ∷ 5 ∷ 7 ∷ []) (tag_of the_type x) → [] ≡ payload_heard m x
+pub no_payload : (m : List ℕ) (x : Heard) → ((i start len : ℕ) → x ≡ heard.Operation i start len → ⊥) → [] ≡ payload_heard m x
 no_payload m (heard.Status y) h = no_part m
 no_payload m heard.Request h = no_part m
 no_payload m (heard.UnknownOperation id) h = no_part m
 no_payload m heard.PullOfAll h = no_part m
 no_payload m (heard.PullOfOne id i) h = no_part m
 no_payload m (heard.NotVersionedData id) h = no_part m
-no_payload m (heard.Operation i start len) h = absurd (miss (0 ∷ 1 ∷ 2 ∷ 3 ∷ 4 ∷ 5 ∷ 7 ∷ []) 6 tt h)
+no_payload m (heard.Operation i start len) h = absurd (h i start len refl)
 no_payload m (heard.NotInTable id) h = no_part m

@@ -3,9 +3,7 @@
 use Prim.Native.Nat.{ℕ}
 use mathlib.Core.Path.{◌≡◌, refl, sym, ap, ◌∙◌}
 use mathlib.Core.Bool.{Bool, true, false}
-use mathlib.Core.List.{List, [], ◌∷◌}
-use denote.Enum.Declared.{tag_of}
-use types.Run.{OneOf, miss}
+use mathlib.Core.List.{List}
 use lib.Dec.{eqb}
 use Rattle.operations.specs.declared.Sought.{Sought}
 use Rattle.operations.specs.declared.Sought.TheVariants as sought
@@ -13,7 +11,6 @@ use Rattle.operations.specs.Entries.{kind_at}
 use Rattle.message.specs.declared.Header.{Header}
 use Rattle.message.specs.declared.Message.{Message}
 use Rattle.message.specs.declared.Message.TheVariants as message
-use Rattle.message.specs.contracts.Message.{the_type}
 use Rattle.pending.specs.Answers.{is_response}
 use Rattle.wire.proofs.Cond.{yes-if, no-if}
 use Rattle.platform.specs.declared.reactions.Standing.{Standing}
@@ -34,13 +31,13 @@ module _ (t : List ℕ) (f : Sought) where
   unfolding is_answer
   of_operation m r e a = rw e a
 
-  pub of-another : (m : Message) → OneOf (0 ∷ 1 ∷ 2 ∷ 3 ∷ []) (tag_of the_type m) → false ≡ is_answer t f m
+  pub of-another : (m : Message) → (m ≡ message.Operation → ⊥) → false ≡ is_answer t f m
   unfolding is_answer
   of-another (message.PlatformStatus x) h = refl
   of-another message.PlatformStatusRequest h = refl
   of-another (message.UnknownOperation id) h = refl
   of-another (message.VersionedDataPull id) h = refl
-  of-another message.Operation h = absurd (miss (0 ∷ 1 ∷ 2 ∷ 3 ∷ []) 4 tt h)
+  of-another message.Operation h = absurd (h refl)
 
 pub found_entry : (f : Sought) (i p : ℕ) → f ≡ sought.At i p → i ≡ entry_of f
 found_entry f i p e = rw e refl

@@ -253,12 +253,7 @@ fn ending_after(kept: usize) -> Ending
 }
 
 // Writes the lines that are made, and the one that the run ends with.
-fn finish(
-    rt: &(impl Print + Eprint),
-    output: &mut [u8],
-    made: usize,
-    ending: Ending,
-) -> Replayed
+fn finish(rt: &(impl Print + Eprint), output: &mut [u8], made: usize, ending: Ending) -> Replayed
     requires { Says20 ending }
     ensures { Refuses20 result }
 {

@@ -20,7 +20,7 @@ use Rattle.message3.specs.Writing.{write_of3, output_after3}
 use Rattle.requests.specs.declared.Issue.{Issue}
 use Rattle.requests.specs.declared.Issue.TheVariants.{Six, Three}
 use Rattle.requests.specs.declared.Sending.{Sending}
-use Rattle.requests.specs.declared.Sent.TheVariants.{Refused, Under}
+use Rattle.requests.specs.declared.Sent.TheVariants.{Under}
 use Rattle.requests.specs.Sending.{operation_domain, write_refusal_for, length_for, bytes_for, no_request, unless_full, send_refusal_for, refused_with, answered_by}
 use Rattle.requests.specs.Sending.{left_over_by, sent_for, list_sent_for}
 use Rattle.requests.specs.Sending.{output_sent_for, write_for, output_for, written_of, list_written, output_written}

@@ -18,4 +18,4 @@ returns-in-2 c =
 
 pub returns-in_default : goal.returns-in_default
 returns-in_default c =
-    no_other c.in_default.rest.0.0.1 c.in_default.rest.0.1 c.in_default.rest.1
+    search no_other

@@ -1,6 +1,5 @@
 -- `channel::moved` meets its contract: the step of a record that can move, else a refusal.
 -- Assumes nothing.
-use borrow.Author.Rules.{rules}
 use Rattle.channel.proofs.Movable.{number_fits, long-enough, length-fits, steppable, is-moved, not-moved}
 use Rattle.channel.proofs.moved.Goals as goal
 

@@ -1,6 +1,5 @@
 -- `channel::room_start` meets its contract: the product fits.
 -- Assumes nothing.
-use borrow.Author.Rules.{rules}
 use native.Mathlib.Omega.{arith}
 use Rattle.channel.proofs.Movable.{product_fits}
 use Rattle.channel.proofs.room_start.Goals as goal

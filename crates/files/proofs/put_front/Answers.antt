@@ -1,6 +1,5 @@
 -- `files::put_front` meets its contract: only the bytes of the run change.
 -- Assumes nothing.
-use borrow.Author.Rules.{rules}
 use Rattle.files.proofs.Filling.{before-kept, more_behind}
 use Rattle.files.proofs.put_front.Goals as goal
 

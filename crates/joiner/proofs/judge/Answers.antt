@@ -1,6 +1,5 @@
 -- `joiner::judge` meets its contract: the numbers in their order, then the step of the channel that was found.
 -- Assumes nothing.
-use borrow.Author.Rules.{rules}
 use Rattle.joiner.proofs.Judging.{judged-bad, judged-nobody, judged-refused, judged-somebody}
 use Rattle.joiner.proofs.judge.Goals as goal
 

@@ -1,6 +1,5 @@
 -- `joiner::message` meets its contract: the part that the place names, or none.
 -- Assumes nothing.
-use borrow.Author.Rules.{rules}
 use Rattle.joiner.proofs.Taking.{in-datagram, in-rooms, not_delivered}
 use Rattle.joiner.proofs.message.Goals as goal
 
@@ -14,4 +13,4 @@ returns-in-Rooms c =
 
 pub returns-in_default : goal.returns-in_default
 returns-in_default c =
-    search not_delivered
+    not_delivered _ _ _ c.in_default.not-Delivered

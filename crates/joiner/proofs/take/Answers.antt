@@ -2,7 +2,7 @@
 -- Assumes nothing.
 use mathlib.Core.Path.{◌≡◌}
 use borrow.Author.Rules.{rules}
-use lib.ListN.{length, length-map}
+use lib.ListN.{length}
 use Rattle.channel.specs.Record.{channel_limit}
 use Rattle.joiner.proofs.Taking.{moved-known, moved-fits, refused, moved}
 use Rattle.joiner.proofs.take.Goals as goal
@@ -12,7 +12,7 @@ offset_bounds-after-moved c =
     let j = c.args.joiner in
     let rooms = c.args.rooms.now in
     let d = c.args.datagram.now in
-    let w : length j.channels ≡ channel_limit = simp length-map at c.well_formed.0.1.1.0.1.0.1 in
+    let w : length j.channels ≡ channel_limit = search rules in
     moved-fits j rooms d w c.read-heading.ensures c.sender_of.ensures c.words_of-words.ensures c.look-found.ensures c.judge.ensures
     _ _ c.in-Move.is
 
@@ -21,7 +21,7 @@ bounds-after-moved c =
     let j = c.args.joiner in
     let rooms = c.args.rooms.now in
     let d = c.args.datagram.now in
-    let w : length j.channels ≡ channel_limit = simp length-map at c.well_formed.0.1.1.0.1.0.1 in
+    let w : length j.channels ≡ channel_limit = search rules in
     moved-known j rooms d w c.read-heading.ensures c.sender_of.ensures c.words_of-words.ensures c.look-found.ensures c.judge.ensures
     _ _ c.in-Move.is
 
@@ -30,7 +30,7 @@ returns-in-Refusal c =
     let t = let j = c.args.joiner in
     let rooms = c.args.rooms.now in
     let d = c.args.datagram.now in
-    let w : length j.channels ≡ channel_limit = simp length-map at c.well_formed.0.1.1.0.1.0.1 in
+    let w : length j.channels ≡ channel_limit = search rules in
     refused j rooms d w c.read-heading.ensures c.sender_of.ensures c.words_of-words.ensures c.look-found.ensures c.judge.ensures
     _ c.in-Refusal.is in record { value = t.0; rooms_after = t.1 }
 
@@ -39,6 +39,6 @@ returns-in-Move c =
     let t = let j = c.args.joiner in
     let rooms = c.args.rooms.now in
     let d = c.args.datagram.now in
-    let w : length j.channels ≡ channel_limit = simp length-map at c.well_formed.0.1.1.0.1.0.1 in
+    let w : length j.channels ≡ channel_limit = search rules in
     moved j rooms d w c.read-heading.ensures c.sender_of.ensures c.words_of-words.ensures c.look-found.ensures c.judge.ensures
     _ _ c.in-Move.is c.write_piece.ensures in record { value = t.0; rooms_after = t.1 }

@@ -1,6 +1,5 @@
 -- `joiner::write_piece` meets its contract: nothing, or the bytes behind the header.
 -- Assumes nothing.
-use borrow.Author.Rules.{rules}
 use Rattle.joiner.proofs.Taking.{put_nowhere, put_at, put_none}
 use Rattle.joiner.proofs.write_piece.Goals as goal
 

@@ -1,6 +1,5 @@
 -- `mixed::receive` meets its contract: the table is refused, or its sections are taken.
 -- Assumes nothing.
-use borrow.Author.Rules.{rules}
 use Rattle.mixed.proofs.OnTables.{bad-table, bad-table-output, bad-table-list, bad-table-words}
 use Rattle.mixed.proofs.OnTables.{good-table, good-table-output, good-table-list, good-table-words}
 use Rattle.mixed.proofs.receive.Goals as goal

@@ -1,6 +1,5 @@
 -- `mixed::receive_checked` meets its contract: the sections lie in the table, or it is 30.
 -- Assumes nothing.
-use borrow.Author.Rules.{rules}
 use Rattle.mixed.proofs.OnTables.{inside, inside-output, inside-list, inside-words}
 use Rattle.mixed.proofs.OnTables.{outside, outside-output, outside-list, outside-words}
 use Rattle.mixed.proofs.receive_checked.Goals as goal

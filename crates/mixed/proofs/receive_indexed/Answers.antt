@@ -1,6 +1,5 @@
 -- `mixed::receive_indexed` meets its contract.
 -- Assumes nothing.
-use borrow.Author.Rules.{rules}
 use Rattle.mixed.proofs.OnTables.{by_index, by-index-output, by-index-list, by-index-words}
 use Rattle.mixed.proofs.receive_indexed.Goals as goal
 

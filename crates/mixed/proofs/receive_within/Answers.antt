@@ -1,6 +1,5 @@
 -- `mixed::receive_within` meets its contract: by the form of the message, which it does not read itself.
 -- Assumes nothing.
-use borrow.Author.Rules.{rules}
 use Rattle.mixed.proofs.Calls.{unread, unread-output, unread-list, unread-words, of-six, of-six-output, of-six-list, of-six-words}
 use Rattle.mixed.proofs.Calls.{of_three, of-three-output, of-three-list, of-three-words}
 use Rattle.mixed.proofs.receive_within.Goals as goal

@@ -12,13 +12,12 @@ slice_bounds-write_once-end-2 c =
     sym (length-take-le _ c.args.out.now (omega arith))
 
 pub write_once-requires : goal.write_once-requires
-write_once-requires c =
+write_once-requires c h =
     absurd (omega arith)
 
 pub returns : goal.returns
 returns c =
-    (
-      nothing_left c.write_once.new.1.1.1.1.1.0 c.args.out.now
-          c.write_once.auto.1.1.1.1.1.0,
-      c.write_once.ensures.0,
-    )
+    record {
+      out_unchanged = nothing_left c.write_once.new.out c.args.out.now c.write_once.auto.out;
+      value = c.write_once.ensures.value;
+    }

@@ -24,4 +24,5 @@ slice_bounds-write_whole-end c =
 
 pub returns : goal.returns
 returns c =
-    let t = planned-gives _ _ _ _ c.plan_of-plan.ensures _ _ _ _ _ c.write_whole.ensures in record { value = t.0; out_after = t.1 }
+    let t = planned-gives _ _ _ _ c.plan_of-plan.ensures _ _ _ _ _ (c.write_whole.ensures.value, c.write_whole.ensures.out_after) in
+    record { value = t.0; out_after = t.1 }

@@ -6,19 +6,19 @@ use Rattle.pack.proofs.Sure.{second_sure}
 use Rattle.pack.proofs.write_type.Goals as goal
 
 pub write_once-requires : goal.write_once-requires
-write_once-requires c =
-    second_sure _ _ _ _ _ c.first_write.ensures.1 c.in-Went.is
+write_once-requires c h =
+    second_sure _ _ _ _ _ c.first_write.ensures.value c.in-Went.is
 
 pub returns-in-Stopped : goal.returns-in-Stopped
 returns-in-Stopped c =
-    let t = refused _ _ _ _ _ c.first_write.ensures.1 _ c.first_write.ensures.0 _ _ c.in-Stopped.is in record { value = t.0; out_after = t.1 }
+    let t = refused _ _ _ _ _ c.first_write.ensures.value _ c.first_write.ensures.out_unchanged _ _ c.in-Stopped.is in record { value = t.0; out_after = t.1 }
 
 pub returns-then-fits : goal.returns-then-fits
 returns-then-fits c =
-    let t = all_stored _ _ _ _ _ c.first_write.ensures.1 _ c.first_write.ensures.0 _ c.in-Went.is
-    _ c.fits2.ensures _ _ c.if-fits.true c.write_once.ensures.0 c.write_once.ensures.1 in record { value = t.0; out_after = t.1 }
+    let t = all_stored _ _ _ _ _ c.first_write.ensures.value _ c.first_write.ensures.out_unchanged _ c.in-Went.is
+    _ c.fits.ensures _ _ c.if-fits.true c.write_once.ensures.value c.write_once.ensures.out_after in record { value = t.0; out_after = t.1 }
 
 pub returns-else-fits : goal.returns-else-fits
 returns-else-fits c =
-    let t = not-whole _ _ _ _ _ c.first_write.ensures.1 _ c.first_write.ensures.0 _ c.in-Went.is
-    _ c.fits2.ensures c.if-fits.false in record { value = t.0; out_after = t.1 }
+    let t = not-whole _ _ _ _ _ c.first_write.ensures.value _ c.first_write.ensures.out_unchanged _ c.in-Went.is
+    _ c.fits.ensures c.if-fits.false in record { value = t.0; out_after = t.1 }

@@ -1,9 +1,4 @@
-use Prim.Native.Nat.{◌-◌, ◌≤◌, min}
-use mathlib.Core.Path.{◌≡◌}
 use borrow.Author.Rules.{rules}
-use Rattle.message.specs.Refusal.{platforms}
-use Rattle.states.specs.States.{count_below}
-use Rattle.partners.specs.Threes.{is_three}
 use Rattle.partners.proofs.Returns.{none-counted, one-more-fits, one-more-most, one-counted, all_counted}
 use Rattle.partners.proofs.before.Goals as goal
 

@@ -1,6 +1,5 @@
 -- `partners::bit_in` meets its contract.
 -- Assumes nothing.
-use borrow.Author.Rules.{rules}
 use Rattle.partners.proofs.Returns.{the_bit}
 use Rattle.partners.proofs.bit_in.Goals as goal
 

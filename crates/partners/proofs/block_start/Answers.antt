@@ -1,6 +1,5 @@
 -- `partners::block_start` meets its contract: 256 blocks of 256 words are few enough.
 -- Assumes nothing.
-use borrow.Author.Rules.{rules}
 use Rattle.partners.proofs.Returns.{start_fits}
 use Rattle.partners.proofs.block_start.Goals as goal
 

@@ -1,6 +1,5 @@
 -- `partners::is_three` meets its contract.
 -- Assumes nothing.
-use borrow.Author.Rules.{rules}
 use Rattle.partners.proofs.Returns.{three_is}
 use Rattle.partners.proofs.is_three.Goals as goal
 

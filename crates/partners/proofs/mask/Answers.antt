@@ -1,6 +1,5 @@
 -- `partners::mask` meets its contract. A shift by less than 64 is exact.
 -- Assumes nothing.
-use borrow.Author.Rules.{rules}
 use Rattle.states.proofs.Bits.{one_shifted}
 use Rattle.partners.proofs.mask.Goals as goal
 

@@ -1,6 +1,5 @@
 -- `partners::set` meets its contract.
 -- Assumes nothing.
-use borrow.Author.Rules.{rules}
 use Rattle.partners.proofs.Returns.{one_set, no_word, no-platform}
 use Rattle.partners.proofs.set.Goals as goal
 

@@ -1,6 +1,5 @@
 -- `partners::with_three` meets its contract.
 -- Assumes nothing.
-use borrow.Author.Rules.{rules}
 use Rattle.partners.proofs.Returns.{bit-set, bit-off}
 use Rattle.partners.proofs.with_three.Goals as goal
 

@@ -1,6 +1,5 @@
 -- `pending::awaited` meets its contract.
 -- Assumes nothing.
-use Rattle.std.proofs.Common.{rules}
 use Rattle.pending.proofs.Returns.{in_list, what-was-asked, nothing-asked}
 use Rattle.pending.proofs.awaited.Goals as goal
 

@@ -1,6 +1,5 @@
 -- `pending::cancel` meets its contract.
 -- Assumes nothing.
-use Rattle.std.proofs.Common.{rules}
 use Rattle.pending.proofs.Returns.{is-there, given_up, not_there, all-stays}
 use Rattle.pending.proofs.cancel.Goals as goal
 

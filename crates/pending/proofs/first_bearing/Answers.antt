@@ -1,51 +1,31 @@
-use Rattle.std.proofs.Common.{◌≡◌, ℕ, ◌+◌, ◌-◌, ◌%◌, ◌<◌, ◌≤◌, List, arith, rules}
+-- `pending::first_bearing` meets its contract: of a turn's four places the first that bears the number is what all of them find, and
+-- a turn of which none does leaves the places behind it.
+-- Assumes nothing.
+use Rattle.std.proofs.Common.{◌≡◌, ℕ, ◌+◌, ◌-◌, ◌≤◌, List, arith}
 use Rattle.pending.specs.Places.{number_at, bearing, first_bearing}
 use Rattle.pending.proofs.Returns.{bears-it, bears-another, next-bears-another, none-bears}
 use Rattle.pending.proofs.first_bearing.Goals as goal
 
--- in a turn: the list, the number, where the turn starts; and that the places from its d-th on find what all of them do
+-- the places from the d-th of the turn at k on find what all of them do
+abbrev Left : List ℕ → ℕ → ℕ → ℕ → Type 0
+Left xs n k d = bearing xs n (64 - (k + d)) (k + d) ≡ first_bearing xs n
 
-abbrev list_in : goal.In-loop-k → List ℕ
-list_in c = c.args.list.now
+-- a turn of which the first place bears another number, the first two do, ..
+module _ (xs : List ℕ) (n k : ℕ) (h : k + 4 ≤ 64) (left : bearing xs n (64 - k) k ≡ first_bearing xs n) where
+  module _ {a : ℕ} (p : a ≡ number_at xs k) (e : a ≡ n → ⊥) where
+    left1 : Left xs n k 1
+    left1 = bears-another xs n k (omega arith) a p left e
 
-abbrev number_in : goal.In-loop-k → ℕ
-number_in c = c.args.number
+    module _ {b : ℕ} (q : b ≡ number_at xs (k + 1)) (f : b ≡ n → ⊥) where
+      left2 : Left xs n k 2
+      left2 = next-bears-another xs n k 1 b (omega arith) q left1 f
 
-abbrev place_in : goal.In-loop-k → ℕ
-place_in c = c.loop-k.k
+      module _ {c : ℕ} (r : c ≡ number_at xs (k + 2)) (g : c ≡ n → ⊥) where
+        left3 : Left xs n k 3
+        left3 = next-bears-another xs n k 2 c (omega arith) r left2 g
 
-abbrev Left : goal.In-loop-k → ℕ → Type 0
-Left c d = bearing (list_in c) (number_in c) (64 - (place_in c + d)) (place_in c + d) ≡ first_bearing (list_in c) (number_in c)
-
-next : (t : goal.In-loop-k) (d : ℕ) {x : ℕ} → d < 4 → x ≡ number_at (list_in t) (place_in t + d) → Left t d → (x ≡ number_in t → ⊥)
-    → Left t (d + 1)
-next t d h p left e = next-bears-another (list_in t) (number_in t) (place_in t) d _ (omega arith) p left e
-
--- the turn in which its first place bears another number, its first two do, ..
-
-abbrev in1 : goal.Else-number_in-number → goal.In-loop-k
-in1 c = c.before.before
-
-abbrev in2 : goal.Else-number_in-number-2 → goal.In-loop-k
-in2 c = in1 c.before.before
-
-abbrev in3 : goal.Else-number_in-number-3 → goal.In-loop-k
-in3 c = in2 c.before.before
-
-abbrev in4 : goal.Else-number_in-number-4 → goal.In-loop-k
-in4 c = in3 c.before.before
-
-left1 : (c : goal.Else-number_in-number) → Left (in1 c) 1
-left1 c = search bears-another
-
-left2 : (c : goal.Else-number_in-number-2) → Left (in2 c) 2
-left2 c = next (in2 c) 1 (omega arith) c.number_in-in-loop-k.ensures (left1 c.before.before) c.if-number_in-number-2.false
-
-left3 : (c : goal.Else-number_in-number-3) → Left (in3 c) 3
-left3 c = next (in3 c) 2 (omega arith) c.number_in-in-loop-k-2.ensures (left2 c.before.before) c.if-number_in-number-3.false
-
-left4 : (c : goal.Else-number_in-number-4) → Left (in4 c) 4
-left4 c = next (in4 c) 3 (omega arith) c.number_in-in-loop-k-3.ensures (left3 c.before.before) c.if-number_in-number-4.false
+        left4 : {d : ℕ} → d ≡ number_at xs (k + 3) → (d ≡ n → ⊥) → Left xs n k 4
+        left4 {d} s i = next-bears-another xs n k 3 d (omega arith) s left3 i
 
 pub returns-then-number_in-number : goal.returns-then-number_in-number
 returns-then-number_in-number c =
@@ -53,19 +33,27 @@ returns-then-number_in-number c =
 
 pub returns-then-number_in-number-2 : goal.returns-then-number_in-number-2
 returns-then-number_in-number-2 c =
-    bears-it _ _ _ (omega arith) _ c.number_in-in-loop-k.ensures (left1 c.before.before) c.if-number_in-number-2.true
+    let left = left1 _ _ c.loop-k.k (omega arith) c.loop-k.invariant.0 c.number_in.ensures c.if-number_in-number.false in
+    bears-it _ _ _ (omega arith) _ c.number_in-in-loop-k.ensures left c.if-number_in-number-2.true
 
 pub returns-then-number_in-number-3 : goal.returns-then-number_in-number-3
 returns-then-number_in-number-3 c =
-    bears-it _ _ _ (omega arith) _ c.number_in-in-loop-k-2.ensures (left2 c.before.before) c.if-number_in-number-3.true
+    let left = left2 _ _ c.loop-k.k (omega arith) c.loop-k.invariant.0 c.number_in.ensures c.if-number_in-number.false
+    c.number_in-in-loop-k.ensures c.if-number_in-number-2.false in
+    bears-it _ _ _ (omega arith) _ c.number_in-in-loop-k-2.ensures left c.if-number_in-number-3.true
 
 pub returns-then-number_in-number-4 : goal.returns-then-number_in-number-4
 returns-then-number_in-number-4 c =
-    bears-it _ _ _ (omega arith) _ c.number_in-in-loop-k-3.ensures (left3 c.before.before) c.if-number_in-number-4.true
+    let left = left3 _ _ c.loop-k.k (omega arith) c.loop-k.invariant.0 c.number_in.ensures c.if-number_in-number.false
+    c.number_in-in-loop-k.ensures c.if-number_in-number-2.false c.number_in-in-loop-k-2.ensures c.if-number_in-number-3.false in
+    bears-it _ _ _ (omega arith) _ c.number_in-in-loop-k-3.ensures left c.if-number_in-number-4.true
 
 pub loop-k-preserved : goal.loop-k-preserved
 loop-k-preserved c =
-    (left4 c, (search rules, search rules))
+    let left = left4 _ _ c.loop-k.k (omega arith) c.loop-k.invariant.0 c.number_in.ensures c.if-number_in-number.false
+    c.number_in-in-loop-k.ensures c.if-number_in-number-2.false c.number_in-in-loop-k-2.ensures c.if-number_in-number-3.false
+    c.number_in-in-loop-k-3.ensures c.if-number_in-number-4.false in
+    (left, (omega arith, omega arith))
 
 pub returns : goal.returns
 returns c =

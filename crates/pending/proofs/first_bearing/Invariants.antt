@@ -1,9 +1,8 @@
 -- `pending::first_bearing` meets its contract. The loop's invariant: the places from k on find what all of them do, and k is where a
 -- turn of four starts.
 -- Assumes nothing.
-use Rattle.std.proofs.Common.{◌≡◌, ℕ, ◌+◌, ◌-◌, ◌%◌, ◌<◌, ◌≤◌, List, arith, rules}
-use Rattle.pending.specs.Places.{number_at, bearing, first_bearing}
-use Rattle.pending.proofs.Returns.{bears-it, bears-another, next-bears-another, none-bears}
+use Rattle.std.proofs.Common.{◌≡◌, ◌-◌, ◌%◌, ◌≤◌}
+use Rattle.pending.specs.Places.{bearing, first_bearing}
 use Rattle.pending.proofs.first_bearing.Given as goal
 
 abbrev pub invariant-loop-k : goal.invariant-loop-k

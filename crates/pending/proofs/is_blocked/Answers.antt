@@ -1,6 +1,5 @@
 -- `pending::is_blocked` meets its contract.
 -- Assumes nothing.
-use Rattle.std.proofs.Common.{rules}
 use Rattle.pending.proofs.Returns.{zero-blocked, as-borne}
 use Rattle.pending.proofs.is_blocked.Goals as goal
 

@@ -1,6 +1,4 @@
-use Rattle.std.proofs.Common.{◌≡◌, ◌-◌, ◌≤◌, ◌||◌, rules}
-use Rattle.pending.specs.Places.{bearing, first_bearing}
-use Rattle.pending.specs.Free.{is_at}
+use Rattle.std.proofs.Common.{rules}
 use Rattle.pending.proofs.Returns.{borne-on, borne-all}
 use Rattle.pending.proofs.is_borne.Goals as goal
 

@@ -1,9 +1,8 @@
 -- `pending::is_borne` meets its contract. The loop's invariant: what was found, or a place from k on, tells what all places do.
 -- Assumes nothing.
-use Rattle.std.proofs.Common.{◌≡◌, ◌-◌, ◌≤◌, ◌||◌, rules}
+use Rattle.std.proofs.Common.{◌≡◌, ◌-◌, ◌≤◌, ◌||◌}
 use Rattle.pending.specs.Places.{bearing, first_bearing}
 use Rattle.pending.specs.Free.{is_at}
-use Rattle.pending.proofs.Returns.{borne-on, borne-all}
 use Rattle.pending.proofs.is_borne.Given as goal
 
 abbrev pub invariant-loop-k : goal.invariant-loop-k

@@ -1,6 +1,5 @@
 -- `pending::is_for` meets its contract.
 -- Assumes nothing.
-use Rattle.std.proofs.Common.{rules}
 use Rattle.pending.proofs.Returns.{asked-this}
 use Rattle.pending.proofs.is_for.Goals as goal
 

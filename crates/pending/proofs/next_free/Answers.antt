@@ -1,5 +1,4 @@
-use Rattle.std.proofs.Common.{◌≡◌, ◌≤◌, rules}
-use Rattle.pending.specs.Free.{free_within, next_free}
+use Rattle.std.proofs.Common.{rules}
 use Rattle.pending.proofs.Returns.{drawn-on, is_free, last-draw}
 use Rattle.pending.proofs.next_free.Goals as goal
 

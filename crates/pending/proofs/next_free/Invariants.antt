@@ -1,8 +1,7 @@
 -- `pending::next_free` meets its contract. The loop's invariant: what the draws that are left find is what all of them do.
 -- Assumes nothing.
-use Rattle.std.proofs.Common.{◌≡◌, ◌≤◌, rules}
+use Rattle.std.proofs.Common.{◌≡◌, ◌≤◌}
 use Rattle.pending.specs.Free.{free_within, next_free}
-use Rattle.pending.proofs.Returns.{drawn-on, is_free, last-draw}
 use Rattle.pending.proofs.next_free.Given as goal
 
 abbrev pub invariant-loop-left : goal.invariant-loop-left

@@ -1,6 +1,6 @@
 -- `pending::number_in` meets its contract: a list that has all its places has this one.
 -- Assumes nothing.
-use Rattle.std.proofs.Common.{arith, rules}
+use Rattle.std.proofs.Common.{arith}
 use Rattle.pending.proofs.Returns.{in_whole}
 use Rattle.pending.proofs.number_in.Goals as goal
 

@@ -1,6 +1,5 @@
 -- `pending::place_of` meets its contract: 0 stands nowhere.
 -- Assumes nothing.
-use Rattle.std.proofs.Common.{rules}
 use Rattle.pending.proofs.Returns.{no_number, some_number}
 use Rattle.pending.proofs.place_of.Goals as goal
 

@@ -1,6 +1,5 @@
 -- `pending::put` meets its contract: both words, one behind the other.
 -- Assumes nothing.
-use Rattle.std.proofs.Common.{rules}
 use Rattle.pending.proofs.Returns.{both-put, not_put}
 use Rattle.pending.proofs.put.Goals as goal
 

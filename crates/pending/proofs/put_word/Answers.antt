@@ -1,6 +1,5 @@
 -- `pending::put_word` meets its contract.
 -- Assumes nothing.
-use Rattle.std.proofs.Common.{rules}
 use Rattle.pending.proofs.Returns.{not_set}
 use Rattle.pending.proofs.put_word.Goals as goal
 

@@ -1,6 +1,5 @@
 -- `pending::take_response` meets its contract: the place is looked up once.
 -- Assumes nothing.
-use Rattle.std.proofs.Common.{rules}
 use Rattle.pending.proofs.Returns.{in_list, the-response, place-freed, another-message, place_kept, no_response, list_kept}
 use Rattle.pending.proofs.take_response.Goals as goal
 

@@ -1,6 +1,5 @@
 -- `platform::answered` meets its contract: all replies fit, or nothing changes.
 -- Assumes nothing.
-use borrow.Author.Rules.{rules}
 use Rattle.platform.proofs.ReplyLaws.{too_long, fitting, left_as_it_was, laid}
 use Rattle.platform.proofs.answered.Goals as goal
 

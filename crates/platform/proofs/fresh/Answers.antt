@@ -1,6 +1,5 @@
 -- `platform::fresh` meets its contract.
 -- Assumes nothing.
-use borrow.Author.Rules.{rules}
 use Rattle.platform.proofs.ReplyLaws.{fresh_is}
 use Rattle.platform.proofs.fresh.Goals as goal
 

@@ -1,6 +1,5 @@
 -- `platform::payload` meets its contract.
 -- Assumes nothing.
-use borrow.Author.Rules.{rules}
 use Rattle.platform.proofs.Receipts.{operation_payload, no_payload}
 use Rattle.platform.proofs.payload.Goals as goal
 
@@ -10,4 +9,4 @@ returns-in-Operation c =
 
 pub returns-in_default : goal.returns-in_default
 returns-in_default c =
-    search no_payload
+    no_payload _ _ c.in_default.not-Operation

@@ -1,6 +1,5 @@
 -- `platform::receive` meets its contract: the table is judged first.
 -- Assumes nothing.
-use borrow.Author.Rules.{rules}
 use Rattle.platform.proofs.Receipts.{bad-table, bad-table-output, bad-table-list, good-table, good-table-output, good-table-list}
 use Rattle.platform.proofs.receive.Goals as goal
 

@@ -1,6 +1,5 @@
 -- `platform::receive_checked` meets its contract: sections that do not lie in the bytes are refused.
 -- Assumes nothing.
-use borrow.Author.Rules.{rules}
 use Rattle.platform.proofs.Receipts.{inside, inside-output, inside-list, outside, outside-output, outside-list}
 use Rattle.platform.proofs.receive_checked.Goals as goal
 

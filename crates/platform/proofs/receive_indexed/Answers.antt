@@ -1,6 +1,5 @@
 -- `platform::receive_indexed` meets its contract: by the index that it lays.
 -- Assumes nothing.
-use borrow.Author.Rules.{rules}
 use Rattle.platform.proofs.Receipts.{by_index, by-index-output, by-index-list}
 use Rattle.platform.proofs.receive_indexed.Goals as goal
 

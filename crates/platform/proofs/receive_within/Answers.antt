@@ -1,6 +1,5 @@
 -- `platform::receive_within` meets its contract: the message is read, and what it asks for is looked up.
 -- Assumes nothing.
-use borrow.Author.Rules.{rules}
 use Rattle.platform.proofs.Receipts.{looked-up, looked-up-output, looked-up-list}
 use Rattle.platform.proofs.receive_within.Goals as goal
 

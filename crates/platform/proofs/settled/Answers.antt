@@ -1,6 +1,5 @@
 -- `platform::settled` meets its contract: a message that was refused, the response to a request, or its reaction.
 -- Assumes nothing.
-use borrow.Author.Rules.{rules}
 use Rattle.platform.proofs.Receipts.{unread, unread-output, unread-list, is-response, response-output, response-list}
 use Rattle.platform.proofs.Receipts.{was_read, read-output, read-list}
 use Rattle.platform.proofs.settled.Goals as goal

@@ -1,6 +1,5 @@
 -- `recording::next` meets its contract: what each test says.
 -- Assumes nothing.
-use Rattle.std.proofs.Common.{rules}
 use Rattle.recording.proofs.Finding.{nothing-next, found-next, cut-datagram, cut-length}
 use Rattle.recording.proofs.next.Goals as goal
 

@@ -1,5 +1,4 @@
-use Rattle.std.proofs.Common.{◌≡◌, ◌-◌, length, refl, rules}
-use Rattle.recording.specs.Play.{state_of, played}
+use Rattle.std.proofs.Common.{refl, rules}
 use Rattle.recording.proofs.Finding.{found-fits}
 use Rattle.recording.proofs.Playing.{play-on, play-full, play-unfinished, play-over, play_less}
 use Rattle.recording.proofs.play.Goals as goal

@@ -1,10 +1,8 @@
 -- `recording::play` meets its contract. The loop's invariant: playing on from here comes to what playing from the start
 -- comes to.
 -- Assumes nothing.
-use Rattle.std.proofs.Common.{◌≡◌, ◌-◌, length, refl, rules}
+use Rattle.std.proofs.Common.{◌≡◌, ◌-◌, length}
 use Rattle.recording.specs.Play.{state_of, played}
-use Rattle.recording.proofs.Finding.{found-fits}
-use Rattle.recording.proofs.Playing.{play-on, play-full, play-unfinished, play-over, play_less}
 use Rattle.recording.proofs.play.Given as goal
 
 abbrev pub invariant-loop-start : goal.invariant-loop-start

@@ -1,6 +1,5 @@
 -- `recording::play_one` meets its contract: the datagram is taken, and its line is put.
 -- Assumes nothing.
-use Rattle.std.proofs.Common.{rules}
 use Rattle.recording.proofs.Playing.{one_step}
 use Rattle.recording.proofs.play_one.Goals as goal
 

@@ -1,6 +1,5 @@
 -- `requests::send` meets its contract: 62, then 60, then what writing comes to.
 -- Assumes nothing.
-use borrow.Author.Rules.{rules}
 use Rattle.requests.proofs.Returns.{tried-answer, tried-list, tried-output, full-answer, full-list, full-output, kind-answer, kind-list, kind-output}
 use Rattle.requests.proofs.send.Goals as goal
 

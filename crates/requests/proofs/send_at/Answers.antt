@@ -1,6 +1,5 @@
 -- `requests::send_at` meets its contract: the message is written and the request entered, or nothing changes.
 -- Assumes nothing.
-use borrow.Author.Rules.{rules}
 use Rattle.requests.proofs.Returns.{sent-answer, sent-list, sent_output, not-sent-answer, not-sent-list}
 use Rattle.requests.proofs.send_at.Goals as goal
 

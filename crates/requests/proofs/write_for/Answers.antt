@@ -1,6 +1,5 @@
 -- `requests::write_for` meets its contract: by the target's issue.
 -- Assumes nothing.
-use borrow.Author.Rules.{rules}
 use Rattle.requests.proofs.Returns.{six-answer, six-output, three-answer, three-output}
 use Rattle.requests.proofs.write_for.Goals as goal
 

@@ -1,7 +1,4 @@
-use Prim.Native.Nat.{◌-◌, ◌≤◌}
-use mathlib.Core.Path.{◌≡◌}
 use borrow.Author.Rules.{rules}
-use lib.ListN.{length, take}
 use Rattle.services.proofs.Noting.{one-copied, all-copied}
 use Rattle.services.proofs.copy.Goals as goal
 

@@ -2,9 +2,7 @@
 -- Assumes nothing.
 use Prim.Native.Nat.{◌-◌, ◌≤◌}
 use mathlib.Core.Path.{◌≡◌}
-use borrow.Author.Rules.{rules}
 use lib.ListN.{length, take}
-use Rattle.services.proofs.Noting.{one-copied, all-copied}
 use Rattle.services.proofs.copy.Given as goal
 
 abbrev pub invariant-loop-i : goal.invariant-loop-i

@@ -1,9 +1,4 @@
-use Prim.Native.Nat.{◌-◌, ◌≤◌}
-use mathlib.Core.Path.{◌≡◌}
-use mathlib.Core.List.{◌++◌}
 use borrow.Author.Rules.{rules}
-use lib.ListN.{length, take, drop}
-use Rattle.services.specs.Block.{marked}
 use Rattle.services.proofs.Marking.{stops-here, goes_on, all-marked}
 use Rattle.services.proofs.mark.Goals as goal
 

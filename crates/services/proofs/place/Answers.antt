@@ -1,7 +1,4 @@
-use Prim.Native.Nat.{◌-◌, ◌≤◌}
 use borrow.Author.Rules.{rules}
-use lib.ListN.{length}
-use Rattle.services.specs.Block.{service_place}
 use Rattle.services.proofs.Places.{from_start, found_here, not-here, found_nowhere}
 use Rattle.services.proofs.place.Goals as goal
 

@@ -1,10 +1,8 @@
 -- `services::place` meets its contract. The loop's invariant: no word before i bears the ID or is free.
 -- Assumes nothing.
 use Prim.Native.Nat.{◌-◌, ◌≤◌}
-use borrow.Author.Rules.{rules}
 use lib.ListN.{length}
 use Rattle.services.specs.Block.{service_place}
-use Rattle.services.proofs.Places.{from_start, found_here, not-here, found_nowhere}
 use Rattle.services.proofs.place.Given as goal
 
 abbrev pub invariant-loop-i : goal.invariant-loop-i

@@ -1,6 +1,5 @@
 -- `services::state` meets its contract.
 -- Assumes nothing.
-use borrow.Author.Rules.{rules}
 use Rattle.services.proofs.Saying.{state_is}
 use Rattle.services.proofs.state.Goals as goal
 

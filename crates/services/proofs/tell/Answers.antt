@@ -1,6 +1,5 @@
 -- `services::tell` meets its contract.
 -- Assumes nothing.
-use borrow.Author.Rules.{rules}
 use Rattle.services.proofs.Telling.{has-place, no_place, is_told, not-told}
 use Rattle.services.proofs.tell.Goals as goal
 

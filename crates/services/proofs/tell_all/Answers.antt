@@ -1,11 +1,6 @@
-use Prim.Native.Nat.{◌-◌, ◌≤◌}
-use mathlib.Core.Path.{◌≡◌, refl}
-use mathlib.Core.Bool.{true}
+use mathlib.Core.Path.{refl}
 use borrow.Author.Rules.{rules}
-use lib.ListN.{length}
-use Rattle.wire.specs.All.{all_below}
 use Rattle.wire.proofs.Cond.{clash}
-use Rattle.services.specs.Block.{pairs_in, pairs_told, has_place}
 use Rattle.services.proofs.Telling.{none_told, none-asked, more-told, one_more, not_all, all_have, all_told}
 use Rattle.services.proofs.tell_all.Goals as goal
 

@@ -1,6 +1,5 @@
 -- `services::word_for` meets its contract.
 -- Assumes nothing.
-use borrow.Author.Rules.{rules}
 use Rattle.services.proofs.Saying.{word-available, word-unavailable}
 use Rattle.services.proofs.word_for.Goals as goal
 

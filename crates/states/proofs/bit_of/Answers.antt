@@ -1,6 +1,5 @@
 -- `states::bit_of` meets its contract.
 -- Assumes nothing.
-use borrow.Author.Rules.{rules}
 use Rattle.states.proofs.WordLaws.{the_bit}
 use Rattle.states.proofs.bit_of.Goals as goal
 

@@ -1,6 +1,5 @@
 -- `states::how_many_up` meets its contract.
 -- Assumes nothing.
-use borrow.Author.Rules.{rules}
 use Rattle.states.proofs.WordLaws.{many_are}
 use Rattle.states.proofs.how_many_up.Goals as goal
 

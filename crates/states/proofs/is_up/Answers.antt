@@ -1,6 +1,5 @@
 -- `states::is_up` meets its contract.
 -- Assumes nothing.
-use borrow.Author.Rules.{rules}
 use Rattle.states.proofs.WordLaws.{up_is}
 use Rattle.states.proofs.is_up.Goals as goal
 

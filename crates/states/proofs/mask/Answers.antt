@@ -1,6 +1,5 @@
 -- `states::mask` meets its contract: a shift by less than 64 is exact.
 -- Assumes nothing.
-use borrow.Author.Rules.{rules}
 use Rattle.states.proofs.Bits.{one_shifted}
 use Rattle.states.proofs.mask.Goals as goal
 

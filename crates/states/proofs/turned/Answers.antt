@@ -1,6 +1,5 @@
 -- `states::turned` meets its contract: one bit of one word, or none.
 -- Assumes nothing.
-use borrow.Author.Rules.{rules}
 use Rattle.states.proofs.WordLaws.{turned_is, not_turned}
 use Rattle.states.proofs.turned.Goals as goal
 

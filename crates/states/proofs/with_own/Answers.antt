@@ -1,6 +1,5 @@
 -- `states::with_own` meets its contract: one bit of one word.
 -- Assumes nothing.
-use borrow.Author.Rules.{rules}
 use Rattle.states.proofs.WordLaws.{own_is}
 use Rattle.states.proofs.with_own.Goals as goal
 

@@ -1,6 +1,5 @@
 -- `types::check` meets its contract: the sections first, and then what is in them.
 -- Assumes nothing.
-use Rattle.std.proofs.Common.{rules}
 use Rattle.types.proofs.Tables.{no-sections, the-sections}
 use Rattle.types.proofs.Insides.{found_lie}
 use Rattle.types.proofs.check.Goals as goal

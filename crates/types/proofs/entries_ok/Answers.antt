@@ -1,6 +1,5 @@
 -- `types::entries_ok` meets its contract: the types first, and then the operations.
 -- Assumes nothing.
-use Rattle.std.proofs.Common.{rules}
 use Rattle.types.proofs.Tables.{types-then, types-bad}
 use Rattle.types.proofs.entries_ok.Goals as goal
 

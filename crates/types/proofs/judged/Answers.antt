@@ -1,6 +1,5 @@
 -- `types::judged` meets its contract: every entry is judged before any size.
 -- Assumes nothing.
-use Rattle.std.proofs.Common.{rules}
 use Rattle.types.proofs.Tables.{judgements}
 use Rattle.types.proofs.TypePasses.{entries_kept}
 use Rattle.types.proofs.judged.Goals as goal

@@ -1,4 +1,4 @@
-use Prim.Native.Nat.{ℕ, ◌+◌, ◌-◌, ◌≤◌, ◌<◌}
+use Prim.Native.Nat.{ℕ, ◌+◌, ◌≤◌, ◌<◌}
 use mathlib.Core.Path.{◌≡◌, sym, ap, ◌∙◌}
 use native.Mathlib.Nat.{zero-add}
 use native.Mathlib.Omega.{arith}
@@ -6,7 +6,7 @@ use mathlib.Core.List.{List}
 use lib.ListN.{length, get_or, set, take}
 use borrow.Author.Rules.{rules}
 use Rattle.wire.specs.Bytes.{over}
-use Rattle.wire.proofs.Runs.{over_none, over_more, over_whole}
+use Rattle.wire.proofs.Runs.{over_more, over_whole}
 use Rattle.unpack.proofs.copy.Goals as goal
 
 one_more : (u s r : List ℕ) (j : ℕ) → u ≡ over s 0 (take j r) → length r ≤ length s → j < length r → set u j (get_or r j 0)
@@ -15,7 +15,7 @@ one_more u s r j e h i = ap (λ (k : ℕ). set u k (get_or r j 0)) (sym (zero-ad
 
 pub loop-k-init : goal.loop-k-init
 loop-k-init c =
-    (search rules, search rules, search rules, search over_none)
+    (search rules, search rules, search rules, search rules)
 
 pub loop-k-preserved : goal.loop-k-preserved
 loop-k-preserved c =

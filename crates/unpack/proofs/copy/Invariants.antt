@@ -1,14 +1,9 @@
 -- `unpack::copy` meets its contract. The loop's invariant: the first k words are written, and the rest is as it was.
 -- Assumes nothing.
-use Prim.Native.Nat.{ℕ, ◌+◌, ◌-◌, ◌≤◌, ◌<◌}
-use mathlib.Core.Path.{◌≡◌, sym, ap, ◌∙◌}
-use native.Mathlib.Nat.{zero-add}
-use native.Mathlib.Omega.{arith}
-use mathlib.Core.List.{List}
-use lib.ListN.{length, get_or, set, take}
-use borrow.Author.Rules.{rules}
+use Prim.Native.Nat.{◌-◌, ◌≤◌}
+use mathlib.Core.Path.{◌≡◌}
+use lib.ListN.{length, take}
 use Rattle.wire.specs.Bytes.{over}
-use Rattle.wire.proofs.Runs.{over_none, over_more, over_whole}
 use Rattle.unpack.proofs.copy.Given as goal
 
 abbrev pub invariant-loop-k : goal.invariant-loop-k

@@ -1,6 +1,5 @@
 -- `unpack::first_read` meets its contract: there is no room to store in.
 -- Assumes nothing.
-use borrow.Author.Rules.{rules}
 use mathlib.Core.Path.{sym}
 use native.Mathlib.Omega.{arith}
 use lib.Seq.{length-take-le}
@@ -11,10 +10,9 @@ pub slice_bounds-read_once-end-2 : goal.slice_bounds-read_once-end-2
 slice_bounds-read_once-end-2 c =
     sym (length-take-le _ c.args.words.now (omega arith))
 
-pub returns : goal.returns
-returns c =
-    (
-      nothing_left c.read_once.new.1.1.1.1.1.0 c.args.words.now
-          c.read_once.auto.1.1.1.1.1.0,
-      c.read_once.ensures.0,
-    )
+pub returns-clause-words_unchanged : goal.returns-clause-words_unchanged
+returns-clause-words_unchanged c =
+    nothing_left c.read_once.new.words c.args.words.now c.read_once.auto.words
+
+pub returns-clause-value : goal.returns-clause-value
+returns-clause-value c = c.read_once.ensures.value

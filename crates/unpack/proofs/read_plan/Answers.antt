@@ -1,6 +1,5 @@
 -- `unpack::read_plan` meets its contract: the plan's runs are unpacked.
 -- Assumes nothing.
-use borrow.Author.Rules.{rules}
 use Rattle.unpack.proofs.PlannedRuns.{plan-ends, end_fits, first_fits, plan-answer, plan-whole}
 use Rattle.unpack.proofs.read_plan.Goals as goal
 

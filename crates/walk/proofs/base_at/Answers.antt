@@ -1,6 +1,5 @@
 -- `walk::base_at` meets its contract.
 -- Assumes nothing.
-use borrow.Author.Rules.{rules}
 use Rattle.walk.proofs.Bases.{base-met, no-base-met}
 use Rattle.walk.proofs.base_at.Goals as goal
 

@@ -1,6 +1,5 @@
 -- `walk::base_of` meets its contract.
 -- Assumes nothing.
-use borrow.Author.Rules.{rules}
 use Rattle.walk.proofs.Bases.{a_base, no-base}
 use Rattle.walk.proofs.base_of.Goals as goal
 

@@ -1,6 +1,5 @@
 -- `walk::by_kind` meets its contract.
 -- Assumes nothing.
-use borrow.Author.Rules.{rules}
 use Rattle.walk.proofs.Trees.{a_leaf, a_record, an_array}
 use Rattle.walk.proofs.by_kind.Goals as goal
 

@@ -1,6 +1,5 @@
 -- `walk::entry_in` meets its contract.
 -- Assumes nothing.
-use borrow.Author.Rules.{rules}
 use Rattle.walk.proofs.Trees.{an_entry}
 use Rattle.walk.proofs.entry_in.Goals as goal
 

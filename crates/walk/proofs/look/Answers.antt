@@ -1,6 +1,5 @@
 -- `walk::look` meets its contract.
 -- Assumes nothing.
-use borrow.Author.Rules.{rules}
 use Rattle.walk.proofs.Trees.{met_word}
 use Rattle.walk.proofs.look.Goals as goal
 

@@ -1,6 +1,5 @@
 -- `walk::looked` meets its contract.
 -- Assumes nothing.
-use borrow.Author.Rules.{rules}
 use Rattle.walk.proofs.Trees.{good-word, no_word}
 use Rattle.walk.proofs.looked.Goals as goal
 

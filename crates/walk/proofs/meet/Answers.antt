@@ -1,6 +1,5 @@
 -- `walk::meet` meets its contract.
 -- Assumes nothing.
-use borrow.Author.Rules.{rules}
 use Rattle.walk.proofs.Trees.{met-by-word, not-met}
 use Rattle.walk.proofs.meet.Goals as goal
 

@@ -1,6 +1,5 @@
 -- `walk::met_in` meets its contract.
 -- Assumes nothing.
-use borrow.Author.Rules.{rules}
 use Rattle.walk.proofs.Trees.{met_entry, met_none}
 use Rattle.walk.proofs.met_in.Goals as goal
 

@@ -1,6 +1,5 @@
 -- `walk::packed` meets its contract.
 -- Assumes nothing.
-use borrow.Author.Rules.{rules}
 use Rattle.walk.proofs.Trees.{packed_in}
 use Rattle.walk.proofs.packed.Goals as goal
 

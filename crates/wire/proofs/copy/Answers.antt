@@ -1,8 +1,4 @@
-use Prim.Native.Nat.{◌+◌, ◌-◌, ◌≤◌}
-use mathlib.Core.Path.{◌≡◌}
-use lib.ListN.{length, take}
 use borrow.Author.Rules.{rules}
-use Rattle.wire.specs.Bytes.{over}
 use Rattle.wire.proofs.Runs.{over_none, over_more, over_whole}
 use Rattle.wire.proofs.copy.Goals as goal
 

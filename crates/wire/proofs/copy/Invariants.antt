@@ -3,9 +3,7 @@
 use Prim.Native.Nat.{◌+◌, ◌-◌, ◌≤◌}
 use mathlib.Core.Path.{◌≡◌}
 use lib.ListN.{length, take}
-use borrow.Author.Rules.{rules}
 use Rattle.wire.specs.Bytes.{over}
-use Rattle.wire.proofs.Runs.{over_none, over_more, over_whole}
 use Rattle.wire.proofs.copy.Given as goal
 
 abbrev pub invariant-loop-i : goal.invariant-loop-i

@@ -1,6 +1,5 @@
 -- `wire::put_run` meets its contract: the whole run where there is room for it, and nothing where there is none.
 -- Assumes nothing.
-use borrow.Author.Rules.{rules}
 use Rattle.wire.proofs.Runs.{held, run_in, no_run}
 use Rattle.wire.proofs.put_run.Goals as goal
 

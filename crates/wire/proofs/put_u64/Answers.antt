@@ -1,6 +1,5 @@
 -- `wire::put_u64` meets its contract: the whole number where there is room for it, and nothing where there is none.
 -- Assumes nothing.
-use borrow.Author.Rules.{rules}
 use Rattle.wire.proofs.Runs.{held}
 use Rattle.wire.proofs.Writes.{wholly, none}
 use Rattle.wire.proofs.put_u64.Goals as goal

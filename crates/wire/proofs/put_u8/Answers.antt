@@ -1,6 +1,5 @@
 -- `wire::put_u8` meets its contract: the one byte, or nothing.
 -- Assumes nothing.
-use borrow.Author.Rules.{rules}
 use Rattle.wire.proofs.Writes.{byte, no_byte}
 use Rattle.wire.proofs.put_u8.Goals as goal
 

@@ -1,6 +1,5 @@
 -- `wire::split_u32` meets its contract: its two halves, and past the end 0.
 -- Assumes nothing.
-use borrow.Author.Rules.{rules}
 use Rattle.wire.proofs.Numbers.{past}
 use Rattle.wire.proofs.split_u32.Goals as goal
 

@@ -1,6 +1,5 @@
 -- `wire::swapped_u64` meets its contract: the whole number's bytes as they lie, or 0.
 -- Assumes nothing.
-use borrow.Author.Rules.{rules}
 use Rattle.wire.specs.Bytes.{Octets}
 use Rattle.wire.proofs.Runs.{held}
 use Rattle.wire.proofs.Swaps.{lying_read, lying_none}

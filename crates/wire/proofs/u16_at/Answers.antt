@@ -1,6 +1,5 @@
 -- `wire::u16_at` meets its contract: the whole number, or what is there of it: its first byte at most.
 -- Assumes nothing.
-use borrow.Author.Rules.{rules}
 use Rattle.wire.proofs.Runs.{held}
 use Rattle.wire.proofs.Numbers.{first_byte}
 use Rattle.wire.proofs.u16_at.Goals as goal

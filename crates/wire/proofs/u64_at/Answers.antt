@@ -1,6 +1,5 @@
 -- `wire::u64_at` meets its contract: the whole number, or its halves.
 -- Assumes nothing.
-use borrow.Author.Rules.{rules}
 use Rattle.wire.proofs.Runs.{held}
 use Rattle.wire.proofs.u64_at.Goals as goal
 

@@ -1,6 +1,5 @@
 -- `wire::u8_at` meets its contract: past the end it is 0.
 -- Assumes nothing.
-use borrow.Author.Rules.{rules}
 use Rattle.wire.proofs.Numbers.{past}
 use Rattle.wire.proofs.u8_at.Goals as goal
 

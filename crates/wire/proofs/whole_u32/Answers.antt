@@ -1,6 +1,5 @@
 -- `wire::whole_u32` meets its contract: the whole number, or 0.
 -- Assumes nothing.
-use borrow.Author.Rules.{rules}
 use Rattle.wire.proofs.Numbers.{whole_read, whole_none}
 use Rattle.wire.proofs.Runs.{held}
 use Rattle.wire.proofs.whole_u32.Goals as goal

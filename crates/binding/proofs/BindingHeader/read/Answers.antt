@@ -1,6 +1,5 @@
 -- `binding::BindingHeader::read` meets its contract: 21, then 22, then the header.
 -- Assumes nothing.
-use borrow.Author.Rules.{rules}
 use native.Mathlib.Omega.{arith}
 use Rattle.wire.specs.Bytes.{Octets}
 use Rattle.binding.proofs.Reading.{a-header, no-version, not-so-long}

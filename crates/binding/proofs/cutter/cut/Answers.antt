@@ -1,6 +1,5 @@
 -- `binding::cut` meets its contract: 50, then 51, then the datagram or 52.
 -- Assumes nothing.
-use borrow.Author.Rules.{rules}
 use Rattle.binding.proofs.Cuts.{cut_in, here, header-in, sender_fits, size_in, cut-starts, cut-start-fits, counter_fits}
 use Rattle.binding.proofs.Cuts.{answer-50, output-50, answer-51, output-51, answer-made, output-made}
 use Rattle.binding.proofs.cutter.cut.Goals as goal
@@ -31,18 +30,12 @@ put_datagram-requires-clause-sender_lt_senders c =
 
 pub put_datagram-requires-clause-start_in_bounds : goal.put_datagram-requires-clause-start_in_bounds
 put_datagram-requires-clause-start_in_bounds c =
-    (
-        cut-starts _ _ c.args.sender
-            c.args.first
-            c.can_cut.ensures
-            c.can_head.ensures c.if-can_cut-can_head.true _
-            c.has_piece.ensures c.if-has_piece.true,
-        search size_in,
-      )
+    cut-starts _ _ c.args.sender c.args.first c.can_cut.ensures c.can_head.ensures
+    c.if-can_cut-can_head.true _ c.has_piece.ensures c.if-has_piece.true
 
 pub put_datagram-requires-clause-size_le_largest_piece : goal.put_datagram-requires-clause-size_le_largest_piece
 put_datagram-requires-clause-size_le_largest_piece c =
-    
+    search size_in
 
 pub returns-then-has_piece-clause-answer : goal.returns-then-has_piece-clause-answer
 returns-then-has_piece-clause-answer c =

@@ -1,6 +1,5 @@
 -- `binding::part_of_piece` meets its contract: by what is left from its start on.
 -- Assumes nothing.
-use borrow.Author.Rules.{rules}
 use Rattle.binding.proofs.Cuts.{start-in, start_fits, first_part, later-part}
 use Rattle.binding.proofs.cutter.part_of_piece.Goals as goal
 

@@ -1,6 +1,5 @@
 -- `binding::piece_count` meets its contract: what may be cut has a piece size above 0 and bounds that no sum exceeds.
 -- Assumes nothing.
-use borrow.Author.Rules.{rules}
 use native.Mathlib.Omega.{arith}
 use Rattle.binding.proofs.Cutting.{cuttable}
 use Rattle.binding.proofs.cutter.piece_count.Goals as goal

@@ -1,6 +1,5 @@
 -- `binding::pieces` meets its contract: 50, or the number of pieces.
 -- Assumes nothing.
-use borrow.Author.Rules.{rules}
 use Rattle.binding.proofs.Cuts.{counted, not_counted, said}
 use Rattle.binding.proofs.cutter.pieces.Goals as goal
 

@@ -1,6 +1,5 @@
 -- `binding::put_datagram` meets its contract: the header and the bytes behind it, or 52 and nothing written.
 -- Assumes nothing.
-use borrow.Author.Rules.{rules}
 use Rattle.binding.proofs.Cuts.{made_one, wrote_one, made_none, wrote_none}
 use Rattle.binding.proofs.cutter.put_datagram.Goals as goal
 

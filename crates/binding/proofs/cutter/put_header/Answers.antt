@@ -1,6 +1,5 @@
 -- `binding::put_header` meets its contract: the header as one number.
 -- Assumes nothing.
-use borrow.Author.Rules.{rules}
 use Rattle.binding.proofs.Cuts.{the_header}
 use Rattle.binding.proofs.cutter.put_header.Goals as goal
 

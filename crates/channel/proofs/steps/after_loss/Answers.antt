@@ -1,6 +1,5 @@
 -- `channel::steps::after_loss` meets its contract: each message part has its step, and with nothing held what follows is stray.
 -- Assumes nothing.
-use borrow.Author.Rules.{rules}
 use Rattle.channel.proofs.Stepping.{placed-whole, placed-begin, stray-middle, stray-end}
 use Rattle.channel.proofs.steps.after_loss.Goals as goal
 

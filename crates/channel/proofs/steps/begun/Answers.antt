@@ -1,6 +1,5 @@
 -- `channel::steps::begun` meets its contract: held where it fits the room.
 -- Assumes nothing.
-use borrow.Author.Rules.{rules}
 use Rattle.channel.proofs.Stepping.{begun-held, begun-too-long}
 use Rattle.channel.proofs.steps.begun.Goals as goal
 

@@ -1,6 +1,5 @@
 -- `channel::steps::followed` meets its contract: stray, joined or too long.
 -- Assumes nothing.
-use borrow.Author.Rules.{rules}
 use Rattle.channel.proofs.Stepping.{nothing-held, fits-behind, behind-too-long}
 use Rattle.channel.proofs.steps.followed.Goals as goal
 

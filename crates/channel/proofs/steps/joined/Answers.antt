@@ -1,6 +1,5 @@
 -- `channel::steps::joined` meets its contract: an end is delivered, a middle is held.
 -- Assumes nothing.
-use borrow.Author.Rules.{rules}
 use Rattle.channel.proofs.Stepping.{end-joined, middle-joined}
 use Rattle.channel.proofs.steps.joined.Goals as goal
 

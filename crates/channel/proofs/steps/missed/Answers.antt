@@ -1,6 +1,5 @@
 -- `channel::steps::missed` meets its contract: the formula where a counter was seen, else 0.
 -- Assumes nothing.
-use borrow.Author.Rules.{rules}
 use Rattle.channel.proofs.Stepping.{some-missed, none-missed}
 use Rattle.channel.proofs.steps.missed.Goals as goal
 

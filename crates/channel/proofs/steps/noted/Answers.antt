@@ -1,6 +1,5 @@
 -- `channel::steps::noted` meets its contract: the counter, and what is kept.
 -- Assumes nothing.
-use borrow.Author.Rules.{rules}
 use Rattle.channel.proofs.Stepping.{is-noted}
 use Rattle.channel.proofs.steps.noted.Goals as goal
 

@@ -1,6 +1,5 @@
 -- `channel::steps::placed` meets its contract: each message part has its step.
 -- Assumes nothing.
-use borrow.Author.Rules.{rules}
 use Rattle.channel.proofs.Stepping.{placed-whole, placed-begin, placed-middle, placed_end}
 use Rattle.channel.proofs.steps.placed.Goals as goal
 

@@ -1,6 +1,5 @@
 -- `channel::steps::too_long` meets its contract: nothing stays held.
 -- Assumes nothing.
-use borrow.Author.Rules.{rules}
 use Rattle.channel.proofs.Stepping.{all_dropped}
 use Rattle.channel.proofs.steps.too_long.Goals as goal
 

@@ -1,6 +1,5 @@
 -- `channel::steps::whole` meets its contract: the datagram's own piece is delivered, and nothing stays held.
 -- Assumes nothing.
-use borrow.Author.Rules.{rules}
 use Rattle.channel.proofs.Stepping.{whole_given}
 use Rattle.channel.proofs.steps.whole.Goals as goal
 

@@ -1,7 +1,6 @@
 -- `joiner::in_words::put_record` meets its contract: the four words behind one another, or none.
 -- Assumes nothing.
 use native.Mathlib.Omega.{arith}
-use borrow.Author.Rules.{rules}
 use lib.ListN.{length-set}
 use Rattle.joiner.proofs.Storing.{put_record, no_record}
 use Rattle.joiner.proofs.in_words.put_record.Goals as goal

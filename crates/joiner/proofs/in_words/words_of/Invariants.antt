@@ -1,13 +1,12 @@
 -- `joiner::in_words::words_of` meets its contract. The loop's invariant: the first i records are written behind the sizes.
 -- Assumes nothing.
 use Prim.Native.Nat.{◌-◌, ◌≤◌}
-use mathlib.Core.Path.{◌≡◌, refl}
-use borrow.Author.Rules.{rules}
-use lib.ListN.{length, take, length-map}
+use mathlib.Core.Path.{◌≡◌}
+use lib.ListN.{length, take}
 use Rattle.wire.specs.Bytes.{over}
 use Rattle.channel.specs.Record.{channel_limit}
 use Rattle.joiner.specs.JoinerWords.{records_words}
-use Rattle.joiner.proofs.Storing.{sized, write_none, write-more, write_all, words-none}
+use Rattle.joiner.proofs.Storing.{sized}
 use Rattle.joiner.proofs.in_words.words_of.Given as goal
 
 abbrev pub invariant-loop-i : goal.invariant-loop-i

@@ -1,6 +1,5 @@
 -- `joiner::looking::has_good_sizes` meets its contract: what each test says.
 -- Assumes nothing.
-use borrow.Author.Rules.{rules}
 use Rattle.joiner.proofs.Lookups.{count_fits, sizes-right, wrong-room, wrong-count}
 use Rattle.joiner.proofs.looking.has_good_sizes.Goals as goal
 

@@ -1,6 +1,5 @@
 -- `joiner::look` meets its contract: the joiner is judged, then its record taken out.
 -- Assumes nothing.
-use borrow.Author.Rules.{rules}
 use native.Mathlib.Omega.{arith}
 use Rattle.joiner.proofs.Looks.{sized, so_good, found_in, bad-records, bad-sizes}
 use Rattle.joiner.proofs.looking.look.Goals as goal

@@ -1,11 +1,5 @@
-use Prim.Native.Nat.{ℕ, ◌-◌, ◌≤◌, ◌<◌}
-use mathlib.Core.Path.{◌≡◌}
 use borrow.Author.Count.{below_none, below_more}
 use borrow.Author.Rules.{rules}
-use lib.ListN.{get_or}
-use Rattle.joiner.specs.Setup.{place_of}
-use Rattle.joiner.specs.JoinerWords.{record_at}
-use Rattle.joiner.specs.Records.{Sized, senders_in}
 use Rattle.joiner.proofs.Looks.{stands-twice, stands-once, none_earlier}
 use Rattle.joiner.proofs.records.are_distinct.Goals as goal
 

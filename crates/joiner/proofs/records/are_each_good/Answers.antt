@@ -1,6 +1,5 @@
 -- `joiner::records::are_each_good` meets its contract: the records, then their IDs.
 -- Assumes nothing.
-use borrow.Author.Rules.{rules}
 use Rattle.joiner.proofs.Looks.{good-apart, not_good}
 use Rattle.joiner.proofs.records.are_each_good.Goals as goal
 

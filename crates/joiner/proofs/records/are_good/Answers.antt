@@ -1,6 +1,5 @@
 -- `joiner::records::are_good` meets its contract: by one pass, or each by itself.
 -- Assumes nothing.
-use borrow.Author.Rules.{rules}
 use Rattle.joiner.proofs.Looks.{good_rising}
 use Rattle.joiner.proofs.records.are_good.Goals as goal
 

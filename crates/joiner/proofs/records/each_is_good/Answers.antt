@@ -1,10 +1,5 @@
-use Prim.Native.Nat.{◌-◌, ◌≤◌}
-use mathlib.Core.Path.{◌≡◌}
-use mathlib.Core.Bool.{true}
 use native.Mathlib.Omega.{arith}
 use borrow.Author.Rules.{rules}
-use lib.ListN.{get_or}
-use Rattle.joiner.specs.Records.{Sized, good_records}
 use Rattle.wire.proofs.AllBelow.{none_below, next-below, stop-below, done_below}
 use Rattle.joiner.proofs.records.each_is_good.Goals as goal
 

@@ -2,12 +2,9 @@
 -- Assumes nothing.
 use Prim.Native.Nat.{ℕ, ◌-◌, ◌≤◌, ◌<◌}
 use mathlib.Core.Path.{◌≡◌}
-use borrow.Author.Count.{below_none, below_more}
-use borrow.Author.Rules.{rules}
 use lib.ListN.{get_or}
 use Rattle.joiner.specs.JoinerWords.{record_at}
 use Rattle.joiner.specs.Records.{Sized}
-use Rattle.joiner.proofs.Looks.{found_first, found_none}
 use Rattle.joiner.proofs.records.find.Given as goal
 
 abbrev pub invariant-loop-i : goal.invariant-loop-i

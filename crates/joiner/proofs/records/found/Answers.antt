@@ -1,6 +1,5 @@
 -- `joiner::records::found` meets its contract: the record at the place, or nobody.
 -- Assumes nothing.
-use borrow.Author.Rules.{rules}
 use Rattle.joiner.proofs.Looks.{good_one, found-one, found-no-one}
 use Rattle.joiner.proofs.records.found.Goals as goal
 

@@ -1,6 +1,5 @@
 -- `joiner::records::record_in` meets its contract: the four words of the record.
 -- Assumes nothing.
-use borrow.Author.Rules.{rules}
 use Rattle.joiner.proofs.Looks.{id_fits}
 use Rattle.joiner.proofs.records.record_in.Goals as goal
 

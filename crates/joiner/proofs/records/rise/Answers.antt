@@ -1,11 +1,7 @@
-use Prim.Native.Nat.{◌-◌, ◌≤◌}
-use mathlib.Core.Path.{◌≡◌}
 use borrow.Author.Rules.{rules}
 use native.Mathlib.Omega.{arith}
-use lib.ListN.{get_or}
 use Rattle.joiner.specs.JoinerWords.{record_at}
-use Rattle.joiner.specs.Records.{Sized}
-use Rattle.joiner.proofs.Looks.{Risen, risen_none, risen-more, risen_all, never_so}
+use Rattle.joiner.proofs.Looks.{risen_none, risen-more, risen_all, never_so}
 use Rattle.joiner.proofs.records.rise.Goals as goal
 
 pub loop-i-init : goal.loop-i-init

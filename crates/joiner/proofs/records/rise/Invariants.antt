@@ -2,12 +2,9 @@
 -- Assumes nothing.
 use Prim.Native.Nat.{◌-◌, ◌≤◌}
 use mathlib.Core.Path.{◌≡◌}
-use borrow.Author.Rules.{rules}
-use native.Mathlib.Omega.{arith}
 use lib.ListN.{get_or}
-use Rattle.joiner.specs.JoinerWords.{record_at}
 use Rattle.joiner.specs.Records.{Sized}
-use Rattle.joiner.proofs.Looks.{Risen, risen_none, risen-more, risen_all, never_so}
+use Rattle.joiner.proofs.Looks.{Risen}
 use Rattle.joiner.proofs.records.rise.Given as goal
 
 abbrev pub invariant-loop-i : goal.invariant-loop-i

@@ -3,10 +3,9 @@
 -- Assumes nothing.
 use Prim.Native.Nat.{◌-◌, ◌≤◌}
 use mathlib.Core.Path.{◌≡◌}
-use borrow.Author.Rules.{rules}
 use lib.ListN.{length}
 use Rattle.channel.specs.Record.{channel_limit}
-use Rattle.joiner.proofs.Making.{made_of, made_none, made_more, made_all}
+use Rattle.joiner.proofs.Making.{made_of}
 use Rattle.joiner.proofs.setups.fresh.Given as goal
 
 abbrev pub invariant-loop-i : goal.invariant-loop-i

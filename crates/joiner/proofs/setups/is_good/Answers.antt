@@ -2,12 +2,12 @@
 -- Assumes nothing.
 use mathlib.Core.Path.{◌≡◌}
 use borrow.Author.Rules.{rules}
-use lib.ListN.{length, length-map}
+use lib.ListN.{length}
 use Rattle.channel.specs.Record.{channel_limit}
 use Rattle.joiner.proofs.Making.{judged_good}
 use Rattle.joiner.proofs.setups.is_good.Goals as goal
 
 pub returns : goal.returns
 returns c =
-    let w : length c.args.joiner.channels ≡ channel_limit = simp length-map at c.well_formed.0.1.1.0.1.0.1 in
+    let w : length c.args.joiner.channels ≡ channel_limit = search rules in
     search judged_good

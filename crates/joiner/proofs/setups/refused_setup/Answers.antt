@@ -1,6 +1,5 @@
 -- `joiner::refused_setup` meets its contract: a joiner of no channels.
 -- Assumes nothing.
-use borrow.Author.Rules.{rules}
 use Rattle.joiner.proofs.Making.{no_channels}
 use Rattle.joiner.proofs.setups.refused_setup.Goals as goal
 

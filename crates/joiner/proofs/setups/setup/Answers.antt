@@ -1,6 +1,5 @@
 -- `joiner::setup` meets its contract: a fresh joiner that was judged as any is, or the refusal.
 -- Assumes nothing.
-use borrow.Author.Rules.{rules}
 use Rattle.joiner.proofs.Making.{set_up, not_good, too_many}
 use Rattle.joiner.proofs.setups.setup.Goals as goal
 

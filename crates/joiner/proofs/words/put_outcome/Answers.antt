@@ -1,6 +1,5 @@
 -- `joiner::put_outcome` meets its contract: the words of each case.
 -- Assumes nothing.
-use borrow.Author.Rules.{rules}
 use Rattle.joiner.proofs.Calling.{told-refused, told-repeated, told-datagram, told-rooms, told-held, told-stray, told-too-long}
 use Rattle.joiner.proofs.words.put_outcome.Goals as goal
 

@@ -1,6 +1,5 @@
 -- `joiner::setup` meets its contract: nothing where it is refused, else the joiner's words.
 -- Assumes nothing.
-use borrow.Author.Rules.{rules}
 use Rattle.joiner.proofs.Calling.{refused-number, refused-words, accepted-number, accepted-words}
 use Rattle.joiner.proofs.words.setup.Goals as goal
 

@@ -1,7 +1,6 @@
 -- `joiner::take` meets its contract: what was judged; the record of the channel that moved, its piece and the answer.
 -- Assumes nothing.
 use mathlib.Core.Path.{refl}
-use borrow.Author.Rules.{rules}
 use Rattle.joiner.proofs.Calling.{refused_all, moved_all}
 use Rattle.joiner.proofs.words.take.Goals as goal
 

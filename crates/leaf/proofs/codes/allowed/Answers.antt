@@ -1,6 +1,5 @@
 -- `leaf::allowed` meets its contract: an integer by its range, a float by the arm of its code.
 -- Assumes nothing.
-use Rattle.std.proofs.Common.{rules}
 use Rattle.table.specs.Leaf.{allowed, base, is_value, finite}
 use Rattle.leaf.proofs.Limits.{in_range, at_code, at_double, no_code}
 use Rattle.leaf.proofs.codes.allowed.Goals as goal

@@ -1,6 +1,5 @@
 -- `leaf::in_range` meets its contract.
 -- Assumes nothing.
-use Rattle.std.proofs.Common.{rules}
 use Rattle.leaf.proofs.Limits.{tested}
 use Rattle.leaf.proofs.codes.in_range.Goals as goal
 

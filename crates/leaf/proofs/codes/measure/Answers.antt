@@ -1,6 +1,5 @@
 -- `leaf::measure` meets its contract: the floats by the arms of their codes, all others by what is below 0.
 -- Assumes nothing.
-use Rattle.std.proofs.Common.{rules}
 use Rattle.table.specs.Leaf.{base}
 use Rattle.leaf.specs.Limits.{measure}
 use Rattle.leaf.proofs.Limits.{measured, moved_up}

@@ -1,6 +1,5 @@
 -- `leaf::range_of` meets its contract: the range that the last word and the sign come to.
 -- Assumes nothing.
-use Rattle.std.proofs.Common.{rules}
 use Rattle.leaf.proofs.Limits.{both-signs, no-signs}
 use Rattle.leaf.proofs.codes.range_of.Goals as goal
 

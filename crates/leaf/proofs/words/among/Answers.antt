@@ -1,6 +1,5 @@
 -- `leaf::among` meets its contract.
 -- Assumes nothing.
-use Rattle.std.proofs.Common.{rules}
 use Rattle.leaf.proofs.Returns.{by_place}
 use Rattle.leaf.proofs.words.among.Goals as goal
 

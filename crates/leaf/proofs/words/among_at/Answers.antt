@@ -1,6 +1,5 @@
 -- `leaf::among_at` meets its contract.
 -- Assumes nothing.
-use Rattle.std.proofs.Common.{rules}
 use Rattle.leaf.proofs.Returns.{values_there}
 use Rattle.leaf.proofs.words.among_at.Goals as goal
 

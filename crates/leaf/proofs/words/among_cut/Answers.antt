@@ -1,7 +1,5 @@
-use Rattle.std.proofs.Common.{◌≡◌, ◌-◌, ◌≤◌, true, rules}
-use Rattle.wire.specs.All.{all_below}
+use Rattle.std.proofs.Common.{rules}
 use Rattle.wire.proofs.AllBelow.{none_below, next-below, stop-below, done_below}
-use Rattle.leaf.specs.Choice.{other_at}
 use Rattle.leaf.proofs.Returns.{hit, missed}
 use Rattle.leaf.proofs.words.among_cut.Goals as goal
 

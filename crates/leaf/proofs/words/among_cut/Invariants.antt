@@ -1,10 +1,8 @@
 -- `leaf::among_cut` meets its contract: the word is none of the first k values.
 -- Assumes nothing.
-use Rattle.std.proofs.Common.{◌≡◌, ◌-◌, ◌≤◌, true, rules}
+use Rattle.std.proofs.Common.{◌≡◌, ◌-◌, ◌≤◌, true}
 use Rattle.wire.specs.All.{all_below}
-use Rattle.wire.proofs.AllBelow.{none_below, next-below, stop-below, done_below}
 use Rattle.leaf.specs.Choice.{other_at}
-use Rattle.leaf.proofs.Returns.{hit, missed}
 use Rattle.leaf.proofs.words.among_cut.Given as goal
 
 abbrev pub invariant-loop-k : goal.invariant-loop-k

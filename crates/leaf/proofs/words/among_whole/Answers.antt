@@ -1,8 +1,5 @@
-use Rattle.std.proofs.Common.{◌≡◌, ◌-◌, ◌≤◌, true, rules}
-use Rattle.wire.specs.All.{all_below}
-use Rattle.wire.specs.LowFirst.{swapped}
+use Rattle.std.proofs.Common.{true, rules}
 use Rattle.wire.proofs.AllBelow.{none_below}
-use Rattle.leaf.specs.Choice.{other_at}
 use Rattle.leaf.proofs.Stretches.{stretch-missed, stretch-hit, all-missed}
 use Rattle.leaf.proofs.words.among_whole.Goals as goal
 

@@ -1,11 +1,9 @@
 -- `leaf::among_whole` meets its contract: the word is none of the first k values.
 -- Assumes nothing.
-use Rattle.std.proofs.Common.{◌≡◌, ◌-◌, ◌≤◌, true, rules}
+use Rattle.std.proofs.Common.{◌≡◌, ◌-◌, ◌≤◌, true}
 use Rattle.wire.specs.All.{all_below}
 use Rattle.wire.specs.LowFirst.{swapped}
-use Rattle.wire.proofs.AllBelow.{none_below}
 use Rattle.leaf.specs.Choice.{other_at}
-use Rattle.leaf.proofs.Stretches.{stretch-missed, stretch-hit, all-missed}
 use Rattle.leaf.proofs.words.among_whole.Given as goal
 
 abbrev pub invariant-loop-k : goal.invariant-loop-k

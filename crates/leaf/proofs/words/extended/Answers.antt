@@ -1,6 +1,5 @@
 -- `leaf::extended` meets its contract.
 -- Assumes nothing.
-use Rattle.std.proofs.Common.{rules}
 use Rattle.leaf.proofs.Signs.{carried_fits}
 use Rattle.leaf.proofs.words.extended.Goals as goal
 

@@ -1,7 +1,4 @@
-use Rattle.std.proofs.Common.{◌≡◌, ◌-◌, ◌≤◌, eqb, rules}
-use Rattle.wire.specs.All.{all_below}
-use Rattle.wire.specs.LowFirst.{swapped}
-use Rattle.leaf.specs.Choice.{other_at}
+use Rattle.std.proofs.Common.{rules}
 use Rattle.leaf.proofs.Counted.{counted_none, counted-more, counted-all}
 use Rattle.leaf.proofs.words.hits_whole.Goals as goal
 

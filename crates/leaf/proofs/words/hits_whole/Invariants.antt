@@ -1,10 +1,9 @@
 -- `leaf::hits_whole` meets its contract: the word is none of the first k values where none of them was counted.
 -- Assumes nothing.
-use Rattle.std.proofs.Common.{◌≡◌, ◌-◌, ◌≤◌, eqb, rules}
+use Rattle.std.proofs.Common.{◌≡◌, ◌-◌, ◌≤◌, eqb}
 use Rattle.wire.specs.All.{all_below}
 use Rattle.wire.specs.LowFirst.{swapped}
 use Rattle.leaf.specs.Choice.{other_at}
-use Rattle.leaf.proofs.Counted.{counted_none, counted-more, counted-all}
 use Rattle.leaf.proofs.words.hits_whole.Given as goal
 
 abbrev pub invariant-loop-k : goal.invariant-loop-k

@@ -1,6 +1,5 @@
 -- `leaf::other_cut` meets its contract.
 -- Assumes nothing.
-use Rattle.std.proofs.Common.{rules}
 use Rattle.leaf.proofs.Returns.{compared-cut}
 use Rattle.leaf.proofs.words.other_cut.Goals as goal
 

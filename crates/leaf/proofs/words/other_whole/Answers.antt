@@ -1,6 +1,5 @@
 -- `leaf::other_whole` meets its contract: the value's bytes as they lie, beside the word's that are turned.
 -- Assumes nothing.
-use Rattle.std.proofs.Common.{rules}
 use Rattle.wire.specs.Bytes.{Octets}
 use Rattle.leaf.proofs.Returns.{compared-lying}
 use Rattle.leaf.proofs.words.other_whole.Goals as goal

@@ -1,6 +1,5 @@
 -- `leaf::put` meets its contract: each arm writes the bytes of its width.
 -- Assumes nothing.
-use Rattle.std.proofs.Common.{rules}
 use Rattle.leaf.proofs.Returns.{put_form, put_whole, no_form}
 use Rattle.leaf.proofs.words.put.Goals as goal
 

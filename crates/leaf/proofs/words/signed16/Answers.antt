@@ -1,6 +1,5 @@
 -- `leaf::signed16` meets its contract.
 -- Assumes nothing.
-use Rattle.std.proofs.Common.{rules}
 use Rattle.leaf.proofs.Signs.{carried_16}
 use Rattle.leaf.proofs.words.signed16.Goals as goal
 

@@ -1,6 +1,5 @@
 -- `leaf::signed32` meets its contract.
 -- Assumes nothing.
-use Rattle.std.proofs.Common.{rules}
 use Rattle.leaf.proofs.Signs.{carried_32}
 use Rattle.leaf.proofs.words.signed32.Goals as goal
 

@@ -1,6 +1,5 @@
 -- `leaf::signed8` meets its contract.
 -- Assumes nothing.
-use Rattle.std.proofs.Common.{rules}
 use Rattle.leaf.proofs.Signs.{carried_8}
 use Rattle.leaf.proofs.words.signed8.Goals as goal
 

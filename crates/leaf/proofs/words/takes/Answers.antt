@@ -1,6 +1,5 @@
 -- `leaf::takes` meets its contract.
 -- Assumes nothing.
-use Rattle.std.proofs.Common.{rules}
 use Rattle.leaf.proofs.Returns.{outside, of-enum, of-base}
 use Rattle.leaf.proofs.words.takes.Goals as goal
 

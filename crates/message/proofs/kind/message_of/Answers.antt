@@ -1,6 +1,5 @@
 -- `message::kind::message_of` meets its contract: by the domain.
 -- Assumes nothing.
-use borrow.Author.Rules.{rules}
 use Rattle.message.proofs.Messages.{of_platform, of_operation}
 use Rattle.message.proofs.kind.message_of.Goals as goal
 

@@ -1,6 +1,5 @@
 -- `message::kind::platform_message` meets its contract: by the ID.
 -- Assumes nothing.
-use borrow.Author.Rules.{rules}
 use Rattle.message.proofs.Messages.{is-status, is-request, is-unknown, is-pull}
 use Rattle.message.proofs.kind.platform_message.Goals as goal
 

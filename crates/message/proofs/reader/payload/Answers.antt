@@ -1,6 +1,5 @@
 -- `message::payload` meets its contract: the part that the reading names, or nothing.
 -- Assumes nothing.
-use borrow.Author.Rules.{rules}
 use Rattle.message.proofs.Readings.{payload_read}
 use Rattle.message.proofs.reader.payload.Goals as goal
 

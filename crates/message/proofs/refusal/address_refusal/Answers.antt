@@ -1,6 +1,5 @@
 -- `message::refusal::address_refusal` meets its contract: each return is the first number that applies.
 -- Assumes nothing.
-use borrow.Author.Rules.{rules}
 use Rattle.message.proofs.Refusals.{address-0, address-5, address-6}
 use Rattle.message.proofs.refusal.address_refusal.Goals as goal
 

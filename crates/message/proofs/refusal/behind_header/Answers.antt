@@ -1,6 +1,5 @@
 -- `message::refusal::behind_header` meets its contract: what is left behind 20 bytes, or nothing.
 -- Assumes nothing.
-use borrow.Author.Rules.{rules}
 use Rattle.message.proofs.Refusals.{behind, nothing_behind}
 use Rattle.message.proofs.refusal.behind_header.Goals as goal
 

@@ -1,6 +1,5 @@
 -- `message::refusal::contents_refusal` meets its contract: each return is the first number that applies.
 -- Assumes nothing.
-use borrow.Author.Rules.{rules}
 use Rattle.message.proofs.Refusals.{contents-0, contents-7, contents-8, contents-9, contents-other, contents-stateless}
 use Rattle.message.proofs.refusal.contents_refusal.Goals as goal
 

@@ -1,6 +1,5 @@
 -- `message::refusal::frame_refusal` meets its contract: each return is the first number that applies.
 -- Assumes nothing.
-use borrow.Author.Rules.{rules}
 use Rattle.message.proofs.Refusals.{frame-0, frame-1, frame-2, frame-3, frame-4}
 use Rattle.message.proofs.refusal.frame_refusal.Goals as goal
 

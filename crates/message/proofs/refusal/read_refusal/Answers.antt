@@ -1,6 +1,5 @@
 -- `message::refusal::read_refusal` meets its contract: the first of the three that is not 0.
 -- Assumes nothing.
-use borrow.Author.Rules.{rules}
 use Rattle.message.proofs.Refusals.{frame-first, address-first, contents-last}
 use Rattle.message.proofs.refusal.read_refusal.Goals as goal
 

@@ -1,6 +1,5 @@
 -- `message::put_header` meets its contract: its seven fields, one behind the other, or nothing.
 -- Assumes nothing.
-use borrow.Author.Rules.{rules}
 use Rattle.message.proofs.Written.{header_laid, header_too_long}
 use Rattle.message.proofs.writer.put_header.Goals as goal
 

@@ -1,6 +1,5 @@
 -- `message::write` meets its contract: the refusal and the output as it was, or the message at the output's start.
 -- Assumes nothing.
-use borrow.Author.Rules.{rules}
 use Rattle.message.proofs.Written.{size_fits, answer-in, answer-not, output-in, output-not}
 use Rattle.message.proofs.writer.write.Goals as goal
 

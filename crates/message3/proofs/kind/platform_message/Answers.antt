@@ -1,6 +1,5 @@
 -- `message3::kind::platform_message` meets its contract: each arm is the message of its ID.
 -- Assumes nothing.
-use borrow.Author.Rules.{rules}
 use Rattle.message3.proofs.Messages.{arm, arm-status, last_arm}
 use Rattle.message3.proofs.kind.platform_message.Goals as goal
 

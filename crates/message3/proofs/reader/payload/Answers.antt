@@ -1,6 +1,5 @@
 -- `message3::payload` meets its contract: the part that the reading names, or nothing.
 -- Assumes nothing.
-use borrow.Author.Rules.{rules}
 use Rattle.message3.proofs.Readings.{payload_read}
 use Rattle.message3.proofs.reader.payload.Goals as goal
 

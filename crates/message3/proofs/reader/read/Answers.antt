@@ -1,6 +1,5 @@
 -- `message3::read` meets its contract: the refusal, or what the bytes say.
 -- Assumes nothing.
-use borrow.Author.Rules.{rules}
 use Rattle.message3.proofs.Readings.{read_in, read-not}
 use Rattle.message3.proofs.reader.read.Goals as goal
 

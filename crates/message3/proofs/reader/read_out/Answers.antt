@@ -1,6 +1,5 @@
 -- `message3::read_out` meets its contract: header, kind and place are those of the bytes.
 -- Assumes nothing.
-use borrow.Author.Rules.{rules}
 use Rattle.message3.proofs.Readings.{read_out}
 use Rattle.message3.proofs.reader.read_out.Goals as goal
 

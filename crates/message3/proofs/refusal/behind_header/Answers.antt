@@ -1,6 +1,5 @@
 -- `message3::refusal::behind_header` meets its contract: what is left behind 24 bytes, or nothing.
 -- Assumes nothing.
-use borrow.Author.Rules.{rules}
 use Rattle.message3.proofs.Refusals.{behind, nothing_behind}
 use Rattle.message3.proofs.refusal.behind_header.Goals as goal
 

@@ -1,6 +1,5 @@
 -- `message3::refusal::contents_refusal` meets its contract: each return is the first number that applies.
 -- Assumes nothing.
-use borrow.Author.Rules.{rules}
 use Rattle.message3.proofs.Refusals.{contents-0, contents-7, contents-8, contents-9, contents-other}
 use Rattle.message3.proofs.refusal.contents_refusal.Goals as goal
 

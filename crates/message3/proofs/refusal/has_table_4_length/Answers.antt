@@ -1,6 +1,5 @@
 -- `message3::refusal::has_table_4_length` meets its contract: each arm is the length of its ID.
 -- Assumes nothing.
-use borrow.Author.Rules.{rules}
 use Rattle.message3.proofs.Pairs.{length_arm, one_field}
 use Rattle.message3.proofs.refusal.has_table_4_length.Goals as goal
 

@@ -1,6 +1,5 @@
 -- `message3::refusal::reserved_value` meets its contract: of services any state, else the first field.
 -- Assumes nothing.
-use borrow.Author.Rules.{rules}
 use Rattle.message3.proofs.Refusals.{of-services, of-status}
 use Rattle.message3.proofs.refusal.reserved_value.Goals as goal
 

@@ -1,11 +1,6 @@
 use borrow.Author.Rules.{rules}
-use Prim.Native.Nat.{◌-◌, ◌≤◌}
-use mathlib.Core.Path.{◌≡◌}
-use mathlib.Core.Bool.{true}
-use Rattle.wire.specs.All.{all_below}
 use Rattle.wire.proofs.AllBelow.{none_below, next-below}
 use Rattle.message3.proofs.Pairs.{stopped, all_known}
-use Rattle.message3.specs.Platform.{known_state}
 use Rattle.message3.proofs.services.are_known.Goals as goal
 
 pub loop-i-init : goal.loop-i-init

@@ -1,6 +1,5 @@
 -- `message3::services::are_whole` meets its contract: the pairs that are there are as many as it says.
 -- Assumes nothing.
-use borrow.Author.Rules.{rules}
 use Rattle.message3.proofs.Pairs.{too_few, half-pair, pairs-counted}
 use Rattle.message3.proofs.services.are_whole.Goals as goal
 

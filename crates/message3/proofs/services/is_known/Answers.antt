@@ -1,6 +1,5 @@
 -- `message3::services::is_known` meets its contract: the state at its place.
 -- Assumes nothing.
-use borrow.Author.Rules.{rules}
 use Prim.Native.Nat.{ℕ}
 use mathlib.Core.Path.{ap}
 use lib.Dec.{ltb}

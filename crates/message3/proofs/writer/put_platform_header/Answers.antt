@@ -1,6 +1,5 @@
 -- `message3::put_platform_header` meets its contract: domain 0 is none of the reserved ones.
 -- Assumes nothing.
-use borrow.Author.Rules.{rules}
 use Rattle.message3.proofs.Written.{platform-domain, platform-header, no-platform-header}
 use Rattle.message3.proofs.writer.put_platform_header.Goals as goal
 

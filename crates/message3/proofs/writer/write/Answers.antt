@@ -1,6 +1,5 @@
 -- `message3::write` meets its contract: the refusal and the output as it was, or the message at the output's start.
 -- Assumes nothing.
-use borrow.Author.Rules.{rules}
 use Rattle.message3.proofs.Written.{size_fits, header-fits, domain-fits, answer-in, answer-not, output-in, output-not}
 use Rattle.message3.proofs.writer.write.Goals as goal
 

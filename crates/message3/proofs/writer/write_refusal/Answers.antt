@@ -1,6 +1,5 @@
 -- `message3::write_refusal` meets its contract: each return is the first number that applies.
 -- Assumes nothing.
-use borrow.Author.Rules.{rules}
 use Rattle.message3.proofs.WriteRefusals.{write-0, write_4, write_5, write_10, write-contents}
 use Rattle.message3.proofs.writer.write_refusal.Goals as goal
 

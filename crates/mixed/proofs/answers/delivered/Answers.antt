@@ -1,6 +1,5 @@
 -- `mixed::answers::delivered` meets its contract.
 -- Assumes nothing.
-use borrow.Author.Rules.{rules}
 use Rattle.mixed.proofs.Receipts.{delivered_is}
 use Rattle.mixed.proofs.answers.delivered.Goals as goal
 

@@ -1,6 +1,5 @@
 -- `mixed::answers::from_received` meets its contract: as Issue 6 has it.
 -- Assumes nothing.
-use borrow.Author.Rules.{rules}
 use Rattle.mixed.proofs.Receipts.{six-refused, six-noted, six-response}
 use Rattle.mixed.proofs.answers.from_received.Goals as goal
 

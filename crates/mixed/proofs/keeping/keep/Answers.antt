@@ -1,6 +1,5 @@
 -- `mixed::keeping::keep` meets its contract.
 -- Assumes nothing.
-use borrow.Author.Rules.{rules}
 use Rattle.mixed.proofs.Kept.{note-number, note-words, mark-number, mark-words, no_number, same_words}
 use Rattle.mixed.proofs.keeping.keep.Goals as goal
 
@@ -22,8 +21,8 @@ returns-in-MarkAll-clause-blocks c =
 
 pub returns-in_default-clause-answer : goal.returns-in_default-clause-answer
 returns-in_default-clause-answer c =
-    search no_number
+    no_number _ _ _ _ _ c.in_default.not-Note c.in_default.not-MarkAll
 
 pub returns-in_default-clause-blocks : goal.returns-in_default-clause-blocks
 returns-in_default-clause-blocks c =
-    search same_words
+    same_words _ _ _ _ _ c.in_default.not-Note c.in_default.not-MarkAll

@@ -1,6 +1,5 @@
 -- `mixed::keeping::mark` meets its contract.
 -- Assumes nothing.
-use borrow.Author.Rules.{rules}
 use Rattle.mixed.proofs.Kept.{end_fits, marked-number, marked-words, no-mark-number, no-mark-words}
 use Rattle.mixed.proofs.keeping.mark.Goals as goal
 

@@ -1,6 +1,5 @@
 -- `mixed::keeping::note` meets its contract.
 -- Assumes nothing.
-use borrow.Author.Rules.{rules}
 use Rattle.mixed.proofs.Kept.{end_fits, noted-number, noted-words, no-note-number, no-note-words}
 use Rattle.mixed.proofs.keeping.note.Goals as goal
 

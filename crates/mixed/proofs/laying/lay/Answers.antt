@@ -1,6 +1,5 @@
 -- `mixed::laying::lay` meets its contract: each deed has its bytes.
 -- Assumes nothing.
-use borrow.Author.Rules.{rules}
 use Rattle.mixed.proofs.Rooms.{need-one, need-start-up, need-few, need-room, need-one-told, lay-one, lay-start-up, lay-all, lay-one-told, lay-none}
 use Rattle.mixed.proofs.laying.lay.Goals as goal
 

@@ -1,6 +1,5 @@
 -- `mixed::laying::room_for` meets its contract.
 -- Assumes nothing.
-use borrow.Author.Rules.{rules}
 use Rattle.mixed.proofs.Rooms.{room-one, room-start-up, room-all-not, room-all, room-tell-one, room_none}
 use Rattle.mixed.proofs.laying.room_for.Goals as goal
 

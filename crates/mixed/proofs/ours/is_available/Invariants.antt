@@ -2,10 +2,8 @@
 -- Assumes nothing.
 use Prim.Native.Nat.{◌≤◌}
 use mathlib.Core.Path.{◌≡◌}
-use borrow.Author.Rules.{rules}
 use lib.ListN.{length}
 use Rattle.mixed.specs.Ours.{said_by, ours_available}
-use Rattle.mixed.proofs.OursLaws.{said_here, not-said-here, never-said}
 use Rattle.mixed.proofs.ours.is_available.Given as goal
 
 abbrev pub invariant-loop-left : goal.invariant-loop-left

@@ -1,6 +1,5 @@
 -- `mixed::reacting::came_up` meets its contract: three own numbers are drawn.
 -- Assumes nothing.
-use borrow.Author.Rules.{rules}
 use Rattle.mixed.proofs.ReactionLaws.{came_up_is}
 use Rattle.mixed.proofs.reacting.came_up.Goals as goal
 

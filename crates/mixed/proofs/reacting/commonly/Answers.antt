@@ -1,6 +1,5 @@
 -- `mixed::reacting::commonly` meets its contract: what is owed is told by what was heard.
 -- Assumes nothing.
-use borrow.Author.Rules.{rules}
 use Rattle.mixed.proofs.ReactionLaws.{as_heard}
 use Rattle.mixed.proofs.reacting.commonly.Goals as goal
 

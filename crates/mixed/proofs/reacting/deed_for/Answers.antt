@@ -1,6 +1,5 @@
 -- `mixed::reacting::deed_for` meets its contract: replies repeat the number.
 -- Assumes nothing.
-use borrow.Author.Rules.{rules}
 use Rattle.mixed.proofs.ReactionLaws.{deed-request, deed-no-data, deed-not-in-table, deed-none}
 use Rattle.mixed.proofs.reacting.deed_for.Goals as goal
 
@@ -18,4 +17,4 @@ returns-in-NotInTable c =
 
 pub returns-in_default : goal.returns-in_default
 returns-in_default c =
-    search deed-none
+    deed-none _ _ c.in_default.not-Request c.in_default.not-NotVersionedData c.in_default.not-NotInTable

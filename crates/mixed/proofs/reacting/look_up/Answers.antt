@@ -1,6 +1,5 @@
 -- `mixed::reacting::look_up` meets its contract.
 -- Assumes nothing.
-use borrow.Author.Rules.{rules}
 use Rattle.mixed.proofs.ReactionLaws.{for-pull, for-operation, for-no-other}
 use Rattle.mixed.proofs.reacting.look_up.Goals as goal
 
@@ -14,4 +13,4 @@ returns-in-Operation c =
 
 pub returns-in_default : goal.returns-in_default
 returns-in_default c =
-    search for-no-other
+    for-no-other _ _ _ _ _ c.in_default.not-VersionedDataPull c.in_default.not-Operation

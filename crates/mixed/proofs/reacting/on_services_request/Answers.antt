@@ -1,6 +1,5 @@
 -- `mixed::reacting::on_services_request` meets its contract.
 -- Assumes nothing.
-use borrow.Author.Rules.{rules}
 use Rattle.mixed.proofs.ReactionLaws.{tells_all, tells-one}
 use Rattle.mixed.proofs.reacting.on_services_request.Goals as goal
 

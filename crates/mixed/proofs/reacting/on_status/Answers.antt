@@ -1,6 +1,5 @@
 -- `mixed::reacting::on_status` meets its contract.
 -- Assumes nothing.
-use borrow.Author.Rules.{rules}
 use Rattle.mixed.proofs.ReactionLaws.{still-up, down-to-up, up-to-down, still_down}
 use Rattle.mixed.proofs.reacting.on_status.Goals as goal
 

@@ -1,6 +1,5 @@
 -- `mixed::reacting::one_heard` meets its contract: versioned data, or not.
 -- Assumes nothing.
-use borrow.Author.Rules.{rules}
 use Rattle.mixed.proofs.ReactionLaws.{is-pulled, no-pull, nowhere-pulled}
 use Rattle.mixed.proofs.reacting.one_heard.Goals as goal
 

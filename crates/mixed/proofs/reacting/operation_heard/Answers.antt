@@ -1,6 +1,5 @@
 -- `mixed::reacting::operation_heard` meets its contract: in the table, or not.
 -- Assumes nothing.
-use borrow.Author.Rules.{rules}
 use Rattle.mixed.proofs.ReactionLaws.{operation-there, operation-absent}
 use Rattle.mixed.proofs.reacting.operation_heard.Goals as goal
 

@@ -1,6 +1,5 @@
 -- `mixed::reacting::pull_heard` meets its contract: of all, or of one.
 -- Assumes nothing.
-use borrow.Author.Rules.{rules}
 use Rattle.mixed.proofs.ReactionLaws.{all-pulled, one-pulled}
 use Rattle.mixed.proofs.reacting.pull_heard.Goals as goal
 

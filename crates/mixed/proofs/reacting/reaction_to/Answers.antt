@@ -1,6 +1,5 @@
 -- `mixed::reacting::reaction_to` meets its contract: each message has its own.
 -- Assumes nothing.
-use borrow.Author.Rules.{rules}
 use Rattle.mixed.proofs.ReactionLaws.{to-status, to-request, to-services, to-services-request, to-unknown, to-not-available}
 use Rattle.mixed.proofs.ReactionLaws.{to-pull, to-change, to-ack, to-operation}
 use Rattle.mixed.proofs.reacting.reaction_to.Goals as goal

@@ -1,6 +1,5 @@
 -- `mixed::form_of` meets its contract: by byte 2 and its sender.
 -- Assumes nothing.
-use borrow.Author.Rules.{rules}
 use Rattle.mixed.proofs.Readings.{three-found, other-found, six-found}
 use Rattle.mixed.proofs.reader.form_of.Goals as goal
 

@@ -1,6 +1,5 @@
 -- `mixed::from_six` meets its contract: each case is that of Issue 6.
 -- Assumes nothing.
-use borrow.Author.Rules.{rules}
 use Rattle.mixed.proofs.Readings.{six-refused, six-read}
 use Rattle.mixed.proofs.reader.from_six.Goals as goal
 

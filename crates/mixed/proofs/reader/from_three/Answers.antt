@@ -1,6 +1,5 @@
 -- `mixed::from_three` meets its contract: each case is that of Issue 3.
 -- Assumes nothing.
-use borrow.Author.Rules.{rules}
 use Rattle.mixed.proofs.Readings.{three-refused, three-read}
 use Rattle.mixed.proofs.reader.from_three.Goals as goal
 

@@ -1,6 +1,5 @@
 -- `mixed::other_issue` meets its contract: 1 and 2 before 3.
 -- Assumes nothing.
-use borrow.Author.Rules.{rules}
 use Rattle.mixed.proofs.Readings.{other_version}
 use Rattle.mixed.proofs.reader.other_issue.Goals as goal
 

@@ -1,6 +1,5 @@
 -- `mixed::payload` meets its contract: the part that the reading names, or nothing.
 -- Assumes nothing.
-use borrow.Author.Rules.{rules}
 use Rattle.mixed.proofs.Readings.{six-payload, three-payload}
 use Rattle.mixed.proofs.reader.payload.Goals as goal
 

@@ -1,6 +1,5 @@
 -- `mixed::read` meets its contract: by its form.
 -- Assumes nothing.
-use borrow.Author.Rules.{rules}
 use Rattle.mixed.proofs.Readings.{by_three, not-its-issue, by-six}
 use Rattle.mixed.proofs.reader.read.Goals as goal
 

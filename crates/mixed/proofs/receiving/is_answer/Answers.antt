@@ -1,6 +1,5 @@
 -- `mixed::receiving::is_answer` meets its contract.
 -- Assumes nothing.
-use borrow.Author.Rules.{rules}
 use Rattle.mixed.proofs.Receipts.{of_operation, of-another}
 use Rattle.mixed.proofs.receiving.is_answer.Goals as goal
 
@@ -10,4 +9,4 @@ returns-in-Operation c =
 
 pub returns-in_default : goal.returns-in_default
 returns-in_default c =
-    search of-another
+    of-another _ _ _ c.in_default.not-Operation

@@ -1,6 +1,5 @@
 -- `mixed::receiving::of_three` meets its contract: a message that was refused, a response, or another.
 -- Assumes nothing.
-use borrow.Author.Rules.{rules}
 use Rattle.mixed.proofs.CallsThree.{unread, unread-output, unread-list, unread-words}
 use Rattle.mixed.proofs.CallsThree.{response, response-output, response-list, response-words, other, other-output, other-list, other-words}
 use Rattle.mixed.proofs.receiving.of_three.Goals as goal

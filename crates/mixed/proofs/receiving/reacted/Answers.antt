@@ -1,6 +1,5 @@
 -- `mixed::receiving::reacted` meets its contract.
 -- Assumes nothing.
-use borrow.Author.Rules.{rules}
 use Rattle.mixed.proofs.Receipts.{reacted-answer, reacted-output, reacted-words}
 use Rattle.mixed.proofs.receiving.reacted.Goals as goal
 

@@ -1,6 +1,5 @@
 -- `mixed::receiving::response_to` meets its contract: its request is pending, or it is 61.
 -- Assumes nothing.
-use borrow.Author.Rules.{rules}
 use Rattle.mixed.proofs.Receipts.{is-awaited, not-awaited}
 use Rattle.mixed.proofs.receiving.response_to.Goals as goal
 

@@ -1,6 +1,5 @@
 -- `mixed::replies::lay_field` meets its contract.
 -- Assumes nothing.
-use borrow.Author.Rules.{rules}
 use Rattle.mixed.proofs.LaidReplies.{field-laid}
 use Rattle.mixed.proofs.replies.lay_field.Goals as goal
 

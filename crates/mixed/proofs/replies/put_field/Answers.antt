@@ -1,6 +1,5 @@
 -- `mixed::replies::put_field` meets its contract: the header, and the field behind it.
 -- Assumes nothing.
-use borrow.Author.Rules.{rules}
 use Rattle.mixed.proofs.LaidReplies.{field_put}
 use Rattle.mixed.proofs.replies.put_field.Goals as goal
 

@@ -1,6 +1,5 @@
 -- `mixed::replies::put_reply` meets its contract: each reply is its message.
 -- Assumes nothing.
-use borrow.Author.Rules.{rules}
 use Rattle.mixed.proofs.LaidReplies.{room-for-status, room-for-pull, room-for-unknown, is-status, is-pull, is-unknown}
 use Rattle.mixed.proofs.replies.put_reply.Goals as goal
 

@@ -1,6 +1,5 @@
 -- `mixed::replies::put_start_up` meets its contract: three messages, one behind another.
 -- Assumes nothing.
-use borrow.Author.Rules.{rules}
 use Rattle.mixed.proofs.LaidReplies.{start_up_put}
 use Rattle.mixed.proofs.replies.put_start_up.Goals as goal
 

@@ -1,6 +1,5 @@
 -- `mixed::replies::put_status` meets its contract: the header, and two fields behind it.
 -- Assumes nothing.
-use borrow.Author.Rules.{rules}
 use Rattle.mixed.proofs.LaidReplies.{status-put}
 use Rattle.mixed.proofs.replies.put_status.Goals as goal
 

@@ -1,6 +1,5 @@
 -- `mixed::telling::put_head` meets its contract: the header, and how many behind it.
 -- Assumes nothing.
-use borrow.Author.Rules.{rules}
 use Rattle.mixed.proofs.ToldLaws.{head_put}
 use Rattle.mixed.proofs.telling.put_head.Goals as goal
 

@@ -1,6 +1,5 @@
 -- `mixed::telling::put_pair` meets its contract.
 -- Assumes nothing.
-use borrow.Author.Rules.{rules}
 use Rattle.mixed.proofs.ToldLaws.{pair_put}
 use Rattle.mixed.proofs.telling.put_pair.Goals as goal
 

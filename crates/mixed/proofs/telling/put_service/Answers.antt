@@ -1,6 +1,5 @@
 -- `mixed::telling::put_service` meets its contract.
 -- Assumes nothing.
-use borrow.Author.Rules.{rules}
 use Rattle.mixed.proofs.ToldLaws.{service_put}
 use Rattle.mixed.proofs.telling.put_service.Goals as goal
 

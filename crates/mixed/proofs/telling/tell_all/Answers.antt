@@ -1,6 +1,5 @@
 -- `mixed::telling::tell_all` meets its contract.
 -- Assumes nothing.
-use borrow.Author.Rules.{rules}
 use Rattle.mixed.proofs.ToldLaws.{all_told}
 use Rattle.mixed.proofs.telling.tell_all.Goals as goal
 

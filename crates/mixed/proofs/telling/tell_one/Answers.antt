@@ -1,6 +1,5 @@
 -- `mixed::telling::tell_one` meets its contract.
 -- Assumes nothing.
-use borrow.Author.Rules.{rules}
 use Rattle.mixed.proofs.ToldLaws.{one_told}
 use Rattle.mixed.proofs.telling.tell_one.Goals as goal
 

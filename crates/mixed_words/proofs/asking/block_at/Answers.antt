@@ -1,6 +1,5 @@
 -- `mixed_words::asking::block_at` meets its contract: as much of it as there is.
 -- Assumes nothing.
-use borrow.Author.Rules.{rules}
 use Rattle.mixed_words.proofs.ServiceAsked.{no_block, part-of-block}
 use Rattle.mixed_words.proofs.asking.block_at.Goals as goal
 

@@ -1,6 +1,5 @@
 -- `mixed_words::asking::service` meets its contract: of a partner that speaks Issue 3, or of any other.
 -- Assumes nothing.
-use borrow.Author.Rules.{rules}
 use Rattle.mixed_words.proofs.ServiceAsked.{known, unknown}
 use Rattle.mixed_words.proofs.asking.service.Goals as goal
 

@@ -1,6 +1,5 @@
 -- `mixed_words::from_bytes::kind_heard` meets its contract: by its kind in the table, and whether it is awaited.
 -- Assumes nothing.
-use borrow.Author.Rules.{rules}
 use Rattle.platform_words.proofs.Answering.{kind-awaited, kind-unasked, list-heard, kind-operation, list-stays}
 use Rattle.mixed_words.proofs.from_bytes.kind_heard.Goals as goal
 

@@ -1,6 +1,5 @@
 -- `mixed_words::from_bytes::kind_in` meets its contract: the list is lent by itself.
 -- Assumes nothing.
-use borrow.Author.Rules.{rules}
 use Rattle.platform_words.proofs.Answering.{kind-behind, list-behind}
 use Rattle.mixed_words.proofs.from_bytes.kind_in.Goals as goal
 

@@ -1,6 +1,5 @@
 -- `mixed_words::from_bytes::operation_in` meets its contract: the sections lie in the table, or not.
 -- Assumes nothing.
-use borrow.Author.Rules.{rules}
 use Rattle.mixed_words.proofs.SixOperations.{lies, lies-not}
 use Rattle.mixed_words.proofs.from_bytes.operation_in.Goals as goal
 

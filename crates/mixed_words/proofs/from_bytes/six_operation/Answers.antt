@@ -1,6 +1,5 @@
 -- `mixed_words::from_bytes::six_operation` meets its contract: by its domain, what refuses it and its sender's issue.
 -- Assumes nothing.
-use borrow.Author.Rules.{rules}
 use Rattle.mixed_words.proofs.SixOperations.{of-domain-0, not_read, of_three, looked-up}
 use Rattle.mixed_words.proofs.from_bytes.six_operation.Goals as goal
 

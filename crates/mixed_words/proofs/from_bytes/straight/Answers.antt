@@ -1,6 +1,5 @@
 -- `mixed_words::from_bytes::straight` meets its contract: by what it is told as.
 -- Assumes nothing.
-use borrow.Author.Rules.{rules}
 use Rattle.mixed_words.proofs.Straight.{nothing-number, nothing-words, nothing-heard, told_number, told-platform, told-heard}
 use Rattle.mixed_words.proofs.from_bytes.straight.Goals as goal
 

@@ -1,6 +1,5 @@
 -- `mixed_words::from_bytes::take_response` meets its contract.
 -- Assumes nothing.
-use borrow.Author.Rules.{rules}
 use Rattle.platform_words.proofs.Answering.{was-awaited, list-answered}
 use Rattle.mixed_words.proofs.from_bytes.take_response.Goals as goal
 

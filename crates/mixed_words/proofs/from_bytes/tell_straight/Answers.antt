@@ -1,6 +1,5 @@
 -- `mixed_words::from_bytes::tell_straight` meets its contract.
 -- Assumes nothing.
-use borrow.Author.Rules.{rules}
 use Rattle.mixed_words.proofs.Straight.{standing_again}
 use Rattle.mixed_words.proofs.from_bytes.tell_straight.Goals as goal
 

@@ -1,6 +1,5 @@
 -- `mixed_words::heard_words::put_answer` meets its contract: the words of each case.
 -- Assumes nothing.
-use borrow.Author.Rules.{rules}
 use Rattle.mixed_words.proofs.ToldWords.{told-six, told-six-response, told-three, told-three-response}
 use Rattle.mixed_words.proofs.heard_words.put_answer.Goals as goal
 

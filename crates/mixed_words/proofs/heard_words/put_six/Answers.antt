@@ -1,6 +1,5 @@
 -- `mixed_words::heard_words::put_six` meets its contract: each word in its place.
 -- Assumes nothing.
-use borrow.Author.Rules.{rules}
 use Rattle.mixed_words.proofs.ToldWords.{six_told}
 use Rattle.mixed_words.proofs.heard_words.put_six.Goals as goal
 

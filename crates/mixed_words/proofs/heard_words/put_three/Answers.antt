@@ -1,6 +1,5 @@
 -- `mixed_words::heard_words::put_three` meets its contract: each word in its place.
 -- Assumes nothing.
-use borrow.Author.Rules.{rules}
 use Rattle.mixed_words.proofs.ToldWords.{three_told}
 use Rattle.mixed_words.proofs.heard_words.put_three.Goals as goal
 

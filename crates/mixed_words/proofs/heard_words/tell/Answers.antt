@@ -1,6 +1,5 @@
 -- `mixed_words::heard_words::tell` meets its contract: a refusal, or what was heard.
 -- Assumes nothing.
-use borrow.Author.Rules.{rules}
 use Rattle.mixed_words.proofs.ToldWords.{refused-number, refused-words, none_told, told_number, told_words}
 use Rattle.mixed_words.proofs.heard_words.tell.Goals as goal
 
@@ -18,8 +17,8 @@ returns-in-Refused-clause-heard_after c =
 
 pub returns-in_default-clause-value : goal.returns-in_default-clause-value
 returns-in_default-clause-value c =
-    search told_number
+    told_number _ c.in_default.not-Refused
 
 pub returns-in_default-clause-words_after : goal.returns-in_default-clause-words_after
 returns-in_default-clause-words_after c =
-    search told_words
+    told_words _ c.in_default.not-Refused _ _ c.requires c.keep_standing.ensures

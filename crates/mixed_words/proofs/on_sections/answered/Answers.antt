@@ -1,6 +1,5 @@
 -- `mixed_words::on_sections::answered` meets its contract: what `mixed` answered, in words.
 -- Assumes nothing.
-use borrow.Author.Rules.{rules}
 use Rattle.mixed_words.proofs.Straight.{answered-number, answered-words, answered-heard}
 use Rattle.mixed_words.proofs.on_sections.answered.Goals as goal
 

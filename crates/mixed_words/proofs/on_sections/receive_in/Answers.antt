@@ -1,6 +1,5 @@
 -- `mixed_words::on_sections::receive_in` meets its contract: straight from its bytes, or as `mixed` answers it.
 -- Assumes nothing.
-use borrow.Author.Rules.{rules}
 use Rattle.mixed_words.proofs.OnSections.{told_number, told_words, told-services, told-output, told-heard}
 use Rattle.mixed_words.proofs.on_sections.receive_in.Goals as goal
 

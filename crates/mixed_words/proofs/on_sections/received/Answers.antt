@@ -1,6 +1,5 @@
 -- `mixed_words::on_sections::received` meets its contract: the sections lie in the table, or not.
 -- Assumes nothing.
-use borrow.Author.Rules.{rules}
 use Rattle.mixed_words.proofs.OnSections.{inside-number, inside-words, inside-services, inside-output, inside-heard}
 use Rattle.mixed_words.proofs.OnSections.{outside-number, outside-words, outside-services, outside-output, outside-heard}
 use Rattle.mixed_words.proofs.on_sections.received.Goals as goal

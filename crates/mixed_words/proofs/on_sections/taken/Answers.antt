@@ -1,6 +1,5 @@
 -- `mixed_words::on_sections::taken` meets its contract: the list is lent by itself.
 -- Assumes nothing.
-use borrow.Author.Rules.{rules}
 use Rattle.mixed_words.proofs.Straight.{taken-outcome, taken-list, taken-services, taken-output}
 use Rattle.mixed_words.proofs.on_sections.taken.Goals as goal
 

@@ -1,6 +1,5 @@
 -- `mixed_words::on_table::receive` meets its contract.
 -- Assumes nothing.
-use borrow.Author.Rules.{rules}
 use Rattle.mixed_words.proofs.Calling.{received-number, received-words, received-heard}
 use Rattle.mixed_words.proofs.on_table.receive.Goals as goal
 

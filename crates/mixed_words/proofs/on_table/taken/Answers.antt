@@ -1,6 +1,5 @@
 -- `mixed_words::on_table::taken` meets its contract: the list is lent by itself.
 -- Assumes nothing.
-use borrow.Author.Rules.{rules}
 use Rattle.mixed_words.proofs.Calling.{taken-outcome, taken-list, taken-services, taken-output}
 use Rattle.mixed_words.proofs.on_table.taken.Goals as goal
 

@@ -1,6 +1,5 @@
 -- `mixed_words::issue_for` meets its contract: by the set-up.
 -- Assumes nothing.
-use borrow.Author.Rules.{rules}
 use Rattle.mixed_words.proofs.ByTarget.{speaks-three, speaks-six}
 use Rattle.mixed_words.proofs.sending.issue_for.Goals as goal
 

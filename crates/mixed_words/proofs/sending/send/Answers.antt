@@ -1,6 +1,5 @@
 -- `mixed_words::send` meets its contract: by the issue of the target.
 -- Assumes nothing.
-use borrow.Author.Rules.{rules}
 use Rattle.mixed_words.proofs.ByTarget.{number_by, words-by, output-by, sent_by}
 use Rattle.mixed_words.proofs.sending.send.Goals as goal
 

@@ -1,6 +1,5 @@
 -- `mixed_words::telling::value_three` meets its contract: the value of each case.
 -- Assumes nothing.
-use borrow.Author.Rules.{rules}
 use Rattle.mixed_words.proofs.ToldWords.{common_value}
 use Rattle.mixed_words.proofs.telling.value_three.Goals as goal
 

@@ -1,6 +1,5 @@
 -- `nyrkovash::nyr_read_mixed` meets its contract: by the form of the message.
 -- Assumes nothing.
-use borrow.Author.Rules.{rules}
 use Rattle.nyrkovash.proofs.IssueWords.{form-number, form-words}
 use Rattle.nyrkovash.proofs.issues.nyr_read_mixed.Goals as goal
 

@@ -1,6 +1,5 @@
 -- `nyrkovash::nyr_write_3` meets its contract.
 -- Assumes nothing.
-use borrow.Author.Rules.{rules}
 use Rattle.wire.proofs.MetCases.{met, met_left}
 use Rattle.message.specs.Writing.{number_given}
 use Rattle.nyrkovash.specs.MessageCalls.{write_left}

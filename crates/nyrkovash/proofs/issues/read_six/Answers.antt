@@ -1,6 +1,5 @@
 -- `nyrkovash::issues::read_six` meets its contract.
 -- Assumes nothing.
-use borrow.Author.Rules.{rules}
 use Rattle.nyrkovash.proofs.Words.{contents-known}
 use Rattle.nyrkovash.proofs.IssueWords.{six-refused, six-nothing, six_number, six-words}
 use Rattle.nyrkovash.proofs.issues.read_six.Goals as goal

@@ -1,6 +1,5 @@
 -- `nyrkovash::issues::read_three` meets its contract: by what `message3` answers.
 -- Assumes nothing.
-use borrow.Author.Rules.{rules}
 use Rattle.wire.proofs.MetCases.{met, met_left}
 use Rattle.message3.specs.declared.Reading3.{Reading3}
 use Rattle.mixed.specs.Reading.{from_three, number_given}

@@ -1,6 +1,5 @@
 -- `nyrkovash::nyr_cut` meets its contract.
 -- Assumes nothing.
-use borrow.Author.Rules.{rules}
 use Rattle.wire.proofs.MetCases.{met, met_left}
 use Rattle.binding.specs.Made.{number_given}
 use Rattle.nyrkovash.specs.PieceCalls.{made_left}

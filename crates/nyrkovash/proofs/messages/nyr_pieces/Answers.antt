@@ -1,6 +1,5 @@
 -- `nyrkovash::nyr_pieces` meets its contract.
 -- Assumes nothing.
-use borrow.Author.Rules.{rules}
 use Rattle.wire.proofs.MetCases.{met, met_left}
 use Rattle.binding.specs.Counted.{number_given}
 use Rattle.nyrkovash.specs.PieceCalls.{count_left}

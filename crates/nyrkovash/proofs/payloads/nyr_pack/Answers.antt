@@ -1,6 +1,5 @@
 -- `nyrkovash::nyr_pack` meets its contract.
 -- Assumes nothing.
-use borrow.Author.Rules.{rules}
 use Rattle.nyrkovash.proofs.Giving.{given-number, given-words}
 use Rattle.nyrkovash.proofs.payloads.nyr_pack.Goals as goal
 

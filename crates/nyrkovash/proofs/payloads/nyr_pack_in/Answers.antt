@@ -1,6 +1,5 @@
 -- `nyrkovash::nyr_pack_in` meets its contract.
 -- Assumes nothing.
-use borrow.Author.Rules.{rules}
 use Rattle.nyrkovash.proofs.Giving.{number_in, left_in, words-in}
 use Rattle.nyrkovash.proofs.payloads.nyr_pack_in.Goals as goal
 

@@ -1,6 +1,5 @@
 -- `nyrkovash::nyr_unpack` meets its contract.
 -- Assumes nothing.
-use borrow.Author.Rules.{rules}
 use Rattle.nyrkovash.proofs.Giving.{given-number, given-words}
 use Rattle.nyrkovash.proofs.payloads.nyr_unpack.Goals as goal
 

@@ -1,6 +1,5 @@
 -- `nyrkovash::told` meets its contract: the number and the words of each case.
 -- Assumes nothing.
-use borrow.Author.Rules.{rules}
 use Rattle.nyrkovash.proofs.Giving.{at-stop, at_end}
 use Rattle.nyrkovash.proofs.payloads.told.Goals as goal
 

@@ -1,6 +1,5 @@
 -- `nyrkovash::nyr_pack_by` meets its contract.
 -- Assumes nothing.
-use borrow.Author.Rules.{rules}
 use Rattle.nyrkovash.proofs.ByPlans.{number-planned, left-planned, walked-planned, number_by, left_by, walked_by}
 use Rattle.nyrkovash.proofs.plans.nyr_pack_by.Goals as goal
 

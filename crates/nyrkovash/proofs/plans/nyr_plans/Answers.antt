@@ -1,6 +1,5 @@
 -- `nyrkovash::nyr_plans` meets its contract.
 -- Assumes nothing.
-use borrow.Author.Rules.{rules}
 use Rattle.nyrkovash.proofs.ByPlans.{laid-number, laid-left}
 use Rattle.nyrkovash.proofs.plans.nyr_plans.Goals as goal
 

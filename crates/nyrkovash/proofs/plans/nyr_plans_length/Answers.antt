@@ -1,6 +1,5 @@
 -- `nyrkovash::nyr_plans_length` meets its contract.
 -- Assumes nothing.
-use borrow.Author.Rules.{rules}
 use Rattle.nyrkovash.proofs.ByPlans.{length-number, length-left}
 use Rattle.nyrkovash.proofs.plans.nyr_plans_length.Goals as goal
 

@@ -1,6 +1,5 @@
 -- `nyrkovash::nyr_read` meets its contract.
 -- Assumes nothing.
-use borrow.Author.Rules.{rules}
 use Rattle.nyrkovash.proofs.Words.{contents-known, read-refused, read-nothing, read_number, read-words}
 use Rattle.nyrkovash.proofs.reading.nyr_read.Goals as goal
 

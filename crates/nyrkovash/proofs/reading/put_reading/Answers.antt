@@ -1,6 +1,5 @@
 -- `nyrkovash::reading::put_reading` meets its contract: the words by the bytes.
 -- Assumes nothing.
-use borrow.Author.Rules.{rules}
 use Rattle.nyrkovash.proofs.Words.{words_read}
 use Rattle.nyrkovash.proofs.reading.put_reading.Goals as goal
 

@@ -1,6 +1,5 @@
 -- `nyrkovash::reading::refusal` meets its contract: the first of the three that is not 0.
 -- Assumes nothing.
-use borrow.Author.Rules.{rules}
 use Rattle.message.proofs.Refusals.{frame-first, address-first, contents-last}
 use Rattle.nyrkovash.proofs.reading.refusal.Goals as goal
 

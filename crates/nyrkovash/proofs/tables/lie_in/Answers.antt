@@ -1,6 +1,5 @@
 -- `nyrkovash::lie_in` meets its contract: the four sections one by one.
 -- Assumes nothing.
-use borrow.Author.Rules.{rules}
 use Rattle.nyrkovash.proofs.AsTheyLie.{no-types, no-members, no-values, by-the-last}
 use Rattle.nyrkovash.proofs.tables.lie_in.Goals as goal
 

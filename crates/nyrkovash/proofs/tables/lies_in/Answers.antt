@@ -1,6 +1,5 @@
 -- `nyrkovash::lies_in` meets its contract: its three tests.
 -- Assumes nothing.
-use borrow.Author.Rules.{rules}
 use Rattle.nyrkovash.proofs.AsTheyLie.{bytes_fit, end_fits, too_many, tested}
 use Rattle.nyrkovash.proofs.tables.lies_in.Goals as goal
 

@@ -1,6 +1,5 @@
 -- `nyrkovash::nyr_check_table` meets its contract.
 -- Assumes nothing.
-use borrow.Author.Rules.{rules}
 use Rattle.wire.proofs.MetCases.{met}
 use Rattle.table.specs.Checked.{number_given}
 use Rattle.nyrkovash.proofs.Calling.{met_sections}

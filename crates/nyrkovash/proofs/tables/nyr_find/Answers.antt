@@ -1,6 +1,5 @@
 -- `nyrkovash::nyr_find` meets its contract.
 -- Assumes nothing.
-use borrow.Author.Rules.{rules}
 use Rattle.nyrkovash.proofs.AsTheyLie.{operations-fit}
 use Rattle.nyrkovash.proofs.Calling.{inside-number, found-there, found_none, outside-number, outside-answer}
 use Rattle.nyrkovash.proofs.tables.nyr_find.Goals as goal

@@ -1,6 +1,5 @@
 -- `nyrkovash::put_bounds` meets its contract: word by word.
 -- Assumes nothing.
-use borrow.Author.Rules.{rules}
 use native.Mathlib.Omega.{arith}
 use lib.ListN.{length-set}
 use Rattle.nyrkovash.proofs.Calling.{bounds_put}

@@ -1,6 +1,5 @@
 -- `nyrkovash::put_sections` meets its contract: the index is lent by itself.
 -- Assumes nothing.
-use borrow.Author.Rules.{rules}
 use Rattle.nyrkovash.proofs.Calling.{index_laid}
 use Rattle.nyrkovash.proofs.tables.put_sections.Goals as goal
 

@@ -1,9 +1,8 @@
 -- `nyrkovash::telling::composite_three` meets its contract: a status alone tells one.
 -- Assumes nothing.
-use borrow.Author.Rules.{rules}
 use Rattle.nyrkovash.proofs.IssueWords.{no-composite}
 use Rattle.nyrkovash.proofs.telling.composite_three.Goals as goal
 
 pub returns-in_default : goal.returns-in_default
 returns-in_default c =
-    search no-composite
+    no-composite _ c.in_default.not-PlatformStatus

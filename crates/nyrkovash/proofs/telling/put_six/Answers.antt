@@ -1,6 +1,5 @@
 -- `nyrkovash::telling::put_six` meets its contract: the words by the bytes.
 -- Assumes nothing.
-use borrow.Author.Rules.{rules}
 use Rattle.nyrkovash.proofs.IssueWords.{six_told}
 use Rattle.nyrkovash.proofs.telling.put_six.Goals as goal
 

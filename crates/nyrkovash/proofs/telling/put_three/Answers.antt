@@ -1,6 +1,5 @@
 -- `nyrkovash::telling::put_three` meets its contract: each word in its place.
 -- Assumes nothing.
-use borrow.Author.Rules.{rules}
 use Rattle.nyrkovash.proofs.IssueWords.{three_told}
 use Rattle.nyrkovash.proofs.telling.put_three.Goals as goal
 

@@ -1,6 +1,5 @@
 -- `operations::entries::cut_off` meets its contract: some of the bytes are there, or none.
 -- Assumes nothing.
-use borrow.Author.Rules.{rules}
 use Rattle.operations.proofs.Heads.{behind_past}
 use Rattle.operations.proofs.entries.cut_off.Goals as goal
 

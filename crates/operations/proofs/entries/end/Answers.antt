@@ -1,7 +1,4 @@
 use borrow.Author.Rules.{rules}
-use Prim.Native.Nat.{◌-◌, ◌≤◌}
-use mathlib.Core.Path.{◌≡◌}
-use Rattle.operations.specs.Entries.{op_place}
 use Rattle.operations.proofs.Places.{first-place, next_place, step_fits, last-place}
 use Rattle.operations.proofs.entries.end.Goals as goal
 

@@ -1,10 +1,8 @@
 -- `operations::entries::end` meets its contract: the i-th entry stands where the i entries before it end.
 -- Assumes nothing.
-use borrow.Author.Rules.{rules}
 use Prim.Native.Nat.{◌-◌, ◌≤◌}
 use mathlib.Core.Path.{◌≡◌}
 use Rattle.operations.specs.Entries.{op_place}
-use Rattle.operations.proofs.Places.{first-place, next_place, step_fits, last-place}
 use Rattle.operations.proofs.entries.end.Given as goal
 
 abbrev pub invariant-loop-i : goal.invariant-loop-i

@@ -1,6 +1,5 @@
 -- `operations::entries::ending_at` meets its contract: the two bytes before the end.
 -- Assumes nothing.
-use borrow.Author.Rules.{rules}
 use Rattle.operations.proofs.Heads.{ends_in}
 use Rattle.operations.proofs.entries.ending_at.Goals as goal
 

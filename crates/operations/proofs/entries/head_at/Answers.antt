@@ -1,6 +1,5 @@
 -- `operations::entries::head_at` meets its contract: the parts of the number that stands there, whole or in halves.
 -- Assumes nothing.
-use borrow.Author.Rules.{rules}
 use Rattle.operations.proofs.Heads.{head_whole, head-id, head-kind, head-type}
 use Rattle.operations.proofs.entries.head_at.Goals as goal
 

@@ -1,6 +1,5 @@
 -- `operations::entries::kind_at` meets its contract: the kind that the head says.
 -- Assumes nothing.
-use borrow.Author.Rules.{rules}
 use Rattle.operations.proofs.Heads.{kind-read}
 use Rattle.operations.proofs.entries.kind_at.Goals as goal
 

@@ -1,6 +1,5 @@
 -- `operations::entries::width_at` meets its contract: the width of the kind that stands there.
 -- Assumes nothing.
-use borrow.Author.Rules.{rules}
 use Rattle.operations.proofs.Places.{width_read}
 use Rattle.operations.proofs.entries.width_at.Goals as goal
 

@@ -1,6 +1,5 @@
 -- `operations::entries::width_of` meets its contract: 10 bytes, or 8.
 -- Assumes nothing.
-use borrow.Author.Rules.{rules}
 use Rattle.operations.proofs.Places.{has-ten, has-eight}
 use Rattle.operations.proofs.entries.width_of.Goals as goal
 

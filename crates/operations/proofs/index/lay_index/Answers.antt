@@ -1,8 +1,4 @@
 use borrow.Author.Rules.{rules}
-use Prim.Native.Nat.{◌-◌, ◌≤◌}
-use mathlib.Core.Path.{◌≡◌}
-use Rattle.operations.specs.Entries.{op_place}
-use Rattle.operations.specs.Search.{indexed}
 use Rattle.operations.proofs.Places.{first-place, step-by-kind}
 use Rattle.operations.proofs.Heads.{next-by-head}
 use Rattle.operations.proofs.Laying.{none_laid, laid-length, one-laid, all_laid, word_fits}

@@ -1,13 +1,9 @@
 -- `operations::index::lay_index` meets its contract: the words of the first i entries are laid.
 -- Assumes nothing.
-use borrow.Author.Rules.{rules}
 use Prim.Native.Nat.{◌-◌, ◌≤◌}
 use mathlib.Core.Path.{◌≡◌}
 use Rattle.operations.specs.Entries.{op_place}
 use Rattle.operations.specs.Search.{indexed}
-use Rattle.operations.proofs.Places.{first-place, step-by-kind}
-use Rattle.operations.proofs.Heads.{next-by-head}
-use Rattle.operations.proofs.Laying.{none_laid, laid-length, one-laid, all_laid, word_fits}
 use Rattle.operations.proofs.index.lay_index.Given as goal
 
 abbrev pub invariant-loop-i : goal.invariant-loop-i

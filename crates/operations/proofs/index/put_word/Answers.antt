@@ -1,6 +1,5 @@
 -- `operations::index::put_word` meets its contract: a word past the end is not put.
 -- Assumes nothing.
-use borrow.Author.Rules.{rules}
 use Rattle.operations.proofs.Laying.{not_put}
 use Rattle.operations.proofs.index.put_word.Goals as goal
 

@@ -1,6 +1,5 @@
 -- `operations::lookup::borne` meets its contract: the bytes are there and bear the ID, or not.
 -- Assumes nothing.
-use borrow.Author.Rules.{rules}
 use Rattle.operations.proofs.Looking.{too_short, bears-another, is-borne, not-whole}
 use Rattle.operations.proofs.lookup.borne.Goals as goal
 

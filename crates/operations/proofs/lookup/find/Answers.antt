@@ -1,6 +1,5 @@
 -- `operations::lookup::find` meets its contract: what the index says is held against the bytes.
 -- Assumes nothing.
-use borrow.Author.Rules.{rules}
 use Rattle.operations.proofs.Looking.{held-there, held_none}
 use Rattle.operations.proofs.lookup.find.Goals as goal
 

@@ -1,6 +1,5 @@
 -- `operations::lookup::first_word` meets its contract: a word that is not there is 0.
 -- Assumes nothing.
-use borrow.Author.Rules.{rules}
 use Rattle.operations.proofs.Looking.{no_first}
 use Rattle.operations.proofs.lookup.first_word.Goals as goal
 

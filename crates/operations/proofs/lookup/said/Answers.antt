@@ -1,6 +1,6 @@
 use borrow.Author.Rules.{rules}
 use lib.ListN.{length-drop}
-use Rattle.operations.proofs.Looking.{Left, Ends, all_left, all-ends, goes_on, ends_on, unlaid, last-told, none_said}
+use Rattle.operations.proofs.Looking.{all_left, all-ends, goes_on, ends_on, unlaid, last-told, none_said}
 use Rattle.operations.proofs.lookup.said.Goals as goal
 
 pub returns-then-count-eq0 : goal.returns-then-count-eq0
@@ -22,8 +22,7 @@ word_at-here-requires c =
 pub loop-size-preserved : goal.loop-size-preserved
 loop-size-preserved c =
     let l = c.loop-size in
-    let a = c.args in
-    (
+    let a = c.args in (
       goes_on a.index.now a.count a.id l.base l.size l.word c.word_at-here.result
           (search rules) (search rules) c.word_at-here.ensures l.invariant.0 _ c.chosen-base.ensures,
       ends_on a.index.now a.count a.id l.base l.size l.word c.word_at-here.result

@@ -1,8 +1,6 @@
 -- `operations::lookup::said` meets its contract: what is left says what the whole index does.
 -- Assumes nothing.
-use borrow.Author.Rules.{rules}
-use lib.ListN.{length-drop}
-use Rattle.operations.proofs.Looking.{Left, Ends, all_left, all-ends, goes_on, ends_on, unlaid, last-told, none_said}
+use Rattle.operations.proofs.Looking.{Left, Ends}
 use Rattle.operations.proofs.lookup.said.Given as goal
 
 abbrev pub invariant-loop-size : goal.invariant-loop-size

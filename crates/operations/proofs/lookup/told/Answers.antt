@@ -1,6 +1,5 @@
 -- `operations::lookup::told` meets its contract: the word bears the ID, or not.
 -- Assumes nothing.
-use borrow.Author.Rules.{rules}
 use Rattle.operations.proofs.Looking.{is_told, not-told}
 use Rattle.operations.proofs.lookup.told.Goals as goal
 

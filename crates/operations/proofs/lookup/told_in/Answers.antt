@@ -1,6 +1,5 @@
 -- `operations::lookup::told_in` meets its contract: the word is there, or it is 0.
 -- Assumes nothing.
-use borrow.Author.Rules.{rules}
 use Rattle.operations.proofs.Looking.{told-there, told-zero}
 use Rattle.operations.proofs.lookup.told_in.Goals as goal
 

@@ -1,6 +1,5 @@
 -- `operations::rules::are_good` meets its contract: the first i operations have passed, and the last ID is carried along.
 -- Assumes nothing.
-use borrow.Author.Rules.{rules}
 use Prim.Native.Nat.{◌-◌, ◌≤◌}
 use mathlib.Core.Path.{◌≡◌}
 use mathlib.Core.Bool.{true}
@@ -8,8 +7,6 @@ use Rattle.wire.specs.All.{all_below}
 use Rattle.operations.specs.Entries.{op_place, id_at}
 use Rattle.operations.specs.Rules.{operation_ok}
 use Rattle.wire.proofs.Rising.{Carried}
-use Rattle.operations.proofs.Places.{first-place, next-by-entry, step-by-kind}
-use Rattle.operations.proofs.Passing.{none-judged, no-id-yet, all-judged, operation-next, id_next, bad-operation, falls}
 use Rattle.operations.proofs.rules.are_good.Given as goal
 
 abbrev pub invariant-loop-i : goal.invariant-loop-i

@@ -1,6 +1,5 @@
 -- `operations::rules::fields_ok` meets its contract: the tests that are left at each kind.
 -- Assumes nothing.
-use borrow.Author.Rules.{rules}
 use Rattle.operations.proofs.Fields.{id-of-none, carries-a-type, carries-none, request-fields, request-fails, unknown-kind}
 use Rattle.operations.proofs.rules.fields_ok.Goals as goal
 

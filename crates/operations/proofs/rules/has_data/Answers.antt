@@ -1,10 +1,4 @@
 use borrow.Author.Rules.{rules}
-use Prim.Native.Nat.{◌-◌, ◌≤◌}
-use mathlib.Core.Path.{◌≡◌}
-use mathlib.Core.Bool.{true}
-use Rattle.wire.specs.All.{all_below}
-use Rattle.operations.specs.Entries.{op_place}
-use Rattle.operations.specs.Rules.{not_data}
 use Rattle.operations.proofs.Places.{first-place, next-by-kind, step-by-kind}
 use Rattle.operations.proofs.Passing.{no-data-yet, never-data, some-data, not-data}
 use Rattle.operations.proofs.rules.has_data.Goals as goal

@@ -8,7 +8,7 @@ use Rattle.pack.proofs.AlikeLeaves.{leaves-going}
 use Rattle.pack.proofs.alike.write_leaves.Goals as goal
 
 pub returns-then-words-p : goal.returns-then-words-p
-returns-then-words-p c =
+returns-then-words-p c f w =
     going_start c.requires.1 c.requires.0
 
 pub overflow_mul-result : goal.overflow_mul-result
@@ -28,5 +28,5 @@ returns-then-takes_all c =
     c.requires.1
 
 pub returns-else-takes_all : goal.returns-else-takes_all
-returns-else-takes_all c =
+returns-else-takes_all c f w =
     going_start c.requires.1 c.requires.0

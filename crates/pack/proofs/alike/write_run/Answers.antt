@@ -6,7 +6,7 @@ use Rattle.pack.proofs.JudgedRuns.{run-times, run_end, run_going}
 use Rattle.pack.proofs.alike.write_run.Goals as goal
 
 pub returns-then-left-many : goal.returns-then-left-many
-returns-then-left-many c =
+returns-then-left-many c f w =
     going_start (search rules) c.requires.0
 
 pub overflow_mul-result : goal.overflow_mul-result
@@ -25,5 +25,5 @@ returns-then-is_run c =
     c.store_run.ensures (c.is_run.ensures c.if-is_run.true)
 
 pub returns-else-is_run : goal.returns-else-is_run
-returns-else-is_run c =
+returns-else-is_run c f w =
     going_start (search rules) c.requires.0

@@ -24,8 +24,7 @@ overflow_add-to c =
 pub loop-k-preserved : goal.loop-k-preserved
 loop-k-preserved c =
     let here = c.loop-k in
-    let start = c.args in
-    (
+    let start = c.args in (
       leaf-next start.words.now start.table.now start.run start.p here.k (record { from = here.from; to = here.to }) here.invariant.0
           c.if-words-from.false _ c.takes_word.ensures _ _ c.if-takes_word.true c.code_in.ensures c.width-width.ensures,
       writing_leaf start.words.now (record { from = here.from; to = here.to }) _ _ here.invariant.1 c.if-words-from.false c.width-width.ensures,

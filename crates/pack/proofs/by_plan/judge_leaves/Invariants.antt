@@ -11,8 +11,8 @@ use Rattle.pack.proofs.by_plan.judge_leaves.Given as goal
 
 abbrev pub invariant-loop-k : goal.invariant-loop-k
 invariant-loop-k l =
-    So-far l.words l.table l.run (record { l.from = l.initial.from; l.to = l.initial.to }) l.k (record { l.from = l.from; l.to = l.to })
-    × Writing l.words (record { l.from = l.from; l.to = l.to })
+    So-far l.words l.table l.run (record { from = l.initial.from; to = l.initial.to }) l.k (record { from = l.from; to = l.to })
+    × Writing l.words (record { from = l.from; to = l.to })
     × (l.k ≤ l.many)
 
 abbrev pub decreases-loop-k : goal.decreases-loop-k

@@ -13,11 +13,10 @@ loop-k-init c =
     (refl, search rules)
 
 pub loop-k-preserved : goal.loop-k-preserved
-loop-k-preserved c =
-    (
-      leads-went _ _ _ _ _ _ _ c.loop-k-test.true c.loop-k.invariant.0 (sym c.in-Went.is ∙ c.judge_leaves.ensures),
-      run-keeps _ _ _ _ _ _ _ c.loop-k.invariant.1 c.judge_leaves.ensures c.in-Went.is,
-    )
+loop-k-preserved c = (
+  leads-went _ _ _ _ _ _ _ c.loop-k-test.true c.loop-k.invariant.0 (sym c.in-Went.is ∙ c.judge_leaves.ensures),
+  run-keeps _ _ _ _ _ _ _ c.loop-k.invariant.1 c.judge_leaves.ensures c.in-Went.is,
+)
 
 pub returns-in-Stopped : goal.returns-in-Stopped
 returns-in-Stopped c =

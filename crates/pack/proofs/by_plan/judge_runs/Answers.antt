@@ -18,28 +18,27 @@ loop-k-init c =
 
 pub overflow_add-from : goal.overflow_add-from
 overflow_add-from c =
-    omega (arith, (c.Takes-run.ensures c.if-takes_run.true).inside)
+    omega (arith, (c.takes_run.ensures c.if-takes_run.true).inside)
 
 pub overflow_mul-to : goal.overflow_mul-to
 overflow_mul-to c =
     run-times c.args.words.now _ _ (record { from = c.loop-k.from; to = c.loop-k.to }) _ c.width-width.ensures
-    (omega (arith, (c.Takes-run.ensures c.if-takes_run.true).inside)) c.loop-k.invariant.1 c.well_formed.1.1.0.1
+    (omega (arith, (c.takes_run.ensures c.if-takes_run.true).inside)) c.loop-k.invariant.1 c.well_formed.1.1.0.1
 
 pub overflow_add-to : goal.overflow_add-to
 overflow_add-to c =
     run_end c.args.words.now _ _ (record { from = c.loop-k.from; to = c.loop-k.to }) _ c.width-width.ensures
-    (omega (arith, (c.Takes-run.ensures c.if-takes_run.true).inside)) c.loop-k.invariant.1 c.well_formed.1.1.0.1
+    (omega (arith, (c.takes_run.ensures c.if-takes_run.true).inside)) c.loop-k.invariant.1 c.well_formed.1.1.0.1
 
 pub loop-k-preserved : goal.loop-k-preserved
 loop-k-preserved c =
-    let taken = c.Takes-run.ensures c.if-takes_run.true in
-    let test = c.before.before.before.before.before.before in
-    let here = test.before.loop in
-    let start = test.before.before.before.before.before.args in
+    let taken = c.takes_run.ensures c.if-takes_run.true in
+    let here = c.loop-k in
+    let start = c.args in
     let q : Place = record { from = here.from; to = here.to } in
     let code = c.code_in.ensures in
     let many = c.many_in-many.ensures in (
-      leads-on _ _ _ _ _ q taken _ _ _ code many c.width-width.ensures test.loop-test.true here.invariant.0,
+      leads-on _ _ _ _ _ q taken _ _ _ code many c.width-width.ensures c.loop-k-test.true here.invariant.0,
       taken-writing start.words.now start.table.now start.runs.now (Went q) here.k q taken _ _ _ code many c.width-width.ensures
           here.invariant.1,
     )

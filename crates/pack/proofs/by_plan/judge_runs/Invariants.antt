@@ -16,8 +16,8 @@ use Rattle.pack.proofs.by_plan.judge_runs.Given as goal
 
 abbrev pub invariant-loop-k : goal.invariant-loop-k
 invariant-loop-k l =
-    Leads l.words l.table l.runs (answer (overRuns l.words l.table l.runs (record { l.from = l.initial.from; l.to = l.initial.to }) [])) l.k (record { l.from = l.from; l.to = l.to })
-    × Writing l.words (record { l.from = l.from; l.to = l.to })
+    Leads l.words l.table l.runs (answer (overRuns l.words l.table l.runs (record { from = l.initial.from; to = l.initial.to }) [])) l.k (record { from = l.from; to = l.to })
+    × Writing l.words (record { from = l.from; to = l.to })
 
 abbrev pub decreases-loop-k : goal.decreases-loop-k
 decreases-loop-k l = length l.runs - l.k

@@ -13,8 +13,8 @@ use Rattle.pack.proofs.by_plan.store_runs.Given as goal
 
 abbrev pub invariant-loop-k : goal.invariant-loop-k
 invariant-loop-k l =
-    Stores l.words l.runs l.upto (stored_runs l.words l.runs (record { l.from = l.initial.from; l.to = l.initial.to }) l.upto l.initial.out) l.k (record { l.from = l.from; l.to = l.to }) l.out
-    × Writing l.words (record { l.from = l.from; l.to = l.to })
+    Stores l.words l.runs l.upto (stored_runs l.words l.runs (record { from = l.initial.from; to = l.initial.to }) l.upto l.initial.out) l.k (record { from = l.from; to = l.to }) l.out
+    × Writing l.words (record { from = l.from; to = l.to })
     × (l.from ≤ l.upto)
     × (length l.out ≡ length l.initial.out)
 

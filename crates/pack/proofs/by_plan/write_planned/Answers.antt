@@ -24,4 +24,5 @@ slice_bounds-write_runs-end c =
 
 pub returns : goal.returns
 returns c =
-    let t = planned-did _ _ _ _ c.plan_of-plan.ensures _ _ _ _ _ c.write_runs.ensures in record { value = t.0; out_after = t.1 }
+    let t = planned-did _ _ _ _ c.plan_of-plan.ensures _ _ _ _ _ (c.write_runs.ensures.value, c.write_runs.ensures.out_after) in
+    record { value = t.0; out_after = t.1 }

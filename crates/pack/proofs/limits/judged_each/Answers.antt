@@ -9,12 +9,11 @@ loop-k-init c =
     (search rules, none-judged _ _ _)
 
 pub loop-k-preserved : goal.loop-k-preserved
-loop-k-preserved c =
-    (
-      search rules,
-      more-judged _ _ _ _ _ _ (search rules) (search rules) (λ i. omega (arith, c.type_inv.words i))
-          c.loop-k.invariant.1 c.measure-all.ensures,
-    )
+loop-k-preserved c = (
+  search rules,
+  more-judged _ _ _ _ _ _ (search rules) (search rules) (λ i. omega (arith, c.type_inv.words i))
+      c.loop-k.invariant.1 c.measure-all.ensures,
+)
 
 pub returns : goal.returns
 returns c =

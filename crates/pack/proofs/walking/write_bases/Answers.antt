@@ -23,25 +23,25 @@ pub overflow_cast-result : goal.overflow_cast-result
 overflow_cast-result c =
     let b = c.base_codes-n.ensures in
     let j = c.judge_codes-part.ensures in
-    count_fits _ _ _ _ _ _ _ (replicate 64 0) _ b.0 b.1 c.args.p _ _ j.0 j.1 (omega (arith, c.well_formed.1.1.1.0)) c.requires.1
+    count_fits _ _ _ _ _ _ _ (replicate 64 0) _ b.value b.codes_after c.args.p _ _ j.count_value j.bytes_value (omega (arith, c.well_formed.1.1.1.0)) c.requires.1
 
 pub overflow_add-result : goal.overflow_add-result
 overflow_add-result c =
     let b = c.base_codes-n.ensures in
     let j = c.judge_codes-part.ensures in
-    upto-fits _ _ _ _ _ _ _ (replicate 64 0) _ b.0 b.1 c.args.p _ _ j.0 j.1 (omega (arith, c.well_formed.1.1.1.0)) c.requires.1
+    upto-fits _ _ _ _ _ _ _ (replicate 64 0) _ b.value b.codes_after c.args.p _ _ j.count_value j.bytes_value (omega (arith, c.well_formed.1.1.1.0)) c.requires.1
 
 pub overflow_add-result-then-out-eq0 : goal.overflow_add-result-then-out-eq0
 overflow_add-result-then-out-eq0 c =
     let b = c.base_codes-n.ensures in
     let j = c.judge_codes-part.ensures in
-    from-fits _ _ _ _ _ _ _ (replicate 64 0) _ b.0 b.1 c.args.p _ _ j.0 j.1 c.requires.0 c.well_formed.1.1.1.1.1.0.1
+    from-fits _ _ _ _ _ _ _ (replicate 64 0) _ b.value b.codes_after c.args.p _ _ j.count_value j.bytes_value c.requires.0 c.well_formed.1.1.1.1.1.0.1
 
 pub overflow_add-result-then-out-eq0-2 : goal.overflow_add-result-then-out-eq0-2
 overflow_add-result-then-out-eq0-2 c =
     let b = c.base_codes-n.ensures in
     let j = c.judge_codes-part.ensures in
-    to-fits _ _ _ _ _ _ _ (replicate 64 0) _ b.0 b.1 c.args.p _ _ j.0 j.1 c.requires.0 c.well_formed.1.1.1.1.1.0.1
+    to-fits _ _ _ _ _ _ _ (replicate 64 0) _ b.value b.codes_after c.args.p _ _ j.count_value j.bytes_value c.requires.0 c.well_formed.1.1.1.1.1.0.1
 
 pub slice_bounds-codes-end-else-out-eq0 : goal.slice_bounds-codes-end-else-out-eq0
 slice_bounds-codes-end-else-out-eq0 c =
@@ -55,40 +55,40 @@ pub store_bases-end-requires : goal.store_bases-end-requires
 store_bases-end-requires c =
     let b = c.base_codes-n.ensures in
     let known = c.requires.2 (omega (arith, c.if-out-eq0.false)) in
-    (c.requires.0, all_words _ _ _ _ _ _ _ (replicate 64 0) _ b.0 b.1 c.args.p known c.requires.0)
+    (c.requires.0, all_words _ _ _ _ _ _ _ (replicate 64 0) _ b.value b.codes_after c.args.p known c.requires.0)
 
 pub overflow_cast-result-else-out-eq0 : goal.overflow_cast-result-else-out-eq0
 overflow_cast-result-else-out-eq0 c =
     let b = c.base_codes-n.ensures in
     let known = c.requires.2 (omega (arith, c.if-out-eq0.false)) in
-    all-count-fits _ _ _ _ _ _ _ (replicate 64 0) _ b.0 b.1 c.args.p known (omega (arith, c.well_formed.1.1.1.0)) c.requires.1
+    all-count-fits _ _ _ _ _ _ _ (replicate 64 0) _ b.value b.codes_after c.args.p known (omega (arith, c.well_formed.1.1.1.0)) c.requires.1
 
 pub overflow_add-result-else-out-eq0 : goal.overflow_add-result-else-out-eq0
 overflow_add-result-else-out-eq0 c =
     let b = c.base_codes-n.ensures in
     let known = c.requires.2 (omega (arith, c.if-out-eq0.false)) in
-    all-upto-fits _ _ _ _ _ _ _ (replicate 64 0) _ b.0 b.1 c.args.p known (omega (arith, c.well_formed.1.1.1.0)) c.requires.1
+    all-upto-fits _ _ _ _ _ _ _ (replicate 64 0) _ b.value b.codes_after c.args.p known (omega (arith, c.well_formed.1.1.1.0)) c.requires.1
 
 pub overflow_add-result-else-out-eq0-2 : goal.overflow_add-result-else-out-eq0-2
 overflow_add-result-else-out-eq0-2 c =
     let b = c.base_codes-n.ensures in
     let known = c.requires.2 (omega (arith, c.if-out-eq0.false)) in
-    all-from-fits _ _ _ _ _ _ _ (replicate 64 0) _ b.0 b.1 c.args.p known c.requires.0 c.well_formed.1.1.1.1.1.0.1
+    all-from-fits _ _ _ _ _ _ _ (replicate 64 0) _ b.value b.codes_after c.args.p known c.requires.0 c.well_formed.1.1.1.1.1.0.1
 
 pub returns-then-out-eq0 : goal.returns-then-out-eq0
 returns-then-out-eq0 c =
     let b = c.base_codes-n.ensures in
     let j = c.judge_codes-part.ensures in
     let none = none_laid _ _ _ _ c.if-out-eq0.true in
-    taken-going _ _ _ _ _ _ _ (replicate 64 0) _ b.0 b.1 c.args.p _ _ j.0 j.1 _ _ none c.requires.1 c.requires.0
+    taken-going _ _ _ _ _ _ _ (replicate 64 0) _ b.value b.codes_after c.args.p _ _ j.count_value j.bytes_value _ _ none c.requires.1 c.requires.0
 
 pub shape_of-out : goal.shape_of-out
 shape_of-out c =
-    laid_as_long _ _ _ _ _ c.store_bases-end.ensures.1
+    laid_as_long _ _ _ _ _ c.store_bases-end.ensures.out_after
 
 pub returns-else-out-eq0 : goal.returns-else-out-eq0
 returns-else-out-eq0 c =
     let b = c.base_codes-n.ensures in
     let known = c.requires.2 (omega (arith, c.if-out-eq0.false)) in
     let put = c.store_bases-end.ensures in
-    all-going _ _ _ _ _ _ _ (replicate 64 0) _ b.0 b.1 c.args.p known _ _ _ put.0 put.1 c.requires.1 c.requires.0
+    all-going _ _ _ _ _ _ _ (replicate 64 0) _ b.value b.codes_after c.args.p known _ _ _ put.value put.out_after c.requires.1 c.requires.0

@@ -21,17 +21,17 @@ write_elements-requires c =
 pub returns-in-Leaf : goal.returns-in-Leaf
 returns-in-Leaf c =
     let t = met-leaf _ _ _ _ _ _ _ _ _ (tree_looked _ _ _ _ _ c.look.ensures) _ _ _ c.in-Leaf.is
-    c.write_leaf.ensures.0 c.write_leaf.ensures.1 in record { value = t.0; out_after = t.1 }
+    c.write_leaf.ensures.value c.write_leaf.ensures.out_after in record { value = t.0; out_after = t.1 }
 
 pub returns-in-Members : goal.returns-in-Members
 returns-in-Members c =
     let t = met-members _ _ _ _ _ _ _ _ _ (tree_looked _ _ _ _ _ c.look.ensures) _ _ _ c.in-Members.is
-    c.write_members.ensures.0 c.write_members.ensures.1 in record { value = t.0; out_after = t.1 }
+    c.write_members.ensures.value c.write_members.ensures.out_after in record { value = t.0; out_after = t.1 }
 
 pub returns-in-Elements : goal.returns-in-Elements
 returns-in-Elements c =
     let t = met-elements _ _ _ _ _ _ _ _ _ (tree_looked _ _ _ _ _ c.look.ensures) _ _ _ c.in-Elements.is
-    c.write_elements.ensures.0 c.write_elements.ensures.1 in record { value = t.0; out_after = t.1 }
+    c.write_elements.ensures.value c.write_elements.ensures.out_after in record { value = t.0; out_after = t.1 }
 
 pub returns-in-Broken : goal.returns-in-Broken
 returns-in-Broken c =

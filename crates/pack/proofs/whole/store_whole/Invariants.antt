@@ -12,7 +12,7 @@ use Rattle.pack.proofs.whole.store_whole.Given as goal
 
 abbrev pub invariant-loop-k : goal.invariant-loop-k
 invariant-loop-k l =
-    (l.out ≡ stored_whole l.words l.runs l.k l.initial.out) × (◌≡◌ {A = Place} (record { l.from = l.from; l.to = l.to }) (whole_at l.runs l.k)) × (l.k ≤ length l.runs)
+    (l.out ≡ stored_whole l.words l.runs l.k l.initial.out) × (◌≡◌ {A = Place} (record { from = l.from; to = l.to }) (whole_at l.runs l.k)) × (l.k ≤ length l.runs)
     × (length l.out ≡ length l.initial.out)
 
 abbrev pub decreases-loop-k : goal.decreases-loop-k

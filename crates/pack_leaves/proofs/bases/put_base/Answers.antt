@@ -1,6 +1,5 @@
 -- `pack_leaves::bases::put_base` meets its contract: the room's end comes before the leaf, or within it, or behind it.
 -- Assumes nothing.
-use borrow.Author.Rules.{rules}
 use Rattle.pack_leaves.proofs.Laid.{put_behind, put_short}
 use Rattle.pack_leaves.proofs.bases.put_base.Goals as goal
 

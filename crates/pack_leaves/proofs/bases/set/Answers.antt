@@ -1,6 +1,5 @@
 -- `pack_leaves::bases::set` meets its contract: each arm writes the bytes of its width.
 -- Assumes nothing.
-use borrow.Author.Rules.{rules}
 use Rattle.leaf.proofs.Returns.{no_form}
 use Rattle.pack_leaves.proofs.Laid.{set-byte, set_form, set_whole}
 use Rattle.pack_leaves.proofs.bases.set.Goals as goal

@@ -1,15 +1,12 @@
-use Prim.Native.Nat.{◌-◌, ◌≤◌}
-use mathlib.Core.Path.{◌≡◌}
 use native.Mathlib.Omega.{arith}
 use borrow.Author.Rules.{rules}
-use lib.ListN.{take}
-use Rattle.pack_leaves.specs.Stored.{ends}
-use Rattle.pack_leaves.proofs.OneMore.{So-far, none_there, none_ends, end_at, none-judged, more-judged, one-refused, all-judged, more-fits, more-ends}
+use Rattle.pack_leaves.proofs.OneMore.{none_there, none_ends, end_at, none-judged, more-judged, one-refused, all-judged, more-fits, more-ends}
 use Rattle.pack_leaves.proofs.by_codes.judge_codes.Goals as goal
 
 pub returns-then-words-from : goal.returns-then-words-from
 returns-then-words-from c =
-    let t = let none = none_there _ _ _ c.if-words-from.true in (none, end_at _ _ _ _ none_ends none) in record { count_value = t.0; bytes_value = t.1 }
+    let none = none_there _ _ _ c.if-words-from.true in
+    record { count_value = none; bytes_value = end_at _ _ _ _ none_ends none }
 
 pub loop-k-init : goal.loop-k-init
 loop-k-init c =
@@ -27,8 +24,7 @@ pub loop-k-preserved : goal.loop-k-preserved
 loop-k-preserved c =
     let l = c.least-n.ensures in
     let i = c.loop-k.invariant in
-    let below = c.loop-k-test.true in
-    (
+    let below = c.loop-k-test.true in (
       more-judged _ _ _ _ _ below l i.0 _ c.allowed.ensures c.if-allowed.true,
       more-ends _ _ _ _ _ below l _ _ c.width-bytes.ensures i.1,
       search rules,
@@ -36,14 +32,12 @@ loop-k-preserved c =
 
 pub returns-else-allowed : goal.returns-else-allowed
 returns-else-allowed c =
-    let t = let l = c.least-n.ensures in
     let i = c.loop-k.invariant in
-    let here = one-refused _ _ _ _ _ c.loop-k-test.true l i.0 _ c.allowed.ensures c.if-allowed.false in
-    (here, end_at _ _ _ _ i.1 here) in record { count_value = t.0; bytes_value = t.1 }
+    let here = one-refused _ _ _ _ _ c.loop-k-test.true c.least-n.ensures i.0 _ c.allowed.ensures c.if-allowed.false in
+    record { count_value = here; bytes_value = end_at _ _ _ _ i.1 here }
 
 pub returns : goal.returns
 returns c =
-    let t = let l = c.least-n.ensures in
     let i = c.loop-k.invariant in
-    let all = all-judged _ _ _ _ _ c.loop-k-test.false i.2 l i.0 in
-    (all, end_at _ _ _ _ i.1 all) in record { count_value = t.0; bytes_value = t.1 }
+    let all = all-judged _ _ _ _ _ c.loop-k-test.false i.2 c.least-n.ensures i.0 in
+    record { count_value = all; bytes_value = end_at _ _ _ _ i.1 all }

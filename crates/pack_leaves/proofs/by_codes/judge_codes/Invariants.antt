@@ -2,11 +2,9 @@
 -- Assumes nothing.
 use Prim.Native.Nat.{◌-◌, ◌≤◌}
 use mathlib.Core.Path.{◌≡◌}
-use native.Mathlib.Omega.{arith}
-use borrow.Author.Rules.{rules}
 use lib.ListN.{take}
 use Rattle.pack_leaves.specs.Stored.{ends}
-use Rattle.pack_leaves.proofs.OneMore.{So-far, none_there, none_ends, end_at, none-judged, more-judged, one-refused, all-judged, more-fits, more-ends}
+use Rattle.pack_leaves.proofs.OneMore.{So-far}
 use Rattle.pack_leaves.proofs.by_codes.judge_codes.Given as goal
 
 abbrev pub invariant-loop-k : goal.invariant-loop-k

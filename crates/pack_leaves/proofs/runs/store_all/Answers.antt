@@ -1,7 +1,6 @@
 -- `pack_leaves::runs::store_all` meets its contract: each arm stores leaves of its width.
 -- Assumes nothing.
 use mathlib.Core.Path.{refl}
-use borrow.Author.Rules.{rules}
 use Rattle.table.specs.Leaf.{base, bytes_of, width}
 use Rattle.pack_leaves.proofs.StoredRuns.{run_stored, no_width}
 use Rattle.pack_leaves.proofs.runs.store_all.Goals as goal

@@ -1,7 +1,4 @@
-use Prim.Native.Nat.{◌-◌, ◌≤◌}
-use mathlib.Core.Path.{◌≡◌}
 use borrow.Author.Rules.{rules}
-use Rattle.pack_leaves.specs.StoredRuns.{stored_all}
 use Rattle.pack_leaves.proofs.StoredRuns.{none_stored, one-stored, all_stored, as_long, at-times, at_place, at_room}
 use Rattle.pack_leaves.proofs.runs.store_each.Goals as goal
 
@@ -22,12 +19,11 @@ set-requires c =
     at_room _ _ _ _ _ _ c.width-width.ensures c.loop-k-test.true c.requires.1 (as_long _ _ _ _ _ c.loop-k.invariant.1)
 
 pub loop-k-preserved : goal.loop-k-preserved
-loop-k-preserved c =
-    (
-      search rules,
-      one-stored _ _ _ _ _ _ c.width-width.ensures
-          c.loop-k.invariant.1 c.set.ensures,
-    )
+loop-k-preserved c = (
+  search rules,
+  one-stored _ _ _ _ _ _ c.width-width.ensures
+      c.loop-k.invariant.1 c.set.ensures,
+)
 
 pub shape_of-out : goal.shape_of-out
 shape_of-out c =

@@ -2,9 +2,7 @@
 -- Assumes nothing.
 use Prim.Native.Nat.{◌-◌, ◌≤◌}
 use mathlib.Core.Path.{◌≡◌}
-use borrow.Author.Rules.{rules}
 use Rattle.pack_leaves.specs.StoredRuns.{stored_all}
-use Rattle.pack_leaves.proofs.StoredRuns.{none_stored, one-stored, all_stored, as_long, at-times, at_place, at_room}
 use Rattle.pack_leaves.proofs.runs.store_each.Given as goal
 
 abbrev pub invariant-loop-k : goal.invariant-loop-k

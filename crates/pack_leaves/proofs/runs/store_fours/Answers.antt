@@ -1,8 +1,5 @@
-use Prim.Native.Nat.{◌-◌, ◌*◌, ◌/◌, ◌≤◌}
-use mathlib.Core.Path.{◌≡◌, refl}
+use mathlib.Core.Path.{refl}
 use borrow.Author.Rules.{rules}
-use lib.ListN.{length}
-use Rattle.pack_leaves.specs.StoredRuns.{stored_all}
 use Rattle.walk.proofs.Fours.{four-times, four-place, rest-times, rest-place}
 use Rattle.pack_leaves.proofs.Fours.{none_yet, four-room, four-more, rest-room, rest_more}
 use Rattle.pack_leaves.proofs.runs.store_fours.Goals as goal

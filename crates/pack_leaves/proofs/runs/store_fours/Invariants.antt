@@ -1,12 +1,9 @@
 -- `pack_leaves::runs::store_fours` meets its contract: four times so many leaves are stored, and then the rest.
 -- Assumes nothing.
 use Prim.Native.Nat.{◌-◌, ◌*◌, ◌/◌, ◌≤◌}
-use mathlib.Core.Path.{◌≡◌, refl}
-use borrow.Author.Rules.{rules}
+use mathlib.Core.Path.{◌≡◌}
 use lib.ListN.{length}
 use Rattle.pack_leaves.specs.StoredRuns.{stored_all}
-use Rattle.walk.proofs.Fours.{four-times, four-place, rest-times, rest-place}
-use Rattle.pack_leaves.proofs.Fours.{none_yet, four-room, four-more, rest-room, rest_more}
 use Rattle.pack_leaves.proofs.runs.store_fours.Given as goal
 
 abbrev pub invariant-loop-k : goal.invariant-loop-k

@@ -1,6 +1,5 @@
 -- `pack_leaves::runs::store_leaves` meets its contract: one leaf, or several.
 -- Assumes nothing.
-use borrow.Author.Rules.{rules}
 use Rattle.pack_leaves.proofs.StoredRuns.{one_written, one_missing}
 use Rattle.pack_leaves.proofs.runs.store_leaves.Goals as goal
 

@@ -1,6 +1,5 @@
 -- `pack_leaves::runs::store_run` meets its contract: all of a run, or nothing.
 -- Assumes nothing.
-use borrow.Author.Rules.{rules}
 use Rattle.pack_leaves.proofs.StoredRuns.{run_short, run-few, run-all}
 use Rattle.pack_leaves.proofs.runs.store_run.Goals as goal
 

@@ -8,4 +8,5 @@ use Rattle.payload.proofs.by_plans.pack_type.Goals as goal
 pub returns : goal.returns
 unfolding writer
 returns c =
-    let t = tree_answered _ _ _ _ _ _ _ c.write_type-walked.ensures.0 c.write_type-walked.ensures.1 c.written_to.ensures in record { value = t.0; out_after = t.1 }
+    let t = tree_answered _ _ _ _ _ _ _ c.write_type-walked.ensures.value c.write_type-walked.ensures.out_after c.written_to.ensures in
+    record { value = t.0; out_after = t.1 }

@@ -8,4 +8,5 @@ use Rattle.payload.proofs.by_plans.unpack_type.Goals as goal
 pub returns : goal.returns
 unfolding reader
 returns c =
-    let t = tree_answered _ _ _ _ _ _ _ c.read_type-walked.ensures.0 c.read_type-walked.ensures.1 c.read_to.ensures in record { value = t.0; words_after = t.1 }
+    let t = tree_answered _ _ _ _ _ _ _ c.read_type-walked.ensures.value c.read_type-walked.ensures.words_after c.read_to.ensures in
+    record { value = t.0; words_after = t.1 }

@@ -1,6 +1,5 @@
 -- `plan::front::index_word` meets its contract: no leaves, or some.
 -- Assumes nothing.
-use borrow.Author.Rules.{rules}
 use Rattle.plan.proofs.Fronts.{no_word, a_word}
 use Rattle.plan.proofs.front.index_word.Goals as goal
 

@@ -1,6 +1,5 @@
 -- `plan::front::lay` meets its contract: 30, or what lies in the bytes.
 -- Assumes nothing.
-use borrow.Author.Rules.{rules}
 use Rattle.plan.proofs.LeafLaws.{few_types}
 use Rattle.plan.proofs.WholePlans.{lies_in, cut-number, cut-held}
 use Rattle.plan.proofs.front.lay.Goals as goal

@@ -14,13 +14,14 @@ pub slice_bounds-put_front-end : goal.slice_bounds-put_front-end
 slice_bounds-put_front-end c =
     sym (length-take-le _ _ (search rules))
 
-pub put_front-requires : goal.put_front-requires
-put_front-requires c =
-    let t = let p = c.requires in
-    (
-      (search rules, out-long _ _ _ _ p.0.1 p.1.0 p.1.1 _ c.lay_runs.ensures.0),
-      all-before _ _ _ _ (search rules) c.lay_runs.ensures.1,
-    ) in record { counts_len_bound = t.0; before = t.1 }
+pub put_front-requires-clause-counts_len_bound : goal.put_front-requires-clause-counts_len_bound
+put_front-requires-clause-counts_len_bound c =
+    let p = c.requires in
+    (search rules, out-long _ _ _ _ p.count_le_most_types.1 p.counts_value p.counts_in_bounds _ c.lay_runs.ensures.words_after)
+
+pub put_front-requires-clause-before : goal.put_front-requires-clause-before
+put_front-requires-clause-before c =
+    all-before _ _ _ _ (search rules) c.lay_runs.ensures.starts_after
 
 pub returns : goal.returns
 returns c =

@@ -27,17 +27,17 @@ pub slice_bounds-lay_out-end : goal.slice_bounds-lay_out-end
 slice_bounds-lay_out-end c =
     sym (length-take-le _ _ (search rules))
 
-pub lay_out-requires : goal.lay_out-requires
-lay_out-requires c =
-    let t = let p = c.requires in
-    let h = c.if-words-n.false in
-    (
-      (p.0, counts-long _ _ c.args.words.now _ _ p.1 c.fill.ensures c.sum.ensures.0 h (search rules)),
-      (
-        counts_all _ _ c.args.words.now _ _ p.1 c.fill.ensures c.sum.ensures.0 h (search rules),
-        counts-room _ _ c.args.words.now _ _ p.1 c.fill.ensures c.sum.ensures.0 h (search rules),
-      ),
-    ) in record { count_le_most_types = t.0; counts_value = t.1.0; counts_in_bounds = t.1.1 }
+pub lay_out-requires-clause-count_le_most_types : goal.lay_out-requires-clause-count_le_most_types
+lay_out-requires-clause-count_le_most_types c =
+    (c.requires.0, counts-long _ _ c.args.words.now _ _ c.requires.1 c.fill.ensures c.sum.ensures.0 c.if-words-n.false (search rules))
+
+pub lay_out-requires-clause-counts_value : goal.lay_out-requires-clause-counts_value
+lay_out-requires-clause-counts_value c =
+    counts_all _ _ c.args.words.now _ _ c.requires.1 c.fill.ensures c.sum.ensures.0 c.if-words-n.false (search rules)
+
+pub lay_out-requires-clause-counts_in_bounds : goal.lay_out-requires-clause-counts_in_bounds
+lay_out-requires-clause-counts_in_bounds c =
+    counts-room _ _ c.args.words.now _ _ c.requires.1 c.fill.ensures c.sum.ensures.0 c.if-words-n.false (search rules)
 
 pub returns-clause-value : goal.returns-clause-value
 returns-clause-value c =

@@ -1,9 +1,5 @@
 use borrow.Author.Rules.{rules}
-use Prim.Native.Nat.{◌+◌, ◌-◌, ◌≤◌}
-use mathlib.Core.Path.{◌≡◌}
-use lib.ListN.{length, length-set}
-use Rattle.wire.specs.Bytes.{over}
-use Rattle.plan.specs.Laying.{index_of}
+use lib.ListN.{length-set}
 use Rattle.plan.proofs.Fronts.{first_fits, in_order, first_small, many-small, index-none, index-more, front-held}
 use Rattle.plan.proofs.front.put_front.Goals as goal
 

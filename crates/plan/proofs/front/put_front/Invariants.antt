@@ -1,12 +1,10 @@
 -- `plan::front::put_front` meets its contract: the words of the first k types are written, and then the count.
 -- Assumes nothing.
-use borrow.Author.Rules.{rules}
 use Prim.Native.Nat.{◌+◌, ◌-◌, ◌≤◌}
 use mathlib.Core.Path.{◌≡◌}
-use lib.ListN.{length, length-set}
+use lib.ListN.{length}
 use Rattle.wire.specs.Bytes.{over}
 use Rattle.plan.specs.Laying.{index_of}
-use Rattle.plan.proofs.Fronts.{first_fits, in_order, first_small, many-small, index-none, index-more, front-held}
 use Rattle.plan.proofs.front.put_front.Given as goal
 
 abbrev pub invariant-loop-k : goal.invariant-loop-k

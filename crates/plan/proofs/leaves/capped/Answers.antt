@@ -1,6 +1,5 @@
 -- `plan::leaves::capped` meets its contract: up to the limit and over it.
 -- Assumes nothing.
-use borrow.Author.Rules.{rules}
 use Rattle.plan.proofs.LeafLaws.{few, many}
 use Rattle.plan.proofs.leaves.capped.Goals as goal
 

@@ -1,10 +1,8 @@
 use borrow.Author.Rules.{rules}
-use Prim.Native.Nat.{◌-◌, ◌≤◌}
-use mathlib.Core.Path.{◌≡◌, sym}
+use mathlib.Core.Path.{sym}
 use native.Mathlib.Omega.{arith}
-use lib.ListN.{length, take, length-set}
+use lib.ListN.{length-set}
 use lib.Seq.{length-take-le}
-use Rattle.plan.specs.Leaves.{leaf_counts}
 use Rattle.plan.proofs.LeafLaws.{fill_none, fill_more, filled}
 use Rattle.plan.proofs.leaves.fill.Goals as goal
 

@@ -1,13 +1,9 @@
 -- `plan::leaves::fill` meets its contract: the room holds the leaves of the first i types.
 -- Assumes nothing.
-use borrow.Author.Rules.{rules}
 use Prim.Native.Nat.{◌-◌, ◌≤◌}
-use mathlib.Core.Path.{◌≡◌, sym}
-use native.Mathlib.Omega.{arith}
-use lib.ListN.{length, take, length-set}
-use lib.Seq.{length-take-le}
+use mathlib.Core.Path.{◌≡◌}
+use lib.ListN.{length, take}
 use Rattle.plan.specs.Leaves.{leaf_counts}
-use Rattle.plan.proofs.LeafLaws.{fill_none, fill_more, filled}
 use Rattle.plan.proofs.leaves.fill.Given as goal
 
 abbrev pub invariant-loop-i : goal.invariant-loop-i

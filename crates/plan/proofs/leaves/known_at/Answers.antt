@@ -1,6 +1,5 @@
 -- `plan::leaves::known_at` meets its contract: past the end it is 0.
 -- Assumes nothing.
-use borrow.Author.Rules.{rules}
 use Rattle.plan.proofs.LeafLaws.{not_known}
 use Rattle.plan.proofs.leaves.known_at.Goals as goal
 

@@ -1,6 +1,5 @@
 -- `plan::leaves::leaves_met` meets its contract: the arms are what was met.
 -- Assumes nothing.
-use borrow.Author.Rules.{rules}
 use Rattle.plan.proofs.LeafLaws.{met-leaf, met-members, met-fixed, met-array, met-broken}
 use Rattle.plan.proofs.leaves.leaves_met.Goals as goal
 

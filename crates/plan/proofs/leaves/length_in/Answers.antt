@@ -1,6 +1,5 @@
 -- `plan::leaves::length_in` meets its contract: 30, or what is counted.
 -- Assumes nothing.
-use borrow.Author.Rules.{rules}
 use Rattle.plan.proofs.LeafLaws.{few_types, length_is, no_length}
 use Rattle.plan.proofs.leaves.length_in.Goals as goal
 

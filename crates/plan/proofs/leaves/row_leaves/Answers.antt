@@ -1,10 +1,4 @@
 use borrow.Author.Rules.{rules}
-use Prim.Native.Nat.{◌-◌, ◌*◌, ◌≤◌}
-use mathlib.Core.Path.{◌≡◌}
-use mathlib.Core.Bool.{true}
-use Rattle.wire.specs.All.{all_below}
-use Rattle.plan.specs.Leaves.{sum_below}
-use Rattle.plan.specs.Members.{member_leaves, has_leaves}
 use Rattle.plan.proofs.LeafLaws.{sum-none, row_more, row-some, row-stop, row_done}
 use Rattle.wire.proofs.AllBelow.{none_below}
 use Rattle.plan.proofs.leaves.row_leaves.Goals as goal

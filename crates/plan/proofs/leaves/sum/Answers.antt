@@ -1,9 +1,5 @@
 use borrow.Author.Rules.{rules}
-use Prim.Native.Nat.{◌-◌, ◌*◌, ◌≤◌}
-use mathlib.Core.Path.{◌≡◌}
 use native.Mathlib.Omega.{arith}
-use lib.ListN.{length, get_or}
-use Rattle.plan.specs.Leaves.{sum_below}
 use Rattle.plan.proofs.LeafLaws.{sum-none, sum_more, sum_done}
 use Rattle.plan.proofs.leaves.sum.Goals as goal
 

@@ -1,12 +1,9 @@
 -- `plan::leaves::sum` meets its contract: the total is the sum over the first k.
 -- Assumes nothing.
-use borrow.Author.Rules.{rules}
 use Prim.Native.Nat.{◌-◌, ◌*◌, ◌≤◌}
 use mathlib.Core.Path.{◌≡◌}
-use native.Mathlib.Omega.{arith}
 use lib.ListN.{length, get_or}
 use Rattle.plan.specs.Leaves.{sum_below}
-use Rattle.plan.proofs.LeafLaws.{sum-none, sum_more, sum_done}
 use Rattle.plan.proofs.leaves.sum.Given as goal
 
 abbrev pub invariant-loop-k : goal.invariant-loop-k

@@ -1,6 +1,5 @@
 -- `plan::leaves::times` meets its contract: 16 bits times 16 bits.
 -- Assumes nothing.
-use borrow.Author.Rules.{rules}
 use Rattle.plan.proofs.LeafLaws.{times_fits}
 use Rattle.plan.proofs.leaves.times.Goals as goal
 

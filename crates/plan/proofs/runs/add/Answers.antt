@@ -1,6 +1,5 @@
 -- `plan::runs::add` meets its contract: none is there, or the last is like the run or unlike.
 -- Assumes nothing.
-use borrow.Author.Rules.{rules}
 use Rattle.plan.proofs.Adding.{first-end, first-held, few-more, more-end, more-held, next-end, next-held}
 use Rattle.plan.proofs.runs.add.Goals as goal
 

@@ -1,10 +1,4 @@
 use borrow.Author.Rules.{rules}
-use Prim.Native.Nat.{◌+◌, ◌-◌, ◌≤◌}
-use mathlib.Core.Path.{◌≡◌}
-use lib.ListN.{length}
-use Rattle.wire.specs.Bytes.{over}
-use Rattle.plan.specs.Layout.{add_all}
-use Rattle.plan.specs.Laying.{between}
 use Rattle.plan.proofs.Adding.{start-end, start-held, turn-room, turn_end, turn-held, all_end, all_held}
 use Rattle.plan.proofs.runs.add_all.Goals as goal
 

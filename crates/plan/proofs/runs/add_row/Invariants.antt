@@ -1,13 +1,11 @@
 -- `plan::runs::add_row` meets its contract: the runs of the first k parts have been added.
 -- Assumes nothing.
-use borrow.Author.Rules.{rules}
 use Prim.Native.Nat.{◌+◌, ◌-◌, ◌≤◌}
 use mathlib.Core.Path.{◌≡◌}
 use lib.ListN.{length}
 use Rattle.wire.specs.Bytes.{over}
 use Rattle.plan.specs.Layout.{row_runs}
 use Rattle.plan.specs.Laying.{part_runs}
-use Rattle.plan.proofs.Rows.{row-start-end, row-start-held, part_room, part_end, part_held, row_done_end, row_done_held}
 use Rattle.plan.proofs.runs.add_row.Given as goal
 
 abbrev pub invariant-loop-k : goal.invariant-loop-k

@@ -1,6 +1,5 @@
 -- `plan::runs::add_type` meets its contract: a type before, or none.
 -- Assumes nothing.
-use borrow.Author.Rules.{rules}
 use Rattle.plan.proofs.Rows.{type-order, type-below, type-room, type-end, type-held, none_end, none-held}
 use Rattle.plan.proofs.runs.add_type.Goals as goal
 

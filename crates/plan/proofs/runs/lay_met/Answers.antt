@@ -1,6 +1,5 @@
 -- `plan::runs::lay_met` meets its contract: the arms are what was met.
 -- Assumes nothing.
-use borrow.Author.Rules.{rules}
 use Rattle.plan.proofs.Types.{laid-before}
 use Rattle.plan.proofs.MetRuns.{leaf-end, leaf-held, members-parts, members-end, members-held}
 use Rattle.plan.proofs.MetRuns.{elements-parts, elements-end, elements-held, broken-end, broken-held}

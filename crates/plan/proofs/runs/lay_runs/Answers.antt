@@ -1,12 +1,8 @@
 use borrow.Author.Rules.{rules}
-use Prim.Native.Nat.{◌-◌, ◌≤◌}
-use mathlib.Core.Path.{◌≡◌, sym}
+use mathlib.Core.Path.{sym}
 use native.Mathlib.Omega.{arith}
-use lib.ListN.{length, take, length-set}
+use lib.ListN.{length-set}
 use lib.Seq.{length-take-le}
-use Rattle.wire.specs.Bytes.{over}
-use Rattle.plan.specs.Layout.{all_runs}
-use Rattle.plan.specs.Laying.{starts_of}
 use Rattle.plan.proofs.AllTypes.{none-held, none_end, no_start, its-count, more-laid, more-end, more-held, more-starts, all_laid, all-started}
 use Rattle.plan.proofs.runs.lay_runs.Goals as goal
 

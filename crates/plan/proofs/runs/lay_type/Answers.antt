@@ -1,6 +1,5 @@
 -- `plan::runs::lay_type` meets its contract: a type without a plan has no runs.
 -- Assumes nothing.
-use borrow.Author.Rules.{rules}
 use Rattle.plan.proofs.MetRuns.{no-plan-end, no-plan-held}
 use Rattle.plan.proofs.runs.lay_type.Goals as goal
 

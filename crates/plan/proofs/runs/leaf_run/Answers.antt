@@ -1,6 +1,5 @@
 -- `plan::runs::leaf_run` meets its contract: of an enum or a base.
 -- Assumes nothing.
-use borrow.Author.Rules.{rules}
 use Rattle.plan.proofs.Adding.{enum_run, base_run}
 use Rattle.plan.proofs.runs.leaf_run.Goals as goal
 

@@ -1,6 +1,5 @@
 -- `plan::runs::part_at` meets its contract: a member, or the element.
 -- Assumes nothing.
-use borrow.Author.Rules.{rules}
 use Rattle.plan.proofs.Rows.{part-member, part-element}
 use Rattle.plan.proofs.runs.part_at.Goals as goal
 

@@ -1,6 +1,5 @@
 -- `platform::answering::delivered` meets its contract.
 -- Assumes nothing.
-use borrow.Author.Rules.{rules}
 use Rattle.platform.proofs.ResponseLaws.{delivered_is}
 use Rattle.platform.proofs.answering.delivered.Goals as goal
 

@@ -1,6 +1,5 @@
 -- `platform::answering::is_answer` meets its contract.
 -- Assumes nothing.
-use borrow.Author.Rules.{rules}
 use Rattle.platform.proofs.ResponseLaws.{of_operation, of-another}
 use Rattle.platform.proofs.answering.is_answer.Goals as goal
 
@@ -10,4 +9,4 @@ returns-in-Operation c =
 
 pub returns-in_default : goal.returns-in_default
 returns-in_default c =
-    search of-another
+    of-another _ _ _ c.in_default.not-Operation

@@ -1,6 +1,5 @@
 -- `platform::answering::is_sent` meets its contract: the kind of what was found.
 -- Assumes nothing.
-use borrow.Author.Rules.{rules}
 use Rattle.platform.proofs.ResponseLaws.{sent_found, none_found}
 use Rattle.platform.proofs.answering.is_sent.Goals as goal
 

@@ -1,6 +1,5 @@
 -- `platform::answering::response_to` meets its contract: its request is pending, or it is 61.
 -- Assumes nothing.
-use borrow.Author.Rules.{rules}
 use Rattle.platform.proofs.ResponseLaws.{is-awaited, not-awaited}
 use Rattle.platform.proofs.answering.response_to.Goals as goal
 

@@ -1,6 +1,5 @@
 -- `platform::reacting::came_up` meets its contract: two own numbers are drawn.
 -- Assumes nothing.
-use borrow.Author.Rules.{rules}
 use Rattle.platform.proofs.ReactionLaws.{came_up_is}
 use Rattle.platform.proofs.reacting.came_up.Goals as goal
 

@@ -1,6 +1,5 @@
 -- `platform::reacting::is_data` meets its contract.
 -- Assumes nothing.
-use borrow.Author.Rules.{rules}
 use Rattle.platform.proofs.ReactionLaws.{is-data}
 use Rattle.platform.proofs.reacting.is_data.Goals as goal
 

@@ -1,6 +1,5 @@
 -- `platform::reacting::look_up` meets its contract.
 -- Assumes nothing.
-use borrow.Author.Rules.{rules}
 use Rattle.platform.proofs.ReactionLaws.{none-looked, is-looked}
 use Rattle.platform.proofs.reacting.look_up.Goals as goal
 

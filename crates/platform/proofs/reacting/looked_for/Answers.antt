@@ -1,6 +1,5 @@
 -- `platform::reacting::looked_for` meets its contract.
 -- Assumes nothing.
-use borrow.Author.Rules.{rules}
 use Rattle.platform.proofs.ReactionLaws.{none-for-status, none-for-request, none-for-unknown, for-pull, for-operation}
 use Rattle.platform.proofs.reacting.looked_for.Goals as goal
 

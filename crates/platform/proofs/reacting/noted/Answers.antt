@@ -1,6 +1,5 @@
 -- `platform::reacting::noted` meets its contract.
 -- Assumes nothing.
-use borrow.Author.Rules.{rules}
 use Rattle.platform.proofs.ReactionLaws.{noted_is}
 use Rattle.platform.proofs.reacting.noted.Goals as goal
 

@@ -1,6 +1,5 @@
 -- `platform::reacting::on_operation` meets its contract.
 -- Assumes nothing.
-use borrow.Author.Rules.{rules}
 use Rattle.platform.proofs.ReactionLaws.{operation-in, operation-not-in}
 use Rattle.platform.proofs.reacting.on_operation.Goals as goal
 

@@ -1,6 +1,5 @@
 -- `platform::reacting::on_pull` meets its contract.
 -- Assumes nothing.
-use borrow.Author.Rules.{rules}
 use Rattle.platform.proofs.ReactionLaws.{pulls-all, pulls-one}
 use Rattle.platform.proofs.reacting.on_pull.Goals as goal
 

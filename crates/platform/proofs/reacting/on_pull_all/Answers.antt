@@ -1,6 +1,5 @@
 -- `platform::reacting::on_pull_all` meets its contract.
 -- Assumes nothing.
-use borrow.Author.Rules.{rules}
 use Rattle.platform.proofs.ReactionLaws.{all_of_none, all_of_some}
 use Rattle.platform.proofs.reacting.on_pull_all.Goals as goal
 

@@ -1,6 +1,5 @@
 -- `platform::reacting::on_pull_one` meets its contract.
 -- Assumes nothing.
-use borrow.Author.Rules.{rules}
 use Rattle.platform.proofs.ReactionLaws.{one-data, one-event, one_missing}
 use Rattle.platform.proofs.reacting.on_pull_one.Goals as goal
 

@@ -1,6 +1,5 @@
 -- `platform::reacting::on_state` meets its contract.
 -- Assumes nothing.
-use borrow.Author.Rules.{rules}
 use Rattle.platform.proofs.ReactionLaws.{still-up, down-to-up, up-to-down, still_down}
 use Rattle.platform.proofs.reacting.on_state.Goals as goal
 

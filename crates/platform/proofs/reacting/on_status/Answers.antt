@@ -1,6 +1,5 @@
 -- `platform::reacting::on_status` meets its contract: of the 256 by their states, of the others nothing.
 -- Assumes nothing.
-use borrow.Author.Rules.{rules}
 use Rattle.platform.proofs.ReactionLaws.{with-state, without-state}
 use Rattle.platform.proofs.reacting.on_status.Goals as goal
 

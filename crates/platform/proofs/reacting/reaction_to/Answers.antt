@@ -1,6 +1,5 @@
 -- `platform::reacting::reaction_to` meets its contract: each message has its own.
 -- Assumes nothing.
-use borrow.Author.Rules.{rules}
 use Rattle.platform.proofs.ReactionLaws.{to-status, to-request, to-unknown, to-pull, to-operation}
 use Rattle.platform.proofs.reacting.reaction_to.Goals as goal
 

@@ -1,6 +1,5 @@
 -- `platform::replies::lay` meets its contract: the replies stand one behind another, or nothing changes.
 -- Assumes nothing.
-use borrow.Author.Rules.{rules}
 use Rattle.platform.proofs.ReplyBytes.{room-for-first, room-for-second, lay-not, lay-none, lay-one, lay-two}
 use Rattle.platform.proofs.replies.lay.Goals as goal
 

@@ -1,6 +1,5 @@
 -- `platform::replies::lay_reply` meets its contract: the reply is written into the part of the output that starts at its place.
 -- Assumes nothing.
-use borrow.Author.Rules.{rules}
 use Rattle.platform.proofs.ReplyBytes.{reply_laid}
 use Rattle.platform.proofs.replies.lay_reply.Goals as goal
 

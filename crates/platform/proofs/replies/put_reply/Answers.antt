@@ -1,6 +1,5 @@
 -- `platform::replies::put_reply` meets its contract: the header, and the field behind it.
 -- Assumes nothing.
-use borrow.Author.Rules.{rules}
 use Rattle.platform.proofs.ReplyBytes.{reply-put, no-reply}
 use Rattle.platform.proofs.replies.put_reply.Goals as goal
 

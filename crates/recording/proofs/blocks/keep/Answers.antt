@@ -1,7 +1,6 @@
-use Rattle.std.proofs.Common.{◌≡◌, ◌+◌, ◌-◌, ◌≤◌, length, take, rules}
-use Rattle.wire.specs.Bytes.{over}
+use Rattle.std.proofs.Common.{rules}
 use Rattle.wire.proofs.Runs.{held}
-use Rattle.recording.proofs.Keeping.{moving, keep-more, keep_all, kept-count, no-count, not-moved}
+use Rattle.recording.proofs.Keeping.{keep-more, keep_all, kept-count, no-count, not-moved}
 use Rattle.recording.proofs.blocks.keep.Goals as goal
 
 pub loop-i-init : goal.loop-i-init

@@ -1,10 +1,9 @@
 -- `recording::keep` meets its contract. The loop's invariant: the first i of the bytes stand at the front, and all behind
 -- them is as it was.
 -- Assumes nothing.
-use Rattle.std.proofs.Common.{◌≡◌, ◌+◌, ◌-◌, ◌≤◌, length, take, rules}
+use Rattle.std.proofs.Common.{◌≡◌, ◌+◌, ◌-◌, ◌≤◌, length, take}
 use Rattle.wire.specs.Bytes.{over}
-use Rattle.wire.proofs.Runs.{held}
-use Rattle.recording.proofs.Keeping.{moving, keep-more, keep_all, kept-count, no-count, not-moved}
+use Rattle.recording.proofs.Keeping.{moving}
 use Rattle.recording.proofs.blocks.keep.Given as goal
 
 abbrev pub invariant-loop-i : goal.invariant-loop-i

@@ -1,6 +1,5 @@
 -- `recording::make_line` meets its contract: the number, the name and the values.
 -- Assumes nothing.
-use Rattle.std.proofs.Common.{rules}
 use Rattle.recording.proofs.LineLaws.{line_made}
 use Rattle.recording.proofs.lines.make_line.Goals as goal
 

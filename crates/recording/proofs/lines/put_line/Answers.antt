@@ -1,6 +1,5 @@
 -- `recording::put_line` meets its contract: the line that was made, in one.
 -- Assumes nothing.
-use Rattle.std.proofs.Common.{rules}
 use Rattle.recording.proofs.LineLaws.{line-end, line-put}
 use Rattle.recording.proofs.lines.put_line.Goals as goal
 

@@ -1,6 +1,5 @@
 -- `recording::put_values` meets its contract: a refusal's number, or the two counts.
 -- Assumes nothing.
-use Rattle.std.proofs.Common.{rules}
 use Rattle.recording.proofs.LineLaws.{value-end, value-put, counts_end, counts-put}
 use Rattle.recording.proofs.lines.put_values.Goals as goal
 

@@ -1,6 +1,5 @@
 -- `recording::closed` meets its contract: a joiner of no channels beside it.
 -- Assumes nothing.
-use Rattle.std.proofs.Common.{rules}
 use Rattle.recording.proofs.Starting.{closed_made}
 use Rattle.recording.proofs.start.closed.Goals as goal
 

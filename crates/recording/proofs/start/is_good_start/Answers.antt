@@ -1,6 +1,5 @@
 -- `recording::is_good_start` meets its contract: what each test says.
 -- Assumes nothing.
-use Rattle.std.proofs.Common.{rules}
 use Rattle.joiner.proofs.Lookups.{count_fits}
 use Rattle.recording.proofs.Starting.{start-judged, wrong-room, wrong-count}
 use Rattle.recording.proofs.start.is_good_start.Goals as goal

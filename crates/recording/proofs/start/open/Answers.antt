@@ -1,6 +1,5 @@
 -- `recording::open` meets its contract: what each test says.
 -- Assumes nothing.
-use Rattle.std.proofs.Common.{rules}
 use Rattle.recording.proofs.Starting.{start-few, no_sizes, bad-start, no-ids, all_ids}
 use Rattle.recording.proofs.start.open.Goals as goal
 

@@ -1,6 +1,4 @@
-use Rattle.std.proofs.Common.{◌≡◌, ◌-◌, ◌≤◌, length, take, refl, rules}
-use Rattle.channel.specs.Record.{channel_limit}
-use Rattle.recording.specs.Opening.{ids_in}
+use Rattle.std.proofs.Common.{refl, rules}
 use Rattle.recording.proofs.Starting.{ids_more, ids_read}
 use Rattle.recording.proofs.start.read_ids.Goals as goal
 

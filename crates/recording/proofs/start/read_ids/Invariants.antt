@@ -1,9 +1,8 @@
 -- `recording::read_ids` meets its contract. The loop's invariant: the first i IDs are read.
 -- Assumes nothing.
-use Rattle.std.proofs.Common.{◌≡◌, ◌-◌, ◌≤◌, length, take, refl, rules}
+use Rattle.std.proofs.Common.{◌≡◌, ◌-◌, ◌≤◌, length, take}
 use Rattle.channel.specs.Record.{channel_limit}
 use Rattle.recording.specs.Opening.{ids_in}
-use Rattle.recording.proofs.Starting.{ids_more, ids_read}
 use Rattle.recording.proofs.start.read_ids.Given as goal
 
 abbrev pub invariant-loop-i : goal.invariant-loop-i

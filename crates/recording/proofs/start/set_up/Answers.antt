@@ -1,6 +1,5 @@
 -- `recording::set_up` meets its contract: what the joiner answers to the IDs.
 -- Assumes nothing.
-use Rattle.std.proofs.Common.{rules}
 use Rattle.recording.proofs.Starting.{ids_count, accepted, refused}
 use Rattle.recording.proofs.start.set_up.Goals as goal
 

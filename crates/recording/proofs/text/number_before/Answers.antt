@@ -1,6 +1,5 @@
-use Rattle.std.proofs.Common.{◌≡◌, ◌+◌, ◌-◌, ◌^◌, ◌<◌, ◌≤◌, ◌++◌, length, drop, rules}
-use Rattle.recording.specs.Decimal.{base, digit_limit, digits, decimal}
-use Rattle.recording.proofs.Decimals.{left, digits_none, digits_enough, one_less, rest-less, digits_more, digits-done}
+use Rattle.std.proofs.Common.{rules}
+use Rattle.recording.proofs.Decimals.{digits_none, digits_enough, one_less, rest-less, digits_more, digits-done}
 use Rattle.recording.proofs.text.number_before.Goals as goal
 
 pub loop-rest-init : goal.loop-rest-init

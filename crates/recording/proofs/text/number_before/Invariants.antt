@@ -1,9 +1,9 @@
 -- `recording::number_before` meets its contract. The loop's invariant: the digits of `rest`, before what stands from
 -- `at` on, are the digits of the number before what stood from `end` on.
 -- Assumes nothing.
-use Rattle.std.proofs.Common.{◌≡◌, ◌+◌, ◌-◌, ◌^◌, ◌<◌, ◌≤◌, ◌++◌, length, drop, rules}
+use Rattle.std.proofs.Common.{◌≡◌, ◌+◌, ◌^◌, ◌<◌, ◌≤◌, ◌++◌, length, drop}
 use Rattle.recording.specs.Decimal.{base, digit_limit, digits, decimal}
-use Rattle.recording.proofs.Decimals.{left, digits_none, digits_enough, one_less, rest-less, digits_more, digits-done}
+use Rattle.recording.proofs.Decimals.{left}
 use Rattle.recording.proofs.text.number_before.Given as goal
 
 abbrev pub invariant-loop-rest : goal.invariant-loop-rest

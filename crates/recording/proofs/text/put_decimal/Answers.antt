@@ -1,6 +1,5 @@
 -- `recording::put_decimal` meets its contract: the digits, made at the end of an array, are written in one.
 -- Assumes nothing.
-use Rattle.std.proofs.Common.{rules}
 use Rattle.recording.proofs.Putting.{word_end, word-put}
 use Rattle.recording.proofs.text.put_decimal.Goals as goal
 

@@ -1,6 +1,5 @@
 -- `recording::put_number` meets its contract: the space and the digits, made at the end of an array, are written in one.
 -- Assumes nothing.
-use Rattle.std.proofs.Common.{rules}
 use Rattle.recording.proofs.Putting.{word_end, word-put}
 use Rattle.recording.proofs.text.put_number.Goals as goal
 

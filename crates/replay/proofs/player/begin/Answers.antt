@@ -1,8 +1,4 @@
 use borrow.Author.Rules.{rules}
-use Prim.Native.Nat.{◌-◌, ◌≤◌}
-use mathlib.Core.Path.{◌≡◌}
-use lib.ListN.{length}
-use Rattle.replay.specs.Bounds.{input_length}
 use Rattle.replay.proofs.Bounds.{filled-part, more-filled, more_left, more-counted, rooms-fit, refusal-is-20}
 use Rattle.replay.proofs.player.begin.Goals as goal
 

@@ -1,11 +1,9 @@
 -- `replay::begin` meets its contract. The loop's invariant: what is filled lies in the input. Each turn fills more of it.
 -- Assumes nothing.
-use borrow.Author.Rules.{rules}
 use Prim.Native.Nat.{◌-◌, ◌≤◌}
 use mathlib.Core.Path.{◌≡◌}
 use lib.ListN.{length}
 use Rattle.replay.specs.Bounds.{input_length}
-use Rattle.replay.proofs.Bounds.{filled-part, more-filled, more_left, more-counted, rooms-fit, refusal-is-20}
 use Rattle.replay.proofs.player.begin.Given as goal
 
 abbrev pub invariant-loop-from : goal.invariant-loop-from

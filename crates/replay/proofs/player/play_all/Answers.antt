@@ -1,8 +1,4 @@
 use borrow.Author.Rules.{rules}
-use Prim.Native.Nat.{◌≤◌}
-use mathlib.Core.Path.{◌≡◌}
-use lib.ListN.{length}
-use Rattle.replay.specs.Bounds.{input_length}
 use Rattle.replay.proofs.Bounds.{filled-part, next-filled, next-ending}
 use Rattle.replay.proofs.player.play_all.Goals as goal
 

@@ -1,11 +1,9 @@
 -- `replay::play_all` meets its contract: it is safe, and ends with its turns.
 -- Assumes nothing.
-use borrow.Author.Rules.{rules}
 use Prim.Native.Nat.{◌≤◌}
 use mathlib.Core.Path.{◌≡◌}
 use lib.ListN.{length}
 use Rattle.replay.specs.Bounds.{input_length}
-use Rattle.replay.proofs.Bounds.{filled-part, next-filled, next-ending}
 use Rattle.replay.proofs.player.play_all.Given as goal
 
 abbrev pub invariant-loop-turns : goal.invariant-loop-turns

@@ -1,6 +1,5 @@
 -- `replay::play_in` meets its contract: the rooms lie in the program's.
 -- Assumes nothing.
-use borrow.Author.Rules.{rules}
 use Rattle.replay.proofs.Bounds.{rooms_part}
 use Rattle.replay.proofs.player.play_in.Goals as goal
 

@@ -1,6 +1,5 @@
 -- `replay::read_behind` meets its contract: what came fits behind what is kept.
 -- Assumes nothing.
-use borrow.Author.Rules.{rules}
 use Rattle.replay.proofs.Bounds.{more-filled, more-counted}
 use Rattle.replay.proofs.player.read_behind.Goals as goal
 

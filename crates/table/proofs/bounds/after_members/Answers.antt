@@ -1,6 +1,5 @@
 -- `table::after_members` meets its contract: the section behind the members, and what comes after it.
 -- Assumes nothing.
-use borrow.Author.Rules.{rules}
 use Rattle.table.specs.Layout.{after_members}
 use Rattle.table.proofs.Places.{no-link, link, reach}
 use Rattle.table.proofs.bounds.after_members.Goals as goal

@@ -1,6 +1,5 @@
 -- `table::after_types` meets its contract: the section behind the types, and what comes after it.
 -- Assumes nothing.
-use borrow.Author.Rules.{rules}
 use Rattle.table.specs.Layout.{after_types}
 use Rattle.table.proofs.Places.{no-link, link, reach}
 use Rattle.table.proofs.bounds.after_types.Goals as goal

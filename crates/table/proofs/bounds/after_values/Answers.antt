@@ -1,6 +1,5 @@
 -- `table::after_values` meets its contract: the section behind the values, and the end.
 -- Assumes nothing.
-use borrow.Author.Rules.{rules}
 use Rattle.table.specs.Layout.{after_values}
 use Rattle.table.proofs.Places.{no-link, link}
 use Rattle.table.proofs.bounds.after_values.Goals as goal

@@ -1,6 +1,5 @@
 -- `table::ended` meets its contract: the last section ends where the bytes end, or it is 30.
 -- Assumes nothing.
-use borrow.Author.Rules.{rules}
 use Rattle.table.proofs.Places.{at_end, not_at_end}
 use Rattle.table.proofs.bounds.ended.Goals as goal
 

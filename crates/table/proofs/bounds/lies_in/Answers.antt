@@ -1,6 +1,5 @@
 -- `table::lies_in` meets its contract: its two tests.
 -- Assumes nothing.
-use borrow.Author.Rules.{rules}
 use Rattle.table.proofs.Places.{lies}
 use Rattle.table.proofs.bounds.lies_in.Goals as goal
 

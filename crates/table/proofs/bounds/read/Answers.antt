@@ -1,6 +1,5 @@
 -- `table::read` meets its contract: the first section, and what comes after it.
 -- Assumes nothing.
-use borrow.Author.Rules.{rules}
 use Rattle.table.specs.Layout.{sections_of}
 use Rattle.table.proofs.Places.{no-link, link, reach_first}
 use Rattle.table.proofs.bounds.read.Goals as goal

@@ -1,6 +1,5 @@
 -- `table::section` meets its contract: each return is a case of `sectionAt`, in reading order.
 -- Assumes nothing.
-use borrow.Author.Rules.{rules}
 use Rattle.table.proofs.Places.{cut-count, outside, cut-entries, found}
 use Rattle.table.proofs.bounds.section.Goals as goal
 

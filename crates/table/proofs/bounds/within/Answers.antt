@@ -1,6 +1,5 @@
 -- `table::within` meets its contract: the four sections one by one.
 -- Assumes nothing.
-use borrow.Author.Rules.{rules}
 use Rattle.table.proofs.Places.{all_lie}
 use Rattle.table.proofs.bounds.within.Goals as goal
 

@@ -1,6 +1,5 @@
 -- `table::entries::member_at` meets its contract: the number at its place.
 -- Assumes nothing.
-use borrow.Author.Rules.{rules}
 use Rattle.table.proofs.Lookups.{member-read}
 use Rattle.table.proofs.entries.member_at.Goals as goal
 

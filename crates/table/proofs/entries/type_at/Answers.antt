@@ -1,6 +1,5 @@
 -- `table::entries::type_at` meets its contract: the four numbers that stand at its place, read as one.
 -- Assumes nothing.
-use borrow.Author.Rules.{rules}
 use Rattle.table.proofs.Lookups.{type_word}
 use Rattle.table.proofs.entries.type_at.Goals as goal
 

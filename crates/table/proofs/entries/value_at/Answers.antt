@@ -1,6 +1,5 @@
 -- `table::entries::value_at` meets its contract: the number at its place.
 -- Assumes nothing.
-use borrow.Author.Rules.{rules}
 use Rattle.table.proofs.Lookups.{value_read}
 use Rattle.table.proofs.entries.value_at.Goals as goal
 

@@ -1,6 +1,5 @@
 -- `table::entries::word_at` meets its contract: the whole number, or its halves.
 -- Assumes nothing.
-use borrow.Author.Rules.{rules}
 use Rattle.table.proofs.Lookups.{word_whole}
 use Rattle.table.proofs.entries.word_at.Goals as goal
 

@@ -1,6 +1,5 @@
 -- `table::layout::place` meets its contract: 16 bits times 32 bits do not wrap.
 -- Assumes nothing.
-use borrow.Author.Rules.{rules}
 use Rattle.table.proofs.Places.{product_fits, place_fits}
 use Rattle.table.proofs.layout.place.Goals as goal
 

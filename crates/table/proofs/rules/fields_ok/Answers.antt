@@ -1,6 +1,5 @@
 -- `table::fields_ok` meets its contract: the arms are the kinds.
 -- Assumes nothing.
-use borrow.Author.Rules.{rules}
 use Rattle.table.proofs.Fields.{base-entry, enum-entry, record-entry, fixed-entry, array-entry, no_entry}
 use Rattle.table.proofs.rules.fields_ok.Goals as goal
 

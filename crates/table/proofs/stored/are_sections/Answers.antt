@@ -1,6 +1,5 @@
 -- `table::are_sections` meets its contract.
 -- Assumes nothing.
-use borrow.Author.Rules.{rules}
 use Rattle.table.proofs.Storing.{are-sections}
 use Rattle.table.proofs.stored.are_sections.Goals as goal
 

@@ -1,6 +1,5 @@
 -- `table::is_section` meets its contract.
 -- Assumes nothing.
-use borrow.Author.Rules.{rules}
 use Rattle.table.proofs.Storing.{is-section}
 use Rattle.table.proofs.stored.is_section.Goals as goal
 

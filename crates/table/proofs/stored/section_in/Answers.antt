@@ -1,6 +1,5 @@
 -- `table::section_in` meets its contract.
 -- Assumes nothing.
-use borrow.Author.Rules.{rules}
 use Rattle.table.proofs.Storing.{first_fits, count_fits, section-in}
 use Rattle.table.proofs.stored.section_in.Goals as goal
 

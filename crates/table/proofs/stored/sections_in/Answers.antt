@@ -1,6 +1,5 @@
 -- `table::sections_in` meets its contract.
 -- Assumes nothing.
-use borrow.Author.Rules.{rules}
 use Rattle.table.proofs.Storing.{types_there, members_there, values_there, operations-there, sections-in, no-sections}
 use Rattle.table.proofs.stored.sections_in.Goals as goal
 

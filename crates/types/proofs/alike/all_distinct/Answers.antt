@@ -1,6 +1,5 @@
 -- `types::alike::all_distinct` meets its contract: the section is no longer than it may be, or longer.
 -- Assumes nothing.
-use Rattle.std.proofs.Common.{rules}
 use Rattle.types.proofs.Distinctness.{few_values, many-values}
 use Rattle.types.proofs.alike.all_distinct.Goals as goal
 

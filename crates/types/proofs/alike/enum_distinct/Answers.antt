@@ -1,6 +1,5 @@
 -- `types::alike::enum_distinct` meets its contract: its values as the room has them, and nothing of another kind.
 -- Assumes nothing.
-use Rattle.std.proofs.Common.{rules}
 use Rattle.types.proofs.Distinctness.{enum-compared, enum-outside, no-enum}
 use Rattle.types.proofs.alike.enum_distinct.Goals as goal
 

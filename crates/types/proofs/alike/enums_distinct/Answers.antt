@@ -1,6 +1,4 @@
-use Rattle.std.proofs.Common.{◌≡◌, ◌-◌, ◌≤◌, true, rules}
-use Rattle.wire.specs.All.{all_below}
-use Rattle.types.specs.Alike.{enum_apart}
+use Rattle.std.proofs.Common.{rules}
 use Rattle.wire.proofs.AllBelow.{none_below, next-below, stop-below, done_below}
 use Rattle.types.proofs.alike.enums_distinct.Goals as goal
 

@@ -1,9 +1,8 @@
 -- `types::alike::enums_distinct` meets its contract: the first i types have passed.
 -- Assumes nothing.
-use Rattle.std.proofs.Common.{◌≡◌, ◌-◌, ◌≤◌, true, rules}
+use Rattle.std.proofs.Common.{◌≡◌, ◌-◌, ◌≤◌, true}
 use Rattle.wire.specs.All.{all_below}
 use Rattle.types.specs.Alike.{enum_apart}
-use Rattle.wire.proofs.AllBelow.{none_below, next-below, stop-below, done_below}
 use Rattle.types.proofs.alike.enums_distinct.Given as goal
 
 abbrev pub invariant-loop-i : goal.invariant-loop-i

@@ -1,5 +1,4 @@
-use Rattle.std.proofs.Common.{◌≡◌, ◌-◌, ◌≤◌, length, arith, length-set, rules}
-use Rattle.types.specs.Alike.{Alikes}
+use Rattle.std.proofs.Common.{arith, length-set, rules}
 use Rattle.types.proofs.Distinctness.{fill_alikes, alikes_done}
 use Rattle.types.proofs.alike.fill.Goals as goal
 

@@ -1,8 +1,7 @@
 -- `types::alike::fill` meets its contract: the room holds the last ones alike of the first k values.
 -- Assumes nothing.
-use Rattle.std.proofs.Common.{◌≡◌, ◌-◌, ◌≤◌, length, arith, length-set, rules}
+use Rattle.std.proofs.Common.{◌≡◌, ◌-◌, ◌≤◌, length}
 use Rattle.types.specs.Alike.{Alikes}
-use Rattle.types.proofs.Distinctness.{fill_alikes, alikes_done}
 use Rattle.types.proofs.alike.fill.Given as goal
 
 abbrev pub invariant-loop-k : goal.invariant-loop-k

@@ -1,6 +1,4 @@
-use Rattle.std.proofs.Common.{◌≡◌, ◌≤◌, rules}
-use Rattle.table.specs.Entries.{value_at}
-use Rattle.types.specs.Alike.{last_equal, last_alike}
+use Rattle.std.proofs.Common.{rules}
 use Rattle.types.proofs.Distinctness.{from-behind, alike-here, not-here, none_left}
 use Rattle.types.proofs.alike.last_alike.Goals as goal
 

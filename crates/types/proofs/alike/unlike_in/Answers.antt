@@ -1,6 +1,4 @@
-use Rattle.std.proofs.Common.{◌≡◌, ◌-◌, ◌≤◌, true, rules}
-use Rattle.wire.specs.All.{all_below}
-use Rattle.types.specs.Alike.{unlike_in}
+use Rattle.std.proofs.Common.{rules}
 use Rattle.wire.proofs.AllBelow.{none_below, done_below}
 use Rattle.types.proofs.Distinctness.{unlike-next, unlike-ends}
 use Rattle.types.proofs.alike.unlike_in.Goals as goal

@@ -1,10 +1,8 @@
 -- `types::alike::unlike_in` meets its contract: the first k are unlike the ones before them from first on.
 -- Assumes nothing.
-use Rattle.std.proofs.Common.{◌≡◌, ◌-◌, ◌≤◌, true, rules}
+use Rattle.std.proofs.Common.{◌≡◌, ◌-◌, ◌≤◌, true}
 use Rattle.wire.specs.All.{all_below}
 use Rattle.types.specs.Alike.{unlike_in}
-use Rattle.wire.proofs.AllBelow.{none_below, done_below}
-use Rattle.types.proofs.Distinctness.{unlike-next, unlike-ends}
 use Rattle.types.proofs.alike.unlike_in.Given as goal
 
 abbrev pub invariant-loop-k : goal.invariant-loop-k

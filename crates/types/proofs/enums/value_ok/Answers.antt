@@ -1,6 +1,5 @@
 -- `types::value_ok` meets its contract: the value as it is read.
 -- Assumes nothing.
-use Rattle.std.proofs.Common.{rules}
 use Rattle.types.proofs.OneValue.{judged_value}
 use Rattle.types.proofs.enums.value_ok.Goals as goal
 

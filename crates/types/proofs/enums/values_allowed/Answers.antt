@@ -1,6 +1,4 @@
-use Rattle.std.proofs.Common.{◌≡◌, ◌-◌, ◌≤◌, true, rules}
-use Rattle.wire.specs.All.{all_below}
-use Rattle.types.specs.Values.{value_ok}
+use Rattle.std.proofs.Common.{rules}
 use Rattle.wire.proofs.AllBelow.{none_below, next-below, stop-below, done_below}
 use Rattle.types.proofs.enums.values_allowed.Goals as goal
 

@@ -1,9 +1,8 @@
 -- `types::values_allowed` meets its contract: the first k values have passed.
 -- Assumes nothing.
-use Rattle.std.proofs.Common.{◌≡◌, ◌-◌, ◌≤◌, true, rules}
+use Rattle.std.proofs.Common.{◌≡◌, ◌-◌, ◌≤◌, true}
 use Rattle.wire.specs.All.{all_below}
 use Rattle.types.specs.Values.{value_ok}
-use Rattle.wire.proofs.AllBelow.{none_below, next-below, stop-below, done_below}
 use Rattle.types.proofs.enums.values_allowed.Given as goal
 
 abbrev pub invariant-loop-k : goal.invariant-loop-k

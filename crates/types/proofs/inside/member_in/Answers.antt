@@ -1,6 +1,5 @@
 -- `types::inside::member_in` meets its contract: the number at its place.
 -- Assumes nothing.
-use Rattle.std.proofs.Common.{rules}
 use Rattle.types.proofs.Insides.{member-inside}
 use Rattle.types.proofs.inside.member_in.Goals as goal
 

@@ -1,6 +1,5 @@
 -- `types::inside::type_in` meets its contract: each field stands at its place.
 -- Assumes nothing.
-use Rattle.std.proofs.Common.{rules}
 use Rattle.types.proofs.Insides.{type-inside}
 use Rattle.types.proofs.inside.type_in.Goals as goal
 

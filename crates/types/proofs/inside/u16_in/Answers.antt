@@ -1,6 +1,5 @@
 -- `types::inside::u16_in` meets its contract.
 -- Assumes nothing.
-use Rattle.std.proofs.Common.{rules}
 use Rattle.wire.proofs.Numbers.{read_in}
 use Rattle.types.proofs.inside.u16_in.Goals as goal
 

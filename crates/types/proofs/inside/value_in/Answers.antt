@@ -1,6 +1,5 @@
 -- `types::inside::value_in` meets its contract: the number at its place.
 -- Assumes nothing.
-use Rattle.std.proofs.Common.{rules}
 use Rattle.types.proofs.Insides.{value-inside}
 use Rattle.types.proofs.inside.value_in.Goals as goal
 

@@ -1,6 +1,5 @@
 -- `types::rules::enum_ok` meets its contract: an enum's fields first, and then its values.
 -- Assumes nothing.
-use Rattle.std.proofs.Common.{rules}
 use Rattle.types.proofs.TypePasses.{enum-good, enum_bad}
 use Rattle.types.proofs.rules.enum_ok.Goals as goal
 

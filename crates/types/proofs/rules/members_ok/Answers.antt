@@ -1,6 +1,5 @@
-use Rattle.std.proofs.Common.{◌≡◌, ◌-◌, ◌≤◌, true, rules}
-use Rattle.wire.specs.All.{all_below}
-use Rattle.types.specs.Rules.{member_ok, members_ok}
+use Rattle.std.proofs.Common.{rules}
+use Rattle.types.specs.Rules.{members_ok}
 use Rattle.wire.proofs.AllBelow.{none_below, done_below}
 use Rattle.types.proofs.TypeRules.{member-next, member-ends}
 use Rattle.types.proofs.rules.members_ok.Goals as goal

@@ -1,10 +1,8 @@
 -- `types::rules::members_ok` meets its contract: the first k members have passed.
 -- Assumes nothing.
-use Rattle.std.proofs.Common.{◌≡◌, ◌-◌, ◌≤◌, true, rules}
+use Rattle.std.proofs.Common.{◌≡◌, ◌-◌, ◌≤◌, true}
 use Rattle.wire.specs.All.{all_below}
-use Rattle.types.specs.Rules.{member_ok, members_ok}
-use Rattle.wire.proofs.AllBelow.{none_below, done_below}
-use Rattle.types.proofs.TypeRules.{member-next, member-ends}
+use Rattle.types.specs.Rules.{member_ok}
 use Rattle.types.proofs.rules.members_ok.Given as goal
 
 abbrev pub invariant-loop-k : goal.invariant-loop-k

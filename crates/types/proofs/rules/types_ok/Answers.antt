@@ -1,7 +1,4 @@
-use Rattle.std.proofs.Common.{◌≡◌, ◌-◌, ◌≤◌, true, rules}
-use Rattle.wire.specs.All.{all_below}
-use Rattle.types.specs.Rules.{type_ok}
-use Rattle.types.specs.Passes.{loose_ok}
+use Rattle.std.proofs.Common.{true, rules}
 use Rattle.wire.proofs.AllBelow.{none_below}
 use Rattle.types.proofs.TypePasses.{quick-loose, quick-next, loose-next, not_risen, types-end, types_rise, types_compared}
 use Rattle.types.proofs.rules.types_ok.Goals as goal
@@ -16,13 +13,12 @@ loop-i-preserved-then-quick_ok c =
     (search rules, search (quick-loose, octets), λ h. search (quick-next, octets))
 
 pub loop-i-preserved : goal.loop-i-preserved
-loop-i-preserved c =
-    (
-      search rules,
-      loose-next _ _ _ _ c.enum_ok.ensures c.if-enum_ok.true
-          c.loop-i.invariant.1,
-      λ h. search not_risen,
-    )
+loop-i-preserved c = (
+  search rules,
+  loose-next _ _ _ _ c.enum_ok.ensures c.if-enum_ok.true
+      c.loop-i.invariant.1,
+  λ h. search not_risen,
+)
 
 pub returns-else-enum_ok : goal.returns-else-enum_ok
 returns-else-enum_ok c =

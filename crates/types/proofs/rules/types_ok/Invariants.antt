@@ -1,11 +1,9 @@
 -- `types::rules::types_ok` meets its contract: the first i types have passed, but that values of enums may be alike where some do not rise.
 -- Assumes nothing.
-use Rattle.std.proofs.Common.{◌≡◌, ◌-◌, ◌≤◌, true, rules}
+use Rattle.std.proofs.Common.{◌≡◌, ◌-◌, ◌≤◌, true}
 use Rattle.wire.specs.All.{all_below}
 use Rattle.types.specs.Rules.{type_ok}
 use Rattle.types.specs.Passes.{loose_ok}
-use Rattle.wire.proofs.AllBelow.{none_below}
-use Rattle.types.proofs.TypePasses.{quick-loose, quick-next, loose-next, not_risen, types-end, types_rise, types_compared}
 use Rattle.types.proofs.rules.types_ok.Given as goal
 
 abbrev pub invariant-loop-i : goal.invariant-loop-i

@@ -1,6 +1,5 @@
 -- `types::sizes::all_fit` meets its contract: all of them are filled in.
 -- Assumes nothing.
-use Rattle.std.proofs.Common.{rules}
 use Rattle.types.specs.Table.{sizes_ok}
 use Rattle.types.proofs.sizes.all_fit.Goals as goal
 

@@ -1,6 +1,5 @@
 -- `types::sizes::bytes_up_to` meets its contract: up to the limit and over it.
 -- Assumes nothing.
-use Rattle.std.proofs.Common.{rules}
 use Rattle.types.proofs.SizeLaws.{up_to, over_it}
 use Rattle.types.proofs.sizes.bytes_up_to.Goals as goal
 

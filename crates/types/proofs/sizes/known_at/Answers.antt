@@ -1,6 +1,5 @@
 -- `types::sizes::known_at` meets its contract: past the end it is 0.
 -- Assumes nothing.
-use Rattle.std.proofs.Common.{rules}
 use Rattle.types.proofs.SizeLaws.{is-there, not_known}
 use Rattle.types.proofs.sizes.known_at.Goals as goal
 

@@ -1,6 +1,5 @@
 -- `types::sizes::largest` meets its contract: a type of the table, and one that the room holds.
 -- Assumes nothing.
-use Rattle.std.proofs.Common.{rules}
 use Rattle.types.proofs.SizeLaws.{is_known, is-unknown, below_limit}
 use Rattle.types.proofs.sizes.largest.Goals as goal
 

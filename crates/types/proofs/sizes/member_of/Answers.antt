@@ -1,6 +1,5 @@
 -- `types::sizes::member_of` meets its contract: from inside the sections where that is known.
 -- Assumes nothing.
-use Rattle.std.proofs.Common.{rules}
 use Rattle.types.proofs.sizes.member_of.Goals as goal
 
 pub member_in-requires : goal.member_in-requires

@@ -1,6 +1,5 @@
 -- `types::sizes::type_of` meets its contract: from inside the sections where that is known.
 -- Assumes nothing.
-use Rattle.std.proofs.Common.{rules}
 use Rattle.types.proofs.sizes.type_of.Goals as goal
 
 pub type_in-requires : goal.type_in-requires

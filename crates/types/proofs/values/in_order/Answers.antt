@@ -1,8 +1,6 @@
-use Rattle.std.proofs.Common.{◌≡◌, ◌-◌, ◌≤◌, true, rules}
-use Rattle.wire.specs.All.{all_below}
-use Rattle.types.specs.Passes.{rank, next}
+use Rattle.std.proofs.Common.{rules}
 use Rattle.wire.proofs.AllBelow.{none_below}
-use Rattle.wire.proofs.Rising.{Carried, carried_none}
+use Rattle.wire.proofs.Rising.{carried_none}
 use Rattle.types.proofs.ValueRules.{order-next, order-carried, order-ends, order_done}
 use Rattle.types.proofs.values.in_order.Goals as goal
 

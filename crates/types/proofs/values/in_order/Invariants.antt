@@ -1,11 +1,9 @@
 -- `types::values::in_order` meets its contract: the first k values rise, and the last of them is carried along.
 -- Assumes nothing.
-use Rattle.std.proofs.Common.{◌≡◌, ◌-◌, ◌≤◌, true, rules}
+use Rattle.std.proofs.Common.{◌≡◌, ◌-◌, ◌≤◌, true}
 use Rattle.wire.specs.All.{all_below}
 use Rattle.types.specs.Passes.{rank, next}
-use Rattle.wire.proofs.AllBelow.{none_below}
-use Rattle.wire.proofs.Rising.{Carried, carried_none}
-use Rattle.types.proofs.ValueRules.{order-next, order-carried, order-ends, order_done}
+use Rattle.wire.proofs.Rising.{Carried}
 use Rattle.types.proofs.values.in_order.Given as goal
 
 abbrev pub invariant-loop-k : goal.invariant-loop-k

@@ -1,6 +1,5 @@
 -- `unpack::at_once::are_taken` meets its contract: by the base's range, and of an enum by its values.
 -- Assumes nothing.
-use borrow.Author.Rules.{rules}
 use Rattle.unpack.proofs.Among.{entries-refused, entries-base, entries-among}
 use Rattle.unpack.proofs.at_once.are_taken.Goals as goal
 

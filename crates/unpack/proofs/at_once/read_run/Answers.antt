@@ -28,4 +28,4 @@ returns-then-judge_run c =
 
 pub returns-else-judge_run : goal.returns-else-judge_run
 returns-else-judge_run c =
-    going_start (search rules) (search rules)
+    λ f g. going_start (search rules) (search rules)

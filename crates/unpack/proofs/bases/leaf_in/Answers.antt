@@ -1,6 +1,5 @@
 -- `unpack::bases::leaf_in` meets its contract: by the leaf's width.
 -- Assumes nothing.
-use borrow.Author.Rules.{rules}
 use Rattle.unpack.proofs.ByWidth.{room_of_width, width_is, of-eight, of_one}
 use Rattle.unpack.proofs.bases.leaf_in.Goals as goal
 

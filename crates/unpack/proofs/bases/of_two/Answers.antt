@@ -1,6 +1,5 @@
 -- `unpack::bases::of_two` meets its contract: int16, and the codes whose word is the number.
 -- Assumes nothing.
-use borrow.Author.Rules.{rules}
 use mathlib.Core.Path.{refl}
 use Rattle.table.specs.Leaf.{base}
 use Rattle.leaf.specs.Forms.{word_at, word_of}

@@ -1,6 +1,5 @@
 -- `unpack::bases::u16_in` meets its contract.
 -- Assumes nothing.
-use borrow.Author.Rules.{rules}
 use Rattle.wire.proofs.Numbers.{read_in}
 use Rattle.unpack.proofs.bases.u16_in.Goals as goal
 

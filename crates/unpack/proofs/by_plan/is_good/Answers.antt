@@ -1,6 +1,5 @@
 -- `unpack::by_plan::is_good` meets its contract.
 -- Assumes nothing.
-use borrow.Author.Rules.{rules}
 use Rattle.unpack.proofs.GoodRuns.{has-bytes, bad-run, by_values}
 use Rattle.unpack.proofs.by_plan.is_good.Goals as goal
 

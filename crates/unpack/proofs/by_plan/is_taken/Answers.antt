@@ -1,6 +1,5 @@
 -- `unpack::by_plan::is_taken` meets its contract: any word where the run has no values, and else one of them.
 -- Assumes nothing.
-use borrow.Author.Rules.{rules}
 use Rattle.unpack.proofs.GoodRuns.{any-taken, taken-among}
 use Rattle.unpack.proofs.by_plan.is_taken.Goals as goal
 

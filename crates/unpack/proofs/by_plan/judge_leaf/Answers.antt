@@ -1,6 +1,5 @@
 -- `unpack::by_plan::judge_leaf` meets its contract: the three ends of a leaf.
 -- Assumes nothing.
-use borrow.Author.Rules.{rules}
 use Rattle.walk.proofs.Walks.{width_few}
 use Rattle.unpack.proofs.ReadReturns.{next_from}
 use Rattle.unpack.proofs.LeafByLeaf.{judged-short, judged-bad, judged-went}

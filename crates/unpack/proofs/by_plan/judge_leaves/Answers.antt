@@ -1,10 +1,5 @@
 use borrow.Author.Rules.{rules}
-use Prim.Native.Nat.{◌-◌}
-use mathlib.Core.List.{[]}
-use Rattle.walk.specs.Walk.{Going}
 use Rattle.walk.proofs.Turns.{going_start}
-use Rattle.unpack.specs.Reading.{Reading}
-use Rattle.unpack.specs.RunByRun.{leaf_read}
 use Rattle.unpack.proofs.LeafByLeaf.{leaves-went, leaves-stop, leaves-done}
 use Rattle.unpack.proofs.by_plan.judge_leaves.Goals as goal
 

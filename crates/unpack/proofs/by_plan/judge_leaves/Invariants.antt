@@ -1,13 +1,10 @@
 -- `unpack::by_plan::judge_leaves` meets its contract: so many leaves are judged, and the walk is at this place.
 -- Assumes nothing.
-use borrow.Author.Rules.{rules}
 use Prim.Native.Nat.{◌-◌}
 use mathlib.Core.List.{[]}
 use Rattle.walk.specs.Walk.{Going}
-use Rattle.walk.proofs.Turns.{going_start}
 use Rattle.unpack.specs.Reading.{Reading}
 use Rattle.unpack.specs.RunByRun.{leaf_read}
-use Rattle.unpack.proofs.LeafByLeaf.{leaves-went, leaves-stop, leaves-done}
 use Rattle.unpack.proofs.by_plan.judge_leaves.Given as goal
 
 abbrev pub invariant-loop-k : goal.invariant-loop-k

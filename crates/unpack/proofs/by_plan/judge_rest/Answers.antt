@@ -1,11 +1,5 @@
 use borrow.Author.Rules.{rules}
-use Prim.Native.Nat.{◌-◌}
-use mathlib.Core.List.{[]}
-use lib.ListN.{length}
-use Rattle.walk.specs.Walk.{Going}
 use Rattle.walk.proofs.Turns.{going_start}
-use Rattle.unpack.specs.Reading.{Reading}
-use Rattle.unpack.specs.RunByRun.{run_read}
 use Rattle.unpack.proofs.LeafByLeaf.{runs-went, runs-stop, runs_done}
 use Rattle.unpack.proofs.by_plan.judge_rest.Goals as goal
 

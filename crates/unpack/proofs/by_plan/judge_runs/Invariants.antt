@@ -1,21 +1,16 @@
 -- `unpack::by_plan::judge_runs` meets its contract: so many runs are good, and the walk is at this place.
 -- Assumes nothing.
-use borrow.Author.Rules.{rules}
 use Prim.Native.Nat.{◌-◌}
 use mathlib.Core.List.{[]}
 use lib.ListN.{length}
 use Rattle.walk.specs.Walk.{Going}
-use Rattle.walk.proofs.Turns.{going_start}
 use Rattle.unpack.specs.Reading.{Reading}
 use Rattle.unpack.specs.RunByRun.{run_read}
-use Rattle.unpack_leaves.proofs.WholeRuns.{bytes_fit}
-use Rattle.unpack.proofs.GoodRuns.{run_bytes, run-next, run-next-from, run-next-to}
-use Rattle.unpack.proofs.LeafByLeaf.{all-judged, rest-judged}
 use Rattle.unpack.proofs.by_plan.judge_runs.Given as goal
 
 abbrev pub invariant-loop-k : goal.invariant-loop-k
 invariant-loop-k l =
-    Going (Reading l.payload) (run_read l.payload l.table l.runs) (length l.runs) 0 (record { l.from = l.initial.from; l.to = l.initial.to }) [] l.k (record { l.from = l.from; l.to = l.to }) []
+    Going (Reading l.payload) (run_read l.payload l.table l.runs) (length l.runs) 0 (record { from = l.initial.from; to = l.initial.to }) [] l.k (record { from = l.from; to = l.to }) []
 
 abbrev pub decreases-loop-k : goal.decreases-loop-k
 decreases-loop-k l = length l.runs - l.k

@@ -1,6 +1,5 @@
 -- `unpack::by_plan::read_planned` meets its contract: the plan's runs are read.
 -- Assumes nothing.
-use borrow.Author.Rules.{rules}
 use Rattle.unpack.proofs.PlannedRuns.{plan-ends, end_fits, first_fits, plan-answer, plan-left}
 use Rattle.unpack.proofs.by_plan.read_planned.Goals as goal
 

@@ -1,6 +1,5 @@
 -- `unpack::by_plan::read_runs` meets its contract: what was judged is stored, and no more.
 -- Assumes nothing.
-use borrow.Author.Rules.{rules}
 use Rattle.unpack.proofs.Upto.{upto_from, upto-in, upto_left, same_answer}
 use Rattle.unpack.proofs.by_plan.read_runs.Goals as goal
 

@@ -1,6 +1,5 @@
 -- `unpack::by_plan::store_leaf` meets its contract: where there is no room for its word nothing changes.
 -- Assumes nothing.
-use borrow.Author.Rules.{rules}
 use Rattle.unpack_leaves.proofs.OneCode.{no-room-left}
 use Rattle.unpack.proofs.StoredRuns.{leaf-stored}
 use Rattle.unpack.proofs.by_plan.store_leaf.Goals as goal

@@ -1,9 +1,5 @@
 use borrow.Author.Rules.{rules}
-use Prim.Native.Nat.{◌-◌, ◌≤◌}
-use mathlib.Core.Path.{◌≡◌, refl}
-use lib.ListN.{length}
-use Rattle.walk.specs.declared.Place.{Place}
-use Rattle.unpack.specs.RunByRun.{place_at, stored_upto}
+use mathlib.Core.Path.{refl}
 use Rattle.unpack.proofs.StoredRuns.{place_start, stored_start, stored_end, some_fit, place-next, bytes-in, from-fits, stored_next}
 use Rattle.unpack.proofs.Upto.{none_stored}
 use Rattle.unpack.proofs.by_plan.store_runs.Goals as goal

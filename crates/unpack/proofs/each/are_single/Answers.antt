@@ -1,9 +1,8 @@
 use borrow.Author.Rules.{rules}
-use Prim.Native.Nat.{◌-◌, ◌≤◌, ◌<◌}
-use mathlib.Core.Path.{◌≡◌, sym}
+use Prim.Native.Nat.{◌<◌}
+use mathlib.Core.Path.{sym}
 use mathlib.Core.Bool.{true≢false}
 use lib.ListN.{length}
-use Rattle.unpack.specs.RunByRun.{Single}
 use Rattle.unpack.proofs.SingleRuns.{code_few, single_all, single_none, single_next}
 use Rattle.unpack.proofs.each.are_single.Goals as goal
 

@@ -1,12 +1,9 @@
 -- `unpack::each::are_single` meets its contract. The loop's invariant: the first k runs are single, of the first k codes.
 -- Assumes nothing.
-use borrow.Author.Rules.{rules}
-use Prim.Native.Nat.{◌-◌, ◌≤◌, ◌<◌}
-use mathlib.Core.Path.{◌≡◌, sym}
-use mathlib.Core.Bool.{true≢false}
+use Prim.Native.Nat.{◌-◌, ◌≤◌}
+use mathlib.Core.Path.{◌≡◌}
 use lib.ListN.{length}
 use Rattle.unpack.specs.RunByRun.{Single}
-use Rattle.unpack.proofs.SingleRuns.{code_few, single_all, single_none, single_next}
 use Rattle.unpack.proofs.each.are_single.Given as goal
 
 abbrev pub invariant-loop-k : goal.invariant-loop-k

@@ -1,6 +1,5 @@
 -- `unpack::each::is_single` meets its contract.
 -- Assumes nothing.
-use borrow.Author.Rules.{rules}
 use Rattle.unpack.proofs.SingleRuns.{single_is}
 use Rattle.unpack.proofs.each.is_single.Goals as goal
 

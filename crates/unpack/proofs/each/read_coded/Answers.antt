@@ -1,6 +1,3 @@
-use borrow.Author.Rules.{rules}
-use Prim.Native.Nat.{◌-◌}
-use Rattle.unpack.specs.Reading.{Coded}
 use Rattle.unpack.proofs.ByCodes.{coded_none, coded-fits, coded-next}
 use Rattle.unpack.proofs.each.read_coded.Goals as goal
 

@@ -1,9 +1,7 @@
 -- `unpack::each::read_coded` meets its contract: so many times the leaves are read, and the walk is at this place.
 -- Assumes nothing.
-use borrow.Author.Rules.{rules}
 use Prim.Native.Nat.{◌-◌}
 use Rattle.unpack.specs.Reading.{Coded}
-use Rattle.unpack.proofs.ByCodes.{coded_none, coded-fits, coded-next}
 use Rattle.unpack.proofs.each.read_coded.Given as goal
 
 abbrev pub invariant-loop-k : goal.invariant-loop-k

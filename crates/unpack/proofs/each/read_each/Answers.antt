@@ -1,6 +1,5 @@
 -- `unpack::each::read_each` meets its contract: the plan's runs are read so many times.
 -- Assumes nothing.
-use borrow.Author.Rules.{rules}
 use mathlib.Core.Path.{sym}
 use mathlib.Core.List.{[]}
 use Rattle.unpack.specs.Reading.{reader}

@@ -1,12 +1,9 @@
 -- `unpack::each::read_times` meets its contract: so many elements are read, and the walk is at this place.
 -- Assumes nothing.
-use borrow.Author.Rules.{rules}
 use Prim.Native.Nat.{◌-◌}
 use Rattle.walk.specs.Walk.{Going}
-use Rattle.walk.proofs.Turns.{going_start}
 use Rattle.unpack.specs.Reading.{Reading}
 use Rattle.unpack.specs.RunByRun.{runs_read}
-use Rattle.unpack.proofs.EachByPlan.{each_from, each_in, each_next}
 use Rattle.unpack.proofs.each.read_times.Given as goal
 
 abbrev pub invariant-loop-k : goal.invariant-loop-k

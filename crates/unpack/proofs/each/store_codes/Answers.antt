@@ -17,7 +17,7 @@ returns-then-words-p c =
 
 pub slice_bounds-store_within-end : goal.slice_bounds-store_within-end
 slice_bounds-store_within-end c =
-    sym (length-take-le _ _ (omega (arith, c.least.ensures)))
+    sym (length-take-le _ _ (omega (arith, c.least-room.ensures)))
 
 pub store_within-requires : goal.store_within-requires
 store_within-requires c =

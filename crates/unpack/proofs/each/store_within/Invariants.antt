@@ -1,17 +1,15 @@
 -- `unpack::each::store_within` meets its contract: what is left to store leads to the whole.
 -- Assumes nothing.
-use borrow.Author.Rules.{rules}
 use Prim.Native.Nat.{◌+◌, ◌-◌, ◌≤◌}
-use mathlib.Core.Path.{◌≡◌, refl}
-use native.Mathlib.Omega.{arith}
+use mathlib.Core.Path.{◌≡◌}
 use lib.ListN.{length, take}
 use Rattle.unpack_leaves.specs.Leaves.{laid, whole_count}
-use Rattle.unpack_leaves.proofs.Loops.{rest, start_stored, cut-stored, all_stored, next-room, next-stored, behind-in, behind-fits}
+use Rattle.unpack_leaves.proofs.Loops.{rest}
 use Rattle.unpack.proofs.each.store_within.Given as goal
 
 abbrev pub invariant-loop-k : goal.invariant-loop-k
 invariant-loop-k l =
-    (rest l.payload l.codes l.k (record { l.from = l.from; to = l.p.to + l.k }) l.words
+    (rest l.payload l.codes l.k (record { from = l.from; to = l.p.to + l.k }) l.words
     ≡ laid l.payload (take (whole_count l.payload l.codes l.p.from) l.codes) l.p l.initial.words) × (length l.words ≡ length l.initial.words) × (l.k ≤ length l.codes) × (l.from ≤ length l.payload)
 
 abbrev pub decreases-loop-k : goal.decreases-loop-k

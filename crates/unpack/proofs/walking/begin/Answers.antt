@@ -1,6 +1,5 @@
 -- `unpack::begin` meets its contract: nothing before a fixed array, and the three ends of a count.
 -- Assumes nothing.
-use borrow.Author.Rules.{rules}
 use native.Mathlib.Omega.{arith}
 use Rattle.walk.proofs.Returns.{fixed-begun}
 use Rattle.unpack.proofs.ReadReturns.{count-short, count-over, count-went, next_from, next_to}
@@ -21,7 +20,7 @@ overflow_add-result-then-count-e c =
 pub returns-then-count-e : goal.returns-then-count-e
 returns-then-count-e c =
     let t = count-went c.args.e _ c.args.p _ c.if-e-eq-FIXED.false _ c.has_room.ensures c.if-has_room.true _
-    c.u32_at-count.ensures _ c.if-count-e.true c.u32_at-count.type-inv c.put_word.ensures in record { value = t.0; words_after = t.1 }
+    c.u32_at-count.ensures _ c.if-count-e.true c.u32_at-count.type_inv c.put_word.ensures in record { value = t.0; words_after = t.1 }
 
 pub returns-else-count-e : goal.returns-else-count-e
 returns-else-count-e c =

@@ -1,6 +1,5 @@
 -- `unpack::put_word` meets its contract.
 -- Assumes nothing.
-use borrow.Author.Rules.{rules}
 use Rattle.walk.proofs.Returns.{stored, not_stored}
 use Rattle.unpack.proofs.walking.put_word.Goals as goal
 

@@ -1,6 +1,5 @@
 -- `unpack::read_leaf` meets its contract: the three ends of an item.
 -- Assumes nothing.
-use borrow.Author.Rules.{rules}
 use native.Mathlib.Omega.{arith}
 use Rattle.walk.proofs.Walks.{width_few}
 use Rattle.unpack.proofs.ReadReturns.{leaf-short, leaf-bad, leaf-went, next_from, next_to}

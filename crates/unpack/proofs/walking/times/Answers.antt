@@ -1,6 +1,5 @@
 -- `unpack::times` meets its contract.
 -- Assumes nothing.
-use borrow.Author.Rules.{rules}
 use mathlib.Core.Path.{refl}
 use Rattle.walk.proofs.Returns.{fixed-times}
 use Rattle.unpack.proofs.ReadReturns.{counted-times}

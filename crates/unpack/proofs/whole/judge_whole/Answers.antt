@@ -1,11 +1,5 @@
 use borrow.Author.Rules.{rules}
-use Prim.Native.Nat.{◌-◌}
-use mathlib.Core.List.{[]}
-use lib.ListN.{length}
-use Rattle.walk.specs.Walk.{start, Going}
 use Rattle.walk.proofs.Turns.{going_start}
-use Rattle.unpack.specs.Reading.{Reading}
-use Rattle.unpack.specs.RunByRun.{run_read}
 use Rattle.unpack_leaves.proofs.WholeRuns.{bytes_fit}
 use Rattle.unpack.proofs.GoodRuns.{run_bytes, run-next, run-next-from, run-next-to}
 use Rattle.unpack.proofs.LeafByLeaf.{all-judged, rest-judged}

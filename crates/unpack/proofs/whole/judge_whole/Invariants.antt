@@ -1,21 +1,16 @@
 -- `unpack::whole::judge_whole` meets its contract: so many runs are good, and the walk is at this place.
 -- Assumes nothing.
-use borrow.Author.Rules.{rules}
 use Prim.Native.Nat.{◌-◌}
 use mathlib.Core.List.{[]}
 use lib.ListN.{length}
 use Rattle.walk.specs.Walk.{start, Going}
-use Rattle.walk.proofs.Turns.{going_start}
 use Rattle.unpack.specs.Reading.{Reading}
 use Rattle.unpack.specs.RunByRun.{run_read}
-use Rattle.unpack_leaves.proofs.WholeRuns.{bytes_fit}
-use Rattle.unpack.proofs.GoodRuns.{run_bytes, run-next, run-next-from, run-next-to}
-use Rattle.unpack.proofs.LeafByLeaf.{all-judged, rest-judged}
 use Rattle.unpack.proofs.whole.judge_whole.Given as goal
 
 abbrev pub invariant-loop-k : goal.invariant-loop-k
 invariant-loop-k l =
-    Going (Reading l.payload) (run_read l.payload l.table l.runs) (length l.runs) 0 start [] l.k (record { l.from = l.from; l.to = l.to }) []
+    Going (Reading l.payload) (run_read l.payload l.table l.runs) (length l.runs) 0 start [] l.k (record { from = l.from; to = l.to }) []
 
 abbrev pub decreases-loop-k : goal.decreases-loop-k
 decreases-loop-k l = length l.runs - l.k

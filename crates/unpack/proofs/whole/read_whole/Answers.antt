@@ -1,6 +1,5 @@
 -- `unpack::whole::read_whole` meets its contract: what was judged whole is stored.
 -- Assumes nothing.
-use borrow.Author.Rules.{rules}
 use Rattle.unpack.proofs.WholePlan.{came-to, none-if-refused, whole_from, whole_to, none-if-not-whole, all-if-whole}
 use Rattle.unpack.proofs.whole.read_whole.Goals as goal
 

@@ -1,9 +1,5 @@
 use borrow.Author.Rules.{rules}
-use Prim.Native.Nat.{◌-◌, ◌≤◌}
-use mathlib.Core.Path.{◌≡◌, refl}
-use lib.ListN.{length}
-use Rattle.walk.specs.declared.Place.{Place}
-use Rattle.unpack.specs.RunByRun.{whole_at, stored_whole}
+use mathlib.Core.Path.{refl}
 use Rattle.unpack_leaves.proofs.WholeRuns.{bytes_fit}
 use Rattle.unpack.proofs.WholeStores.{at_start, none_stored, all_stored, next-at, next-bytes, next-room, next-from-fits, next-to-fits, next-stored}
 use Rattle.unpack.proofs.whole.store_whole.Goals as goal

@@ -1,6 +1,5 @@
 -- `unpack_leaves::bases::is_allowed` meets its contract: char8, a code of which every word is allowed, and one that is tested.
 -- Assumes nothing.
-use borrow.Author.Rules.{rules}
 use mathlib.Core.Path.{refl}
 use native.Mathlib.Omega.{arith}
 use Rattle.table.specs.Leaf.{width, base, bytes_of}

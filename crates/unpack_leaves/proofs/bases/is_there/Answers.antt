@@ -1,6 +1,5 @@
 -- `unpack_leaves::bases::is_there` meets its contract: the two ends of a base's leaf.
 -- Assumes nothing.
-use borrow.Author.Rules.{rules}
 use Rattle.unpack_leaves.proofs.OneLeaf.{cut_off, all_there, judged}
 use Rattle.unpack_leaves.proofs.bases.is_there.Goals as goal
 

@@ -1,6 +1,5 @@
 -- `unpack_leaves::bases::u32_in` meets its contract.
 -- Assumes nothing.
-use borrow.Author.Rules.{rules}
 use Rattle.wire.proofs.Numbers.{read_in}
 use Rattle.unpack_leaves.proofs.bases.u32_in.Goals as goal
 

@@ -1,6 +1,5 @@
 -- `unpack_leaves::bases::word_at` meets its contract: a leaf that has all its bytes, or not.
 -- Assumes nothing.
-use borrow.Author.Rules.{rules}
 use Rattle.unpack_leaves.proofs.OneLeaf.{room_there, word_whole, word_cut}
 use Rattle.unpack_leaves.proofs.bases.word_at.Goals as goal
 

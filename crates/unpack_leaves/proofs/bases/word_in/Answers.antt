@@ -1,6 +1,5 @@
 -- `unpack_leaves::bases::word_in` meets its contract: each arm is the rule of its code.
 -- Assumes nothing.
-use borrow.Author.Rules.{rules}
 use mathlib.Core.Path.{refl}
 use Rattle.wire.specs.Bytes.{number}
 use Rattle.table.specs.Leaf.{width, base, bytes_of}

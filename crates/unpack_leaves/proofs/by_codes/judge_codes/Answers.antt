@@ -1,6 +1,5 @@
 -- `unpack::judge_codes` meets its contract: past the end of the payload no leaf is there.
 -- Assumes nothing.
-use borrow.Author.Rules.{rules}
 use Rattle.unpack_leaves.proofs.Loops.{none-judged, none_ends}
 use Rattle.unpack_leaves.proofs.by_codes.judge_codes.Goals as goal
 

@@ -1,10 +1,6 @@
 use borrow.Author.Rules.{rules}
-use Prim.Native.Nat.{◌+◌, ◌-◌, ◌≤◌}
-use mathlib.Core.Path.{◌≡◌}
 use native.Mathlib.Nat.{zero-add}
 use native.Mathlib.Omega.{arith}
-use lib.ListN.{length, take, drop}
-use Rattle.unpack_leaves.specs.Leaves.{ends, there_count}
 use Rattle.unpack_leaves.proofs.OneLeaf.{there_room}
 use Rattle.unpack_leaves.proofs.Loops.{start-ends, one_end, one-counted, stop-counted, all_counted, counted-ends, behind-in, behind-fits}
 use Rattle.unpack_leaves.proofs.by_codes.judge_within.Goals as goal

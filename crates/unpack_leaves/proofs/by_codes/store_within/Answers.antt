@@ -1,10 +1,7 @@
 use borrow.Author.Rules.{rules}
-use Prim.Native.Nat.{◌+◌, ◌-◌, ◌≤◌}
-use mathlib.Core.Path.{◌≡◌, refl}
+use mathlib.Core.Path.{refl}
 use native.Mathlib.Omega.{arith}
-use lib.ListN.{length, take}
-use Rattle.unpack_leaves.specs.Leaves.{laid, whole_count}
-use Rattle.unpack_leaves.proofs.Loops.{rest, start_stored, cut-stored, all_stored, next-room, next-stored, behind-in, behind-fits}
+use Rattle.unpack_leaves.proofs.Loops.{start_stored, cut-stored, all_stored, next-room, next-stored, behind-in, behind-fits}
 use Rattle.unpack_leaves.proofs.by_codes.store_within.Goals as goal
 
 pub loop-k-init : goal.loop-k-init

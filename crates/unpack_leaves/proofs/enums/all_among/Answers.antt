@@ -1,6 +1,5 @@
 -- `unpack_leaves::enums::all_among` meets its contract: each arm looks at leaves of its own code.
 -- Assumes nothing.
-use borrow.Author.Rules.{rules}
 use Rattle.unpack_leaves.proofs.AmongValues.{arm_room, arm_among}
 use Rattle.unpack_leaves.proofs.enums.all_among.Goals as goal
 

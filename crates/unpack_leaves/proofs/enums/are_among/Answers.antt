@@ -1,6 +1,5 @@
 -- `unpack_leaves::enums::are_among` meets its contract: all of the leaves, or none.
 -- Assumes nothing.
-use borrow.Author.Rules.{rules}
 use Rattle.unpack_leaves.proofs.WholeRuns.{bytes_fit, run_in}
 use Rattle.unpack_leaves.proofs.AmongValues.{among-judged, among-short}
 use Rattle.unpack_leaves.proofs.enums.are_among.Goals as goal

@@ -1,10 +1,5 @@
 use borrow.Author.Rules.{rules}
-use Prim.Native.Nat.{◌-◌, ◌≤◌}
-use mathlib.Core.Path.{◌≡◌}
-use mathlib.Core.Bool.{true}
-use Rattle.wire.specs.All.{all_below}
 use Rattle.wire.proofs.AllBelow.{none_below, done_below}
-use Rattle.unpack_leaves.specs.OneCode.{is_among}
 use Rattle.unpack_leaves.proofs.OneCode.{leaf_room, product_fits, place_fits}
 use Rattle.unpack_leaves.proofs.AmongValues.{among_next, among-stop}
 use Rattle.unpack_leaves.proofs.enums.each_among.Goals as goal

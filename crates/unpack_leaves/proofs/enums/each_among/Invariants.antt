@@ -1,14 +1,10 @@
 -- `unpack_leaves::enums::each_among` meets its contract: the words seen are all among the values.
 -- Assumes nothing.
-use borrow.Author.Rules.{rules}
 use Prim.Native.Nat.{◌-◌, ◌≤◌}
 use mathlib.Core.Path.{◌≡◌}
 use mathlib.Core.Bool.{true}
 use Rattle.wire.specs.All.{all_below}
-use Rattle.wire.proofs.AllBelow.{none_below, done_below}
 use Rattle.unpack_leaves.specs.OneCode.{is_among}
-use Rattle.unpack_leaves.proofs.OneCode.{leaf_room, product_fits, place_fits}
-use Rattle.unpack_leaves.proofs.AmongValues.{among_next, among-stop}
 use Rattle.unpack_leaves.proofs.enums.each_among.Given as goal
 
 abbrev pub invariant-loop-k : goal.invariant-loop-k

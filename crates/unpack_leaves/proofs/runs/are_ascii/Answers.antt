@@ -1,9 +1,4 @@
 use borrow.Author.Rules.{rules}
-use Prim.Native.Nat.{◌-◌, ◌≤◌, ◌<◌}
-use mathlib.Core.Path.{◌≡◌}
-use lib.Dec.{leb}
-use Rattle.wire.specs.All.{all_below}
-use Rattle.unpack_leaves.specs.OneCode.{is_good}
 use Rattle.unpack_leaves.proofs.Ascii.{still_byte, none-ascii, more-ascii, all_ascii}
 use Rattle.unpack_leaves.proofs.runs.are_ascii.Goals as goal
 
@@ -13,7 +8,7 @@ loop-seen-init c =
 
 pub loop-seen-preserved : goal.loop-seen-preserved
 loop-seen-preserved c =
-    (search more-ascii, search (still_byte, c.type_inv.payload), search rules)
+    (search more-ascii, search still_byte, search rules)
 
 pub returns : goal.returns
 returns c =

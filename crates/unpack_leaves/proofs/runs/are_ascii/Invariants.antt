@@ -1,12 +1,10 @@
 -- `unpack_leaves::runs::are_ascii` meets its contract: what the bytes seen were put together to is ASCII where each of them is.
 -- Assumes nothing.
-use borrow.Author.Rules.{rules}
 use Prim.Native.Nat.{◌-◌, ◌≤◌, ◌<◌}
 use mathlib.Core.Path.{◌≡◌}
 use lib.Dec.{leb}
 use Rattle.wire.specs.All.{all_below}
 use Rattle.unpack_leaves.specs.OneCode.{is_good}
-use Rattle.unpack_leaves.proofs.Ascii.{still_byte, none-ascii, more-ascii, all_ascii}
 use Rattle.unpack_leaves.proofs.runs.are_ascii.Given as goal
 
 abbrev pub invariant-loop-seen : goal.invariant-loop-seen

@@ -1,6 +1,5 @@
 -- `unpack_leaves::runs::judge_run` meets its contract: each arm judges leaves of its own code.
 -- Assumes nothing.
-use borrow.Author.Rules.{rules}
 use Rattle.unpack_leaves.proofs.WholeRuns.{arm_judged, arm-none}
 use Rattle.unpack_leaves.proofs.runs.judge_run.Goals as goal
 

@@ -1,10 +1,5 @@
 use borrow.Author.Rules.{rules}
-use Prim.Native.Nat.{◌-◌, ◌≤◌}
-use mathlib.Core.Path.{◌≡◌}
 use native.Mathlib.Omega.{arith}
-use lib.Dec.{eqb}
-use Rattle.wire.specs.All.{all_below}
-use Rattle.unpack_leaves.specs.OneCode.{is_good}
 use Rattle.leaf.proofs.Counted.{counted_none}
 use Rattle.unpack_leaves.proofs.Ascii.{chars-in, chars-judged}
 use Rattle.unpack_leaves.proofs.OneCode.{leaf_room, product_fits, place_fits, all_good, judged-more, judged-all}

@@ -1,8 +1,5 @@
 use borrow.Author.Rules.{rules}
-use Prim.Native.Nat.{◌-◌, ◌≤◌}
-use mathlib.Core.Path.{◌≡◌, refl}
-use lib.ListN.{length}
-use Rattle.unpack_leaves.specs.OneCode.{filled}
+use mathlib.Core.Path.{refl}
 use Rattle.unpack_leaves.proofs.OneCode.{leaf_room, product_fits, place_fits, filled_none, filled_more, filled-all, same-many}
 use Rattle.unpack_leaves.proofs.runs.store.Goals as goal
 

@@ -1,11 +1,9 @@
 -- `unpack_leaves::runs::store` meets its contract: so many words are stored.
 -- Assumes nothing.
-use borrow.Author.Rules.{rules}
 use Prim.Native.Nat.{◌-◌, ◌≤◌}
-use mathlib.Core.Path.{◌≡◌, refl}
+use mathlib.Core.Path.{◌≡◌}
 use lib.ListN.{length}
 use Rattle.unpack_leaves.specs.OneCode.{filled}
-use Rattle.unpack_leaves.proofs.OneCode.{leaf_room, product_fits, place_fits, filled_none, filled_more, filled-all, same-many}
 use Rattle.unpack_leaves.proofs.runs.store.Given as goal
 
 abbrev pub invariant-loop-done : goal.invariant-loop-done

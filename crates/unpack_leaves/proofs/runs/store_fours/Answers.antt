@@ -1,8 +1,5 @@
 use borrow.Author.Rules.{rules}
-use Prim.Native.Nat.{◌-◌, ◌*◌, ◌/◌, ◌≤◌}
-use mathlib.Core.Path.{◌≡◌, refl}
-use lib.ListN.{length}
-use Rattle.unpack_leaves.specs.OneCode.{filled}
+use mathlib.Core.Path.{refl}
 use Rattle.walk.proofs.Fours.{four-in, four-times, four-place, rest_in, rest-times, rest-place}
 use Rattle.unpack_leaves.proofs.Fours.{none_yet, four-more, rest_more}
 use Rattle.unpack_leaves.proofs.runs.store_fours.Goals as goal

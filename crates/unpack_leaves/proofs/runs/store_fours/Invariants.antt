@@ -1,12 +1,9 @@
 -- `unpack_leaves::runs::store_fours` meets its contract: four times so many words are stored, and then the rest.
 -- Assumes nothing.
-use borrow.Author.Rules.{rules}
 use Prim.Native.Nat.{◌-◌, ◌*◌, ◌/◌, ◌≤◌}
-use mathlib.Core.Path.{◌≡◌, refl}
+use mathlib.Core.Path.{◌≡◌}
 use lib.ListN.{length}
 use Rattle.unpack_leaves.specs.OneCode.{filled}
-use Rattle.walk.proofs.Fours.{four-in, four-times, four-place, rest_in, rest-times, rest-place}
-use Rattle.unpack_leaves.proofs.Fours.{none_yet, four-more, rest_more}
 use Rattle.unpack_leaves.proofs.runs.store_fours.Given as goal
 
 abbrev pub invariant-loop-k : goal.invariant-loop-k

@@ -1,6 +1,5 @@
 -- `unpack_leaves::runs::store_run` meets its contract: all of a run of one code, or nothing.
 -- Assumes nothing.
-use borrow.Author.Rules.{rules}
 use Rattle.unpack_leaves.proofs.WholeRuns.{bytes_fit, run_in, run_stored, run-left}
 use Rattle.unpack_leaves.proofs.runs.store_run.Goals as goal
 

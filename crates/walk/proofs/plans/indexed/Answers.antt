@@ -1,6 +1,5 @@
 -- `walk::plans::indexed` meets its contract.
 -- Assumes nothing.
-use borrow.Author.Rules.{rules}
 use Rattle.walk.proofs.WherePlans.{none-indexed, is-indexed, not-indexed}
 use Rattle.walk.proofs.plans.indexed.Goals as goal
 

@@ -1,6 +1,5 @@
 -- `walk::plans::is_planned` meets its contract.
 -- Assumes nothing.
-use borrow.Author.Rules.{rules}
 use Rattle.walk.proofs.WherePlans.{planned-is}
 use Rattle.walk.proofs.plans.is_planned.Goals as goal
 

@@ -1,6 +1,5 @@
 -- `walk::plans::lying` meets its contract.
 -- Assumes nothing.
-use borrow.Author.Rules.{rules}
 use Rattle.walk.proofs.WherePlans.{lies, lies-not}
 use Rattle.walk.proofs.plans.lying.Goals as goal
 

@@ -1,6 +1,5 @@
 -- `walk::plans::plan_of` meets its contract.
 -- Assumes nothing.
-use borrow.Author.Rules.{rules}
 use Rattle.walk.proofs.WherePlans.{plan-is}
 use Rattle.walk.proofs.plans.plan_of.Goals as goal
 

@@ -1,6 +1,5 @@
 -- `walk::runs::are_there` meets its contract.
 -- Assumes nothing.
-use borrow.Author.Rules.{rules}
 use Rattle.walk.proofs.Parts.{both_there}
 use Rattle.walk.proofs.runs.are_there.Goals as goal
 

@@ -1,6 +1,5 @@
 -- `walk::runs::base_codes` meets its contract: the codes at the places of the table's sections.
 -- Assumes nothing.
-use borrow.Author.Rules.{rules}
 use Rattle.walk.proofs.Parts.{count-placed, codes_placed, none_left, none_kept}
 use Rattle.walk.proofs.runs.base_codes.Goals as goal
 

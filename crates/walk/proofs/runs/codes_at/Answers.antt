@@ -1,7 +1,6 @@
 -- `walk::runs::codes_at` meets its contract: what is read from the parts stands in the table, and there are no codes where one
 -- of them does not lie within it.
 -- Assumes nothing.
-use borrow.Author.Rules.{rules}
 use Rattle.walk.proofs.Parts.{types-end, members-end, parts-there, counted_in, stored-in, not_there, none-placed}
 use Rattle.walk.proofs.runs.codes_at.Goals as goal
 

@@ -4,11 +4,8 @@ use Prim.Native.Nat.{◌-◌, ◌≤◌}
 use mathlib.Core.Path.{◌≡◌}
 use mathlib.Core.Bool.{true}
 use lib.ListN.{length}
-use borrow.Author.Rules.{rules}
 use Rattle.wire.specs.Bytes.{over}
 use Rattle.walk.specs.Codes.{Parts, all_bases, firsts, part_code}
-use Rattle.walk.proofs.Codes.{none-lead, one-leads, all_of, none_stored, one-stored, so-many}
-use Rattle.walk.proofs.Parts.{base-part, other-stops, own-stops}
 use Rattle.walk.proofs.runs.codes_in.Given as goal
 
 abbrev pub invariant-loop-k : goal.invariant-loop-k

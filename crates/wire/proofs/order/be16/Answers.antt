@@ -1,6 +1,5 @@
 -- `wire::order::be16` meets its contract: the little-endian number, swapped.
 -- Assumes nothing.
-use borrow.Author.Rules.{rules}
 use Rattle.wire.proofs.Swaps.{read_swapped}
 use Rattle.wire.proofs.order.be16.Goals as goal
 

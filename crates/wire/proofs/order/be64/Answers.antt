@@ -1,6 +1,5 @@
 -- `wire::order::be64` meets its contract: the little-endian number, swapped.
 -- Assumes nothing.
-use borrow.Author.Rules.{rules}
 use Rattle.wire.proofs.Swaps.{read_swapped}
 use Rattle.wire.proofs.order.be64.Goals as goal
 

@@ -1,6 +1,5 @@
 -- `wire::order::byte` meets its contract: a byte of the slice is below 256.
 -- Assumes nothing.
-use borrow.Author.Rules.{rules}
 use native.Mathlib.Omega.{arith}
 use Rattle.wire.proofs.order.byte.Goals as goal
 

@@ -1,6 +1,5 @@
 -- `wire::order::le32` meets its contract: its four bytes, each by its weight.
 -- Assumes nothing.
-use borrow.Author.Rules.{rules}
 use Rattle.wire.proofs.Swaps.{four_little}
 use Rattle.wire.proofs.order.le32.Goals as goal
 

@@ -1,6 +1,5 @@
 -- `wire::order::set_be16` meets its contract: the bytes of the swapped number, low byte first.
 -- Assumes nothing.
-use borrow.Author.Rules.{rules}
 use Rattle.wire.proofs.Swaps.{wrote_swapped}
 use Rattle.wire.proofs.order.set_be16.Goals as goal
 

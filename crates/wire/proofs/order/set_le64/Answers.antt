@@ -1,6 +1,5 @@
 -- `wire::order::set_le64` meets its contract: its two halves, one behind the other.
 -- Assumes nothing.
-use borrow.Author.Rules.{rules}
 use Rattle.wire.proofs.Swaps.{halves}
 use Rattle.wire.proofs.order.set_le64.Goals as goal
 

@@ -1,6 +1,5 @@
 -- `wire::word_at` meets its contract: past the end it is 0.
 -- Assumes nothing.
-use borrow.Author.Rules.{rules}
 use Rattle.wire.proofs.Numbers.{past}
 use Rattle.wire.proofs.words.word_at.Goals as goal
 
