@@ -91,7 +91,7 @@ if_keeps (check.Table s) c n t i x k = in_keeps c n t s i x k
 noting_refused : (x : Noting) → ¬ (receive_number x ≡ 0) → x ≡ noting.Refused (receive_number x)
 noting_refused (noting.Refused n) k = refl
 noting_refused (noting.Noted h x n) k = absurd (k refl)
-noting_refused (noting.Response h i start len) k = absurd (k refl)
+noting_refused (noting.Response h i _ len) k = absurd (k refl)
 
 module _ (own : ℕ) (t : List ℕ) (p : Standing) (l m out : List ℕ) where
   receive-kept : ¬ (receive_number (received_of own t p l m (length out)).answer ≡ 0)

@@ -7,7 +7,7 @@ use mathlib.Core.List.{List, [], ◌∷◌, ◌++◌, map}
 use native.Mathlib.Omega.{arith}
 use lib.ListN.{length, get_or, replicate, length-map}
 use lib.Seq.{take_at}
-use denote.Ref.{Bor}
+use denote.Ref.{Bor, MutBor}
 use Rattle.channel.specs.Record.{channel_limit, new_channel}
 use Rattle.channel.specs.declared.Channel.{Channel}
 use Rattle.channel.specs.declared.Outcome.{Outcome}
@@ -196,15 +196,18 @@ the_mix_makes_no_difference ids R rooms rooms' k one other a x y =
 abbrev pub lent : List ℕ → Bor (List ℕ)
 lent xs = record { ref_ptr = (0, 0); now = xs }
 
+abbrev pub lent_mut : List ℕ → MutBor (List ℕ)
+lent_mut xs = record { ref_ptr = (0, 0); ghost_name = 0; now = xs }
+
 takes : (ws rooms : List ℕ) (d : Datagram) (out : List ℕ)
     → nyr.Takes (record { state = ws; rooms = rooms; datagram = d; answer = out }) (take_number ws rooms d)
     (record { state = take_words ws rooms d; rooms = take_rooms ws rooms d; answer = take_answer ws rooms d out })
 takes ws rooms d out = (
   ([], ([], ([], ([], tt)))),
   (
-    (lent ws, (lent rooms, (lent d, (lent out, tt)))),
+    (lent_mut ws, (lent_mut rooms, (lent d, (lent_mut out, tt)))),
     (
-      (lent (take_words ws rooms d), (lent (take_rooms ws rooms d), (lent d, (lent (take_answer ws rooms d out), tt)))),
+      (lent_mut (take_words ws rooms d), (lent_mut (take_rooms ws rooms d), (lent d, (lent_mut (take_answer ws rooms d out), tt)))),
       ((refl, (refl, (refl, refl))), (refl, refl)),
     ),
   ),
@@ -214,7 +217,7 @@ setting : (ids : List ℕ) (R b : ℕ) (was : List ℕ)
     → nyr.SetsUp (record { state = was; ids = ids; room = R; rooms = b }) (setup_number ids R b) (setup_words ids R b was)
 setting ids R b was = (
   ([], ([], tt)),
-  ((lent was, (lent ids, (R, (b, tt)))), ((lent (setup_words ids R b was), (lent ids, (R, (b, tt)))), ((refl, refl), (refl, refl)))),
+  ((lent_mut was, (lent ids, (R, (b, tt)))), ((lent_mut (setup_words ids R b was), (lent ids, (R, (b, tt)))), ((refl, refl), (refl, refl)))),
 )
 
 abbrev calls_from : List ℕ → List ℕ → List Datagram → List Call

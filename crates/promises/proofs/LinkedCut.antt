@@ -4,7 +4,7 @@ use Prim.Native.Nat.{ℕ, zero, suc, ◌+◌, ◌≤◌, ◌<◌}
 use mathlib.Core.Path.{◌≡◌, refl, sym, ap, ap₂, ◌∙◌, subst}
 use mathlib.Core.List.{List, [], ◌∷◌}
 use native.Mathlib.Omega.{arith}
-use denote.Ref.{Bor}
+use denote.Ref.{Bor, MutBor}
 use lib.ListN.{length, get_or, take, drop, replicate, length-replicate}
 use lib.Seq.{take_at}
 use Rattle.wire.specs.Bytes.{over as written_over}
@@ -130,8 +130,11 @@ cut_then_taken ids R rooms k msg s first g was n count p cuts r = (count-number 
 abbrev pub lent : {X : Type 0} → X → Bor X
 lent x = record { ref_ptr = (0, 0); now = x }
 
+abbrev pub lent_mut : {X : Type 0} → X → MutBor X
+lent_mut x = record { ref_ptr = (0, 0); ghost_name = 0; now = x }
+
 counts : (m s was : ℕ) → Counts (record { total = m; size = s; given = was }) (pieces_number m s) (pieces_given m s was)
-counts m s was = (([], tt), ((m, (s, (lent was, tt))), ((m, (s, (lent (pieces_given m s was), tt))), ((refl, refl), (refl, refl)))))
+counts m s was = (([], tt), ((m, (s, (lent_mut was, tt))), ((m, (s, (lent_mut (pieces_given m s was), tt))), ((refl, refl), (refl, refl)))))
 
 module _ (msg : List ℕ) (s id first : ℕ) where
   abbrev room : List ℕ
@@ -144,9 +147,9 @@ module _ (msg : List ℕ) (s id first : ℕ) where
   cuts i = (
     ([], ([], ([], tt))),
     (
-      (lent msg, (s, (id, (first, (i, (lent room, (lent 0, tt))))))),
+      (lent msg, (s, (id, (first, (i, (lent_mut room, (lent_mut 0, tt))))))),
       (
-        (lent msg, (s, (id, (first, (i, (lent (left_of i).out, (lent (left_of i).written, tt))))))),
+        (lent msg, (s, (id, (first, (i, (lent_mut (left_of i).out, (lent_mut (left_of i).written, tt))))))),
         ((refl, (refl, refl)), (refl, refl)),
       ),
     ),

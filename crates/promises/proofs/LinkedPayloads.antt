@@ -174,7 +174,7 @@ unpacked_back : UnpackedBack
 unpacked_back t i b words n walked left o u z out n' walked' left' p room =
     let a : unpacked t i b (length words) ≡ Gave (given walked) = sym u.0 ∙ gave_given n walked z in
     let k = gave_known (reader b) (length b) t i (length words) (given walked) a in
-    let r = (payloads.calls t k.0 i k.1).2.unpack-then-pack b words out (given walked) o a room in
+    let r = (payloads.calls t k.0 i k.1).2.unpack_then_pack b words out (given walked) o a room in
     let g : PackGives t i (take (given walked) left) out r.0 =
     subst (λ (x : List ℕ). PackGives t i (take (given walked) x) out r.0) (sym u.1) r.3 in
     let y = zero_is_given n' walked' (length r.0) (p.0 ∙ g.0) in

@@ -27,7 +27,7 @@ use Rattle.promises.specs.Plans.{AsTheWalk}
 use Rattle.promises.specs.LinkedPlans.{LoadLent, load_lent, Measures, Lays, WalkLent, walk_lent, WalkLeft, UnpacksIn, PacksIn}
 use Rattle.promises.specs.LinkedPlans.{◌with-plans◌, UnpacksBy, PacksBy, LaidFor, LaidIn, LinkedPlans}
 use Rattle.promises.specs.WorkedPlans.{plan_table, plan_sections, forged, inner, inner_payload, inner_words}
-use Rattle.promises.proofs.LinkedCut.{lent}
+use Rattle.promises.proofs.LinkedCut.{lent, lent_mut}
 use Rattle.promises.proofs.LinkedPayloads.{sections_back, linked_payloads}
 use Rattle.promises.proofs.PlanOutcomes.{outcome, IsIn, IsBy, same, goes, both-parts, lifetimes5, start, handed_in, walks-in, walks-by}
 use Rattle.promises.proofs.Plans.{the_plans}
@@ -117,7 +117,7 @@ some l w =
         ws,
         (
           ([], ([], ([], tt))),
-          ((lent t, (lent l.sections, (lent ws, tt))), ((lent t, (lent l.sections, (lent (laid_out t s ws), tt))), ((sym z, refl), (refl, refl)))),
+          ((lent t, (lent l.sections, (lent_mut ws, tt))), ((lent t, (lent l.sections, (lent_mut (laid_out t s ws), tt))), ((sym z, refl), (refl, refl)))),
         ),
       ),
     )

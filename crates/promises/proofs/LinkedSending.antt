@@ -86,7 +86,7 @@ abbrev valued : SendMixedLent → ToSend
 valued l =
     let x = l.lent in
     record {
-      own_val = x.own;
+      own = x.own;
       stamp = stamp_in l.stamp;
       partners = l.partners;
       next = next_in x.platform;

@@ -16,7 +16,7 @@ use Rattle.nyrkovash.specs.PayloadCalls.{walked_left}
 use Rattle.promises.specs.Linked.{Allows}
 use Rattle.promises.specs.LinkedPlans.{WalkLent, WalkLeft, walk_left, Walking, HandedIn, lent_in, exit_in}
 use Rattle.promises.specs.LinkedPlans.{PlansLent, ◌with-plans◌, HandedBy, lent_by, exit_by, GoesBy}
-use Rattle.promises.proofs.LinkedCut.{lent}
+use Rattle.promises.proofs.LinkedCut.{lent, lent_mut}
 use Rattle.promises.proofs.LinkedPayloads.{as-told, gave_given}
 use Rattle.promises.proofs.Numbered.{Numbered, by-numbered}
 
@@ -84,7 +84,7 @@ module _ {l r : WalkLeft} (e : l ≡ r) where
   both-parts = (ap (λ (y : WalkLeft). y.output) e, ap (λ (y : WalkLeft). y.walked) e)
 
 abbrev pub walking : List ℕ → WalkLeft → Walking
-walking x r = (lent x, (lent r.output, (lent r.walked, tt)))
+walking x r = (lent x, (lent_mut r.output, (lent_mut r.walked, tt)))
 
 abbrev pub start : WalkLent → WalkLeft
 start l = walk_left l.output l.walked

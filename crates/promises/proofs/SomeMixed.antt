@@ -3,14 +3,14 @@
 use Prim.Native.Nat.{ℕ}
 use mathlib.Core.Path.{◌≡◌, refl, sym, subst}
 use mathlib.Core.List.{List, []}
-use denote.Ref.{Bor}
+use denote.Ref.{MutBor}
 use Rattle.table.specs.Words.{sections_in, index_in}
 use Rattle.mixed_words.specs.TableCalls.{mixed_number, mixed_words, mixed_services, mixed_output, mixed_heard}
 use Rattle.mixed_words.specs.SectionCalls.{mixed_in_number, mixed_in_words, mixed_in_services, mixed_in_output, mixed_in_heard}
 use Rattle.mixed_words.specs.ServiceCalls.{service_number}
 use Rattle.promises.specs.MixedCalls.{TableGiven, bytes, sections}
 use Rattle.promises.specs.LinkedMixed.{MixedLent, ReceivesOn, ReceivesIn, WhoAsks}
-use Rattle.promises.proofs.Linked.{lent}
+use Rattle.promises.proofs.Linked.{lent, lent_mut}
 
 -- nothing is said here of the stamp and of what was heard before
 module _ (own : ℕ) (i ours ws sv t m out : List ℕ) where
@@ -18,13 +18,13 @@ module _ (own : ℕ) (i ours ws sv t m out : List ℕ) where
       (record { own = own; partners = i; ours = ours; platform = ws; services = sv; table = bytes t; message = m; output = out })
       (mixed_number own i ours ws sv t m out) (mixed_services own i ours ws sv t m out)
   one_call =
-      let after : Bor (List ℕ) = lent (mixed_words own i ours ws sv t m out) in
-      let kept : Bor (List ℕ) = lent (mixed_services own i ours ws sv t m out) in
-      let left : Bor (List ℕ) = lent (mixed_output own [] i ours ws sv t m out) in
-      let heard : Bor (List ℕ) = lent (mixed_heard own i ours ws sv t m out []) in (
+      let after : MutBor (List ℕ) = lent_mut (mixed_words own i ours ws sv t m out) in
+      let kept : MutBor (List ℕ) = lent_mut (mixed_services own i ours ws sv t m out) in
+      let left : MutBor (List ℕ) = lent_mut (mixed_output own [] i ours ws sv t m out) in
+      let heard : MutBor (List ℕ) = lent_mut (mixed_heard own i ours ws sv t m out []) in (
         ([], ([], ([], ([], ([], ([], ([], ([], ([], tt))))))))),
         (
-          (own, (lent [], (lent i, (lent ours, (lent ws, (lent sv, (lent t, (lent m, (lent out, (lent [], tt)))))))))),
+          (own, (lent [], (lent i, (lent ours, (lent_mut ws, (lent_mut sv, (lent t, (lent m, (lent_mut out, (lent_mut [], tt)))))))))),
           (
             (own, (lent [], (lent i, (lent ours, (after, (kept, (lent t, (lent m, (left, (heard, tt)))))))))),
             ((refl, (refl, (refl, (refl, refl)))), (refl, refl)),
@@ -45,13 +45,13 @@ module _ (own : ℕ) (i ours ws sv t m out : List ℕ) where
       })
       (mixed_in_number own i ours ws sv t ss m out) (mixed_in_services own i ours ws sv t ss m out)
   one-call-in ss =
-      let after : Bor (List ℕ) = lent (mixed_in_words own i ours ws sv t ss m out) in
-      let kept : Bor (List ℕ) = lent (mixed_in_services own i ours ws sv t ss m out) in
-      let left : Bor (List ℕ) = lent (mixed_in_output own [] i ours ws sv t ss m out) in
-      let heard : Bor (List ℕ) = lent (mixed_in_heard own i ours ws sv t ss m out []) in (
+      let after : MutBor (List ℕ) = lent_mut (mixed_in_words own i ours ws sv t ss m out) in
+      let kept : MutBor (List ℕ) = lent_mut (mixed_in_services own i ours ws sv t ss m out) in
+      let left : MutBor (List ℕ) = lent_mut (mixed_in_output own [] i ours ws sv t ss m out) in
+      let heard : MutBor (List ℕ) = lent_mut (mixed_in_heard own i ours ws sv t ss m out []) in (
         ([], ([], ([], ([], ([], ([], ([], ([], ([], ([], tt)))))))))),
         (
-          (own, (lent [], (lent i, (lent ours, (lent ws, (lent sv, (lent t, (lent ss, (lent m, (lent out, (lent [], tt))))))))))),
+          (own, (lent [], (lent i, (lent ours, (lent_mut ws, (lent_mut sv, (lent t, (lent ss, (lent m, (lent_mut out, (lent_mut [], tt))))))))))),
           (
             (own, (lent [], (lent i, (lent ours, (after, (kept, (lent t, (lent ss, (lent m, (left, (heard, tt))))))))))),
             ((refl, (refl, (refl, (refl, refl)))), (refl, refl)),

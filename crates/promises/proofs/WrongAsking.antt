@@ -26,7 +26,7 @@ use Rattle.promises.proofs.MixedSending.{sends_by_issue}
 abbrev asks : ℕ → ℕ → ToSend
 asks target room =
     record {
-      own_val = 1;
+      own = 1;
       stamp = record { seconds = 3; nanoseconds = 4 };
       partners = listed (2 ∷ []);
       next = 7;

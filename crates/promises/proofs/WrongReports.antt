@@ -121,7 +121,7 @@ requests (Response h i start len) = refl
 from_start : (x : Heard) → start_in (payload_from_start x) ≡ 0
 from_start (heard.Status x) = refl
 from_start heard.Request = refl
-from_start (heard.UnknownOperation id) = refl
+from_start (heard.UnknownOperation _) = refl
 from_start heard.PullOfAll = refl
 from_start (heard.PullOfOne id i) = refl
 from_start (heard.NotVersionedData id) = refl

@@ -70,7 +70,7 @@ abbrev pub Writes : WriteLent → ℕ → WriteLeft → Type 0
 Writes =
     Allows nyr-write
     (λ k a. record {
-      own_val = a.0;
+      own = a.0;
       domain = a.1.0;
       id = a.1.1.0;
       sequence = a.1.1.1.0;
@@ -87,7 +87,7 @@ Writes3 =
       seconds = a.1.0;
       nanoseconds = a.1.1.0;
       lent = record {
-        own_val = a.0;
+        own = a.0;
         domain = a.1.1.1.0;
         id = a.1.1.1.1.0;
         sequence = a.1.1.1.1.1.0;

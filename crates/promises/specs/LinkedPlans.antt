@@ -3,7 +3,7 @@
 -- specs/ExportsKeep, and answers are unique by specs/UniqueCalls. The theorem is in proofs/LinkedPlans.antt.
 use Prim.{Unit}
 use Rattle.std.specs.Prelude.{ℕ, ◌≤◌, ◌<◌, ◌≡◌, ◌↔◌, true, false, List, [], ◌∷◌, ◌++◌, length, get_or}
-use Rattle.std.specs.Borrow.{Bor}
+use Rattle.std.specs.Borrow.{Bor, MutBor}
 use Rattle.table.specs.declared.Sections.{Sections}
 use Rattle.table.specs.declared.Checked.TheVariants.{Table}
 use Rattle.table.specs.Layout.{within}
@@ -57,7 +57,7 @@ walk_left y w = record { output = y; walked = w }
 
 -- as they are handed: lent, but for the type
 abbrev pub Walking : Type 0
-Walking = Bor (List ℕ) × (Bor (List ℕ) × (Bor (List ℕ) × Unit {0}))
+Walking = Bor (List ℕ) × (MutBor (List ℕ) × (MutBor (List ℕ) × Unit {0}))
 
 abbrev pub HandedIn : Type 0
 HandedIn = Bor (List ℕ) × (Bor (List ℕ) × (ℕ × Walking))
@@ -87,7 +87,7 @@ abbrev pub HandedBy : Type 0
 HandedBy = Bor (List ℕ) × (Bor (List ℕ) × (Bor (List ℕ) × (ℕ × Walking)))
 
 abbrev pub lent_by : HandedBy → PlansLent
-lent_by a = lent_in (a.0, (a.1.0, a.1.1.1)) with-plans (λ x. x.now) a.1.1.0
+lent_by a = lent_in (a.0, (a.1.0, a.1.1.1)) with-plans a.1.1.0.now
 
 abbrev pub exit_by : HandedBy → WalkLeft
 exit_by e = exit_in (e.0, (e.1.0, e.1.1.1))

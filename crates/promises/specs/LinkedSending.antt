@@ -46,7 +46,7 @@ abbrev pub Sends : SendLent → ℕ → SendLeft → Type 0
 Sends =
     Allows nyr-send
     (λ k a. record {
-      own_val = a.0;
+      own = a.0;
       platform = a.1.0.now;
       table = a.1.1.0.now;
       sections = a.1.1.1.0.now;
@@ -69,7 +69,7 @@ SendsMixed =
       stamp = a.1.0.now;
       partners = a.1.1.0.now;
       lent = record {
-        own_val = a.0;
+        own = a.0;
         platform = a.1.1.1.0.now;
         table = a.1.1.1.1.0.now;
         sections = a.1.1.1.1.1.0.now;

@@ -52,7 +52,7 @@ from_shown x = shown_any (as_before x.said) x.output [] x.standing
 abbrev pub asking : ℕ → Standing → List ℕ → Stamp → List ℕ → ℕ → ℕ → ℕ → List ℕ → List ℕ → ToSend
 asking own p l stamp partners kind id target payload out =
     record {
-      own_val = own;
+      own = own;
       stamp = stamp;
       partners = partners;
       next = p.next;

@@ -14,7 +14,7 @@ use Rattle.promises.specs.MixedRequestRuns.{AsMapByAny}
 abbrev pub from_one : ToSend → ToSend
 from_one x =
     record {
-      own_val = x.own;
+      own = x.own;
       stamp = x.stamp;
       partners = x.partners;
       next = 1;
