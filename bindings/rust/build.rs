@@ -1,4 +1,4 @@
-//! Has the proved archive linked: NYRKOVASH_LIB, or the one that `rt staticlib nyrkovash` writes. It is for x86-64: for another
+//! Has the proved archive linked: NYRKOVASH_LIB, or the one that `tools/archive` writes. It is for x86-64: for another
 //! target there is nothing to link, and what uses the crate can be checked and not run.
 
 use std::path::Path;
@@ -18,7 +18,7 @@ fn main() {
     let out = std::env::var("OUT_DIR").expect("cargo sets OUT_DIR");
     // By its own name, whatever that of NYRKOVASH_LIB is.
     if let Err(why) = std::fs::copy(&archive, Path::new(&out).join("libnyrkovash.a")) {
-        panic!("{archive}: {why}; `rt staticlib nyrkovash` writes it");
+        panic!("{archive}: {why}; `tools/archive` writes it");
     }
     println!("cargo:rustc-link-search=native={out}");
     println!("cargo:rustc-link-lib=static=nyrkovash");

@@ -12,7 +12,7 @@ truth x = cond (x == 0) 0 1
 unfoldable pub extended : ℕ → ℕ → ℕ
 extended half x = cond (nat_lt x half) x (x + (2 ^ 64 - 2 * half))
 
--- the same by turning the sign over, where half is a power of two (`sign-carried` of proofs/Signs); no contract of a public function says it
+-- the same by turning the sign over, where half is a power of two (`sign_carried` of proofs/Signs); no contract of a public function says it
 abbrev pub carried : ℕ → ℕ → ℕ
 carried half x = bit_xor (bit_xor x half + (2 ^ 63 - half)) (2 ^ 63)
 

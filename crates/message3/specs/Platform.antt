@@ -114,7 +114,7 @@ platform_message3 id field second =
 abbrev pub message_of3 : ℕ → ℕ → ℕ → ℕ → Message3
 message_of3 domain id field second = cond (eqb domain platform_domain) (platform_message3 id field second) Operation
 
--- by cases: its kind. What Issue 6 has too is of Issue 6's kind (`kindIn` of `message/specs/Platform`), and the others go on behind these
+-- by cases: its kind. What Issue 6 has too is of Issue 6's kind (`kind_in` of `message/specs/Platform`), and the others go on behind these
 abbrev pub kind_in3 : Message3 → ℕ
 kind_in3 (PlatformStatus x c) = platform_status
 kind_in3 PlatformStatusRequest = platform_status_request

@@ -16,7 +16,7 @@ use Rattle.nyrkovash.specs.MessageCalls.{write_left}
 abbrev pub partners_left : List ℕ → ℕ → ℕ → List ℕ
 partners_left partners k issue = three_set partners k (eqb issue 3)
 
--- a message read is the six words of `readLeft`, and behind them its issue, its timestamp in seconds and nanoseconds, and a status's
+-- a message read is the six words of `read_left`, and behind them its issue, its timestamp in seconds and nanoseconds, and a status's
 -- composite ID: these three are 0 for Issue 6
 abbrev pub any_left : List ℕ → AnyReading → List ℕ
 any_left was (Refused n) = was
@@ -32,7 +32,7 @@ any_number partners own s = number_given (any_of partners own s)
 abbrev pub any_answer : List ℕ → ℕ → List ℕ → List ℕ → List ℕ
 any_answer partners own s was = any_left was (any_of partners own s)
 
--- a message written for a partner that speaks Issue 3, as `writeNumber` and `writeGiven` have it for Issue 6, with its timestamp
+-- a message written for a partner that speaks Issue 3, as `write_number` and `write_given` have it for Issue 6, with its timestamp
 abbrev pub stamped : ℕ → ℕ → Stamp
 stamped seconds nanoseconds = record { seconds = seconds; nanoseconds = nanoseconds }
 

@@ -25,7 +25,7 @@ read_answer own s was = read_left was (read_of own s)
 abbrev pub write_left : ℕ → Writing → ℕ
 write_left was x = writing.left_over_by x was (writing.bytes_in x)
 
--- for an output, which is `outputAfter` afterwards
+-- for an output, which is `output_after` afterwards
 abbrev pub write_number : ℕ → ℕ → List ℕ → List ℕ → ℕ
 write_number domain id payload out = writing.number_given (write_of domain id payload (length out))
 

@@ -11,7 +11,7 @@ walked_left was (Refused k) = was
 walked_left was (Stopped k s) = get_or was 0 0 ∷ s.at ∷ s.leaves ∷ []
 walked_left was (Gave k) = k ∷ get_or was 1 0 ∷ get_or was 2 0 ∷ []
 
--- a payload b unpacked into words, which are `wordsAfter` afterwards; on sections in their words, `words_in`
+-- a payload b unpacked into words, which are `words_after` afterwards; on sections in their words, `words_in`
 abbrev pub unpack_number : List ℕ → ℕ → List ℕ → List ℕ → ℕ
 unpack_number t i b words = number_given (unpacked t i b (length words))
 
@@ -24,7 +24,7 @@ unpack_number_in t sections i b words = number_given (unpacked_in t (sections_in
 abbrev pub unpack_walked_in : List ℕ → List ℕ → ℕ → List ℕ → List ℕ → List ℕ → List ℕ
 unpack_walked_in t sections i b words was = walked_left was (unpacked_in t (sections_in sections) i b (length words))
 
--- words packed into an output, which is `bytesAfter` afterwards; on sections in their words, `bytesIn`
+-- words packed into an output, which is `bytes_after` afterwards; on sections in their words, `bytes_in`
 abbrev pub pack_number : List ℕ → ℕ → List ℕ → List ℕ → ℕ
 pack_number t i words out = number_given (packed t i words (length out))
 

@@ -19,7 +19,7 @@ pieces_given m s was = count_left was (counted_of m s)
 abbrev pub made_left : ℕ → Made → ℕ
 made_left was x = made.left_over_by x was (made.bytes_in x)
 
--- for an output, which is `cutInto` afterwards
+-- for an output, which is `cut_into` afterwards
 abbrev pub cut_number : List ℕ → ℕ → ℕ → ℕ → ℕ → List ℕ → ℕ
 cut_number msg s sender first i out = made.number_given (made_of msg s sender first i (length out))
 

@@ -1,5 +1,5 @@
 -- 02, request 13: what laying plans out and the calls by plans give back and leave, over words that hold the sections. At a refusal what
--- the caller lent for an answer stays as it was, but for the place that 40 to 43 give (`walkedLeft`).
+-- the caller lent for an answer stays as it was, but for the place that 40 to 43 give (`walked_left`).
 use Rattle.std.specs.Prelude.{ℕ, List, length}
 use Rattle.table.specs.Words.{sections_in}
 use Rattle.plan.specs.declared.Length.{Length}

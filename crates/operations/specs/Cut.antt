@@ -1,5 +1,5 @@
 -- 01, "30 and 31: whichever is met first in reading order"; 02, 1: a section of operations that is cut short, 30, as it is met entry
--- by entry. It is the same as a section that ends past the bytes (`cut-by-its-end` of proofs/Places).
+-- by entry. It is the same as a section that ends past the bytes (`cut_by_its_end` of proofs/Places).
 use Rattle.std.specs.Prelude.{ℕ, zero, suc, ◌+◌, Bool, true, false, cond, List, ltb, length}
 use Rattle.operations.specs.Entries.{op_width}
 

@@ -5,12 +5,12 @@ use Prim.Native.Nat.{ℕ, zero, suc, ◌+◌, ◌-◌, ◌≤◌, ◌<◌}
 use mathlib.Core.Path.{◌≡◌, refl, sym, ap, subst, ◌∙◌}
 use mathlib.Core.Bool.{true}
 use mathlib.Core.Logic.{⊎_elim}
-use mathlib.Core.List.{List, [], ◌∷◌, ◌++◌}
+use mathlib.Core.List.{List, [], ◌∷◌}
 use native.Mathlib.Nat.{eq-or-lt_of_le}
 use native.Mathlib.Omega.{arith}
 use lib.ListN.{length, get_or, replicate}
 use Rattle.wire.specs.Bytes.{over}
-use Rattle.wire.proofs.Cond.{both, and_left, and_right, and_true}
+use Rattle.wire.proofs.Cond.{and_left, and_right, and_true}
 use Rattle.table.specs.declared.Sections.{Sections}
 use Rattle.table.specs.declared.Entry.{Entry}
 use Rattle.table.specs.Entries.{member_at}
@@ -22,12 +22,12 @@ use Rattle.walk.specs.Walk.{Step, on, through, walk, leaf_walk, Going}
 use Rattle.walk.specs.Planned.{child_by}
 use Rattle.walk.specs.Codes.{firsts, code_at, code_count, codes_of}
 use Rattle.walk.proofs.Walks.{through-none}
-use Rattle.walk.proofs.Codes.{length-firsts, first-at, code-member, code-base, code_is, code-there}
+use Rattle.walk.proofs.Codes.{length-firsts, first-at, code-member, code-base, code_is}
 use Rattle.pack_leaves.specs.Stored.{is_there, behind, stored, all_taken, ends, laid, WritesEach}
 use Rattle.pack_leaves.specs.StoredRuns.{behind_all, stored_all}
 use Rattle.pack_leaves.proofs.Behind.{taken-append, one-taken, written_over}
 use Rattle.pack.specs.JudgedRuns.{AllThere}
-use Rattle.pack.specs.Writing.{writer, Writes, member_written}
+use Rattle.pack.specs.Writing.{writer, member_written}
 use Rattle.pack.specs.Alike.{AllChosen, WritesLeaf}
 use Rattle.pack.proofs.JudgedRuns.{rest-on}
 use Rattle.pack.proofs.WriteBases.{base-writes}

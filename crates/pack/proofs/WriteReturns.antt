@@ -1,28 +1,25 @@
 -- What the returns of the writers come to, return by return.
 -- Assumes nothing.
-use Prim.Native.Nat.{ℕ, zero, suc, ◌+◌, ◌*◌, ◌^◌, ◌≤◌, ◌<◌}
-use mathlib.Core.Path.{◌≡◌, refl, sym, ap, subst, ◌∙◌}
-use mathlib.Core.Bool.{Bool, true, false, ◌&&◌, cond}
-use mathlib.Core.List.{List, [], ◌∷◌}
+use Prim.Native.Nat.{ℕ, ◌+◌, ◌*◌, ◌^◌, ◌≤◌, ◌<◌}
+use mathlib.Core.Path.{◌≡◌, refl, sym, ◌∙◌}
+use mathlib.Core.Bool.{Bool, true, false, ◌&&◌}
+use mathlib.Core.List.{List}
 use native.Mathlib.Omega.{arith}
-use borrow.Author.Tests.{le-leb, lt-leb, lt-ltb, le-ltb, ltb-true, leb-true}
+use borrow.Author.Tests.{le-leb, lt-leb, lt-ltb, le-ltb, ltb-true}
 use mir.Syntax.{w32, w64}
 use mir.Val.{Fits}
-use lib.Dec.{ltb, leb, eqb}
+use lib.Dec.{leb}
 use lib.ListN.{length, get_or, get_or-eq_default}
-use Rattle.wire.specs.Bytes.{number, written}
+use Rattle.wire.specs.Bytes.{written}
 use Rattle.wire.proofs.Cond.{no_eq}
-use Rattle.wire.proofs.Runs.{held, set_over, written_in, written_out, length_written}
 use Rattle.table.specs.declared.Sections.{Sections}
 use Rattle.table.specs.declared.Entry.{Entry}
 use Rattle.table.specs.Leaf.{base, bytes_of, is_value, width, allowed}
-use Rattle.leaf.specs.Forms.{word_of, word_at, form_of}
+use Rattle.leaf.specs.Forms.{form_of}
 use Rattle.leaf.specs.Choice.{choice, takes}
 use Rattle.walk.specs.declared.Place.{Place}
-use Rattle.walk.specs.declared.Walked.{Walked}
 use Rattle.walk.specs.declared.Walked.TheVariants.{Went, Stopped}
-use Rattle.walk.specs.Tree.{Tree}
-use Rattle.walk.specs.Walk.{Step, counted, count_code, walk, begun, times, leaf_walk}
+use Rattle.walk.specs.Walk.{counted, begun, times, leaf_walk}
 use Rattle.pack.specs.Writing.{writer, Writing}
 use Rattle.walk.proofs.Walks.{few_bytes}
 use Rattle.walk.proofs.Returns.{Did, did_on, did_stop, item-short, item-bad, item_on, counts}

@@ -25,7 +25,7 @@ standing_in ws = record { states = states_in ws; next = next_in ws }
 abbrev pub pending_in : List ℕ → List ℕ
 pending_in ws = drop standing_length ws
 
--- and back: a platform that keeps p and the list l is `standingWords p ++ l`
+-- and back: a platform that keeps p and the list l is `standing_words p ++ l`
 abbrev pub standing_words : Standing → List ℕ
 standing_words p = p.states.w0 ∷ p.states.w1 ∷ p.states.w2 ∷ p.states.w3 ∷ p.next ∷ []
 

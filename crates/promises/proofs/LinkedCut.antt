@@ -1,4 +1,4 @@
--- What the linked calls cut is what is taken: the datagrams of `cutUp`, each at the start of its output.
+-- What the linked calls cut is what is taken: the datagrams of `cut_up`, each at the start of its output.
 -- Assumes nothing.
 use Prim.Native.Nat.{ℕ, zero, suc, ◌+◌, ◌≤◌, ◌<◌}
 use mathlib.Core.Path.{◌≡◌, refl, sym, ap, ap₂, ◌∙◌, subst}

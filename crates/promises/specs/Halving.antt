@@ -1,5 +1,5 @@
 -- 02, 4, "IDs strictly rise in the table, yet we scan all 1,024. Look them up by halving. Nothing that callers were told changes." The
--- look-up is an equation with the halving itself (`soughtIn`, operations/specs/Search), on all inputs. Here is how many looks it takes,
+-- look-up is an equation with the halving itself (`sought_in`, operations/specs/Search), on all inputs. Here is how many looks it takes,
 -- what an index that nobody laid can lead to, and what `nyr_find` tells of a table that was checked; what it comes to over the definitions
 -- is specs/Lookups. That no other outcome is allowed is specs/UniqueOperations and UniqueCalls. The theorem is in proofs/Halving.antt.
 use Rattle.std.specs.Prelude.{ℕ, ◌+◌, ◌*◌, ◌^◌, ◌≤◌, ◌<◌, ◌≡◌, cond, ◌||◌, List, [], ◌∷◌, eqb, length, replicate}

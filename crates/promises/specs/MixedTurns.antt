@@ -1,5 +1,5 @@
 -- 02, requests 1 and 8: what a mixed call does with the list of pending requests is a turn of request 1's, or nothing. "Over any calls the list
--- answers as a plain map does" is said of any such turns (`Requests.as-map`, `.Map-runs`, `.kempt`), and of any calls in specs/MixedRequestRuns. The
+-- answers as a plain map does" is said of any such turns (`Requests.as_map`, `.map_runs`, `.kempt`), and of any calls in specs/MixedRequestRuns. The
 -- theorem is in proofs/MixedTurns.antt.
 use Rattle.std.specs.Prelude.{ℕ, ◌≡◌, true, false, List}
 use Rattle.table.specs.declared.Sections.{Sections}

@@ -88,7 +88,7 @@ again_answered =
       take = λ s rooms d. answered_again s.last (our_joining.take s.joiner rooms d);
     }
 
--- ourJoining, with another step of a channel in the place of steps 1 to 5
+-- our_joining, with another step of a channel in the place of steps 1 to 5
 abbrev pub Stepping : Type 0
 Stepping = Room → Channel → MessagePart → ℕ → ℕ → Step
 
@@ -168,7 +168,7 @@ abbrev pub first_channel_only : Stepping
 first_channel_only room ch p c n =
     cond (eqb room.start 0) (stepped_of room ch p c n) (record { outcome = Repeated; channel = ch; put = Nowhere })
 
--- with our step it is ourJoining; and with the others, and those above, it does not meet demand 3
+-- with our step it is our_joining; and with the others, and those above, it does not meet demand 3
 pub record NoWrongJoiner : Type 1 where
   pub with_our_step : (j : Joiner) (rooms : List ℕ) (d : Datagram) → (stepping stepped_of).take j rooms d ≡ our_joining.take j rooms d
   pub silent : (J : Joining) → NeverDelivers J → Demand3For J → ⊥

@@ -53,7 +53,7 @@ abbrev pub FallSilentBy : Answering → Type 0
 FallSilentBy X =
     (a b : ℕ) (p q : Standing) (number : ℕ) → Starts a b p q number → (n : ℕ) (z : Pair) → ExchangeBy X a b n (started p q number) z → n ≤ 7
 
--- ourAnswering with another reaction to a message
+-- our_answering with another reaction to a message
 abbrev pub Reacting : Type 0
 Reacting = ℕ → List ℕ → Sections → Sought → Standing → Header → Message → ℕ → ℕ → Reaction
 

@@ -26,5 +26,5 @@ pub record WrongTurns : Type 1 where
   pub responses : NoWrongResponse
   -- 30 to 33, with 01's rules for the entries of a type table
   pub checks : NoWrongCheck
-  -- met by demand 3, and ruled out by the steps' own equations (`missedOf`, `steppedOf`) and the order of refusals
+  -- met by demand 3, and ruled out by the steps' own equations (`missed_of`, `stepped_of`) and the order of refusals
   pub left_to_others : NotRuledOut

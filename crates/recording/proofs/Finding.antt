@@ -1,4 +1,4 @@
--- What stands next in a recording: the cases of `nextIn`, and that more bytes behind it change nothing of a datagram that
+-- What stands next in a recording: the cases of `next_in`, and that more bytes behind it change nothing of a datagram that
 -- was found.
 -- Assumes nothing.
 use Rattle.std.proofs.Common.{◌≡◌, ℕ, ◌+◌, ◌-◌, ◌^◌, ◌<◌, ◌≤◌, Bool, true, false, leb, List, ◌++◌, length, sym, refl, ap, ◌∙◌, arith, length-append, w64, Fits, leb-false, leb-true}

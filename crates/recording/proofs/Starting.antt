@@ -1,4 +1,4 @@
--- How a recording starts: the cases of `openedIn`.
+-- How a recording starts: the cases of `opened_in`.
 -- Assumes nothing.
 use Rattle.std.proofs.Common.{◌≡◌, ℕ, ◌+◌, ◌*◌, ◌<◌, ◌≤◌, Bool, true, false, cond, ◌&&◌, ltb, leb, List, [], ◌∷◌, ◌++◌, length, take, set, replicate, sym, refl, ap, ◌∙◌, ap₂, add-one, arith, length-take-le, take-suc-set, ltb-true, leb-true}
 use mathlib.Core.Path.{subst⁻¹}

@@ -1,5 +1,5 @@
 -- How the rules of the types are gone through: first what is seen in one pass, and then, where the values of an enum do not
--- rise, which of them are distinct. `TypePasses` in proofs says that both together are `typeOk`.
+-- rise, which of them are distinct. `TypePasses` in proofs says that both together are `type_ok`.
 use Rattle.std.specs.Prelude.{ℕ, Bool, true, cond, ◌&&◌, List, ◌==◌, nat_le}
 use Rattle.table.specs.declared.Sections.{Sections}
 use Rattle.table.specs.declared.Entry.{Entry}

@@ -1,6 +1,5 @@
 -- `pack::first_write` meets its contract: there is no room to store in.
 -- Assumes nothing.
-use borrow.Author.Rules.{rules}
 use mathlib.Core.Path.{sym}
 use native.Mathlib.Omega.{arith}
 use lib.Seq.{length-take-le}

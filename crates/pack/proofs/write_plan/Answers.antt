@@ -1,7 +1,6 @@
 -- `pack::write_plan` meets its contract.
 -- Assumes nothing.
 use native.Mathlib.Omega.{arith}
-use borrow.Author.Rules.{rules}
 use Rattle.walk.proofs.WherePlans.{plan_in}
 use Rattle.pack.proofs.PlanReturns.{planned-gives}
 use Rattle.pack.proofs.write_plan.Goals as goal

@@ -1,6 +1,5 @@
 -- `pack::write_type` meets its contract: the second walk ends as the first.
 -- Assumes nothing.
-use borrow.Author.Rules.{rules}
 use Rattle.walk.proofs.Whole.{refused, not-whole, all_stored}
 use Rattle.pack.proofs.Sure.{second_sure}
 use Rattle.pack.proofs.write_type.Goals as goal

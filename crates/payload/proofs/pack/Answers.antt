@@ -1,6 +1,5 @@
 -- `payload::pack` meets its contract.
 -- Assumes nothing.
-use borrow.Author.Rules.{rules}
 use Rattle.payload.proofs.Calls.{bad-table, good-table}
 use Rattle.payload.proofs.pack.Goals as goal
 

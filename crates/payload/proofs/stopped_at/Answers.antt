@@ -1,6 +1,5 @@
 -- `payload::stopped_at` meets its contract.
 -- Assumes nothing.
-use borrow.Author.Rules.{rules}
 use Rattle.payload.proofs.Calls.{by-rule, by-walk}
 use Rattle.payload.proofs.stopped_at.Goals as goal
 

@@ -1,6 +1,5 @@
 -- `payload::unpack` meets its contract.
 -- Assumes nothing.
-use borrow.Author.Rules.{rules}
 use Rattle.payload.proofs.Calls.{bad-table, good-table}
 use Rattle.payload.proofs.unpack.Goals as goal
 

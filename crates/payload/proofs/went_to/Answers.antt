@@ -1,6 +1,5 @@
 -- `payload::went_to` meets its contract.
 -- Assumes nothing.
-use borrow.Author.Rules.{rules}
 use Rattle.payload.proofs.Calls.{left_over, too_short, gave}
 use Rattle.payload.proofs.went_to.Goals as goal
 

@@ -1,6 +1,5 @@
 -- `payload::written_to` meets its contract.
 -- Assumes nothing.
-use borrow.Author.Rules.{rules}
 use Rattle.payload.proofs.Calls.{at-stop, at_end}
 use Rattle.payload.proofs.written_to.Goals as goal
 

@@ -1,6 +1,5 @@
 -- `pack::by_plan::is_chosen` meets its contract.
 -- Assumes nothing.
-use borrow.Author.Rules.{rules}
 use Rattle.pack.proofs.PlanLeaves.{no-values, some-values}
 use Rattle.pack.proofs.by_plan.is_chosen.Goals as goal
 

@@ -1,9 +1,7 @@
-use Prim.Native.Nat.{◌-◌, ◌≤◌}
 use borrow.Author.Rules.{rules}
 use Rattle.walk.proofs.Walks.{width_few}
-use Rattle.pack.specs.Writing.{Writing}
 use Rattle.pack.proofs.WriteReturns.{next_to}
-use Rattle.pack.proofs.PlanLeaves.{So-far, none-walked, leaf-short, leaf-bad, leaf-next, leaves-done, writing_leaf}
+use Rattle.pack.proofs.PlanLeaves.{none-walked, leaf-short, leaf-bad, leaf-next, leaves-done, writing_leaf}
 use Rattle.pack.proofs.by_plan.judge_leaves.Goals as goal
 
 pub loop-k-init : goal.loop-k-init

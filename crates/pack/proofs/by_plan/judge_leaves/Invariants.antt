@@ -2,11 +2,8 @@
 -- place.
 -- Assumes nothing.
 use Prim.Native.Nat.{◌-◌, ◌≤◌}
-use borrow.Author.Rules.{rules}
-use Rattle.walk.proofs.Walks.{width_few}
 use Rattle.pack.specs.Writing.{Writing}
-use Rattle.pack.proofs.WriteReturns.{next_to}
-use Rattle.pack.proofs.PlanLeaves.{So-far, none-walked, leaf-short, leaf-bad, leaf-next, leaves-done, writing_leaf}
+use Rattle.pack.proofs.PlanLeaves.{So-far}
 use Rattle.pack.proofs.by_plan.judge_leaves.Given as goal
 
 abbrev pub invariant-loop-k : goal.invariant-loop-k

@@ -1,11 +1,6 @@
-use Prim.Native.Nat.{◌-◌}
 use mathlib.Core.Path.{refl, sym, ◌∙◌}
-use mathlib.Core.List.{[]}
 use borrow.Author.Rules.{rules}
-use lib.ListN.{length, drop}
-use Rattle.walk.specs.Walk.{answer}
-use Rattle.pack.specs.Writing.{Writing}
-use Rattle.pack.proofs.PlanWalks.{overRuns, Leads, leads-went, leads-stop, leads-end, run-keeps}
+use Rattle.pack.proofs.PlanWalks.{leads-went, leads-stop, leads-end, run-keeps}
 use Rattle.pack.proofs.by_plan.judge_rest.Goals as goal
 
 pub loop-k-init : goal.loop-k-init

@@ -1,13 +1,11 @@
 -- `pack::by_plan::judge_rest` meets its contract. The loop's invariant: what is left to walk over leads from here to the whole.
 -- Assumes nothing.
 use Prim.Native.Nat.{◌-◌}
-use mathlib.Core.Path.{refl, sym, ◌∙◌}
 use mathlib.Core.List.{[]}
-use borrow.Author.Rules.{rules}
 use lib.ListN.{length, drop}
 use Rattle.walk.specs.Walk.{answer}
 use Rattle.pack.specs.Writing.{Writing}
-use Rattle.pack.proofs.PlanWalks.{overRuns, Leads, leads-went, leads-stop, leads-end, run-keeps}
+use Rattle.pack.proofs.PlanWalks.{overRuns, Leads}
 use Rattle.pack.proofs.by_plan.judge_rest.Given as goal
 
 abbrev pub invariant-loop-k : goal.invariant-loop-k

@@ -1,15 +1,10 @@
-use Prim.Native.Nat.{◌-◌}
 use mathlib.Core.Path.{refl, ◌∙◌}
-use mathlib.Core.List.{[]}
 use native.Mathlib.Omega.{arith}
 use borrow.Author.Rules.{rules}
-use lib.ListN.{length}
 use Rattle.walk.specs.declared.Place.{Place}
 use Rattle.walk.specs.declared.Walked.TheVariants.{Went}
-use Rattle.walk.specs.Walk.{answer}
-use Rattle.pack.specs.Writing.{Writing}
 use Rattle.pack.proofs.JudgedRuns.{run-times, run_end}
-use Rattle.pack.proofs.PlanWalks.{overRuns, Leads, leads-on, leads-end, taken-writing}
+use Rattle.pack.proofs.PlanWalks.{leads-on, leads-end, taken-writing}
 use Rattle.pack.proofs.by_plan.judge_runs.Goals as goal
 
 pub loop-k-init : goal.loop-k-init

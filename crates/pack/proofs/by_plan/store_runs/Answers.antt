@@ -1,12 +1,8 @@
-use Prim.Native.Nat.{◌-◌, ◌≤◌}
-use mathlib.Core.Path.{◌≡◌, refl, ◌∙◌}
+use mathlib.Core.Path.{refl, ◌∙◌}
 use borrow.Author.Rules.{rules}
-use lib.ListN.{length}
 use Rattle.walk.specs.declared.Place.{Place}
-use Rattle.pack.specs.Writing.{Writing}
-use Rattle.pack.specs.ByPlan.{stored_runs}
 use Rattle.pack.proofs.JudgedRuns.{run-times, run_end}
-use Rattle.pack.proofs.PlanStores.{Stores, runs-outside, stores-end, stores-long, stores-on, stores-writing}
+use Rattle.pack.proofs.PlanStores.{runs-outside, stores-end, stores-long, stores-on, stores-writing}
 use Rattle.pack.proofs.by_plan.store_runs.Goals as goal
 
 pub returns-then-out-p : goal.returns-then-out-p

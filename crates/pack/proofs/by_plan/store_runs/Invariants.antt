@@ -1,14 +1,11 @@
 -- `pack::by_plan::store_runs` meets its contract. The loop's invariant: what is left to store leads from here to the whole.
 -- Assumes nothing.
 use Prim.Native.Nat.{◌-◌, ◌≤◌}
-use mathlib.Core.Path.{◌≡◌, refl, ◌∙◌}
-use borrow.Author.Rules.{rules}
+use mathlib.Core.Path.{◌≡◌}
 use lib.ListN.{length}
-use Rattle.walk.specs.declared.Place.{Place}
 use Rattle.pack.specs.Writing.{Writing}
 use Rattle.pack.specs.ByPlan.{stored_runs}
-use Rattle.pack.proofs.JudgedRuns.{run-times, run_end}
-use Rattle.pack.proofs.PlanStores.{Stores, runs-outside, stores-end, stores-long, stores-on, stores-writing}
+use Rattle.pack.proofs.PlanStores.{Stores}
 use Rattle.pack.proofs.by_plan.store_runs.Given as goal
 
 abbrev pub invariant-loop-k : goal.invariant-loop-k

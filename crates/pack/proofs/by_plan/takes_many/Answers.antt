@@ -3,7 +3,6 @@
 use mathlib.Core.Path.{sym}
 use mathlib.Core.Bool.{true≢false}
 use borrow.Author.Rules.{rules}
-use lib.Seq.{length-take-le}
 use Rattle.pack.proofs.Anew.{taken_anew}
 use Rattle.pack.proofs.by_plan.takes_many.Goals as goal
 

@@ -1,6 +1,5 @@
 -- `pack::by_plan::takes_word` meets its contract.
 -- Assumes nothing.
-use borrow.Author.Rules.{rules}
 use Rattle.pack.proofs.PlanLeaves.{both_taken}
 use Rattle.pack.proofs.by_plan.takes_word.Goals as goal
 

@@ -1,7 +1,6 @@
 -- `pack::by_plan::write_planned` meets its contract.
 -- Assumes nothing.
 use native.Mathlib.Omega.{arith}
-use borrow.Author.Rules.{rules}
 use Rattle.walk.proofs.WherePlans.{plan_in}
 use Rattle.pack.proofs.PlanReturns.{planned-did}
 use Rattle.pack.proofs.by_plan.write_planned.Goals as goal

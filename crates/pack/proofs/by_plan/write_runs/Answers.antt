@@ -1,6 +1,5 @@
 -- `pack::by_plan::write_runs` meets its contract: what is stored is what the walk leaves.
 -- Assumes nothing.
-use borrow.Author.Rules.{rules}
 use Rattle.pack.proofs.PlanStores.{written-did, word_there}
 use Rattle.pack.proofs.by_plan.write_runs.Goals as goal
 

@@ -1,6 +1,5 @@
 -- `pack::each::store_element` meets its contract: where there is no room nothing is stored.
 -- Assumes nothing.
-use borrow.Author.Rules.{rules}
 use Rattle.pack.proofs.PlanStores.{runs-outside}
 use Rattle.pack.proofs.each.store_element.Goals as goal
 

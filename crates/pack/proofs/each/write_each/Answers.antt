@@ -1,7 +1,6 @@
 -- `pack::each::write_each` meets its contract: the plan's runs are written so many times.
 -- Assumes nothing.
 use native.Mathlib.Omega.{arith}
-use borrow.Author.Rules.{rules}
 use mathlib.Core.Path.{sym}
 use Rattle.walk.proofs.WherePlans.{plan_in}
 use Rattle.pack.proofs.PlanReturns.{part-tree}

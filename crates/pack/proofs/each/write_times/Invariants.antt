@@ -1,12 +1,9 @@
 -- `pack::each::write_times` meets its contract: so many elements are written, and the walk is at this place.
 -- Assumes nothing.
-use borrow.Author.Rules.{rules}
 use Prim.Native.Nat.{◌-◌}
 use Rattle.walk.specs.Walk.{Going}
-use Rattle.walk.proofs.Turns.{going_start}
 use Rattle.pack.specs.Writing.{Writing}
 use Rattle.pack.specs.ByPlan.{runs_written}
-use Rattle.pack.proofs.PlanEach.{each_from, each-most, each_next}
 use Rattle.pack.proofs.each.write_times.Given as goal
 
 abbrev pub invariant-loop-k : goal.invariant-loop-k

@@ -1,7 +1,6 @@
-use Prim.Native.Nat.{◌-◌, ◌≤◌}
 use borrow.Author.Rules.{rules}
 use native.Mathlib.Omega.{arith}
-use Rattle.pack.proofs.Measures.{Judged, none-judged, more-judged, all-judged}
+use Rattle.pack.proofs.Measures.{none-judged, more-judged, all-judged}
 use Rattle.pack.proofs.limits.judged_each.Goals as goal
 
 pub loop-k-init : goal.loop-k-init

@@ -2,9 +2,7 @@
 -- range, the words so far are there and taken.
 -- Assumes nothing.
 use Prim.Native.Nat.{◌-◌, ◌≤◌}
-use borrow.Author.Rules.{rules}
-use native.Mathlib.Omega.{arith}
-use Rattle.pack.proofs.Measures.{Judged, none-judged, more-judged, all-judged}
+use Rattle.pack.proofs.Measures.{Judged}
 use Rattle.pack.proofs.limits.judged_each.Given as goal
 
 abbrev pub invariant-loop-k : goal.invariant-loop-k

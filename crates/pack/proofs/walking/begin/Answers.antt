@@ -1,7 +1,5 @@
 -- `pack::begin` meets its contract: nothing before a fixed array, and the three ends of a count.
 -- Assumes nothing.
-use borrow.Author.Rules.{rules}
-use Prim.Native.Nat.{◌≤◌}
 use native.Mathlib.Omega.{arith}
 use Rattle.walk.proofs.Returns.{fixed-begun}
 use Rattle.pack.proofs.WriteReturns.{count-short, count-over, count-went, next_from, next_to}
@@ -22,7 +20,7 @@ overflow_add-result-then-count-e c =
 pub returns-then-count-e : goal.returns-then-count-e
 returns-then-count-e c =
     let t = count-went c.args.e _ c.args.p _ c.if-e-eq-FIXED.false c.if-p-words.true _ c.word_at-count.ensures _
-    c.if-count-e.true (omega (arith, c.struct_known-then-p-words-1.given)) c.put.ensures in record { value = t.0; out_after = t.1 }
+    c.if-count-e.true (omega arith) c.put.ensures in record { value = t.0; out_after = t.1 }
 
 pub returns-else-count-e : goal.returns-else-count-e
 returns-else-count-e c =

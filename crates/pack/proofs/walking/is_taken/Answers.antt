@@ -2,7 +2,6 @@
 -- Assumes nothing.
 use mathlib.Core.Path.{sym}
 use native.Mathlib.Omega.{arith}
-use borrow.Author.Rules.{rules}
 use Rattle.pack.proofs.walking.is_taken.Goals as goal
 
 pub returns-else-room-eq0 : goal.returns-else-room-eq0

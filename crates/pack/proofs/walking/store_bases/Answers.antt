@@ -1,9 +1,5 @@
-use Prim.Native.Nat.{◌-◌, ◌≤◌}
-use mathlib.Core.Path.{◌≡◌}
 use native.Mathlib.Omega.{arith}
 use borrow.Author.Rules.{rules}
-use lib.ListN.{length, take}
-use Rattle.pack_leaves.specs.Stored.{ends, laid}
 use Rattle.pack.proofs.LaidBases.{ends_none, ends-fit, ends_more, ends-all, laid_none, laid_more, laid-long, laid-all}
 use Rattle.pack.proofs.walking.store_bases.Goals as goal
 

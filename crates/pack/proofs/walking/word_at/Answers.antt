@@ -1,6 +1,5 @@
 -- `pack::word_at` meets its contract.
 -- Assumes nothing.
-use borrow.Author.Rules.{rules}
 use Rattle.pack.proofs.WriteReturns.{no_word}
 use Rattle.pack.proofs.walking.word_at.Goals as goal
 

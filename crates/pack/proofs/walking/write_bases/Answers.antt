@@ -1,7 +1,6 @@
 -- `pack::walking::write_bases` meets its contract: the members whose codes were got and whose words are taken are judged, or stored,
 -- and each was a base.
 -- Assumes nothing.
-use borrow.Author.Rules.{rules}
 use mathlib.Core.Path.{sym}
 use native.Mathlib.Omega.{arith}
 use lib.ListN.{replicate}

@@ -1,6 +1,5 @@
 -- `pack::write_once` meets its contract: by what stands at the entry.
 -- Assumes nothing.
-use borrow.Author.Rules.{rules}
 use native.Mathlib.Omega.{arith}
 use Rattle.walk.proofs.Returns.{tree_looked, met-leaf, met-members, met-elements, met-broken}
 use Rattle.pack.proofs.Sure.{type-leaf, type-members, type-elements}

@@ -1,17 +1,11 @@
 -- `pack::whole::judge_whole` meets its contract. The loop's invariant: what is left to walk over leads from here to the whole.
 -- Assumes nothing.
 use Prim.Native.Nat.{◌-◌}
-use mathlib.Core.Path.{refl, ◌∙◌}
 use mathlib.Core.List.{[]}
-use native.Mathlib.Omega.{arith}
-use borrow.Author.Rules.{rules}
 use lib.ListN.{length}
-use Rattle.walk.specs.declared.Place.{Place}
-use Rattle.walk.specs.declared.Walked.TheVariants.{Went}
 use Rattle.walk.specs.Walk.{start, answer}
 use Rattle.pack.specs.Writing.{Writing}
-use Rattle.pack.proofs.JudgedRuns.{run-times, run_end}
-use Rattle.pack.proofs.PlanWalks.{overRuns, Leads, leads-on, leads-end, taken-writing}
+use Rattle.pack.proofs.PlanWalks.{overRuns, Leads}
 use Rattle.pack.proofs.whole.judge_whole.Given as goal
 
 abbrev pub invariant-loop-k : goal.invariant-loop-k

@@ -1,6 +1,5 @@
 -- `pack::whole::set` meets its contract: each arm writes the bytes of its width.
 -- Assumes nothing.
-use borrow.Author.Rules.{rules}
 use Rattle.pack_leaves.proofs.Laid.{set_form, set_whole}
 use Rattle.pack.proofs.WholeStores.{not_wide}
 use Rattle.pack.proofs.whole.set.Goals as goal

@@ -1,6 +1,5 @@
 -- `pack::whole::set_byte` meets its contract: one byte, or none where the code is none.
 -- Assumes nothing.
-use borrow.Author.Rules.{rules}
 use Rattle.pack_leaves.proofs.Laid.{set-byte}
 use Rattle.pack.proofs.WholeStores.{none_written}
 use Rattle.pack.proofs.whole.set_byte.Goals as goal

@@ -1,9 +1,5 @@
-use Prim.Native.Nat.{◌-◌, ◌≤◌}
-use mathlib.Core.Path.{◌≡◌, refl}
+use mathlib.Core.Path.{refl}
 use borrow.Author.Rules.{rules}
-use lib.ListN.{length}
-use Rattle.walk.specs.declared.Place.{Place}
-use Rattle.pack.specs.ByPlan.{whole_at, stored_whole}
 use Rattle.pack.proofs.WholeStores.{at_start, none_stored, all_stored, run_wide, bytes_fit}
 use Rattle.pack.proofs.WholeStores.{next-at, next-words, next-room, next-from-fits, next-to-fits, next-stored}
 use Rattle.pack.proofs.whole.store_whole.Goals as goal

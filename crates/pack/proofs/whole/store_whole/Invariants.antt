@@ -1,13 +1,10 @@
 -- `pack::whole::store_whole` meets its contract: behind so many runs.
 -- Assumes nothing.
 use Prim.Native.Nat.{◌-◌, ◌≤◌}
-use mathlib.Core.Path.{◌≡◌, refl}
-use borrow.Author.Rules.{rules}
+use mathlib.Core.Path.{◌≡◌}
 use lib.ListN.{length}
 use Rattle.walk.specs.declared.Place.{Place}
 use Rattle.pack.specs.ByPlan.{whole_at, stored_whole}
-use Rattle.pack.proofs.WholeStores.{at_start, none_stored, all_stored, run_wide, bytes_fit}
-use Rattle.pack.proofs.WholeStores.{next-at, next-words, next-room, next-from-fits, next-to-fits, next-stored}
 use Rattle.pack.proofs.whole.store_whole.Given as goal
 
 abbrev pub invariant-loop-k : goal.invariant-loop-k

@@ -1,6 +1,5 @@
 -- `pack::whole::takes_one` meets its contract.
 -- Assumes nothing.
-use borrow.Author.Rules.{rules}
 use Rattle.pack.proofs.WholeStores.{one-chosen, one-refused}
 use Rattle.pack.proofs.whole.takes_one.Goals as goal
 

@@ -1,6 +1,5 @@
 -- `pack::whole::write_whole` meets its contract: what was judged whole is stored.
 -- Assumes nothing.
-use borrow.Author.Rules.{rules}
 use Rattle.pack.proofs.WholePlan.{came-to, none-if-refused, whole_from, whole_to, none-if-not-whole, all-if-whole}
 use Rattle.pack.proofs.whole.write_whole.Goals as goal
 

@@ -1,6 +1,5 @@
 -- `payload::by_plans::pack_parts` meets its contract.
 -- Assumes nothing.
-use borrow.Author.Rules.{rules}
 use Rattle.payload.proofs.ByPlans.{not_within, no_type, the_type}
 use Rattle.payload.proofs.by_plans.pack_parts.Goals as goal
 

@@ -1,6 +1,5 @@
 -- `payload::by_plans::pack_type` meets its contract: what is stored goes by the answer.
 -- Assumes nothing.
-use borrow.Author.Rules.{rules}
 use Rattle.pack.specs.Writing.{writer}
 use Rattle.payload.proofs.Calls.{tree_answered}
 use Rattle.payload.proofs.by_plans.pack_type.Goals as goal

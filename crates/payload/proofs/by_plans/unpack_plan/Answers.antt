@@ -1,6 +1,5 @@
 -- `payload::by_plans::unpack_plan` meets its contract: what is stored goes by the answer.
 -- Assumes nothing.
-use borrow.Author.Rules.{rules}
 use Rattle.unpack.specs.Reading.{reader}
 use Rattle.payload.proofs.Calls.{tree_answered}
 use Rattle.payload.proofs.by_plans.unpack_plan.Goals as goal

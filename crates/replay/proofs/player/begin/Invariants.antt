@@ -6,8 +6,8 @@ use lib.ListN.{length}
 use Rattle.replay.specs.Bounds.{input_length}
 use Rattle.replay.proofs.player.begin.Given as goal
 
-abbrev pub invariant-loop-input : goal.invariant-loop-input
-invariant-loop-input l = (length l.input ≡ input_length) × (length l.input ≡ length l.initial.input) × (l.filled ≤ input_length)
+abbrev pub invariant-loop-from : goal.invariant-loop-from
+invariant-loop-from g l = (length l.input ≡ input_length) × (length l.input ≡ length l.initial.input) × (l.filled ≤ input_length)
 
-abbrev pub decreases-loop-input : goal.decreases-loop-input
-decreases-loop-input l = input_length - l.filled
+abbrev pub decreases-loop-from : goal.decreases-loop-from
+decreases-loop-from g l = input_length - l.filled

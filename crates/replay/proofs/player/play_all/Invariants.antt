@@ -7,7 +7,7 @@ use Rattle.replay.specs.Bounds.{input_length}
 use Rattle.replay.proofs.player.play_all.Given as goal
 
 abbrev pub invariant-loop-turns : goal.invariant-loop-turns
-invariant-loop-turns l =
+invariant-loop-turns g l =
     (length l.input ≡ input_length)
     × (length l.input ≡ length l.initial.input)
     × (length l.rooms ≡ length l.initial.rooms)
@@ -15,4 +15,4 @@ invariant-loop-turns l =
     × (l.filled ≤ input_length)
 
 abbrev pub decreases-loop-turns : goal.decreases-loop-turns
-decreases-loop-turns l = l.turns
+decreases-loop-turns g l = l.turns

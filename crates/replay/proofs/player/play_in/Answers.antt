@@ -4,5 +4,5 @@ use Rattle.replay.proofs.Bounds.{rooms_part}
 use Rattle.replay.proofs.player.play_in.Goals as goal
 
 pub slice_bounds-play_all-end : goal.slice_bounds-play_all-end
-slice_bounds-play_all-end c =
+slice_bounds-play_all-end g c =
     search rooms_part

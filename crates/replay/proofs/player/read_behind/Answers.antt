@@ -4,9 +4,9 @@ use Rattle.replay.proofs.Bounds.{more-filled, more-counted}
 use Rattle.replay.proofs.player.read_behind.Goals as goal
 
 pub overflow_add-result : goal.overflow_add-result
-overflow_add-result c =
+overflow_add-result g c =
     search more-counted
 
 pub returns-in-More : goal.returns-in-More
-returns-in-More c =
+returns-in-More g c =
     search more-filled

@@ -5,9 +5,9 @@ use Rattle.replay.proofs.Bounds.{rooms_in, numbered_20}
 use Rattle.replay.proofs.player.replay.Goals as goal
 
 pub play_in-requires : goal.play_in-requires
-play_in-requires c =
+play_in-requires g c =
     (search rules, search rules, search rooms_in)
 
 pub finish-requires : goal.finish-requires
-finish-requires c =
+finish-requires g c =
     search numbered_20

@@ -1,4 +1,4 @@
--- `table::section` meets its contract: each return is a case of `sectionAt`, in reading order.
+-- `table::section` meets its contract: each return is a case of `section_at`, in reading order.
 -- Assumes nothing.
 use Rattle.table.proofs.Places.{cut-count, outside, cut-entries, found}
 use Rattle.table.proofs.bounds.section.Goals as goal
