@@ -123,8 +123,8 @@ from_start (heard.Status x) = refl
 from_start heard.Request = refl
 from_start (heard.UnknownOperation _) = refl
 from_start heard.PullOfAll = refl
-from_start (heard.PullOfOne id i) = refl
-from_start (heard.NotVersionedData id) = refl
+from_start (heard.PullOfOne _ i) = refl
+from_start (heard.NotVersionedData _) = refl
 from_start (heard.Operation i start len) = refl
 from_start (heard.NotInTable id) = refl
 
