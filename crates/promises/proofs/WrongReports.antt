@@ -126,12 +126,12 @@ from_start heard.PullOfAll = refl
 from_start (heard.PullOfOne _ i) = refl
 from_start (heard.NotVersionedData _) = refl
 from_start (heard.Operation i start len) = refl
-from_start (heard.NotInTable id) = refl
+from_start (heard.NotInTable _) = refl
 
 first : (x : Heard) → kind_in (always_first x) ≡ 7 → entry_in (always_first x) ≡ 0
 first (heard.Status x) k = refl
 first heard.Request k = refl
-first (heard.UnknownOperation id) k = refl
+first (heard.UnknownOperation _) k = refl
 first heard.PullOfAll k = refl
 first (heard.PullOfOne id i) k = absurd (omega arith)
 first (heard.NotVersionedData id) k = refl
