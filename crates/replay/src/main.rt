@@ -16,8 +16,7 @@ fn main(rt: HostRuntime) {
         }
         Source::File { file, length } => {
             let mut file = file;
-            let waits = player::may_wait(&mut file);
-            player::replay(&rt, &mut file, waits, wire::part(&path, 0, length));
+            player::replay_file(&rt, &mut file, wire::part(&path, 0, length));
         }
         Source::Missing => {}
     }

@@ -87,6 +87,18 @@ pub fn replay(
     }
 }
 
+// Replays the recording in a file that is open.
+pub fn replay_file(
+    rt: &(impl Print + Eprint),
+    file: &mut (impl Read + Seek),
+    name: &[u8],
+) -> Replayed
+    ensures { Refuses20 result }
+{
+    let waits = may_wait(file);
+    replay(rt, file, waits, name)
+}
+
 fn input_buffer() -> [u8; INPUT]
     ensures { input_length ≡ length result }
 {
@@ -203,7 +215,7 @@ fn play_all(
 
 // Whether a read of a file may wait for bytes that are not there yet. A file has a place from which it is read, and all its
 // bytes are there; a pipe and a terminal, which may have names too, have none.
-pub fn may_wait(file: &mut impl Seek) -> bool {
+fn may_wait(file: &mut impl Seek) -> bool {
     file.stream_position().is_err()
 }
 

@@ -35,8 +35,11 @@ write_elements-times-count-requires t c =
 pub write_elements-write_run-run-requires : goal.write_elements-write_run-run-requires
 write_elements-write_run-run-requires t c =
     let start = c.args in
-    let begun : Did (begun (writer start.words.now) start.e start.p start.out.now) c.begin.result c.begin.new.out = (c.begin.ensures.value, c.begin.ensures.out_after) in
-    let whole : 0 < length c.begin.new.out → Goes_on (through c.times-count.result (element_step (writer start.words.now) start.plans.now start.table.now start.s start.i start.e.of) c.in-Went.q c.begin.new.out) =
+    let begun : Did (begun (writer start.words.now) start.e start.p start.out.now) c.begin.result c.begin.new.out =
+    (c.begin.ensures.value, c.begin.ensures.out_after) in
+    let whole : 0 < length c.begin.new.out → Goes_on
+    (through c.times-count.result (element_step (writer start.words.now) start.plans.now start.table.now start.s start.i start.e.of) c.in-Went.q
+    c.begin.new.out) =
     λ r. elements-sure _ _ _ _ _ _ c.is_planned.ensures c.if-is_planned.false _ _ _ _ begun _ _ c.in-Went.is c.times-count.ensures
     (c.requires.1 (omega (arith, c.begin.auto.out))) in (
       begun_here _ _ _ _ _ _ (writer_keeps _) c.requires.0 begun c.in-Went.is,
@@ -46,7 +49,8 @@ write_elements-write_run-run-requires t c =
 pub write_elements-returns-then-next-count : goal.write_elements-returns-then-next-count
 write_elements-returns-then-next-count t c =
     let start = c.args in
-    let begun : Did (begun (writer start.words.now) start.e start.p start.out.now) c.begin.result c.begin.new.out = (c.begin.ensures.value, c.begin.ensures.out_after) in
+    let begun : Did (begun (writer start.words.now) start.e start.p start.out.now) c.begin.result c.begin.new.out =
+    (c.begin.ensures.value, c.begin.ensures.out_after) in
     let run = c.write_run-run.ensures _ (element_writes _ start.plans.now _ _ _ _ _ c.base_at-code.ensures) in
     let did = elements-done _ _ _ _ _ _ c.is_planned.ensures c.if-is_planned.false _ _ _ begun c.in-Went.is c.times-count.ensures
     run (omega (arith, c.if-next-count.true)) in
@@ -55,8 +59,11 @@ write_elements-returns-then-next-count t c =
 pub write_elements-write_met-rest-requires : goal.write_elements-write_met-rest-requires
 write_elements-write_met-rest-requires t c =
     let start = c.args in
-    let begun : Did (begun (writer start.words.now) start.e start.p start.out.now) c.begin.result c.begin.new.out = (c.begin.ensures.value, c.begin.ensures.out_after) in
-    let whole : 0 < length c.begin.new.out → Goes_on (through c.times-count.result (element_step (writer start.words.now) start.plans.now start.table.now start.s start.i start.e.of) c.in-Went.q c.begin.new.out) =
+    let begun : Did (begun (writer start.words.now) start.e start.p start.out.now) c.begin.result c.begin.new.out =
+    (c.begin.ensures.value, c.begin.ensures.out_after) in
+    let whole : 0 < length c.begin.new.out → Goes_on
+    (through c.times-count.result (element_step (writer start.words.now) start.plans.now start.table.now start.s start.i start.e.of) c.in-Went.q
+    c.begin.new.out) =
     λ r. elements-sure _ _ _ _ _ _ c.is_planned.ensures c.if-is_planned.false _ _ _ _ begun _ _ c.in-Went.is c.times-count.ensures
     (c.requires.1 (omega (arith, c.begin.auto.out))) in
     let run = c.write_run-run.ensures _ (element_writes _ start.plans.now _ _ _ _ _ c.base_at-code.ensures) in (
@@ -74,8 +81,11 @@ write_elements-loop-k-init t c =
 pub write_elements-write_leaf-step-requires : goal.write_elements-write_leaf-step-requires
 write_elements-write_leaf-step-requires t c =
     let start = c.args in
-    let begun : Did (begun (writer start.words.now) start.e start.p start.out.now) c.begin.result c.begin.new.out = (c.begin.ensures.value, c.begin.ensures.out_after) in
-    let whole : 0 < length c.begin.new.out → Goes_on (through c.times-count.result (element_step (writer start.words.now) start.plans.now start.table.now start.s start.i start.e.of) c.in-Went.q c.begin.new.out) =
+    let begun : Did (begun (writer start.words.now) start.e start.p start.out.now) c.begin.result c.begin.new.out =
+    (c.begin.ensures.value, c.begin.ensures.out_after) in
+    let whole : 0 < length c.begin.new.out → Goes_on
+    (through c.times-count.result (element_step (writer start.words.now) start.plans.now start.table.now start.s start.i start.e.of) c.in-Went.q
+    c.begin.new.out) =
     λ r. elements-sure _ _ _ _ _ _ c.is_planned.ensures c.if-is_planned.false _ _ _ _ begun _ _ c.in-Went.is c.times-count.ensures
     (c.requires.1 (omega (arith, c.begin.auto.out))) in
     let run = c.write_run-run.ensures _ (element_writes _ start.plans.now _ _ _ _ _ c.base_at-code.ensures) in
@@ -88,8 +98,11 @@ write_elements-write_leaf-step-requires t c =
 pub write_elements-write_members-step-requires : goal.write_elements-write_members-step-requires
 write_elements-write_members-step-requires t c =
     let start = c.args in
-    let begun : Did (begun (writer start.words.now) start.e start.p start.out.now) c.begin.result c.begin.new.out = (c.begin.ensures.value, c.begin.ensures.out_after) in
-    let whole : 0 < length c.begin.new.out → Goes_on (through c.times-count.result (element_step (writer start.words.now) start.plans.now start.table.now start.s start.i start.e.of) c.in-Went.q c.begin.new.out) =
+    let begun : Did (begun (writer start.words.now) start.e start.p start.out.now) c.begin.result c.begin.new.out =
+    (c.begin.ensures.value, c.begin.ensures.out_after) in
+    let whole : 0 < length c.begin.new.out → Goes_on
+    (through c.times-count.result (element_step (writer start.words.now) start.plans.now start.table.now start.s start.i start.e.of) c.in-Went.q
+    c.begin.new.out) =
     λ r. elements-sure _ _ _ _ _ _ c.is_planned.ensures c.if-is_planned.false _ _ _ _ begun _ _ c.in-Went.is c.times-count.ensures
     (c.requires.1 (omega (arith, c.begin.auto.out))) in
     let run = c.write_run-run.ensures _ (element_writes _ start.plans.now _ _ _ _ _ c.base_at-code.ensures) in
@@ -105,8 +118,11 @@ write_elements-write_members-step-requires t c =
 pub write_elements-write_elements-step-requires : goal.write_elements-write_elements-step-requires
 write_elements-write_elements-step-requires t c =
     let start = c.args in
-    let begun : Did (begun (writer start.words.now) start.e start.p start.out.now) c.begin.result c.begin.new.out = (c.begin.ensures.value, c.begin.ensures.out_after) in
-    let whole : 0 < length c.begin.new.out → Goes_on (through c.times-count.result (element_step (writer start.words.now) start.plans.now start.table.now start.s start.i start.e.of) c.in-Went.q c.begin.new.out) =
+    let begun : Did (begun (writer start.words.now) start.e start.p start.out.now) c.begin.result c.begin.new.out =
+    (c.begin.ensures.value, c.begin.ensures.out_after) in
+    let whole : 0 < length c.begin.new.out → Goes_on
+    (through c.times-count.result (element_step (writer start.words.now) start.plans.now start.table.now start.s start.i start.e.of) c.in-Went.q
+    c.begin.new.out) =
     λ r. elements-sure _ _ _ _ _ _ c.is_planned.ensures c.if-is_planned.false _ _ _ _ begun _ _ c.in-Went.is c.times-count.ensures
     (c.requires.1 (omega (arith, c.begin.auto.out))) in
     let run = c.write_run-run.ensures _ (element_writes _ start.plans.now _ _ _ _ _ c.base_at-code.ensures) in
@@ -122,11 +138,15 @@ write_elements-write_elements-step-requires t c =
 pub write_elements-loop-k-preserved : goal.write_elements-loop-k-preserved
 write_elements-loop-k-preserved t c =
     let start = c.args in
-    let stepped : Did (element_step (writer start.words.now) start.plans.now start.table.now start.s start.i start.e.of c.loop-k.k c.loop-k.at c.loop-k.out) c.match-here.step c.match-here.out =
+    let stepped : Did (element_step (writer start.words.now) start.plans.now start.table.now start.s start.i start.e.of c.loop-k.k c.loop-k.at
+    c.loop-k.out) c.match-here.step c.match-here.out =
     elim c.match-here.branch [
-      | write_elements-in-Leaf w ↦ leaf-stepped _ _ _ _ _ _ _ refl _ _ _ c.meet-met.ensures _ _ _ _ _ w.in-Leaf.is (w.write_leaf-step.ensures.value, w.write_leaf-step.ensures.out_after) w.out-is w.step-is
-      | write_elements-in-Members w ↦ members-stepped _ _ _ _ _ _ _ refl _ _ _ c.meet-met.ensures _ _ _ _ _ w.in-Members.is (w.write_members-step.ensures.value, w.write_members-step.ensures.out_after) w.out-is w.step-is
-      | write_elements-in-Elements w ↦ elements-stepped _ _ _ _ _ _ _ refl _ _ _ c.meet-met.ensures _ _ _ _ _ w.in-Elements.is (w.write_elements-step.ensures.value, w.write_elements-step.ensures.out_after) w.out-is w.step-is
+      | write_elements-in-Leaf w ↦ leaf-stepped _ _ _ _ _ _ _ refl _ _ _ c.meet-met.ensures _ _ _ _ _ w.in-Leaf.is
+          (w.write_leaf-step.ensures.value, w.write_leaf-step.ensures.out_after) w.out-is w.step-is
+      | write_elements-in-Members w ↦ members-stepped _ _ _ _ _ _ _ refl _ _ _ c.meet-met.ensures _ _ _ _ _ w.in-Members.is
+          (w.write_members-step.ensures.value, w.write_members-step.ensures.out_after) w.out-is w.step-is
+      | write_elements-in-Elements w ↦ elements-stepped _ _ _ _ _ _ _ refl _ _ _ c.meet-met.ensures _ _ _ _ _ w.in-Elements.is
+          (w.write_elements-step.ensures.value, w.write_elements-step.ensures.out_after) w.out-is w.step-is
       | write_elements-in-Broken w ↦ broken-stepped _ _ _ _ _ _ _ refl _ _ _ c.meet-met.ensures _ _ w.in-Broken.is w.out-is w.step-is
     ] in
     let g = c.loop-k.invariant in
@@ -135,15 +155,20 @@ write_elements-loop-k-preserved t c =
 pub write_elements-returns-in-Stopped-step : goal.write_elements-returns-in-Stopped-step
 write_elements-returns-in-Stopped-step t c =
     let start = c.args in
-    let begun : Did (begun (writer start.words.now) start.e start.p start.out.now) c.begin.result c.begin.new.out = (c.begin.ensures.value, c.begin.ensures.out_after) in
+    let begun : Did (begun (writer start.words.now) start.e start.p start.out.now) c.begin.result c.begin.new.out =
+    (c.begin.ensures.value, c.begin.ensures.out_after) in
     let run = c.write_run-run.ensures _ (element_writes _ start.plans.now _ _ _ _ _ c.base_at-code.ensures) in
     let met = c.write_met-rest.ensures _ (element_met start.plans.now _ _ _ _ _ c.meet-met.ensures) in
     let so_far = going_on run (going_on met c.loop-k.invariant) in
-    let stepped : Did (element_step (writer start.words.now) start.plans.now start.table.now start.s start.i start.e.of c.loop-k.k c.loop-k.at c.loop-k.out) c.match-here.step c.match-here.out =
+    let stepped : Did (element_step (writer start.words.now) start.plans.now start.table.now start.s start.i start.e.of c.loop-k.k c.loop-k.at
+    c.loop-k.out) c.match-here.step c.match-here.out =
     elim c.match-here.branch [
-      | write_elements-in-Leaf w ↦ leaf-stepped _ _ _ _ _ _ _ refl _ _ _ c.meet-met.ensures _ _ _ _ _ w.in-Leaf.is (w.write_leaf-step.ensures.value, w.write_leaf-step.ensures.out_after) w.out-is w.step-is
-      | write_elements-in-Members w ↦ members-stepped _ _ _ _ _ _ _ refl _ _ _ c.meet-met.ensures _ _ _ _ _ w.in-Members.is (w.write_members-step.ensures.value, w.write_members-step.ensures.out_after) w.out-is w.step-is
-      | write_elements-in-Elements w ↦ elements-stepped _ _ _ _ _ _ _ refl _ _ _ c.meet-met.ensures _ _ _ _ _ w.in-Elements.is (w.write_elements-step.ensures.value, w.write_elements-step.ensures.out_after) w.out-is w.step-is
+      | write_elements-in-Leaf w ↦ leaf-stepped _ _ _ _ _ _ _ refl _ _ _ c.meet-met.ensures _ _ _ _ _ w.in-Leaf.is
+          (w.write_leaf-step.ensures.value, w.write_leaf-step.ensures.out_after) w.out-is w.step-is
+      | write_elements-in-Members w ↦ members-stepped _ _ _ _ _ _ _ refl _ _ _ c.meet-met.ensures _ _ _ _ _ w.in-Members.is
+          (w.write_members-step.ensures.value, w.write_members-step.ensures.out_after) w.out-is w.step-is
+      | write_elements-in-Elements w ↦ elements-stepped _ _ _ _ _ _ _ refl _ _ _ c.meet-met.ensures _ _ _ _ _ w.in-Elements.is
+          (w.write_elements-step.ensures.value, w.write_elements-step.ensures.out_after) w.out-is w.step-is
       | write_elements-in-Broken w ↦ broken-stepped _ _ _ _ _ _ _ refl _ _ _ c.meet-met.ensures _ _ w.in-Broken.is w.out-is w.step-is
     ] in
     let did = elements-stop _ _ _ _ _ _ c.is_planned.ensures c.if-is_planned.false _ _ _ begun c.in-Went.is c.times-count.ensures
@@ -153,14 +178,16 @@ write_elements-returns-in-Stopped-step t c =
 pub write_elements-returns-in-Stopped : goal.write_elements-returns-in-Stopped
 write_elements-returns-in-Stopped t c =
     let start = c.args in
-    let begun : Did (begun (writer start.words.now) start.e start.p start.out.now) c.begin.result c.begin.new.out = (c.begin.ensures.value, c.begin.ensures.out_after) in
+    let begun : Did (begun (writer start.words.now) start.e start.p start.out.now) c.begin.result c.begin.new.out =
+    (c.begin.ensures.value, c.begin.ensures.out_after) in
     let did = elements-stopped _ _ _ _ _ _ c.is_planned.ensures c.if-is_planned.false _ _ _ _ begun _ _ c.in-Stopped.is in
     record { value = did.0; out_after = did.1 }
 
 pub write_elements-returns-after-loop-k : goal.write_elements-returns-after-loop-k
 write_elements-returns-after-loop-k t c =
     let start = c.args in
-    let begun : Did (begun (writer start.words.now) start.e start.p start.out.now) c.begin.result c.begin.new.out = (c.begin.ensures.value, c.begin.ensures.out_after) in
+    let begun : Did (begun (writer start.words.now) start.e start.p start.out.now) c.begin.result c.begin.new.out =
+    (c.begin.ensures.value, c.begin.ensures.out_after) in
     let run = c.write_run-run.ensures _ (element_writes _ start.plans.now _ _ _ _ _ c.base_at-code.ensures) in
     let met = c.write_met-rest.ensures _ (element_met start.plans.now _ _ _ _ _ c.meet-met.ensures) in
     let so_far = going_on run (going_on met c.loop-k.invariant) in
@@ -178,7 +205,8 @@ write_members-returns-then-is_planned t c =
 pub write_members-write_bases-run-requires : goal.write_members-write_bases-run-requires
 write_members-write_bases-run-requires t c =
     let start = c.args in
-    let whole : 0 < length start.out.now → Goes_on (through start.e.count (member_step (writer start.words.now) start.plans.now start.table.now start.s start.i start.e) start.p start.out.now) =
+    let whole : 0 < length start.out.now → Goes_on
+    (through start.e.count (member_step (writer start.words.now) start.plans.now start.table.now start.s start.i start.e) start.p start.out.now) =
     λ r. members-sure _ _ _ _ _ _ c.is_planned.ensures c.if-is_planned.false _ _ (c.requires.1 r) in
     let g = c.loop-k.invariant in
     (g.here, g.most, λ h. going_codes _ start.plans.now _ _ _ _ g whole h)
@@ -199,36 +227,42 @@ write_members-overflow_add-e t c =
 pub write_members-write_leaf-step-requires : goal.write_members-write_leaf-step-requires
 write_members-write_leaf-step-requires t c =
     let start = c.args in
-    let whole : 0 < length start.out.now → Goes_on (through start.e.count (member_step (writer start.words.now) start.plans.now start.table.now start.s start.i start.e) start.p start.out.now) =
+    let whole : 0 < length start.out.now → Goes_on
+    (through start.e.count (member_step (writer start.words.now) start.plans.now start.table.now start.s start.i start.e) start.p start.out.now) =
     λ r. members-sure _ _ _ _ _ _ c.is_planned.ensures c.if-is_planned.false _ _ (c.requires.1 r) in
     let so_far = going_on c.loop-k.invariant (c.write_bases-run.ensures start.plans.now) in (
       so_far.here,
-      λ h. sure-leaf _ _ _ _ _ _ _ c.member_at-child.ensures _ _ _ c.meet.ensures _ (going_sure so_far whole (omega (arith, so_far.most, c.if-next-count.false)) h) c.in-Leaf.is,
+      λ h. sure-leaf _ _ _ _ _ _ _ c.member_at-child.ensures _ _ _ c.meet.ensures _
+          (going_sure so_far whole (omega (arith, so_far.most, c.if-next-count.false)) h) c.in-Leaf.is,
     )
 
 pub write_members-write_members-step-requires : goal.write_members-write_members-step-requires
 write_members-write_members-step-requires t c =
     let start = c.args in
-    let whole : 0 < length start.out.now → Goes_on (through start.e.count (member_step (writer start.words.now) start.plans.now start.table.now start.s start.i start.e) start.p start.out.now) =
+    let whole : 0 < length start.out.now → Goes_on
+    (through start.e.count (member_step (writer start.words.now) start.plans.now start.table.now start.s start.i start.e) start.p start.out.now) =
     λ r. members-sure _ _ _ _ _ _ c.is_planned.ensures c.if-is_planned.false _ _ (c.requires.1 r) in
     let so_far = going_on c.loop-k.invariant (c.write_bases-run.ensures start.plans.now) in (
       members-smaller _ _ _ _ _ c.decreases _ _ c.meet.ensures c.in-Members.is,
       (
         so_far.here,
-        λ h. sure-members _ _ _ _ _ _ _ c.member_at-child.ensures _ _ _ c.meet.ensures _ (going_sure so_far whole (omega (arith, so_far.most, c.if-next-count.false)) h) c.in-Members.is,
+        λ h. sure-members _ _ _ _ _ _ _ c.member_at-child.ensures _ _ _ c.meet.ensures _
+            (going_sure so_far whole (omega (arith, so_far.most, c.if-next-count.false)) h) c.in-Members.is,
       ),
     )
 
 pub write_members-write_elements-step-requires : goal.write_members-write_elements-step-requires
 write_members-write_elements-step-requires t c =
     let start = c.args in
-    let whole : 0 < length start.out.now → Goes_on (through start.e.count (member_step (writer start.words.now) start.plans.now start.table.now start.s start.i start.e) start.p start.out.now) =
+    let whole : 0 < length start.out.now → Goes_on
+    (through start.e.count (member_step (writer start.words.now) start.plans.now start.table.now start.s start.i start.e) start.p start.out.now) =
     λ r. members-sure _ _ _ _ _ _ c.is_planned.ensures c.if-is_planned.false _ _ (c.requires.1 r) in
     let so_far = going_on c.loop-k.invariant (c.write_bases-run.ensures start.plans.now) in (
       elements-smaller _ _ _ _ _ c.decreases _ _ c.meet.ensures c.in-Elements.is,
       (
         so_far.here,
-        λ h. sure-elements _ _ _ _ _ _ _ c.member_at-child.ensures _ _ _ c.meet.ensures _ (going_sure so_far whole (omega (arith, so_far.most, c.if-next-count.false)) h) c.in-Elements.is,
+        λ h. sure-elements _ _ _ _ _ _ _ c.member_at-child.ensures _ _ _ c.meet.ensures _
+            (going_sure so_far whole (omega (arith, so_far.most, c.if-next-count.false)) h) c.in-Elements.is,
       ),
     )
 
@@ -248,11 +282,15 @@ pub write_members-loop-k-preserved : goal.write_members-loop-k-preserved
 write_members-loop-k-preserved t c =
     let start = c.args in
     let so_far = going_on c.loop-k.invariant (c.write_bases-run.ensures start.plans.now) in
-    let stepped : Did (member_step (writer start.words.now) start.plans.now start.table.now start.s start.i start.e c.write_bases-run.result.upto c.write_bases-run.result.at c.write_bases-run.new.out) c.match-meet.step c.match-meet.out =
+    let stepped : Did (member_step (writer start.words.now) start.plans.now start.table.now start.s start.i start.e c.write_bases-run.result.upto
+    c.write_bases-run.result.at c.write_bases-run.new.out) c.match-meet.step c.match-meet.out =
     elim c.match-meet.branch [
-      | write_members-in-Leaf w ↦ leaf-stepped _ _ _ _ _ _ _ c.member_at-child.ensures _ _ _ c.meet.ensures _ _ _ _ _ w.in-Leaf.is (w.write_leaf-step.ensures.value, w.write_leaf-step.ensures.out_after) w.out-is w.step-is
-      | write_members-in-Members w ↦ members-stepped _ _ _ _ _ _ _ c.member_at-child.ensures _ _ _ c.meet.ensures _ _ _ _ _ w.in-Members.is (w.write_members-step.ensures.value, w.write_members-step.ensures.out_after) w.out-is w.step-is
-      | write_members-in-Elements w ↦ elements-stepped _ _ _ _ _ _ _ c.member_at-child.ensures _ _ _ c.meet.ensures _ _ _ _ _ w.in-Elements.is (w.write_elements-step.ensures.value, w.write_elements-step.ensures.out_after) w.out-is w.step-is
+      | write_members-in-Leaf w ↦ leaf-stepped _ _ _ _ _ _ _ c.member_at-child.ensures _ _ _ c.meet.ensures _ _ _ _ _ w.in-Leaf.is
+          (w.write_leaf-step.ensures.value, w.write_leaf-step.ensures.out_after) w.out-is w.step-is
+      | write_members-in-Members w ↦ members-stepped _ _ _ _ _ _ _ c.member_at-child.ensures _ _ _ c.meet.ensures _ _ _ _ _ w.in-Members.is
+          (w.write_members-step.ensures.value, w.write_members-step.ensures.out_after) w.out-is w.step-is
+      | write_members-in-Elements w ↦ elements-stepped _ _ _ _ _ _ _ c.member_at-child.ensures _ _ _ c.meet.ensures _ _ _ _ _ w.in-Elements.is
+          (w.write_elements-step.ensures.value, w.write_elements-step.ensures.out_after) w.out-is w.step-is
       | write_members-in-Broken w ↦ broken-stepped _ _ _ _ _ _ _ c.member_at-child.ensures _ _ _ c.meet.ensures _ _ w.in-Broken.is w.out-is w.step-is
     ] in
     going_next so_far _ _ _ ((writer_keeps _).walks _ _ _ so_far.here) (search rules) stepped c.in-Went.is
@@ -261,11 +299,15 @@ pub write_members-returns-in-Stopped : goal.write_members-returns-in-Stopped
 write_members-returns-in-Stopped t c =
     let start = c.args in
     let so_far = going_on c.loop-k.invariant (c.write_bases-run.ensures start.plans.now) in
-    let stepped : Did (member_step (writer start.words.now) start.plans.now start.table.now start.s start.i start.e c.write_bases-run.result.upto c.write_bases-run.result.at c.write_bases-run.new.out) c.match-meet.step c.match-meet.out =
+    let stepped : Did (member_step (writer start.words.now) start.plans.now start.table.now start.s start.i start.e c.write_bases-run.result.upto
+    c.write_bases-run.result.at c.write_bases-run.new.out) c.match-meet.step c.match-meet.out =
     elim c.match-meet.branch [
-      | write_members-in-Leaf w ↦ leaf-stepped _ _ _ _ _ _ _ c.member_at-child.ensures _ _ _ c.meet.ensures _ _ _ _ _ w.in-Leaf.is (w.write_leaf-step.ensures.value, w.write_leaf-step.ensures.out_after) w.out-is w.step-is
-      | write_members-in-Members w ↦ members-stepped _ _ _ _ _ _ _ c.member_at-child.ensures _ _ _ c.meet.ensures _ _ _ _ _ w.in-Members.is (w.write_members-step.ensures.value, w.write_members-step.ensures.out_after) w.out-is w.step-is
-      | write_members-in-Elements w ↦ elements-stepped _ _ _ _ _ _ _ c.member_at-child.ensures _ _ _ c.meet.ensures _ _ _ _ _ w.in-Elements.is (w.write_elements-step.ensures.value, w.write_elements-step.ensures.out_after) w.out-is w.step-is
+      | write_members-in-Leaf w ↦ leaf-stepped _ _ _ _ _ _ _ c.member_at-child.ensures _ _ _ c.meet.ensures _ _ _ _ _ w.in-Leaf.is
+          (w.write_leaf-step.ensures.value, w.write_leaf-step.ensures.out_after) w.out-is w.step-is
+      | write_members-in-Members w ↦ members-stepped _ _ _ _ _ _ _ c.member_at-child.ensures _ _ _ c.meet.ensures _ _ _ _ _ w.in-Members.is
+          (w.write_members-step.ensures.value, w.write_members-step.ensures.out_after) w.out-is w.step-is
+      | write_members-in-Elements w ↦ elements-stepped _ _ _ _ _ _ _ c.member_at-child.ensures _ _ _ c.meet.ensures _ _ _ _ _ w.in-Elements.is
+          (w.write_elements-step.ensures.value, w.write_elements-step.ensures.out_after) w.out-is w.step-is
       | write_members-in-Broken w ↦ broken-stepped _ _ _ _ _ _ _ c.member_at-child.ensures _ _ _ c.meet.ensures _ _ w.in-Broken.is w.out-is w.step-is
     ] in
     let did = members-stop _ _ _ _ _ _ c.is_planned.ensures c.if-is_planned.false so_far _ _ _ _ (search rules) stepped c.in-Stopped.is in

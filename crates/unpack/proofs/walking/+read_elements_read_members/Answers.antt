@@ -38,11 +38,15 @@ read_elements-read_elements-step-requires t c =
 
 pub read_elements-loop-k-preserved : goal.read_elements-loop-k-preserved
 read_elements-loop-k-preserved t c =
-    let s : Did (element_step (reader c.args.payload.now) c.args.plans.now c.args.table.now c.args.s c.args.i c.args.e.of c.loop-k.k c.loop-k.at c.loop-k.words) c.match-here.step c.match-here.words =
+    let s : Did (element_step (reader c.args.payload.now) c.args.plans.now c.args.table.now c.args.s c.args.i c.args.e.of c.loop-k.k c.loop-k.at
+    c.loop-k.words) c.match-here.step c.match-here.words =
     elim c.match-here.branch [
-      | read_elements-in-Leaf w ↦ leaf-stepped _ _ _ _ _ _ _ refl _ _ _ c.meet-met.ensures _ _ _ _ _ w.in-Leaf.is (w.read_leaf-step.ensures.value, w.read_leaf-step.ensures.words_after) w.words-is w.step-is
-      | read_elements-in-Members w ↦ members-stepped _ _ _ _ _ _ _ refl _ _ _ c.meet-met.ensures _ _ _ _ _ w.in-Members.is (w.read_members-step.ensures.value, w.read_members-step.ensures.words_after) w.words-is w.step-is
-      | read_elements-in-Elements w ↦ elements-stepped _ _ _ _ _ _ _ refl _ _ _ c.meet-met.ensures _ _ _ _ _ w.in-Elements.is (w.read_elements-step.ensures.value, w.read_elements-step.ensures.words_after) w.words-is w.step-is
+      | read_elements-in-Leaf w ↦ leaf-stepped _ _ _ _ _ _ _ refl _ _ _ c.meet-met.ensures _ _ _ _ _ w.in-Leaf.is
+          (w.read_leaf-step.ensures.value, w.read_leaf-step.ensures.words_after) w.words-is w.step-is
+      | read_elements-in-Members w ↦ members-stepped _ _ _ _ _ _ _ refl _ _ _ c.meet-met.ensures _ _ _ _ _ w.in-Members.is
+          (w.read_members-step.ensures.value, w.read_members-step.ensures.words_after) w.words-is w.step-is
+      | read_elements-in-Elements w ↦ elements-stepped _ _ _ _ _ _ _ refl _ _ _ c.meet-met.ensures _ _ _ _ _ w.in-Elements.is
+          (w.read_elements-step.ensures.value, w.read_elements-step.ensures.words_after) w.words-is w.step-is
       | read_elements-in-Broken w ↦ broken-stepped _ _ _ _ _ _ _ refl _ _ _ c.meet-met.ensures _ _ w.in-Broken.is w.words-is w.step-is
     ] in
     let g = c.loop-k.invariant in
@@ -50,11 +54,15 @@ read_elements-loop-k-preserved t c =
 
 pub read_elements-returns-in-Stopped-step : goal.read_elements-returns-in-Stopped-step
 read_elements-returns-in-Stopped-step t c =
-    let s : Did (element_step (reader c.args.payload.now) c.args.plans.now c.args.table.now c.args.s c.args.i c.args.e.of c.loop-k.k c.loop-k.at c.loop-k.words) c.match-here.step c.match-here.words =
+    let s : Did (element_step (reader c.args.payload.now) c.args.plans.now c.args.table.now c.args.s c.args.i c.args.e.of c.loop-k.k c.loop-k.at
+    c.loop-k.words) c.match-here.step c.match-here.words =
     elim c.match-here.branch [
-      | read_elements-in-Leaf w ↦ leaf-stepped _ _ _ _ _ _ _ refl _ _ _ c.meet-met.ensures _ _ _ _ _ w.in-Leaf.is (w.read_leaf-step.ensures.value, w.read_leaf-step.ensures.words_after) w.words-is w.step-is
-      | read_elements-in-Members w ↦ members-stepped _ _ _ _ _ _ _ refl _ _ _ c.meet-met.ensures _ _ _ _ _ w.in-Members.is (w.read_members-step.ensures.value, w.read_members-step.ensures.words_after) w.words-is w.step-is
-      | read_elements-in-Elements w ↦ elements-stepped _ _ _ _ _ _ _ refl _ _ _ c.meet-met.ensures _ _ _ _ _ w.in-Elements.is (w.read_elements-step.ensures.value, w.read_elements-step.ensures.words_after) w.words-is w.step-is
+      | read_elements-in-Leaf w ↦ leaf-stepped _ _ _ _ _ _ _ refl _ _ _ c.meet-met.ensures _ _ _ _ _ w.in-Leaf.is
+          (w.read_leaf-step.ensures.value, w.read_leaf-step.ensures.words_after) w.words-is w.step-is
+      | read_elements-in-Members w ↦ members-stepped _ _ _ _ _ _ _ refl _ _ _ c.meet-met.ensures _ _ _ _ _ w.in-Members.is
+          (w.read_members-step.ensures.value, w.read_members-step.ensures.words_after) w.words-is w.step-is
+      | read_elements-in-Elements w ↦ elements-stepped _ _ _ _ _ _ _ refl _ _ _ c.meet-met.ensures _ _ _ _ _ w.in-Elements.is
+          (w.read_elements-step.ensures.value, w.read_elements-step.ensures.words_after) w.words-is w.step-is
       | read_elements-in-Broken w ↦ broken-stepped _ _ _ _ _ _ _ refl _ _ _ c.meet-met.ensures _ _ w.in-Broken.is w.words-is w.step-is
     ] in
     let d = elements-stop _ _ _ _ _ _ c.is_planned.ensures c.if-is_planned.false _ _ _ (c.begin.ensures.value, c.begin.ensures.words_after) c.in-Went.is
@@ -108,11 +116,15 @@ read_members-loop-k-smaller t c =
 
 pub read_members-loop-k-preserved : goal.read_members-loop-k-preserved
 read_members-loop-k-preserved t c =
-    let s : Did (member_step (reader c.args.payload.now) c.args.plans.now c.args.table.now c.args.s c.args.i c.args.e c.read_bases-run.result.upto c.read_bases-run.result.at c.read_bases-run.new.words) c.match-meet.step c.match-meet.words =
+    let s : Did (member_step (reader c.args.payload.now) c.args.plans.now c.args.table.now c.args.s c.args.i c.args.e c.read_bases-run.result.upto
+    c.read_bases-run.result.at c.read_bases-run.new.words) c.match-meet.step c.match-meet.words =
     elim c.match-meet.branch [
-      | read_members-in-Leaf w ↦ leaf-stepped _ _ _ _ _ _ _ c.member_at-child.ensures _ _ _ c.meet.ensures _ _ _ _ _ w.in-Leaf.is (w.read_leaf-step.ensures.value, w.read_leaf-step.ensures.words_after) w.words-is w.step-is
-      | read_members-in-Members w ↦ members-stepped _ _ _ _ _ _ _ c.member_at-child.ensures _ _ _ c.meet.ensures _ _ _ _ _ w.in-Members.is (w.read_members-step.ensures.value, w.read_members-step.ensures.words_after) w.words-is w.step-is
-      | read_members-in-Elements w ↦ elements-stepped _ _ _ _ _ _ _ c.member_at-child.ensures _ _ _ c.meet.ensures _ _ _ _ _ w.in-Elements.is (w.read_elements-step.ensures.value, w.read_elements-step.ensures.words_after) w.words-is w.step-is
+      | read_members-in-Leaf w ↦ leaf-stepped _ _ _ _ _ _ _ c.member_at-child.ensures _ _ _ c.meet.ensures _ _ _ _ _ w.in-Leaf.is
+          (w.read_leaf-step.ensures.value, w.read_leaf-step.ensures.words_after) w.words-is w.step-is
+      | read_members-in-Members w ↦ members-stepped _ _ _ _ _ _ _ c.member_at-child.ensures _ _ _ c.meet.ensures _ _ _ _ _ w.in-Members.is
+          (w.read_members-step.ensures.value, w.read_members-step.ensures.words_after) w.words-is w.step-is
+      | read_members-in-Elements w ↦ elements-stepped _ _ _ _ _ _ _ c.member_at-child.ensures _ _ _ c.meet.ensures _ _ _ _ _ w.in-Elements.is
+          (w.read_elements-step.ensures.value, w.read_elements-step.ensures.words_after) w.words-is w.step-is
       | read_members-in-Broken w ↦ broken-stepped _ _ _ _ _ _ _ c.member_at-child.ensures _ _ _ c.meet.ensures _ _ w.in-Broken.is w.words-is w.step-is
     ] in
     let g = going_on c.loop-k.invariant (c.read_bases-run.ensures c.args.plans.now) in
@@ -120,16 +132,22 @@ read_members-loop-k-preserved t c =
 
 pub read_members-returns-in-Stopped : goal.read_members-returns-in-Stopped
 read_members-returns-in-Stopped t c =
-    let s : Did (member_step (reader c.args.payload.now) c.args.plans.now c.args.table.now c.args.s c.args.i c.args.e c.read_bases-run.result.upto c.read_bases-run.result.at c.read_bases-run.new.words) c.match-meet.step c.match-meet.words =
+    let s : Did (member_step (reader c.args.payload.now) c.args.plans.now c.args.table.now c.args.s c.args.i c.args.e c.read_bases-run.result.upto
+    c.read_bases-run.result.at c.read_bases-run.new.words) c.match-meet.step c.match-meet.words =
     elim c.match-meet.branch [
-      | read_members-in-Leaf w ↦ leaf-stepped _ _ _ _ _ _ _ c.member_at-child.ensures _ _ _ c.meet.ensures _ _ _ _ _ w.in-Leaf.is (w.read_leaf-step.ensures.value, w.read_leaf-step.ensures.words_after) w.words-is w.step-is
-      | read_members-in-Members w ↦ members-stepped _ _ _ _ _ _ _ c.member_at-child.ensures _ _ _ c.meet.ensures _ _ _ _ _ w.in-Members.is (w.read_members-step.ensures.value, w.read_members-step.ensures.words_after) w.words-is w.step-is
-      | read_members-in-Elements w ↦ elements-stepped _ _ _ _ _ _ _ c.member_at-child.ensures _ _ _ c.meet.ensures _ _ _ _ _ w.in-Elements.is (w.read_elements-step.ensures.value, w.read_elements-step.ensures.words_after) w.words-is w.step-is
+      | read_members-in-Leaf w ↦ leaf-stepped _ _ _ _ _ _ _ c.member_at-child.ensures _ _ _ c.meet.ensures _ _ _ _ _ w.in-Leaf.is
+          (w.read_leaf-step.ensures.value, w.read_leaf-step.ensures.words_after) w.words-is w.step-is
+      | read_members-in-Members w ↦ members-stepped _ _ _ _ _ _ _ c.member_at-child.ensures _ _ _ c.meet.ensures _ _ _ _ _ w.in-Members.is
+          (w.read_members-step.ensures.value, w.read_members-step.ensures.words_after) w.words-is w.step-is
+      | read_members-in-Elements w ↦ elements-stepped _ _ _ _ _ _ _ c.member_at-child.ensures _ _ _ c.meet.ensures _ _ _ _ _ w.in-Elements.is
+          (w.read_elements-step.ensures.value, w.read_elements-step.ensures.words_after) w.words-is w.step-is
       | read_members-in-Broken w ↦ broken-stepped _ _ _ _ _ _ _ c.member_at-child.ensures _ _ _ c.meet.ensures _ _ w.in-Broken.is w.words-is w.step-is
     ] in
     let g = going_on c.loop-k.invariant (c.read_bases-run.ensures c.args.plans.now) in
-    let d = members-stop _ _ _ _ _ _ c.is_planned.ensures c.if-is_planned.false g _ _ _ _ (search rules) s c.in-Stopped.is in record { value = d.0; words_after = d.1 }
+    let d = members-stop _ _ _ _ _ _ c.is_planned.ensures c.if-is_planned.false g _ _ _ _ (search rules) s c.in-Stopped.is in record
+    { value = d.0; words_after = d.1 }
 
 pub read_members-returns : goal.read_members-returns
 read_members-returns t c =
-    let d = members-done _ _ _ _ _ _ c.is_planned.ensures c.if-is_planned.false c.loop-k.invariant c.loop-k-test.false in record { value = d.0; words_after = d.1 }
+    let d = members-done _ _ _ _ _ _ c.is_planned.ensures c.if-is_planned.false c.loop-k.invariant c.loop-k-test.false in record
+    { value = d.0; words_after = d.1 }

@@ -10,7 +10,8 @@ use Rattle.unpack_leaves.proofs.by_codes.store_within.Given as goal
 abbrev pub invariant-loop-k : goal.invariant-loop-k
 invariant-loop-k l =
     (rest l.payload l.codes l.k (record { from = l.from; to = l.p.to + l.k }) l.words
-    ≡ laid l.payload (take (whole_count l.payload l.codes l.p.from) l.codes) l.p l.initial.words) × (length l.words ≡ length l.initial.words) × (l.k ≤ length l.codes) × (l.from ≤ length l.payload)
+    ≡ laid l.payload (take (whole_count l.payload l.codes l.p.from) l.codes) l.p l.initial.words) × (length l.words ≡ length l.initial.words) ×
+    (l.k ≤ length l.codes) × (l.from ≤ length l.payload)
 
 abbrev pub decreases-loop-k : goal.decreases-loop-k
 decreases-loop-k l = length l.codes - l.k
