@@ -1,6 +1,7 @@
 -- A step is one of seven: the case analysis of 01's steps 1 to 5, made once. And what each record and place is then.
 -- Assumes nothing.
 use Prim.Native.Nat.{ℕ, ◌+◌, ◌≤◌, ◌<◌}
+use Rattle.std.specs.Prelude.{Some, None}
 use mathlib.Core.Path.{◌≡◌, refl}
 use mathlib.Core.Bool.{Bool, true, false, ◌&&◌, cond}
 use native.Mathlib.Omega.{arith}
@@ -13,7 +14,6 @@ use Rattle.binding.specs.declared.MessagePart.TheVariants.{Begin, Middle, End, W
 use Rattle.channel.specs.declared.Channel.{Channel}
 use Rattle.channel.specs.declared.Room.{Room}
 use Rattle.channel.specs.declared.Step.{Step}
-use Rattle.channel.specs.declared.Put.TheVariants.{Nowhere, At}
 use Rattle.channel.specs.declared.Slice.TheVariants.{Rooms}
 use Rattle.channel.specs.declared.Outcome.TheVariants.{Refused, Repeated, Delivered, Held, Stray, TooLong}
 use Rattle.channel.specs.Channel.{missed_of, repeated, keeping, noted_of, holding, too_long, whole_of, begun_of, joined_of, followed_of, placed_of, stepped_of}
@@ -36,22 +36,22 @@ channel_says R ch e =
 
 -- the seven: what a step is, where ch is the record before it
 pub data Stepped (room : Room) (ch : Channel) (c n : ℕ) : MessagePart → Step → Type 0 where
-  again : {p : MessagePart} → repeated ch c ≡ true → Stepped room ch c n p (record { outcome = Repeated; channel = ch; put = Nowhere })
+  again : {p : MessagePart} → repeated ch c ≡ true → Stepped room ch c n p (record { outcome = Repeated; channel = ch; put = None })
   whole : repeated ch c ≡ false → Stepped room ch c n Whole (whole_of (noted_of ch c) n (missed_of ch c))
   begins : repeated ch c ≡ false → n ≤ room.size
-      → Stepped room ch c n Begin (record { outcome = Held (missed_of ch c) n; channel = holding (noted_of ch c) n; put = At room.start })
+      → Stepped room ch c n Begin (record { outcome = Held (missed_of ch c) n; channel = holding (noted_of ch c) n; put = Some room.start })
   stray : {p : MessagePart} → repeated ch c ≡ false → keeping ch c ≡ 0
-      → Stepped room ch c n p (record { outcome = Stray (missed_of ch c); channel = noted_of ch c; put = Nowhere })
+      → Stepped room ch c n p (record { outcome = Stray (missed_of ch c); channel = noted_of ch c; put = None })
   long : {p : MessagePart} → repeated ch c ≡ false → Stepped room ch c n p (too_long (noted_of ch c) (missed_of ch c))
   goes_on : repeated ch c ≡ false → (keeping ch c ≡ 0 → ⊥) → keeping ch c + n ≤ room.size
       → Stepped room ch c n Middle
-      (record { outcome = Held (missed_of ch c) (keeping ch c + n); channel = holding (noted_of ch c) (keeping ch c + n); put = At (room.start + keeping ch c) })
+      (record { outcome = Held (missed_of ch c) (keeping ch c + n); channel = holding (noted_of ch c) (keeping ch c + n); put = Some (room.start + keeping ch c) })
   ends : repeated ch c ≡ false → (keeping ch c ≡ 0 → ⊥) → keeping ch c + n ≤ room.size
       → Stepped room ch c n End
       (record {
         outcome = Delivered (missed_of ch c) (Rooms room.start (keeping ch c + n));
         channel = holding (noted_of ch c) 0;
-        put = At (room.start + keeping ch c);
+        put = Some (room.start + keeping ch c);
       })
 
 module _ (room : Room) (ch : Channel) (c n : ℕ) where
@@ -62,7 +62,7 @@ module _ (room : Room) (ch : Channel) (c n : ℕ) where
   follows p e r f = go (eqb (keeping ch c) 0) refl (leb (keeping ch c + n) room.size) refl
     where
       go : (z : Bool) → eqb (keeping ch c) 0 ≡ z → (t : Bool) → leb (keeping ch c + n) room.size ≡ t →
-          Stepped room ch c n p (cond z (record { outcome = Stray (missed_of ch c); channel = noted_of ch c; put = Nowhere })
+          Stepped room ch c n p (cond z (record { outcome = Stray (missed_of ch c); channel = noted_of ch c; put = None })
           (cond t (joined_of e room (noted_of ch c) n (missed_of ch c)) (too_long (noted_of ch c) (missed_of ch c))))
       go true x t q = stray r (eqb-true (keeping ch c) 0 x)
       go false x true q = f (eqb-false (keeping ch c) 0 x) (leb-true (keeping ch c + n) room.size q)
@@ -75,7 +75,7 @@ module _ (room : Room) (ch : Channel) (c n : ℕ) where
     where
       go : (t : Bool) → leb n room.size ≡ t
           → Stepped room ch c n Begin
-          (cond t (record { outcome = Held (missed_of ch c) n; channel = holding (noted_of ch c) n; put = At room.start })
+          (cond t (record { outcome = Held (missed_of ch c) n; channel = holding (noted_of ch c) n; put = Some room.start })
           (too_long (noted_of ch c) (missed_of ch c)))
       go true e = begins r (leb-true n room.size e)
       go false e = long r
@@ -87,7 +87,7 @@ module _ (room : Room) (ch : Channel) (c n : ℕ) where
   step-cases p = go (repeated ch c) refl
     where
       go : (t : Bool) → repeated ch c ≡ t
-          → Stepped room ch c n p (cond t (record { outcome = Repeated; channel = ch; put = Nowhere }) (placed_of room (noted_of ch c) p n (missed_of ch c)))
+          → Stepped room ch c n p (cond t (record { outcome = Repeated; channel = ch; put = None }) (placed_of room (noted_of ch c) p n (missed_of ch c)))
       go true e = again e
       go false e = places e p
 
@@ -142,21 +142,21 @@ module _ (room : Room) (s c n : ℕ) where
   fresh-whole = refl
 
   pub fresh-begin : n ≤ room.size → stepped_of room (new_channel s) Begin c n
-      ≡ record { outcome = Held 0 n; channel = record { sender = s; seen = true; last = c; held = n }; put = At room.start }
+      ≡ record { outcome = Held 0 n; channel = record { sender = s; seen = true; last = c; held = n }; put = Some room.start }
   unfolding stepped_of placed_of begun_of noted_of keeping missed_of
   fresh-begin h = rw (le-leb n room.size h)
 
   pub fresh-long : room.size < n → stepped_of room (new_channel s) Begin c n
-      ≡ record { outcome = TooLong 0; channel = record { sender = s; seen = true; last = c; held = 0 }; put = Nowhere }
+      ≡ record { outcome = TooLong 0; channel = record { sender = s; seen = true; last = c; held = 0 }; put = None }
   unfolding stepped_of placed_of begun_of noted_of keeping missed_of
   fresh-long h = rw (lt-leb n room.size h)
 
   pub fresh-middle : stepped_of room (new_channel s) Middle c n
-      ≡ record { outcome = Stray 0; channel = record { sender = s; seen = true; last = c; held = 0 }; put = Nowhere }
+      ≡ record { outcome = Stray 0; channel = record { sender = s; seen = true; last = c; held = 0 }; put = None }
   unfolding stepped_of placed_of followed_of noted_of keeping missed_of
   fresh-middle = refl
 
   pub fresh-end : stepped_of room (new_channel s) End c n
-      ≡ record { outcome = Stray 0; channel = record { sender = s; seen = true; last = c; held = 0 }; put = Nowhere }
+      ≡ record { outcome = Stray 0; channel = record { sender = s; seen = true; last = c; held = 0 }; put = None }
   unfolding stepped_of placed_of followed_of noted_of keeping missed_of
   fresh-end = refl

@@ -1,6 +1,7 @@
 -- What the functions of one channel's step show at their returns: 01, Joining, steps 1 to 5.
 -- Assumes nothing.
 use Prim.Native.Nat.{ℕ, ◌+◌, ◌-◌, ◌%◌, ◌≤◌, ◌<◌}
+use Rattle.std.specs.Prelude.{Option, Some, None}
 use mathlib.Core.Path.{◌≡◌, sym, ◌∙◌}
 use mathlib.Core.Bool.{Bool, true, false, cond}
 use native.Mathlib.Omega.{arith}
@@ -12,8 +13,6 @@ use Rattle.binding.specs.declared.MessagePart.TheVariants.{Begin, Middle, End, W
 use Rattle.channel.specs.declared.Channel.{Channel}
 use Rattle.channel.specs.declared.Room.{Room}
 use Rattle.channel.specs.declared.Step.{Step}
-use Rattle.channel.specs.declared.Put.{Put}
-use Rattle.channel.specs.declared.Put.TheVariants.{Nowhere, At}
 use Rattle.channel.specs.declared.Slice.TheVariants.{Datagram, Rooms}
 use Rattle.channel.specs.declared.Outcome.TheVariants.{Repeated, Delivered, Held, TooLong}
 use Rattle.channel.specs.Channel.{Steppable, missed_of, repeated, keeping, noted_of, holding, stray_of, too_long, whole_of}
@@ -40,14 +39,14 @@ pub is_dropped : (h m : ℕ) → (m ≡ 0 → ⊥) → 0 ≡ cond (eqb m 0) h 0
 is_dropped h m n = rw (ne_eqb m 0 n)
 
 pub whole_given : {h : Channel} (ch : Channel) (n m : ℕ) → h ≡ holding ch 0
-    → record { outcome = Delivered m (Datagram header_length n); channel = h; put = Nowhere } ≡ whole_of ch n m
+    → record { outcome = Delivered m (Datagram header_length n); channel = h; put = None } ≡ whole_of ch n m
 whole_given ch n m e = rw e
 
-pub all_dropped : {h : Channel} (ch : Channel) (m : ℕ) → h ≡ holding ch 0 → record { outcome = TooLong m; channel = h; put = Nowhere } ≡ too_long ch m
+pub all_dropped : {h : Channel} (ch : Channel) (m : ℕ) → h ≡ holding ch 0 → record { outcome = TooLong m; channel = h; put = None } ≡ too_long ch m
 all_dropped ch m e = rw e
 
 module _ (room : Room) (ch : Channel) (n m : ℕ) where
-  pub begun-held : {h : Channel} → n ≤ room.size → h ≡ holding ch n → record { outcome = Held m n; channel = h; put = At room.start } ≡ begun_of room ch n m
+  pub begun-held : {h : Channel} → n ≤ room.size → h ≡ holding ch n → record { outcome = Held m n; channel = h; put = Some room.start } ≡ begun_of room ch n m
   unfolding begun_of
   begun-held f e = rw (le-leb n room.size f, e)
 
@@ -67,11 +66,11 @@ module _ (room : Room) (ch : Channel) (n m : ℕ) where
   unfolding followed_of
   behind-too-long ends e f q = rw (ne_eqb ch.held 0 e, lt-leb (ch.held + n) room.size f, q)
 
-  pub end-joined : {ends : Bool} {h : Channel} {p : Put} → ends ≡ true → h ≡ holding ch 0 → p ≡ behind_of room ch.held
+  pub end-joined : {ends : Bool} {h : Channel} {p : Option ℕ} → ends ≡ true → h ≡ holding ch 0 → p ≡ behind_of room ch.held
       → record { outcome = Delivered m (Rooms room.start (ch.held + n)); channel = h; put = p } ≡ joined_of ends room ch n m
   end-joined e f g = rw (e, f, g)
 
-  pub middle-joined : {ends : Bool} {h : Channel} {p : Put} → ends ≡ false → h ≡ holding ch (ch.held + n) → p ≡ behind_of room ch.held
+  pub middle-joined : {ends : Bool} {h : Channel} {p : Option ℕ} → ends ≡ false → h ≡ holding ch (ch.held + n) → p ≡ behind_of room ch.held
       → record { outcome = Held m (ch.held + n); channel = h; put = p } ≡ joined_of ends room ch n m
   middle-joined e f g = rw (e, f, g)
 
@@ -110,7 +109,7 @@ module _ (room : Room) (ch : Channel) (p : MessagePart) (c n : ℕ) where
       go true = record { size = s.size; ends = s.ends; last = l; held = s.held; piece = s.piece }
       go false = record { size = s.size; ends = s.ends; last = l; held = omega arith; piece = s.piece }
 
-  pub stepped-repeated : {t : Bool} → t ≡ repeated ch c → t ≡ true → record { outcome = Repeated; channel = ch; put = Nowhere } ≡ stepped_of room ch p c n
+  pub stepped-repeated : {t : Bool} → t ≡ repeated ch c → t ≡ true → record { outcome = Repeated; channel = ch; put = None } ≡ stepped_of room ch p c n
   unfolding stepped_of
   stepped-repeated e t = rw (sym e ∙ t)
 

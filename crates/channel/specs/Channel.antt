@@ -1,6 +1,7 @@
 -- One channel: what a datagram of message part p, counter c and n bytes of piece does to its record. 01, Joining, steps 1
 -- to 5.
 use Rattle.std.specs.Prelude.{ℕ, ◌+◌, ◌-◌, ◌%◌, ◌^◌, ◌≤◌, ◌<◌, Bool, true, false, ◌&&◌, cond, leb, ltb, eqb}
+use Rattle.std.specs.Prelude.{Option, Some, None}
 use Rattle.binding.specs.Header.{header_length, largest_piece, largest_datagram, counters}
 use Rattle.binding.specs.declared.BindingHeader.{BindingHeader}
 use Rattle.binding.specs.declared.MessagePart.{MessagePart}
@@ -9,8 +10,6 @@ use Rattle.channel.specs.Record.{channel_limit, bad_setup, largest_room, room_st
 use Rattle.channel.specs.declared.Channel.{Channel}
 use Rattle.channel.specs.declared.Room.{Room}
 use Rattle.channel.specs.declared.Step.{Step}
-use Rattle.channel.specs.declared.Put.{Put}
-use Rattle.channel.specs.declared.Put.TheVariants.{Nowhere, At}
 use Rattle.channel.specs.declared.Judged.{Judged}
 use Rattle.channel.specs.declared.Judged.TheVariants.{Refusal, Move}
 use Rattle.channel.specs.declared.Slice.TheVariants.{Datagram, Rooms}
@@ -48,22 +47,22 @@ noted_of ch c = record { sender = ch.sender; seen = true; last = c; held = keepi
 
 -- in steps 3 to 5 the record is the noted one, and m is missed
 abbrev pub stray_of : Channel → ℕ → Step
-stray_of ch m = record { outcome = Stray m; channel = ch; put = Nowhere }
+stray_of ch m = record { outcome = Stray m; channel = ch; put = None }
 
 abbrev pub too_long : Channel → ℕ → Step
-too_long ch m = record { outcome = TooLong m; channel = holding ch 0; put = Nowhere }
+too_long ch m = record { outcome = TooLong m; channel = holding ch 0; put = None }
 
 -- step 3
 abbrev pub whole_of : Channel → ℕ → ℕ → Step
-whole_of ch n m = record { outcome = Delivered m (Datagram header_length n); channel = holding ch 0; put = Nowhere }
+whole_of ch n m = record { outcome = Delivered m (Datagram header_length n); channel = holding ch 0; put = None }
 
 -- step 4
 unfoldable pub begun_of : Room → Channel → ℕ → ℕ → Step
-begun_of room ch n m = cond (leb n room.size) (record { outcome = Held m n; channel = holding ch n; put = At room.start }) (too_long ch m)
+begun_of room ch n m = cond (leb n room.size) (record { outcome = Held m n; channel = holding ch n; put = Some room.start }) (too_long ch m)
 
 -- a piece goes behind h bytes of the room
-abbrev pub behind_of : Room → ℕ → Put
-behind_of room h = At (room.start + h)
+abbrev pub behind_of : Room → ℕ → Option ℕ
+behind_of room h = Some (room.start + h)
 
 -- step 5: a middle is held, an end is delivered and nothing is held after it
 abbrev pub joined_of : Bool → Room → Channel → ℕ → ℕ → Step
@@ -86,7 +85,7 @@ placed_of room ch End n m = followed_of true room ch n m
 -- steps 1 to 5
 unfoldable pub stepped_of : Room → Channel → MessagePart → ℕ → ℕ → Step
 stepped_of room ch p c n =
-    cond (repeated ch c) (record { outcome = Repeated; channel = ch; put = Nowhere }) (placed_of room (noted_of ch c) p n (missed_of ch c))
+    cond (repeated ch c) (record { outcome = Repeated; channel = ch; put = None }) (placed_of room (noted_of ch c) p n (missed_of ch c))
 
 -- what holds of every record that is found in a good joiner, and of every datagram whose header is read
 abbrev pub can_move : ℕ → ℕ → Channel → ℕ → Bool

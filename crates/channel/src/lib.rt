@@ -52,19 +52,12 @@ pub struct Room {
     pub size: u32,
 }
 
-// Where a datagram's piece is to be written in the rooms, if at all.
-#[derive(Clone, Copy)]
-pub enum Put {
-    Nowhere,
-    At(usize),
-}
-
-// What a datagram does to its channel: the outcome, the record after it, and where its piece goes.
+// What a datagram does to its channel: the outcome, the record after it, and where in the rooms its piece is to be written, if at all.
 #[derive(Clone, Copy)]
 pub struct Step {
     pub outcome: Outcome,
     pub channel: Channel,
-    pub put: Put,
+    pub put: Option<usize>,
 }
 
 // What a datagram comes to before anything is written: a refusal, or a step of the channel `at`.

@@ -4,7 +4,7 @@ ghost use Rattle.binding.specs.Header.{counters};
 ghost use Rattle.channel.specs.Channel.{Steppable, missed_of, repeated, noted_of, holding, behind_of, stray_of, too_long};
 ghost use Rattle.channel.specs.Channel.{whole_of, begun_of, joined_of, followed_of, placed_of, stepped_of};
 
-use crate::{Channel, Outcome, Put, Room, Slice, Step};
+use crate::{Channel, Outcome, Room, Slice, Step};
 use binding::{BindingHeader, COUNTERS, MessagePart};
 
 // What a datagram with a piece of `length` bytes does to its channel.
@@ -17,7 +17,7 @@ pub(crate) fn stepped(room: Room, channel: Channel, header: BindingHeader, lengt
         Step {
             outcome: Outcome::Repeated,
             channel,
-            put: Put::Nowhere,
+            put: None,
         }
     } else {
         let missed = missed(channel, counter);
@@ -109,7 +109,7 @@ fn whole(channel: Channel, length: u32, missed: u32) -> Step
             },
         },
         channel: emptied,
-        put: Put::Nowhere,
+        put: None,
     }
 }
 
@@ -125,7 +125,7 @@ fn begun(room: Room, channel: Channel, length: u32, missed: u32) -> Step
                 held: length,
             },
             channel: started,
-            put: Put::At(room.start),
+            put: Some(room.start),
         }
     } else {
         too_long(channel, missed)
@@ -179,11 +179,11 @@ fn joined(ends: bool, room: Room, channel: Channel, length: u32, missed: u32) ->
     }
 }
 
-fn behind(room: Room, held: u32) -> Put
+fn behind(room: Room, held: u32) -> Option<usize>
     requires { (room.start + room.size < 2 ^ 64) × (held ≤ room.size) }
     ensures { result ≡ behind_of room held }
 {
-    Put::At(room.start + held as usize)
+    Some(room.start + held as usize)
 }
 
 fn stray(channel: Channel, missed: u32) -> Step
@@ -192,7 +192,7 @@ fn stray(channel: Channel, missed: u32) -> Step
     Step {
         outcome: Outcome::Stray { missed },
         channel,
-        put: Put::Nowhere,
+        put: None,
     }
 }
 
@@ -203,7 +203,7 @@ fn too_long(channel: Channel, missed: u32) -> Step
     Step {
         outcome: Outcome::TooLong { missed },
         channel: dropped,
-        put: Put::Nowhere,
+        put: None,
     }
 }
 

@@ -2,6 +2,7 @@
 -- change. A refusal changes no record and no byte of the rooms; a datagram of channel k changes no other record.
 -- Assumes nothing.
 use Prim.Native.Nat.{ℕ, ◌≤◌, ◌<◌}
+use Rattle.std.specs.Prelude.{Option, Some, None}
 use mathlib.Core.Path.{◌≡◌, refl, sym, ap, ◌∙◌}
 use mathlib.Core.Bool.{Bool, true, false, ◌&&◌}
 use mathlib.Core.List.{List, map}
@@ -17,8 +18,6 @@ use Rattle.binding.specs.Header.{part_carried, counter_in, piece_in}
 use Rattle.binding.proofs.Headers.{counter_below}
 use Rattle.channel.specs.declared.Channel.{Channel}
 use Rattle.channel.specs.declared.Step.{Step}
-use Rattle.channel.specs.declared.Put.{Put}
-use Rattle.channel.specs.declared.Put.TheVariants.{Nowhere, At}
 use Rattle.channel.specs.declared.Outcome.TheVariants.{Refused}
 use Rattle.channel.specs.declared.Judged.{Judged}
 use Rattle.channel.specs.declared.Judged.TheVariants.{Refusal, Move}
@@ -74,10 +73,10 @@ module _ (j : Joiner) (k : ℕ) (ch : Channel) where
       ap (map sender_of) (take-set-lt j.count j.channels k ch h)
       ∙ map-set_same sender_of (channels_of j) k ch (new_channel 0) (e ∙ ap sender_of (sym (get_or-take j.count j.channels k (new_channel 0) h)))
 
-pub put_length : (rooms : List ℕ) (p : Put) (d : List ℕ) → length (put_by rooms p d) ≡ length rooms
+pub put_length : (rooms : List ℕ) (p : Option ℕ) (d : List ℕ) → length (put_by rooms p d) ≡ length rooms
 unfolding put_by
-put_length rooms Nowhere d = refl
-put_length rooms (At p) d = length_written rooms p (piece_in d)
+put_length rooms None d = refl
+put_length rooms (Some p) d = length_written rooms p (piece_in d)
 
 -- what a datagram that moves channel k does to the record
 module _ (j : Joiner) (b : ℕ) (d : List ℕ) (k : ℕ) (s : Step) (v : Moved j b d k s) where

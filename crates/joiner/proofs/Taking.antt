@@ -1,6 +1,7 @@
 -- What taking a datagram and handing back a message show at their returns.
 -- Assumes nothing.
 use Prim.Native.Nat.{ℕ, ◌+◌, ◌-◌, ◌*◌, ◌<◌}
+use Rattle.std.specs.Prelude.{Option, Some, None}
 use mathlib.Core.Path.{◌≡◌, refl, sym, ap, ◌∙◌}
 use mathlib.Core.Bool.{Bool, true, false}
 use mathlib.Core.List.{List, []}
@@ -20,8 +21,6 @@ use Rattle.channel.specs.declared.Judged.{Judged}
 use Rattle.channel.specs.declared.Judged.TheVariants.{Refusal, Move}
 use Rattle.channel.specs.declared.Slice.{Slice}
 use Rattle.channel.specs.declared.Slice.TheVariants.{Datagram, Rooms}
-use Rattle.channel.specs.declared.Put.{Put}
-use Rattle.channel.specs.declared.Put.TheVariants.{Nowhere, At}
 use Rattle.channel.specs.declared.Outcome.{Outcome}
 use Rattle.channel.specs.declared.Outcome.TheVariants.{Refused, Repeated, Delivered, Held, Stray, TooLong}
 use Rattle.channel.specs.Record.{channel_limit}
@@ -42,16 +41,16 @@ module _ {o : Outcome} {pl : Slice} (d rooms : List ℕ) where
   unfolding message_of
   in-rooms m s l eo ep ex = rw (eo, ep) ex
 
-pub put_nowhere : {p : Put} (rooms d : List ℕ) → p ≡ Nowhere → rooms ≡ put_by rooms p d
+pub put_nowhere : {p : Option ℕ} (rooms d : List ℕ) → p ≡ None → rooms ≡ put_by rooms p d
 unfolding put_by
 put_nowhere rooms d e = rw e
 
-pub put_at : {p : Put} {x : List ℕ} (rooms d : List ℕ) (a : ℕ) → p ≡ At a → x
+pub put_at : {p : Option ℕ} {x : List ℕ} (rooms d : List ℕ) (a : ℕ) → p ≡ Some a → x
     ≡ written rooms a (take (length d - header_length) (drop header_length d)) → x ≡ put_by rooms p d
 unfolding put_by
 put_at rooms d a e f = rw e (f ∙ ap (written rooms a) (take_all (length d - header_length) (drop header_length d) (omega (arith, length-drop header_length d))))
 
-pub put_none : {p : Put} (rooms d : List ℕ) (a : ℕ) → p ≡ At a → length d < header_length → rooms ≡ put_by rooms p d
+pub put_none : {p : Option ℕ} (rooms d : List ℕ) (a : ℕ) → p ≡ Some a → length d < header_length → rooms ≡ put_by rooms p d
 unfolding put_by
 put_none rooms d a e h = rw e (go (leb (a + length (drop header_length d)) (length rooms)) refl)
   where

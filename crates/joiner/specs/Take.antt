@@ -1,5 +1,6 @@
 -- One datagram taken: 01, numbers 20 to 23 in their order, and Joining.
 use Rattle.std.specs.Prelude.{ℕ, ◌≤◌, ◌<◌, ◌≡◌, cond, List, [], ltb, length, get_or, set}
+use Rattle.std.specs.Prelude.{Option, Some, None}
 use Rattle.wire.specs.Bytes.{written, part}
 use Rattle.binding.specs.Header.{the_version, smallest_datagram, largest_datagram, version_in, sender_in, heading_in, piece_in}
 use Rattle.binding.specs.declared.BindingHeader.{BindingHeader}
@@ -8,8 +9,6 @@ use Rattle.binding.specs.declared.Heading.TheVariants as heading
 use Rattle.channel.specs.Channel.{room_of, stepped_of, moved_of}
 use Rattle.channel.specs.Record.{bad_setup}
 use Rattle.channel.specs.declared.Channel.{Channel}
-use Rattle.channel.specs.declared.Put.{Put}
-use Rattle.channel.specs.declared.Put.TheVariants.{Nowhere, At}
 use Rattle.channel.specs.declared.Slice.{Slice}
 use Rattle.channel.specs.declared.Slice.TheVariants.{Datagram, Rooms}
 use Rattle.channel.specs.declared.Outcome.{Outcome}
@@ -69,9 +68,9 @@ unfoldable pub taken_of : Joiner → List ℕ → List ℕ → Taken
 taken_of j rooms d = taken_by j (judged_of j (length rooms) d)
 
 -- only the piece's own bytes of the room are written
-unfoldable pub put_by : List ℕ → Put → List ℕ → List ℕ
-put_by rooms Nowhere d = rooms
-put_by rooms (At p) d = written rooms p (piece_in d)
+unfoldable pub put_by : List ℕ → Option ℕ → List ℕ → List ℕ
+put_by rooms None d = rooms
+put_by rooms (Some p) d = written rooms p (piece_in d)
 
 unfoldable pub rooms_by : List ℕ → List ℕ → Judged → List ℕ
 rooms_by rooms d (Refusal n) = rooms

@@ -14,7 +14,7 @@ ghost use Rattle.joiner.specs.Take.{sender_by, refusal_by, judged_by, taken_of, 
 
 use crate::looking::Looked;
 use binding::{BindingHeader, Heading};
-use channel::{BAD_SETUP, CHANNELS, Channel, Judged, Outcome, Put, Slice};
+use channel::{BAD_SETUP, CHANNELS, Channel, Judged, Outcome, Slice};
 pub use looking::{JOINER_WORDS, SMALLEST_ROOM};
 pub use setups::{NewJoiner, Verdict, setup};
 
@@ -113,12 +113,12 @@ fn refusal(heading: Heading) -> u32
 }
 
 // Writes the datagram's piece, and nothing else.
-pub(crate) fn write_piece(rooms: &mut [u8], place: Put, datagram: &[u8])
+pub(crate) fn write_piece(rooms: &mut [u8], place: Option<usize>, datagram: &[u8])
     ensures { rooms.new ≡ put_by rooms.old place datagram.now }
 {
     match place {
-        Put::Nowhere => {}
-        Put::At(at) => {
+        None => {}
+        Some(at) => {
             if BindingHeader::LENGTH <= datagram.len() {
                 wire::put_run(rooms, at, &datagram[BindingHeader::LENGTH..]);
             }

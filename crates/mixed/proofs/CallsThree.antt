@@ -1,12 +1,12 @@
 -- What the call for one message in Issue 3's form comes to at its returns.
 -- Assumes nothing.
 use Prim.Native.Nat.{ℕ}
+use Rattle.std.specs.Prelude.{Option}
 use mathlib.Core.Path.{◌≡◌, refl, sym, ap, ◌∙◌}
 use mathlib.Core.Bool.{Bool, true, false}
 use mathlib.Core.List.{List}
 use Rattle.wire.specs.Bytes.{part}
 use Rattle.table.specs.declared.Sections.{Sections}
-use Rattle.operations.specs.declared.Sought.{Sought}
 use Rattle.message3.specs.declared.Stamp.{Stamp}
 use Rattle.message3.specs.declared.Header3.{Header3}
 use Rattle.message3.specs.declared.Message3.{Message3}
@@ -45,7 +45,7 @@ module _ (own : ℕ) (i ours t : List ℕ) (s : Sections) (index : List ℕ) (p 
     unread-words room = ap (any_words_of own i ours t s index p ws m room) (was_read f)
 
   -- one that was read, with the operation that was looked up for it: a response, or another
-  module _ (h : Header3) (k : Message3) (start len : ℕ) (f : x ≡ three.Read h k start len) (z : Sought) (g : z ≡ operation_for3 t s index h k)
+  module _ (h : Header3) (k : Message3) (start len : ℕ) (f : x ≡ three.Read h k start len) (z : Option (ℕ × ℕ)) (g : z ≡ operation_for3 t s index h k)
       (b : Bool) (eb : b ≡ is_answer3 t z k) where
     module _ (y : b ≡ true) where
       pub response : (l : List ℕ) (room : ℕ) (r : AnyReceived) → r ≡ response_to3 l z p h start len

@@ -1,14 +1,13 @@
 -- What the functions of `reacting` come to at their returns.
 -- Assumes nothing.
 use Prim.Native.Nat.{ℕ}
+use Rattle.std.specs.Prelude.{Option, Some, None}
 use mathlib.Core.Path.{◌≡◌, refl, sym, ap, ◌∙◌}
 use mathlib.Core.Bool.{Bool, true, false, cond}
 use mathlib.Core.List.{List}
 use lib.Dec.{eqb}
 use Rattle.wire.proofs.Cond.{yes-eq, no_eq}
 use Rattle.table.specs.declared.Sections.{Sections}
-use Rattle.operations.specs.declared.Sought.{Sought}
-use Rattle.operations.specs.declared.Sought.TheVariants as sought
 use Rattle.operations.specs.Entries.{data_kind, kind_at}
 use Rattle.operations.specs.Search.{sought_in}
 use Rattle.pending.specs.Free.{drawn}
@@ -58,18 +57,18 @@ module _ (n : ℕ) where
 
 -- what is looked up
 module _ (t : List ℕ) (s : Sections) (index : List ℕ) (h : Header3) where
-  pub for-pull : (m : Message3) (id : ℕ) (f : Sought) → m ≡ message3.VersionedDataPull id → f ≡ sought_in t index s.operations.count id
+  pub for-pull : (m : Message3) (id : ℕ) (f : Option (ℕ × ℕ)) → m ≡ message3.VersionedDataPull id → f ≡ sought_in t index s.operations.count id
       → f ≡ operation_for3 t s index h m
   unfolding operation_for3
   for-pull m id f e a = rw e a
 
-  pub for-operation : (m : Message3) (f : Sought) → m ≡ message3.Operation → f ≡ sought_in t index s.operations.count h.id
+  pub for-operation : (m : Message3) (f : Option (ℕ × ℕ)) → m ≡ message3.Operation → f ≡ sought_in t index s.operations.count h.id
       → f ≡ operation_for3 t s index h m
   unfolding operation_for3
   for-operation m f e a = rw e a
 
   pub for-no-other : (m : Message3) → ((id : ℕ) → m ≡ message3.VersionedDataPull id → ⊥) → (m ≡ message3.Operation → ⊥)
-      → sought.Nowhere ≡ operation_for3 t s index h m
+      → None ≡ operation_for3 t s index h m
   unfolding operation_for3
   for-no-other (message3.PlatformStatus x c) k o = refl
   for-no-other message3.PlatformStatusRequest k o = refl
@@ -129,46 +128,46 @@ pub as_heard : (p : Standing) (n : ℕ) (x : Heard) (d : Deed) → d ≡ deed_fo
 as_heard p n x d e = ap (λ (y : Deed). record { standing = p; heard = heard3.Common x; deed = y }) e
 
 -- `pull_heard`, `one_heard`, `operation_heard`
-module _ (t : List ℕ) (f : Sought) (id : ℕ) where
+module _ (t : List ℕ) (f : Option (ℕ × ℕ)) (id : ℕ) where
   pub all-pulled : id ≡ all_data → heard.PullOfAll ≡ pull_heard t f id
   all-pulled e = sym (yes-eq {A = Heard} heard.PullOfAll (one_heard t f id) id all_data e)
 
   pub one-pulled : {x : Heard} → (id ≡ all_data → ⊥) → x ≡ one_heard t f id → x ≡ pull_heard t f id
   one-pulled n e = e ∙ sym (no_eq {A = Heard} heard.PullOfAll (one_heard t f id) id all_data n)
 
-  module _ (i q k : ℕ) (e : f ≡ sought.At i q) (ek : k ≡ kind_at t q) where
+  module _ (i q k : ℕ) (e : f ≡ Some (i, q)) (ek : k ≡ kind_at t q) where
     pub is-pulled : k ≡ data_kind → heard.PullOfOne id i ≡ one_heard t f id
     unfolding is_data
     is-pulled z =
-        sym (ap (λ (x : Sought). one_heard t x id) e ∙ yes-eq {A = Heard} (heard.PullOfOne id i) (heard.NotVersionedData id) (kind_at t q) data_kind (sym ek ∙ z))
+        sym (ap (λ (x : Option (ℕ × ℕ)). one_heard t x id) e ∙ yes-eq {A = Heard} (heard.PullOfOne id i) (heard.NotVersionedData id) (kind_at t q) data_kind (sym ek ∙ z))
 
     pub no-pull : (k ≡ data_kind → ⊥) → heard.NotVersionedData id ≡ one_heard t f id
     unfolding is_data
     no-pull z =
-        sym (ap (λ (x : Sought). one_heard t x id) e
+        sym (ap (λ (x : Option (ℕ × ℕ)). one_heard t x id) e
         ∙ no_eq {A = Heard} (heard.PullOfOne id i) (heard.NotVersionedData id) (kind_at t q) data_kind (λ (y : kind_at t q ≡ data_kind). z (ek ∙ y)))
 
-  pub nowhere-pulled : f ≡ sought.Nowhere → heard.NotVersionedData id ≡ one_heard t f id
+  pub nowhere-pulled : f ≡ None → heard.NotVersionedData id ≡ one_heard t f id
   nowhere-pulled e = rw e refl
 
-module _ (f : Sought) (id start len : ℕ) where
-  pub operation-there : (i q : ℕ) → f ≡ sought.At i q → heard.Operation i start len ≡ operation_heard f id start len
+module _ (f : Option (ℕ × ℕ)) (id start len : ℕ) where
+  pub operation-there : (i q : ℕ) → f ≡ Some (i, q) → heard.Operation i start len ≡ operation_heard f id start len
   operation-there i q e = rw e refl
 
-  pub operation-absent : f ≡ sought.Nowhere → heard.NotInTable id ≡ operation_heard f id start len
+  pub operation-absent : f ≡ None → heard.NotInTable id ≡ operation_heard f id start len
   operation-absent e = rw e refl
 
 -- and that this is what Issue 6's words say
-module _ (own : ℕ) (t : List ℕ) (s : Sections) (f : Sought) (p : Standing) (h : Header3) (start len : ℕ) where
-  pulled_one : (g : Sought) (id n : ℕ) → one_heard t g id ≡ (on_pull_one t g p n id).heard
+module _ (own : ℕ) (t : List ℕ) (s : Sections) (f : Option (ℕ × ℕ)) (p : Standing) (h : Header3) (start len : ℕ) where
+  pulled_one : (g : Option (ℕ × ℕ)) (id n : ℕ) → one_heard t g id ≡ (on_pull_one t g p n id).heard
   unfolding on_pull_one
-  pulled_one (sought.At i q) id n = go (is_data t q)
+  pulled_one (Some (i, q)) id n = go (is_data t q)
     where
       go : (b : Bool) → cond b (heard.PullOfOne id i) (heard.NotVersionedData id)
           ≡ (cond b (silent p (heard.PullOfOne id i)) (not_versioned p n id)).heard
       go true = refl
       go false = refl
-  pulled_one sought.Nowhere id n = refl
+  pulled_one None id n = refl
 
   pub pulls : (id : ℕ) → heard_as p h.sequence (pull_heard t f id) ≡ on_pull3 own t s f p h id start len
   unfolding on_pull3 commonly reaction_to on_pull
@@ -184,13 +183,13 @@ module _ (own : ℕ) (t : List ℕ) (s : Sections) (f : Sought) (p : Standing) (
   unfolding commonly reaction_to on_operation
   operates = go f
     where
-      go : (g : Sought) → heard_as p h.sequence (operation_heard g h.id start len)
+      go : (g : Option (ℕ × ℕ)) → heard_as p h.sequence (operation_heard g h.id start len)
           ≡ heard_as p h.sequence (on_operation g p (in_six_words h) start len).heard
-      go (sought.At i q) = refl
-      go sought.Nowhere = refl
+      go (Some (i, q)) = refl
+      go None = refl
 
 -- each message
-module _ (own : ℕ) (ours t : List ℕ) (s : Sections) (f : Sought) (p : Standing) (h : Header3) (m : Message3) (start len : ℕ) where
+module _ (own : ℕ) (ours t : List ℕ) (s : Sections) (f : Option (ℕ × ℕ)) (p : Standing) (h : Header3) (m : Message3) (start len : ℕ) where
   abbrev whole : Reaction3
   whole = reaction3 own ours t s f p h m start len
 

@@ -1,13 +1,13 @@
 -- What the functions of `receiving` and `answers` come to at their returns.
 -- Assumes nothing.
 use Prim.Native.Nat.{ℕ}
+use Rattle.std.specs.Prelude.{Option}
 use mathlib.Core.Path.{◌≡◌, refl, sym, ap, ap₂, ◌∙◌}
 use mathlib.Core.Bool.{Bool, true, false}
 use mathlib.Core.List.{List}
 use lib.ListN.{length}
 use Rattle.wire.specs.Bytes.{over}
 use Rattle.wire.proofs.Cond.{yes-eq, no_eq}
-use Rattle.operations.specs.declared.Sought.{Sought}
 use Rattle.pending.specs.Answers.{is_response}
 use Rattle.message.specs.declared.Header.{Header}
 use Rattle.message3.specs.declared.Stamp.{Stamp}
@@ -47,7 +47,7 @@ module _ (r : Received) where
   six-response h i start len e = ap with-answer (sym e)
 
 -- a response
-module _ (t : List ℕ) (f : Sought) where
+module _ (t : List ℕ) (f : Option (ℕ × ℕ)) where
   pub of_operation : (m : Message3) (r : Bool) → m ≡ message3.Operation → r ≡ is_sent t f → r ≡ is_answer3 t f m
   unfolding is_answer3
   of_operation m r e a = rw e a
@@ -65,11 +65,11 @@ module _ (t : List ℕ) (f : Sought) where
   of-another (message3.CompositeChangeRequestAck a) k = refl
   of-another message3.Operation k = absurd (k refl)
 
-pub delivered_is : (f : Sought) (p : Standing) (h : Header3) (start len i : ℕ) → i ≡ entry_of f
+pub delivered_is : (f : Option (ℕ × ℕ)) (p : Standing) (h : Header3) (start len i : ℕ) → i ≡ entry_of f
     → ◌≡◌ {A = AnyReceived} (record { standing = p; answer = ThreeResponse h i start len }) (delivered3 f p h start len)
 delivered_is f p h start len i e = ap (λ (n : ℕ). record { standing = p; answer = ThreeResponse h n start len }) e
 
-module _ (l : List ℕ) (f : Sought) (p : Standing) (h : Header3) (start len : ℕ) (b : Bool) (e : b ≡ is_response l h.sequence h.id h.platform)
+module _ (l : List ℕ) (f : Option (ℕ × ℕ)) (p : Standing) (h : Header3) (start len : ℕ) (b : Bool) (e : b ≡ is_response l h.sequence h.id h.platform)
     (r : AnyReceived) where
   pub is-awaited : b ≡ true → r ≡ delivered3 f p h start len → r ≡ response_to3 l f p h start len
   unfolding response_to3

@@ -1,9 +1,8 @@
 -- 02, request 8; 001, 6.3 and Table 4: what a message of Issue 3 is here, the states and the own number after it, and what is to be
 -- written. What both issues have is as Issue 6's words have it (`platform/specs/Reaction`).
 use Rattle.std.specs.Prelude.{ℕ, cond, List, eqb}
+use Rattle.std.specs.Prelude.{Option, Some, None}
 use Rattle.table.specs.declared.Sections.{Sections}
-use Rattle.operations.specs.declared.Sought.{Sought}
-use Rattle.operations.specs.declared.Sought.TheVariants as sought
 use Rattle.operations.specs.Search.{sought_in}
 use Rattle.pending.specs.Free.{drawn}
 use Rattle.states.specs.States.{stands_up}
@@ -33,16 +32,16 @@ abbrev pub all_services : ℕ
 all_services = 0xFFFFFFFF
 
 -- the operation that a message asks for, looked up by the table's index: a pull's ID, or the ID of a message of domain 1
-unfoldable pub operation_for3 : List ℕ → Sections → List ℕ → Header3 → Message3 → Sought
-operation_for3 t s index h (message3.PlatformStatus x c) = sought.Nowhere
-operation_for3 t s index h message3.PlatformStatusRequest = sought.Nowhere
-operation_for3 t s index h (message3.AvailabilityStatus n) = sought.Nowhere
-operation_for3 t s index h (message3.AvailabilityStatusRequest id) = sought.Nowhere
-operation_for3 t s index h (message3.UnknownOperation id) = sought.Nowhere
-operation_for3 t s index h (message3.ServiceNotAvailable id) = sought.Nowhere
+unfoldable pub operation_for3 : List ℕ → Sections → List ℕ → Header3 → Message3 → Option (ℕ × ℕ)
+operation_for3 t s index h (message3.PlatformStatus x c) = None
+operation_for3 t s index h message3.PlatformStatusRequest = None
+operation_for3 t s index h (message3.AvailabilityStatus n) = None
+operation_for3 t s index h (message3.AvailabilityStatusRequest id) = None
+operation_for3 t s index h (message3.UnknownOperation id) = None
+operation_for3 t s index h (message3.ServiceNotAvailable id) = None
 operation_for3 t s index h (message3.VersionedDataPull id) = sought_in t index s.operations.count id
-operation_for3 t s index h (message3.CompositeChangeRequest c) = sought.Nowhere
-operation_for3 t s index h (message3.CompositeChangeRequestAck a) = sought.Nowhere
+operation_for3 t s index h (message3.CompositeChangeRequest c) = None
+operation_for3 t s index h (message3.CompositeChangeRequestAck a) = None
 operation_for3 t s index h message3.Operation = sought_in t index s.operations.count h.id
 
 -- nothing is to be written, and the states and the own number stay
@@ -69,21 +68,21 @@ abbrev pub heard_as : Standing → ℕ → Heard → Reaction3
 heard_as p n x = record { standing = p; heard = heard3.Common x; deed = deed_for n x }
 
 -- what is heard of a pull, and of a message of domain 1 (`platform/specs/Reaction`), by the operation that was looked up
-abbrev pub one_heard : List ℕ → Sought → ℕ → Heard
-one_heard t (sought.At i q) id = cond (is_data t q) (heard.PullOfOne id i) (heard.NotVersionedData id)
-one_heard t sought.Nowhere id = heard.NotVersionedData id
+abbrev pub one_heard : List ℕ → Option (ℕ × ℕ) → ℕ → Heard
+one_heard t (Some (i, q)) id = cond (is_data t q) (heard.PullOfOne id i) (heard.NotVersionedData id)
+one_heard t None id = heard.NotVersionedData id
 
-abbrev pub pull_heard : List ℕ → Sought → ℕ → Heard
+abbrev pub pull_heard : List ℕ → Option (ℕ × ℕ) → ℕ → Heard
 pull_heard t f id = cond (eqb id all_data) heard.PullOfAll (one_heard t f id)
 
-abbrev pub operation_heard : Sought → ℕ → ℕ → ℕ → Heard
-operation_heard (sought.At i q) id start len = heard.Operation i start len
-operation_heard sought.Nowhere id start len = heard.NotInTable id
+abbrev pub operation_heard : Option (ℕ × ℕ) → ℕ → ℕ → ℕ → Heard
+operation_heard (Some (i, q)) id start len = heard.Operation i start len
+operation_heard None id start len = heard.NotInTable id
 
-unfoldable pub commonly : ℕ → List ℕ → Sections → Sought → Standing → Header3 → Message → ℕ → ℕ → Reaction3
+unfoldable pub commonly : ℕ → List ℕ → Sections → Option (ℕ × ℕ) → Standing → Header3 → Message → ℕ → ℕ → Reaction3
 commonly own t s f p h m start len = heard_as p h.sequence (reaction_to own t s f p (in_six_words h) m start len).heard
 
-unfoldable pub on_pull3 : ℕ → List ℕ → Sections → Sought → Standing → Header3 → ℕ → ℕ → ℕ → Reaction3
+unfoldable pub on_pull3 : ℕ → List ℕ → Sections → Option (ℕ × ℕ) → Standing → Header3 → ℕ → ℕ → ℕ → Reaction3
 on_pull3 own t s f p h id start len =
     cond (eqb id all_data) (silent3 p (heard3.Common heard.PullOfAll)) (commonly own t s f p h (message.VersionedDataPull id) start len)
 
@@ -110,7 +109,7 @@ on_services_request ours p n id =
     }
 
 -- the reaction to each message, but for what answers a request of ours
-unfoldable pub reaction3 : ℕ → List ℕ → List ℕ → Sections → Sought → Standing → Header3 → Message3 → ℕ → ℕ → Reaction3
+unfoldable pub reaction3 : ℕ → List ℕ → List ℕ → Sections → Option (ℕ × ℕ) → Standing → Header3 → Message3 → ℕ → ℕ → Reaction3
 reaction3 own ours t s f p h (message3.PlatformStatus x c) start len = on_status3 own p h.platform x c
 reaction3 own ours t s f p h message3.PlatformStatusRequest start len = commonly own t s f p h message.PlatformStatusRequest start len
 reaction3 own ours t s f p h (message3.AvailabilityStatus n) start len = record { standing = p; heard = heard3.Services n; deed = Note }

@@ -1,9 +1,9 @@
 -- 02, request 8: what the one call for one message answers among partners of both issues, the states and the own number after it, the
 -- output, the list of the requests that are pending, and the words of the partners' services.
 use Rattle.std.specs.Prelude.{ℕ, Bool, false, cond, List, eqb, length}
+use Rattle.std.specs.Prelude.{Option}
 use Rattle.wire.specs.Bytes.{part, over}
 use Rattle.table.specs.declared.Sections.{Sections}
-use Rattle.operations.specs.declared.Sought.{Sought}
 use Rattle.pending.specs.Answers.{is_response, responded}
 use Rattle.message3.specs.declared.Stamp.{Stamp}
 use Rattle.message3.specs.declared.Header3.{Header3}
@@ -49,7 +49,7 @@ abbrev pub refused_any : Standing → ℕ → AnyReceived
 refused_any p n = record { standing = p; answer = Refused n }
 
 -- Issue 3: a message of domain 1 with the ID of an operation whose requests we send is the response to one that is pending, or 61 (02, 1)
-unfoldable pub is_answer3 : List ℕ → Sought → Message3 → Bool
+unfoldable pub is_answer3 : List ℕ → Option (ℕ × ℕ) → Message3 → Bool
 is_answer3 t f (message3.PlatformStatus x c) = false
 is_answer3 t f message3.PlatformStatusRequest = false
 is_answer3 t f (message3.AvailabilityStatus n) = false
@@ -61,10 +61,10 @@ is_answer3 t f (message3.CompositeChangeRequest c) = false
 is_answer3 t f (message3.CompositeChangeRequestAck a) = false
 is_answer3 t f message3.Operation = is_sent t f
 
-abbrev pub delivered3 : Sought → Standing → Header3 → ℕ → ℕ → AnyReceived
+abbrev pub delivered3 : Option (ℕ × ℕ) → Standing → Header3 → ℕ → ℕ → AnyReceived
 delivered3 f p h start len = record { standing = p; answer = ThreeResponse h (entry_of f) start len }
 
-unfoldable pub response_to3 : List ℕ → Sought → Standing → Header3 → ℕ → ℕ → AnyReceived
+unfoldable pub response_to3 : List ℕ → Option (ℕ × ℕ) → Standing → Header3 → ℕ → ℕ → AnyReceived
 response_to3 l f p h start len = cond (is_response l h.sequence h.id h.platform) (delivered3 f p h start len) (refused_any p not_awaited)
 
 abbrev pub list_answered3 : List ℕ → Header3 → List ℕ

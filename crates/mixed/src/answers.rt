@@ -5,7 +5,6 @@ ghost use Rattle.mixed.specs.Receiving.{from_received, refused_any, delivered3, 
 use crate::reactions::Reaction3;
 use crate::{AnyAnswer, AnyReceived};
 use message3::Header3;
-use operations::Sought;
 use platform::{Noting, Received, Standing};
 
 pub(crate) fn from_received(received: Received) -> AnyReceived
@@ -54,7 +53,7 @@ pub(crate) fn refused(standing: Standing, number: u32) -> AnyReceived
 }
 
 pub(crate) fn delivered(
-    found: Sought,
+    found: Option<(u16, usize)>,
     standing: Standing,
     header: Header3,
     start: usize,

@@ -7,7 +7,6 @@ use crate::ours;
 use crate::reactions::{Deed, Heard3, Reaction3};
 use message::{Own, Status};
 use message3::{Header3, Message3};
-use operations::Sought;
 use platform::{ALL_DATA, Heard, Reply, Standing};
 use table::Sections;
 
@@ -19,7 +18,7 @@ pub(crate) fn reaction_to(
     ours: &[u64],
     table: &[u8],
     s: Sections,
-    found: Sought,
+    found: Option<(u16, usize)>,
     standing: Standing,
     header: Header3,
     message: Message3,
@@ -67,13 +66,13 @@ pub(crate) fn look_up(
     index: &[u64],
     header: Header3,
     message: Message3,
-) -> Sought
+) -> Option<(u16, usize)>
     ensures { result ≡ operation_for3 table.now s index.now header message }
 {
     match message {
         Message3::VersionedDataPull(id) => operations::find(table, index, s.operations.count, id),
         Message3::Operation => operations::find(table, index, s.operations.count, header.id),
-        _ => Sought::Nowhere,
+        _ => None,
     }
 }
 
@@ -119,7 +118,7 @@ fn came_up(standing: Standing, sender: u8, composite: u32) -> Reaction3
 }
 
 // 001 has no answer to a pull of all where there is no versioned data.
-fn pull_heard(table: &[u8], found: Sought, id: u32) -> Heard
+fn pull_heard(table: &[u8], found: Option<(u16, usize)>, id: u32) -> Heard
     ensures { result ≡ pull_heard table.now found id }
 {
     if id == ALL_DATA {
@@ -129,31 +128,31 @@ fn pull_heard(table: &[u8], found: Sought, id: u32) -> Heard
     }
 }
 
-fn one_heard(table: &[u8], found: Sought, id: u32) -> Heard
+fn one_heard(table: &[u8], found: Option<(u16, usize)>, id: u32) -> Heard
     ensures { result ≡ one_heard table.now found id }
 {
     match found {
-        Sought::At(entry, place) => {
+        Some((entry, place)) => {
             if operations::kind_at(table, place) == operations::VERSIONED_DATA {
                 Heard::PullOfOne(id, entry)
             } else {
                 Heard::NotVersionedData(id)
             }
         }
-        Sought::Nowhere => Heard::NotVersionedData(id),
+        None => Heard::NotVersionedData(id),
     }
 }
 
-fn operation_heard(found: Sought, id: u32, start: usize, length: usize) -> Heard
+fn operation_heard(found: Option<(u16, usize)>, id: u32, start: usize, length: usize) -> Heard
     ensures { result ≡ operation_heard found id start length }
 {
     match found {
-        Sought::At(entry, _) => Heard::Operation {
+        Some((entry, _)) => Heard::Operation {
             entry,
             start,
             length,
         },
-        Sought::Nowhere => Heard::NotInTable(id),
+        None => Heard::NotInTable(id),
     }
 }
 

@@ -11,7 +11,6 @@ use crate::reactions::{Reaction3, Room};
 use crate::{AnyReceived, answers, keeping, laying, reacting};
 use message::Own;
 use message3::{Header3, Message3, Reading3, Stamp};
-use operations::Sought;
 use platform::{NOT_AWAITED, Standing};
 use table::Sections;
 
@@ -75,7 +74,7 @@ pub(crate) fn reacted(
     ours: &[u64],
     table: &[u8],
     s: Sections,
-    found: Sought,
+    found: Option<(u16, usize)>,
     standing: Standing,
     header: Header3,
     kind: Message3,
@@ -146,7 +145,7 @@ pub(crate) fn settled(
     }
 }
 
-pub(crate) fn is_answer(table: &[u8], found: Sought, message: Message3) -> bool
+pub(crate) fn is_answer(table: &[u8], found: Option<(u16, usize)>, message: Message3) -> bool
     ensures { result ≡ is_answer3 table.now found message }
 {
     match message {
@@ -158,7 +157,7 @@ pub(crate) fn is_answer(table: &[u8], found: Sought, message: Message3) -> bool
 // Its request is pending no more once it is delivered.
 pub(crate) fn response_to(
     list: &mut [u64],
-    found: Sought,
+    found: Option<(u16, usize)>,
     standing: Standing,
     header: Header3,
     start: usize,

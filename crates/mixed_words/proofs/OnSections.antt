@@ -1,6 +1,7 @@
 -- What the call for one message on sections shows at its returns: these lie in the table, or not; and of one told straight from its bytes.
 -- Assumes nothing.
 use Prim.Native.Nat.{ℕ, ◌-◌}
+use Rattle.std.specs.Prelude.{Option, Some}
 use mathlib.Core.Path.{◌≡◌, refl, sym, ap, ap₂, ◌∙◌}
 use mathlib.Core.Bool.{Bool, true, false}
 use mathlib.Core.List.{List, ◌++◌}
@@ -9,8 +10,6 @@ use Rattle.wire.proofs.Cond.{yes-if, no-if}
 use Rattle.table.specs.declared.Sections.{Sections}
 use Rattle.table.specs.Layout.{cut_short, within}
 use Rattle.table.specs.Words.{bounds_words, sections_in, index_in}
-use Rattle.operations.specs.declared.Sought.{Sought}
-use Rattle.operations.specs.declared.Sought.TheVariants as sought
 use Rattle.mixed.specs.declared.AnyReceived.{AnyReceived}
 use Rattle.mixed.specs.Receiving.{number_given, refused_any, any_list}
 use Rattle.mixed.specs.Tables.{sections_answer, sections_out, sections_pending, sections_words}
@@ -98,14 +97,14 @@ module _ {s : Sections} {b : Bool} (own : ℕ) (i ours ws sv t ss m out : List �
     outside-heard heard = ap (λ (y : AnyReceived). any_heard_after y heard) is-refused
 
 -- `receive_in`
-module _ {f : Sought} (own : ℕ) (i ours ws sv t ss m out : List ℕ) (e q : ℕ) (ef : f ≡ six_in own i t ss m) (at : f ≡ sought.At e q) where
+module _ {f : Option (ℕ × ℕ)} (own : ℕ) (i ours ws sv t ss m out : List ℕ) (e q : ℕ) (ef : f ≡ six_in own i t ss m) (at : f ≡ Some (e, q)) where
   abbrev index : List ℕ
   index = take (length ss - 8) (drop 8 ss)
 
   inside : within t (sections_in ss) ≡ true
   inside = (is_found own i t ss m e q ef at).0
 
-  found : six_operation own i t (sections_in ss) index m ≡ sought.At e q
+  found : six_operation own i t (sections_in ss) index m ≡ Some (e, q)
   found =
       ap (λ (x : List ℕ). six_operation own i t (sections_in ss) x m) (lent-behind bounds_words ss) ∙ (is_found own i t ss m e q ef at).1
 

@@ -1,6 +1,7 @@
 -- A message of Issue 6 under the ID of an operation of the table, told straight from its bytes, is told as the general way tells it.
 -- Assumes nothing.
 use Prim.Native.Nat.{ℕ, ◌-◌, ◌≤◌}
+use Rattle.std.specs.Prelude.{Option, Some, None}
 use mathlib.Core.Path.{◌≡◌, refl, sym, ap, ap₂, subst, ◌∙◌}
 use mathlib.Core.Bool.{Bool, true, false, cond}
 use mathlib.Core.List.{List, [], ◌∷◌, ◌++◌}
@@ -11,8 +12,6 @@ use lib.ListN.{length, take, drop}
 use Rattle.wire.specs.Bytes.{number}
 use Rattle.wire.proofs.Cond.{yes-eq, no_eq}
 use Rattle.table.specs.declared.Sections.{Sections}
-use Rattle.operations.specs.declared.Sought.{Sought}
-use Rattle.operations.specs.declared.Sought.TheVariants as sought
 use Rattle.operations.specs.Entries.{sent_kind, kind_at}
 use Rattle.message.specs.declared.Message.TheVariants as message
 use Rattle.message.specs.Header.{header_length, sender_in, payload_size_in, header_in}
@@ -37,13 +36,13 @@ use Rattle.mixed_words.specs.Within.{straight_number, straight_platform, straigh
 use Rattle.mixed_words.proofs.ToldWords.{told_behind}
 
 -- what a message that was found is
-pub six_only : (own : ℕ) (i t : List ℕ) (s : Sections) (index m : List ℕ) (e q : ℕ) → six_operation own i t s index m ≡ sought.At e q
-    → (is_three i (sender_in m) ≡ false) × (operation_heard own t s index m ≡ sought.At e q)
+pub six_only : (own : ℕ) (i t : List ℕ) (s : Sections) (index m : List ℕ) (e q : ℕ) → six_operation own i t s index m ≡ Some (e, q)
+    → (is_three i (sender_in m) ≡ false) × (operation_heard own t s index m ≡ Some (e, q))
 unfolding six_operation
 six_only own i t s index m e q z = go (is_three i (sender_in m)) refl z
   where
-    go : (b : Bool) → is_three i (sender_in m) ≡ b → cond b sought.Nowhere (operation_heard own t s index m) ≡ sought.At e q
-        → (is_three i (sender_in m) ≡ false) × (operation_heard own t s index m ≡ sought.At e q)
+    go : (b : Bool) → is_three i (sender_in m) ≡ b → cond b None (operation_heard own t s index m) ≡ Some (e, q)
+        → (is_three i (sender_in m) ≡ false) × (operation_heard own t s index m ≡ Some (e, q))
     go true eb h = absurd (never h)
     go false eb h = (eb, h)
 
@@ -104,8 +103,8 @@ module _ (p : Standing) (m : List ℕ) (e : ℕ) where
   as-told false awaited = record { number_is = refl; words_are = λ ws l. refl; heard-is = λ heard. refl }
 
 -- `receive_in`: straight from its bytes, on sections that lie in the table
-module _ {f : Sought} (own : ℕ) (i ours ws sv t : List ℕ) (s : Sections) (index m out : List ℕ) (e q : ℕ) (ef : f ≡ six_operation own i t s index m)
-    (at : f ≡ sought.At e q) where
+module _ {f : Option (ℕ × ℕ)} (own : ℕ) (i ours ws sv t : List ℕ) (s : Sections) (index m out : List ℕ) (e q : ℕ) (ef : f ≡ six_operation own i t s index m)
+    (at : f ≡ Some (e, q)) where
   its : Straight own t s index (standing_in ws) (pending_in ws) m e q
   its = straight own t s index (standing_in ws) (pending_in ws) m e q (six_only own i t s index m e q (sym ef ∙ at)).1
 

@@ -1,10 +1,9 @@
 -- 02, request 8: the same on sections that lie in the table, and which messages are told straight from their bytes.
 use Rattle.std.specs.Prelude.{ℕ, Bool, cond, List, [], ◌∷◌, ◌++◌, eqb, length, take}
+use Rattle.std.specs.Prelude.{Option, None}
 use Rattle.table.specs.declared.Sections.{Sections}
 use Rattle.table.specs.Layout.{within}
 use Rattle.table.specs.Words.{sections_in, index_in}
-use Rattle.operations.specs.declared.Sought.{Sought}
-use Rattle.operations.specs.declared.Sought.TheVariants.{Nowhere}
 use Rattle.operations.specs.Search.{sought_in}
 use Rattle.message.specs.Header.{sender_in}
 use Rattle.partners.specs.Threes.{is_three}
@@ -37,15 +36,15 @@ abbrev pub heard_within : ℕ → List ℕ → List ℕ → List ℕ → List �
 heard_within own i ours ws sv t s index m out heard = any_heard_after (outcome_within own i ours ws sv t s index m out) heard
 
 -- the operation of the table that a message of Issue 6 is, where nothing refuses it
-unfoldable pub six_operation : ℕ → List ℕ → List ℕ → Sections → List ℕ → List ℕ → Sought
-six_operation own i t s index m = cond (is_three i (sender_in m)) Nowhere (operation_heard own t s index m)
+unfoldable pub six_operation : ℕ → List ℕ → List ℕ → Sections → List ℕ → List ℕ → Option (ℕ × ℕ)
+six_operation own i t s index m = cond (is_three i (sender_in m)) None (operation_heard own t s index m)
 
 -- and by the words of its sections, where these lie in the table; the operation of an ID likewise
-unfoldable pub six_in : ℕ → List ℕ → List ℕ → List ℕ → List ℕ → Sought
-six_in own i t ss m = cond (within t (sections_in ss)) (six_operation own i t (sections_in ss) (index_in ss) m) Nowhere
+unfoldable pub six_in : ℕ → List ℕ → List ℕ → List ℕ → List ℕ → Option (ℕ × ℕ)
+six_in own i t ss m = cond (within t (sections_in ss)) (six_operation own i t (sections_in ss) (index_in ss) m) None
 
-unfoldable pub operation_in : List ℕ → List ℕ → ℕ → Sought
-operation_in t ss id = cond (within t (sections_in ss)) (sought_in t (index_in ss) (sections_in ss).operations.count id) Nowhere
+unfoldable pub operation_in : List ℕ → List ℕ → ℕ → Option (ℕ × ℕ)
+operation_in t ss id = cond (within t (sections_in ss)) (sought_in t (index_in ss) (sections_in ss).operations.count id) None
 
 -- its words, from its bytes
 abbrev pub six_words : ℕ → List ℕ → ℕ → List ℕ

@@ -11,7 +11,6 @@ ghost use Rattle.mixed_words.specs.Within.{six_in, operation_in, six_words, stra
 use crate::heard_words;
 use crate::heard_words::ANY_HEARD_WORDS;
 use message::{Header, Own};
-use operations::Sought;
 use platform_words::PENDING_AT;
 use table::BOUNDS_WORDS;
 
@@ -23,25 +22,25 @@ pub(crate) fn six_operation(
     table: &[u8],
     bounds: &[u64],
     message: &[u8],
-) -> Sought
+) -> Option<(u16, usize)>
     requires { bounds_words ≤ length bounds.now }
     ensures { result
         ≡ six_in own.platform partners.now table.now bounds.now message.now }
 {
     if wire::u8_at(message, Header::DOMAIN_AT) == Header::PLATFORM_DOMAIN {
-        return Sought::Nowhere;
+        return None;
     }
     if message::read_refusal(own, message) != 0 {
-        return Sought::Nowhere;
+        return None;
     }
     if partners::is_three(partners, wire::u32_at(message, Header::PLATFORM_AT)) {
-        return Sought::Nowhere;
+        return None;
     }
     operation_in(table, bounds, wire::u32_at(message, Header::ID_AT))
 }
 
 // The operation of that ID, where the sections lie in the table.
-fn operation_in(table: &[u8], bounds: &[u64], id: u32) -> Sought
+fn operation_in(table: &[u8], bounds: &[u64], id: u32) -> Option<(u16, usize)>
     requires { bounds_words ≤ length bounds.now }
     ensures { result ≡ operation_in table.now bounds.now id }
 {
@@ -49,7 +48,7 @@ fn operation_in(table: &[u8], bounds: &[u64], id: u32) -> Sought
     if table::within(table, s) {
         operations::find(table, &bounds[BOUNDS_WORDS..], s.operations.count, id)
     } else {
-        Sought::Nowhere
+        None
     }
 }
 

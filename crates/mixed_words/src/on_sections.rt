@@ -10,7 +10,6 @@ use crate::stamps::{PARTNERS_WORDS, STAMP_NUMBERS};
 use crate::{from_bytes, heard_words, stamps};
 use message::Own;
 use mixed::AnyReceived;
-use operations::Sought;
 use platform_words::{PENDING_AT, PLATFORM_WORDS};
 use table::{BOUNDS_WORDS, SECTIONS_WORDS, Sections};
 
@@ -48,11 +47,11 @@ pub fn receive_in(
 {
     let bounds: &[u64] = sections;
     match from_bytes::six_operation(Own { platform: own }, partners, table, bounds, message) {
-        Sought::At(entry, place) => {
+        Some((entry, place)) => {
             let words: &mut [u64] = platform;
             from_bytes::straight(words, table, place, entry, message, heard)
         }
-        Sought::Nowhere => received(
+        None => received(
             own, stamp, partners, ours, platform, services, table, sections, message, out, heard,
         ),
     }

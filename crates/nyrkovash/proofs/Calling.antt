@@ -1,6 +1,7 @@
 -- What checking a table and looking up an operation show at their returns.
 -- Assumes nothing.
 use Prim.Native.Nat.{ℕ, ◌-◌, ◌≤◌}
+use Rattle.std.specs.Prelude.{Option, Some, None}
 use mathlib.Core.Path.{◌≡◌, sym, ap, ap₂, ◌∙◌}
 use mathlib.Core.Bool.{Bool, true, false}
 use mathlib.Core.List.{List, [], ◌∷◌, ◌++◌}
@@ -14,8 +15,6 @@ use Rattle.table.specs.declared.Checked.{Checked}
 use Rattle.table.specs.Layout.{cut_short, within}
 use Rattle.table.specs.Words.{bounds_words, sections_in, index_in, words_of}
 use Rattle.operations.specs.declared.Operation.{Operation}
-use Rattle.operations.specs.declared.Sought.{Sought}
-use Rattle.operations.specs.declared.Sought.TheVariants.{At, Nowhere}
 use Rattle.operations.specs.Entries.{operation_at}
 use Rattle.operations.specs.Search.{indexed, sought_in}
 use Rattle.types.specs.Table.{checked}
@@ -52,15 +51,15 @@ module _ {b : Bool} (t ws : List ℕ) (e : b ≡ within t (sections_in ws)) wher
     pub inside-number : 0 ≡ find_number t (sections_in ws)
     inside-number = sym (yes-if 0 cut_short (sym e ∙ f))
 
-    module _ {r : Sought} (id : ℕ) (answer : List ℕ) (el : r ≡ sought_in t (take (length ws - 8) (drop 8 ws)) (get_or ws 7 0) id) where
+    module _ {r : Option (ℕ × ℕ)} (id : ℕ) (answer : List ℕ) (el : r ≡ sought_in t (take (length ws - 8) (drop 8 ws)) (get_or ws 7 0) id) where
       told : found_words t r ≡ find_answer t (sections_in ws) (index_in ws) id answer
       told =
           ap (found_words t) (el ∙ ap₂ (λ (i : List ℕ) (n : ℕ). sought_in t i n id) (lent-behind bounds_words ws) (operations-count t ws e f))
           ∙ sym (yes-if (found_words t (sought_in t (index_in ws) (sections_in ws).operations.count id)) answer (sym e ∙ f))
 
-      pub found-there : {o : Operation} (i p : ℕ) → r ≡ At i p → o ≡ operation_at t p
+      pub found-there : {o : Operation} (i p : ℕ) → r ≡ Some (i, p) → o ≡ operation_at t p
           → operation_words o ≡ find_answer t (sections_in ws) (index_in ws) id answer
       found-there i p er eo = ap operation_words eo ∙ ap (found_words t) (sym er) ∙ told
 
-      pub found_none : r ≡ Nowhere → 0 ∷ 0 ∷ 0 ∷ 0 ∷ [] ≡ find_answer t (sections_in ws) (index_in ws) id answer
+      pub found_none : r ≡ None → 0 ∷ 0 ∷ 0 ∷ 0 ∷ [] ≡ find_answer t (sections_in ws) (index_in ws) id answer
       found_none er = ap (found_words t) (sym er) ∙ told

@@ -1,13 +1,12 @@
 -- What checking a table and looking up an operation answer, and what they leave in what is lent to them.
 use Rattle.std.specs.Prelude.{ℕ, cond, List, [], ◌∷◌, ◌++◌}
+use Rattle.std.specs.Prelude.{Option, Some, None}
 use Rattle.table.specs.declared.Sections.{Sections}
 use Rattle.table.specs.declared.Checked.{Checked}
 use Rattle.table.specs.declared.Checked.TheVariants.{Refused, Table}
 use Rattle.table.specs.Layout.{cut_short, within}
 use Rattle.table.specs.Checked.{number_given}
 use Rattle.operations.specs.declared.Operation.{Operation}
-use Rattle.operations.specs.declared.Sought.{Sought}
-use Rattle.operations.specs.declared.Sought.TheVariants.{At, Nowhere}
 use Rattle.operations.specs.Entries.{operation_at}
 use Rattle.operations.specs.Search.{indexed, sought_in}
 use Rattle.types.specs.Table.{checked}
@@ -32,9 +31,9 @@ check_answer t was = sections_left t was (checked t)
 abbrev pub operation_words : Operation → List ℕ
 operation_words o = 1 ∷ o.kind ∷ o.carries ∷ o.responds ∷ []
 
-abbrev pub found_words : List ℕ → Sought → List ℕ
-found_words t (At i p) = operation_words (operation_at t p)
-found_words t Nowhere = 0 ∷ 0 ∷ 0 ∷ 0 ∷ []
+abbrev pub found_words : List ℕ → Option (ℕ × ℕ) → List ℕ
+found_words t (Some (i, p)) = operation_words (operation_at t p)
+found_words t None = 0 ∷ 0 ∷ 0 ∷ 0 ∷ []
 
 -- 30 where the sections do not lie in the bytes, and the answer as it was; else by the index that stands behind them
 abbrev pub find_number : List ℕ → Sections → ℕ

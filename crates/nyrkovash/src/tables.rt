@@ -4,7 +4,6 @@ ghost use Rattle.table.specs.Layout.{lies_in, within};
 ghost use Rattle.table.specs.Words.{bounds_words, is_section, section_in, sections_in, index_in, words_of};
 ghost use Rattle.nyrkovash.specs.TableCalls.{sections_words, check_number, check_answer, find_number, find_answer};
 
-use operations::Sought;
 use table::layout::{MEMBER_WIDTH, OPERATION_WIDTH, TYPE_WIDTH, VALUE_WIDTH};
 use table::{
     BOUNDS_WORDS, Checked, MOST_MEMBERS, MOST_OPERATIONS, MOST_TYPES, MOST_VALUES, SECTIONS_WORDS,
@@ -49,7 +48,7 @@ pub extern "C" fn nyr_find(
     if lie_in(table, words) {
         let count = words[7] as u16;
         match operations::find(table, &words[BOUNDS_WORDS..], count, id) {
-            Sought::At(_, place) => {
+            Some((_, place)) => {
                 let operation = operations::operation_at(table, place);
                 *answer = [
                     FOUND,
@@ -58,7 +57,7 @@ pub extern "C" fn nyr_find(
                     operation.responds as u64,
                 ];
             }
-            Sought::Nowhere => {
+            None => {
                 *answer = [0, 0, 0, 0];
             }
         }

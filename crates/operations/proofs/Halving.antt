@@ -1,6 +1,7 @@
 -- What a search by halving comes to, look by look, over any index.
 -- Assumes nothing.
 use Prim.Native.Nat.{ℕ, zero, suc, ◌+◌, ◌-◌, ◌*◌, ◌/◌, ◌≤◌, ◌<◌}
+use Rattle.std.specs.Prelude.{Option, Some, None}
 use mathlib.Core.Path.{◌≡◌, refl, sym, ap, subst, ◌∙◌}
 use mathlib.Core.Bool.{Bool, true, false, cond, ◌&&◌}
 use mathlib.Core.List.{List}
@@ -11,8 +12,6 @@ use lib.Dec.{ltb, leb, eqb}
 use lib.ListN.{length}
 use Rattle.wire.specs.Bytes.{number}
 use Rattle.wire.proofs.Cond.{yes_lt, no_lt, yes_le, no_le, yes-eq, no_eq, and_left, and_right}
-use Rattle.operations.specs.declared.Sought.{Sought}
-use Rattle.operations.specs.declared.Sought.TheVariants.{At, Nowhere}
 use Rattle.operations.specs.Entries.{op_width}
 use Rattle.operations.specs.Search.{id_in, place_in, borne, told_by, held_to, middle, raised, halved, most_looks, sought_in}
 
@@ -23,13 +22,13 @@ reach (suc n) = 2 * reach n
 
 -- one look
 module _ (t index : List ℕ) (id base size n : ℕ) where
-  last : Sought
-  last = cond (ltb 0 size) (held_to t id (told_by index id base)) Nowhere
+  last : Option (ℕ × ℕ)
+  last = cond (ltb 0 size) (held_to t id (told_by index id base)) None
 
   module _ (several : 1 < size) where
     by-middle : halved t index id (suc n) base size ≡ halved t index id n (raised index id base size) (size - size / 2)
     unfolding halved last
-    by-middle = yes_lt {A = Sought} (halved t index id n (raised index id base size) (size - size / 2)) last 1 size several
+    by-middle = yes_lt {A = Option (ℕ × ℕ)} (halved t index id n (raised index id base size) (size - size / 2)) last 1 size several
 
     pub moves : id_in index (middle base size) ≤ id → halved t index id (suc n) base size ≡ halved t index id n (middle base size) (size - size / 2)
     moves h =
@@ -44,30 +43,30 @@ module _ (t index : List ℕ) (id base size n : ℕ) where
   pub at_last : size ≡ 1 → halved t index id (suc n) base size ≡ held_to t id (told_by index id base)
   unfolding halved last
   at_last e =
-      no_lt {A = Sought} (halved t index id n (raised index id base size) (size - size / 2)) last 1 size (omega arith)
-      ∙ yes_lt {A = Sought} (held_to t id (told_by index id base)) Nowhere 0 size (omega arith)
+      no_lt {A = Option (ℕ × ℕ)} (halved t index id n (raised index id base size) (size - size / 2)) last 1 size (omega arith)
+      ∙ yes_lt {A = Option (ℕ × ℕ)} (held_to t id (told_by index id base)) None 0 size (omega arith)
 
-  pub none_left : size ≡ 0 → halved t index id (suc n) base size ≡ Nowhere
+  pub none_left : size ≡ 0 → halved t index id (suc n) base size ≡ None
   unfolding halved last
   none_left e =
-      no_lt {A = Sought} (halved t index id n (raised index id base size) (size - size / 2)) last 1 size (omega arith)
-      ∙ no_lt {A = Sought} (held_to t id (told_by index id base)) Nowhere 0 size (omega arith)
+      no_lt {A = Option (ℕ × ℕ)} (halved t index id n (raised index id base size) (size - size / 2)) last 1 size (omega arith)
+      ∙ no_lt {A = Option (ℕ × ℕ)} (held_to t id (told_by index id base)) None 0 size (omega arith)
 
 -- what the last look tells, for whatever is shown of both
-module _ (t index : List ℕ) (id m : ℕ) (P : Sought → Type 0) where
-  pub by_last : (id_in index m ≡ id → P (borne t id m (place_in index m))) → ((id_in index m ≡ id → ⊥) → P Nowhere) → P (held_to t id (told_by index id m))
+module _ (t index : List ℕ) (id m : ℕ) (P : Option (ℕ × ℕ) → Type 0) where
+  pub by_last : (id_in index m ≡ id → P (borne t id m (place_in index m))) → ((id_in index m ≡ id → ⊥) → P None) → P (held_to t id (told_by index id m))
   by_last same other = go (eqb (id_in index m) id) refl
     where
-      go : (b : Bool) → eqb (id_in index m) id ≡ b → P (held_to t id (cond b (At m (place_in index m)) Nowhere))
+      go : (b : Bool) → eqb (id_in index m) id ≡ b → P (held_to t id (cond b (Some (m, place_in index m)) None))
       go true e = same (eqb-true (id_in index m) id e)
       go false e = other (eqb-false (id_in index m) id e)
 
 -- a look is one of four, for whatever is shown of all
-module _ (t index : List ℕ) (id : ℕ) (P : Sought → Type 0) (base size n : ℕ) where
+module _ (t index : List ℕ) (id : ℕ) (P : Option (ℕ × ℕ) → Type 0) (base size n : ℕ) where
   pub by-look : (1 < size → id_in index (middle base size) ≤ id → P (halved t index id n (middle base size) (size - size / 2)))
       → (1 < size → id < id_in index (middle base size) → P (halved t index id n base (size - size / 2)))
       → (size ≡ 1 → P (held_to t id (told_by index id base)))
-      → (size ≡ 0 → P Nowhere)
+      → (size ≡ 0 → P None)
       → P (halved t index id (suc n) base size)
   by-look above below one none = go (ltb 1 size) refl (leb (id_in index (middle base size)) id) refl (ltb 0 size) refl
     where
@@ -90,15 +89,15 @@ module _ (t index : List ℕ) (id : ℕ) (P : Sought → Type 0) (base size n : 
 
 -- what is found with any index: an entry below the count that bears the ID, and lies within the bytes, at the place that its word says
 module _ (t index : List ℕ) (id : ℕ) where
-  abbrev pub Bearing : ℕ → Sought → Type 0
-  Bearing count (At i p) = (i < count) × (p ≡ place_in index i) × (number 2 t p ≡ id) × (p + op_width t p ≤ length t)
-  Bearing count Nowhere = Unit {0}
+  abbrev pub Bearing : ℕ → Option (ℕ × ℕ) → Type 0
+  Bearing count (Some (i, p)) = (i < count) × (p ≡ place_in index i) × (number 2 t p ≡ id) × (p + op_width t p ≤ length t)
+  Bearing count None = Unit {0}
 
   borne-bears : (count i q : ℕ) → i < count → q ≡ place_in index i → Bearing count (borne t id i q)
   unfolding borne
   borne-bears count i q h is = go (leb (q + op_width t q) (length t) && eqb (number 2 t q) id) refl
     where
-      go : (b : Bool) → (leb (q + op_width t q) (length t) && eqb (number 2 t q) id) ≡ b → Bearing count (cond b (At i q) Nowhere)
+      go : (b : Bool) → (leb (q + op_width t q) (length t) && eqb (number 2 t q) id) ≡ b → Bearing count (cond b (Some (i, q)) None)
       go true e = (
         h,
         is,
@@ -117,7 +116,7 @@ module _ (t index : List ℕ) (id : ℕ) where
       (λ l. by_last t index id base (Bearing count) (λ e. borne-bears count base (place_in index base) (omega arith) refl) (λ e. tt))
       (λ l. tt)
 
-  pub found-bears : (count i p : ℕ) → sought_in t index count id ≡ At i p
+  pub found-bears : (count i p : ℕ) → sought_in t index count id ≡ Some (i, p)
       → (i < count) × (p ≡ place_in index i) × (number 2 t p ≡ id) × (p + op_width t p ≤ length t)
   unfolding sought_in
   found-bears count i p e = subst (Bearing count) e (halved-bears count most_looks 0 count (omega arith))
@@ -125,13 +124,13 @@ module _ (t index : List ℕ) (id : ℕ) where
   -- looks that are enough are as good as one more, and as any number more
   one_more : (n base size : ℕ) → size ≤ reach n → halved t index id (suc (suc n)) base size ≡ halved t index id (suc n) base size
   one_more zero base size h =
-      by-look t index id (λ (x : Sought). x ≡ halved t index id 1 base size) base size 1
+      by-look t index id (λ (x : Option (ℕ × ℕ)). x ≡ halved t index id 1 base size) base size 1
       (λ l e. absurd (omega arith))
       (λ l e. absurd (omega arith))
       (λ e. sym (at_last t index id base size 0 e))
       (λ e. sym (none_left t index id base size 0 e))
   one_more (suc n) base size h =
-      by-look t index id (λ (x : Sought). x ≡ halved t index id (suc (suc n)) base size) base size (suc (suc n))
+      by-look t index id (λ (x : Option (ℕ × ℕ)). x ≡ halved t index id (suc (suc n)) base size) base size (suc (suc n))
       (λ l e. one_more n (middle base size) (size - size / 2) (omega arith) ∙ sym (moves t index id base size (suc n) l e))
       (λ l e. one_more n base (size - size / 2) (omega arith) ∙ sym (stays t index id base size (suc n) l e))
       (λ e. sym (at_last t index id base size (suc n) e))

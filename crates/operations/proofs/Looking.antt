@@ -1,6 +1,7 @@
 -- What looking an operation up shows: look by look, what the index says of an ID, and what that is, held against the bytes.
 -- Assumes nothing.
 use Prim.Native.Nat.{ℕ, zero, suc, ◌+◌, ◌-◌, ◌*◌, ◌/◌, ◌%◌, ◌≤◌, ◌<◌}
+use Rattle.std.specs.Prelude.{Option, Some, None}
 use mathlib.Core.Path.{◌≡◌, refl, sym, ap, ◌∙◌}
 use mathlib.Core.Bool.{Bool, true, false, cond, ◌&&◌}
 use mathlib.Core.List.{List}
@@ -12,8 +13,6 @@ use lib.Seq.{get_or-take, get_or-drop}
 use Rattle.wire.specs.Bytes.{number}
 use Rattle.wire.proofs.Cond.{yes-if, no-if, yes-eq, no_eq}
 use Rattle.wire.proofs.Runs.{failed}
-use Rattle.operations.specs.declared.Sought.{Sought}
-use Rattle.operations.specs.declared.Sought.TheVariants.{At, Nowhere}
 use Rattle.operations.specs.Entries.{width_of, kind_at, op_width}
 use Rattle.operations.specs.Search.{half, id_in, borne, middle, halved, sought_in, said_by, told_by, held_to, Says}
 use Rattle.operations.proofs.Places.{width-least}
@@ -28,7 +27,7 @@ module _ (t index : List ℕ) (id : ℕ) where
       at_last t index id base size 0 (omega arith) ∙ ap (λ (k : ℕ). held_to t id (told_by index id k)) m
   none_there (suc n) base size some enough h =
       let z : get_or index (middle base size) 0 ≡ 0 = get_or-eq_default index 0 h in
-      by-look t index id (λ (x : Sought). x ≡ held_to t id (told_by index id (base + size - 1))) base size (suc n)
+      by-look t index id (λ (x : Option (ℕ × ℕ)). x ≡ held_to t id (told_by index id (base + size - 1))) base size (suc n)
       (λ l e.
       let m : middle base size + (size - size / 2) - 1 ≡ base + size - 1 = omega arith in
       none_there n (middle base size) (size - size / 2) (omega arith) (omega arith) (omega arith)
@@ -55,18 +54,18 @@ module _ (index : List ℕ) (count id : ℕ) where
   pub all-ends : (size word : ℕ) → (count ≡ 0 → ⊥) → size ≡ count → word ≡ get_or index 0 0 → Ends index count 0 size word
   all-ends size word x e w = record { some = omega (arith, x); below = omega arith; its_word = w }
 
-  pub none_said : count ≡ 0 → Says index count id Nowhere
+  pub none_said : count ≡ 0 → Says index count id None
   unfolding sought_in
   none_said e t = sym (none_left t index id 0 count 16 e)
 
   module _ (base size : ℕ) (left : Left index count id base size) (word : ℕ) (ends : Ends index count base size word) where
     -- the middle's word is not there
-    pub unlaid : (r : Sought) (m : ℕ) → 1 < size → m ≡ base + size / 2 → length index ≤ m → r ≡ told_by index id (base + size - 1) → Says index count id r
+    pub unlaid : (r : Option (ℕ × ℕ)) (m : ℕ) → 1 < size → m ≡ base + size / 2 → length index ≤ m → r ≡ told_by index id (base + size - 1) → Says index count id r
     unlaid r m several em h e t =
         ap (held_to t id) e ∙ sym (left.1.1 t ∙ none_there t index id left.0 base size ends.some left.1.0 (omega arith))
 
     -- one entry is left, which bears the ID or not
-    pub last-told : (r : Sought) → size ≤ 1 → r ≡ said_by word id base → Says index count id r
+    pub last-told : (r : Option (ℕ × ℕ)) → size ≤ 1 → r ≡ said_by word id base → Says index count id r
     last-told r one e t =
         ap (held_to t id) (e ∙ ap (λ (w : ℕ). said_by w id base) ends.its_word)
         ∙ sym (left.1.1 t ∙ at_last t index id base size left.0 (omega (arith, ends.some)))
@@ -117,22 +116,22 @@ module _ (index : List ℕ) (count id : ℕ) where
             record { some = omega arith; below = omega (arith, ends.below); its_word = g ∙ ends.its_word ∙ ap (λ (k : ℕ). get_or index k 0) (sym f) }
 
 -- what the index says, held against the bytes
-module _ (t index : List ℕ) (count id : ℕ) (r : Sought) (says : Says index count id r) where
-  pub held-there : (x : Sought) (m p : ℕ) → r ≡ At m p → x ≡ borne t id m p → x ≡ sought_in t index count id
+module _ (t index : List ℕ) (count id : ℕ) (r : Option (ℕ × ℕ)) (says : Says index count id r) where
+  pub held-there : (x : Option (ℕ × ℕ)) (m p : ℕ) → r ≡ Some (m, p) → x ≡ borne t id m p → x ≡ sought_in t index count id
   held-there x m p is e = e ∙ ap (held_to t id) (sym is) ∙ says t
 
-  pub held_none : r ≡ Nowhere → Nowhere ≡ sought_in t index count id
+  pub held_none : r ≡ None → None ≡ sought_in t index count id
   held_none is = ap (held_to t id) (sym is) ∙ says t
 
 -- what a word says
 module _ (word id m : ℕ) where
-  pub is_told : word / half ≡ id → At m (word % half) ≡ said_by word id m
-  is_told e = sym (yes-eq {A = Sought} (At m (word % half)) Nowhere (word / half) id e)
+  pub is_told : word / half ≡ id → Some (m, word % half) ≡ said_by word id m
+  is_told e = sym (yes-eq {A = Option (ℕ × ℕ)} (Some (m, word % half)) None (word / half) id e)
 
-  pub not-told : (word / half ≡ id → ⊥) → Nowhere ≡ said_by word id m
-  not-told x = sym (no_eq {A = Sought} (At m (word % half)) Nowhere (word / half) id x)
+  pub not-told : (word / half ≡ id → ⊥) → None ≡ said_by word id m
+  not-told x = sym (no_eq {A = Option (ℕ × ℕ)} (Some (m, word % half)) None (word / half) id x)
 
-module _ (index : List ℕ) (id m : ℕ) (r : Sought) where
+module _ (index : List ℕ) (id m : ℕ) (r : Option (ℕ × ℕ)) where
   pub told-there : (word : ℕ) → word ≡ get_or index m 0 → r ≡ said_by word id m → r ≡ told_by index id m
   told-there word is e = e ∙ ap (λ (w : ℕ). said_by w id m) is
 
@@ -143,7 +142,7 @@ pub no_first : (index : List ℕ) → length index ≤ 0 → 0 ≡ get_or index 
 no_first index h = sym (get_or-eq_default index 0 h)
 
 -- held against the bytes: 8 of them are not there
-pub too_short : (t : List ℕ) (id m p : ℕ) (b : Bool) → b ≡ leb (p + 8) (length t) → b ≡ false → Nowhere ≡ borne t id m p
+pub too_short : (t : List ℕ) (id m p : ℕ) (b : Bool) → b ≡ leb (p + 8) (length t) → b ≡ false → None ≡ borne t id m p
 unfolding borne
 too_short t id m p b e h =
     let l : length t < p + op_width t p = omega (arith, failed (p + 8) (length t) e h, width-least t p) in
@@ -151,26 +150,26 @@ too_short t id m p b e h =
 
 -- whether they bear the ID, its first 8 bytes being read as one number
 module _ (t : List ℕ) (id m p w d : ℕ) (bears : w / half ≡ number 2 t p) (is : d ≡ w / half) where
-  pub bears-another : (d ≡ id → ⊥) → Nowhere ≡ borne t id m p
+  pub bears-another : (d ≡ id → ⊥) → None ≡ borne t id m p
   unfolding borne
   bears-another h = rw (ne_eqb (number 2 t p) id (λ (e : number 2 t p ≡ id). h (is ∙ bears ∙ e))) (go (leb (p + op_width t p) (length t)))
     where
-      go : (b : Bool) → Nowhere ≡ cond (b && false) (At m p) Nowhere
+      go : (b : Bool) → None ≡ cond (b && false) (Some (m, p)) None
       go true = refl
       go false = refl
 
   module _ (same : d ≡ id) (k v : ℕ) (b : Bool) (kind : w / 65536 % 65536 ≡ kind_at t p) (its : k ≡ w / 65536 % 65536) (wd : v ≡ width_of k)
       (room : b ≡ leb (p + v) (length t)) where
-    by-room : borne t id m p ≡ cond b (At m p) Nowhere
+    by-room : borne t id m p ≡ cond b (Some (m, p)) None
     unfolding borne op_width
     by-room = rw (eq-eqb (number 2 t p) id (sym (is ∙ bears) ∙ same), sym (its ∙ kind), sym wd, sym room) (go b)
       where
-        go : (b : Bool) → cond (b && true) (At m p) Nowhere ≡ cond b (At m p) Nowhere
+        go : (b : Bool) → cond (b && true) (Some (m, p)) None ≡ cond b (Some (m, p)) None
         go true = refl
         go false = refl
 
-    pub is-borne : b ≡ true → At m p ≡ borne t id m p
-    is-borne h = sym (by-room ∙ yes-if {A = Sought} (At m p) Nowhere h)
+    pub is-borne : b ≡ true → Some (m, p) ≡ borne t id m p
+    is-borne h = sym (by-room ∙ yes-if {A = Option (ℕ × ℕ)} (Some (m, p)) None h)
 
-    pub not-whole : b ≡ false → Nowhere ≡ borne t id m p
-    not-whole h = sym (by-room ∙ no-if {A = Sought} (At m p) Nowhere h)
+    pub not-whole : b ≡ false → None ≡ borne t id m p
+    not-whole h = sym (by-room ∙ no-if {A = Option (ℕ × ℕ)} (Some (m, p)) None h)

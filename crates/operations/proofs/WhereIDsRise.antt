@@ -2,6 +2,7 @@
 -- a plain scan meets, or none.
 -- Assumes nothing.
 use Prim.Native.Nat.{ℕ, zero, suc, ◌+◌, ◌-◌, ◌/◌, ◌≤◌, ◌<◌}
+use Rattle.std.specs.Prelude.{Option, Some, None}
 use mathlib.Core.Path.{◌≡◌, refl, sym, ap, ap₂, subst, ◌∙◌}
 use mathlib.Core.Bool.{Bool, true, false, cond}
 use mathlib.Core.Logic.{⊎_elim}
@@ -14,8 +15,6 @@ use lib.ListN.{length, get_or}
 use Rattle.wire.specs.Bytes.{number}
 use Rattle.wire.proofs.Cond.{yes-if, and_true}
 use Rattle.wire.proofs.Rising.{rising-apart, rising-up-to}
-use Rattle.operations.specs.declared.Sought.{Sought}
-use Rattle.operations.specs.declared.Sought.TheVariants.{At, Nowhere}
 use Rattle.operations.specs.Entries.{op_width, op_place, id_at}
 use Rattle.operations.specs.Rules.{ids_rise}
 use Rattle.operations.specs.Search.{half, index_word, indexed, id_in, place_in, borne, told_by, held_to, middle, halved, sought_in}
@@ -26,20 +25,20 @@ use Rattle.operations.proofs.Halving.{reach, by_last, by-look}
 
 module _ (t : List ℕ) (first id : ℕ) where
   -- an entry below n that bears the ID, and its place, or none of them does
-  abbrev pub Bears : ℕ → Sought → Type 0
-  Bears n (At i p) = (i < n) × ((p ≡ op_place t first i) × (id_at t first i ≡ id))
-  Bears n Nowhere = (k : ℕ) → k < n → id_at t first k ≡ id → ⊥
+  abbrev pub Bears : ℕ → Option (ℕ × ℕ) → Type 0
+  Bears n (Some (i, p)) = (i < n) × ((p ≡ op_place t first i) × (id_at t first i ≡ id))
+  Bears n None = (k : ℕ) → k < n → id_at t first k ≡ id → ⊥
 
   pub scanned : (n : ℕ) → Bears n (first_below t first id n)
   unfolding first_below
   scanned zero = λ k h. absurd (omega arith)
   scanned (suc n) = go (first_below t first id n) (scanned n) (eqb (id_at t first n) id) refl
     where
-      go : (x : Sought) → Bears n x → (b : Bool) → eqb (id_at t first n) id ≡ b
-          → Bears (suc n) (or_else x (cond b (At n (op_place t first n)) Nowhere))
-      go (At i p) h b e = (omega arith, h.1)
-      go Nowhere h true e = (omega arith, (refl, eqb-true (id_at t first n) id e))
-      go Nowhere h false e = λ k l q.
+      go : (x : Option (ℕ × ℕ)) → Bears n x → (b : Bool) → eqb (id_at t first n) id ≡ b
+          → Bears (suc n) (or_else x (cond b (Some (n, op_place t first n)) None))
+      go (Some (i, p)) h b e = (omega arith, h.1)
+      go None h true e = (omega arith, (refl, eqb-true (id_at t first n) id e))
+      go None h false e = λ k l q.
           let m : k ≤ n = omega arith in
           ⊎_elim
           (λ (s : k ≡ n). eqb-false (id_at t first n) id e (subst (λ (j : ℕ). id_at t first j ≡ id) s q))
@@ -63,13 +62,13 @@ module _ (t : List ℕ) (first id : ℕ) where
         go false p true r = absurd (omega (arith, risen j i (ltb-true j i r) hi))
         go false p false r = omega (arith, ltb-false i j p, ltb-false j i r)
 
-    one-bears : (x y : Sought) → Bears count x → Bears count y → x ≡ y
-    one-bears (At i p) (At j q) (a, (b, c)) (d, (e, f)) =
+    one-bears : (x y : Option (ℕ × ℕ)) → Bears count x → Bears count y → x ≡ y
+    one-bears (Some (i, p)) (Some (j, q)) (a, (b, c)) (d, (e, f)) =
         let s : i ≡ j = same_id i j a d (c ∙ sym f) in
-        ap₂ At s (b ∙ ap (op_place t first) s ∙ sym e)
-    one-bears (At i p) Nowhere (a, (b, c)) q = absurd (q i a c)
-    one-bears Nowhere (At j q) p (d, (e, f)) = absurd (p j d f)
-    one-bears Nowhere Nowhere p q = refl
+        ap₂ Some (s, b ∙ ap (op_place t first) s ∙ sym e)
+    one-bears (Some (i, p)) None (a, (b, c)) q = absurd (q i a c)
+    one-bears None (Some (j, q)) p (d, (e, f)) = absurd (p j d f)
+    one-bears None None p q = refl
 
     -- the section lies within the bytes, and its words in the index
     module _ (index : List ℕ) (laid : (i : ℕ) → i < count → get_or index i 0 ≡ index_word t first i) (inside : op_place t first count ≤ length t)
@@ -87,7 +86,7 @@ module _ (t : List ℕ) (first id : ℕ) where
           let p : place_in index i ≡ op_place t first i = place-in t first index i (laid i h) (place-low i h) in
           let b : number 2 t (op_place t first i) ≡ id = sym (says i h) ∙ e in
           let w : op_place t first i + op_width t (op_place t first i) ≤ length t = omega (arith, entry-within t first i count h) in
-          let s : borne t id i (op_place t first i) ≡ At i (op_place t first i) = yes-if {A = Sought} (At i (op_place t first i)) Nowhere
+          let s : borne t id i (op_place t first i) ≡ Some (i, op_place t first i) = yes-if {A = Option (ℕ × ℕ)} (Some (i, op_place t first i)) None
           (and_true (leb (op_place t first i + op_width t (op_place t first i)) (length t)) (eqb (number 2 t (op_place t first i)) id)
           (le-leb (op_place t first i + op_width t (op_place t first i)) (length t) w) (eq-eqb (number 2 t (op_place t first i)) id b)) in
           subst (λ (q : ℕ). Bears count (borne t id i q)) (sym p) (subst (Bears count) (sym s) (h, (refl, b)))
@@ -113,7 +112,7 @@ module _ (t : List ℕ) (first id : ℕ) where
             lt_of_not-le (λ (z : middle base size ≤ k). omega (arith, up_to (middle base size) k z c, says (middle base size) i)) in
             ((between k c q).0, omega arith)
 
-        it : size ≡ 1 → (id_in index base ≡ id → ⊥) → Bears count Nowhere
+        it : size ≡ 1 → (id_in index base ≡ id → ⊥) → Bears count None
         it e x k c q =
             let b = between k c q in
             let same : base ≡ k = omega (arith, b.0, b.1) in
@@ -122,7 +121,7 @@ module _ (t : List ℕ) (first id : ℕ) where
         at_one : size ≡ 1 → Bears count (held_to t id (told_by index id base))
         at_one e = by_last t index id base (Bears count) (stands base (omega arith)) (it e)
 
-        none : size ≡ 0 → Bears count Nowhere
+        none : size ≡ 0 → Bears count None
         none e k c q = let b = between k c q in omega (arith, b.0, b.1)
 
       searched : (n base size : ℕ) → base + size ≤ count → size ≤ reach n → Between base size → Bears count (halved t index id (suc n) base size)
@@ -148,11 +147,11 @@ module _ (t : List ℕ) (first id : ℕ) where
       found_first = one-bears (sought_in t index count id) (first_below t first id count) found (scanned count)
 
       -- none is found exactly where no entry bears the ID
-      pub none-bears : sought_in t index count id ≡ Nowhere → (k : ℕ) → k < count → id_at t first k ≡ id → ⊥
+      pub none-bears : sought_in t index count id ≡ None → (k : ℕ) → k < count → id_at t first k ≡ id → ⊥
       none-bears e = subst (Bears count) e found
 
-      pub nowhere-then : ((k : ℕ) → k < count → id_at t first k ≡ id → ⊥) → sought_in t index count id ≡ Nowhere
-      nowhere-then h = one-bears (sought_in t index count id) Nowhere found h
+      pub nowhere-then : ((k : ℕ) → k < count → id_at t first k ≡ id → ⊥) → sought_in t index count id ≡ None
+      nowhere-then h = one-bears (sought_in t index count id) None found h
 
     -- with the index as it is laid
     module _ (words : List ℕ) (room : count ≤ length words) (inside : op_place t first count ≤ length t) (low-place : first < 65536)
@@ -163,8 +162,8 @@ module _ (t : List ℕ) (first id : ℕ) where
       pub laid-first : sought_in t (indexed t first count words) count id ≡ operation_of t first count id
       laid-first = found_first (indexed t first count words) its-words inside low-place few
 
-      pub laid_none : ((k : ℕ) → k < count → id_at t first k ≡ id → ⊥) → sought_in t (indexed t first count words) count id ≡ Nowhere
+      pub laid_none : ((k : ℕ) → k < count → id_at t first k ≡ id → ⊥) → sought_in t (indexed t first count words) count id ≡ None
       laid_none = nowhere-then (indexed t first count words) its-words inside low-place few
 
-      pub laid-nowhere : sought_in t (indexed t first count words) count id ≡ Nowhere → (k : ℕ) → k < count → id_at t first k ≡ id → ⊥
+      pub laid-nowhere : sought_in t (indexed t first count words) count id ≡ None → (k : ℕ) → k < count → id_at t first k ≡ id → ⊥
       laid-nowhere = none-bears (indexed t first count words) its-words inside low-place few

@@ -2,9 +2,8 @@
 -- index is the table's, what is found is the operation of that ID (`found_first` of proofs/WhereIDsRise); with any index it is an entry
 -- that bears the ID and lies within the bytes, or none (`found-bears` of proofs/Halving).
 use Rattle.std.specs.Prelude.{ℕ, zero, suc, ◌+◌, ◌-◌, ◌*◌, ◌/◌, ◌%◌, ◌≡◌, cond, ◌&&◌, List, ltb, leb, eqb, length, get_or, set}
+use Rattle.std.specs.Prelude.{Option, Some, None}
 use Rattle.wire.specs.Bytes.{number}
-use Rattle.operations.specs.declared.Sought.{Sought}
-use Rattle.operations.specs.declared.Sought.TheVariants.{At, Nowhere}
 use Rattle.operations.specs.Entries.{op_width, op_place, id_at}
 
 -- an ID and a place in one word
@@ -27,20 +26,20 @@ abbrev pub place_in : List ℕ → ℕ → ℕ
 place_in index m = get_or index m 0 % half
 
 -- what the index says is held against the bytes: the whole entry lies within them, and bears the ID
-unfoldable pub borne : List ℕ → ℕ → ℕ → ℕ → Sought
-borne t id m p = cond (leb (p + op_width t p) (length t) && eqb (number 2 t p) id) (At m p) Nowhere
+unfoldable pub borne : List ℕ → ℕ → ℕ → ℕ → Option (ℕ × ℕ)
+borne t id m p = cond (leb (p + op_width t p) (length t) && eqb (number 2 t p) id) (Some (m, p)) None
 
 -- what a word by itself says of an ID, as the m-th; and what the m-th does
-abbrev pub said_by : ℕ → ℕ → ℕ → Sought
-said_by word id m = cond (eqb (word / half) id) (At m (word % half)) Nowhere
+abbrev pub said_by : ℕ → ℕ → ℕ → Option (ℕ × ℕ)
+said_by word id m = cond (eqb (word / half) id) (Some (m, word % half)) None
 
-abbrev pub told_by : List ℕ → ℕ → ℕ → Sought
+abbrev pub told_by : List ℕ → ℕ → ℕ → Option (ℕ × ℕ)
 told_by index id m = said_by (get_or index m 0) id m
 
 -- what an index says of an ID, an entry or none: held against the bytes of any table, it is what is sought there
-abbrev pub held_to : List ℕ → ℕ → Sought → Sought
-held_to t id (At m p) = borne t id m p
-held_to t id Nowhere = Nowhere
+abbrev pub held_to : List ℕ → ℕ → Option (ℕ × ℕ) → Option (ℕ × ℕ)
+held_to t id (Some (m, p)) = borne t id m p
+held_to t id None = None
 
 abbrev pub middle : ℕ → ℕ → ℕ
 middle base size = base + size / 2
@@ -51,29 +50,29 @@ raised index id base size = cond (leb (id_in index (middle base size)) id) (midd
 
 -- the ID among so many entries from base on, in at most n looks: at the middle, while there are several, and at the last one. How
 -- many are left goes by how many there were alone
-unfoldable pub halved : List ℕ → List ℕ → ℕ → ℕ → ℕ → ℕ → Sought
-halved t index id zero base size = Nowhere
+unfoldable pub halved : List ℕ → List ℕ → ℕ → ℕ → ℕ → ℕ → Option (ℕ × ℕ)
+halved t index id zero base size = None
 halved t index id (suc n) base size =
-    cond (ltb 1 size) (halved t index id n (raised index id base size) (size - size / 2)) (cond (ltb 0 size) (held_to t id (told_by index id base)) Nowhere)
+    cond (ltb 1 size) (halved t index id n (raised index id base size) (size - size / 2)) (cond (ltb 0 size) (held_to t id (told_by index id base)) None)
 
 -- a count has 16 bits, so that 16 looks leave one entry, and one more tells
 abbrev pub most_looks : ℕ
 most_looks = 17
 
-unfoldable pub sought_in : List ℕ → List ℕ → ℕ → ℕ → Sought
+unfoldable pub sought_in : List ℕ → List ℕ → ℕ → ℕ → Option (ℕ × ℕ)
 sought_in t index count id = halved t index id most_looks 0 count
 
-abbrev pub Says : List ℕ → ℕ → ℕ → Sought → Type 0
+abbrev pub Says : List ℕ → ℕ → ℕ → Option (ℕ × ℕ) → Type 0
 Says index count id r = (t : List ℕ) → held_to t id r ≡ sought_in t index count id
 
 -- the first of the entries below n that bears the ID, by a plain scan; the operation of an ID is the first of all
-abbrev pub or_else : Sought → Sought → Sought
-or_else (At i p) y = At i p
-or_else Nowhere y = y
+abbrev pub or_else : Option (ℕ × ℕ) → Option (ℕ × ℕ) → Option (ℕ × ℕ)
+or_else (Some (i, p)) y = Some (i, p)
+or_else None y = y
 
-unfoldable pub first_below : List ℕ → ℕ → ℕ → ℕ → Sought
-first_below t first id zero = Nowhere
-first_below t first id (suc n) = or_else (first_below t first id n) (cond (eqb (id_at t first n) id) (At n (op_place t first n)) Nowhere)
+unfoldable pub first_below : List ℕ → ℕ → ℕ → ℕ → Option (ℕ × ℕ)
+first_below t first id zero = None
+first_below t first id (suc n) = or_else (first_below t first id n) (cond (eqb (id_at t first n) id) (Some (n, op_place t first n)) None)
 
-unfoldable pub operation_of : List ℕ → ℕ → ℕ → ℕ → Sought
+unfoldable pub operation_of : List ℕ → ℕ → ℕ → ℕ → Option (ℕ × ℕ)
 operation_of t first count id = first_below t first id count

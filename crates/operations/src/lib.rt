@@ -31,10 +31,3 @@ pub struct Operation {
     pub carries: u16,
     pub responds: u16,
 }
-
-// What looking up an operation finds: the number of its entry, and where it stands.
-#[derive(Clone, Copy)]
-pub enum Sought {
-    At(u16, usize),
-    Nowhere,
-}

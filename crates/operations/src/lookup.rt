@@ -2,27 +2,26 @@
 ghost use Rattle.std.specs.Prelude.{◌≡◌, cond, ◌<◌, length, get_or};
 ghost use Rattle.operations.specs.Search.{borne, sought_in, said_by, told_by, Says};
 
-use crate::{Sought, entries};
+use crate::entries;
 
-// An entry that bears the ID, or none; where the IDs rise and the index is the table's, it is the operation of that ID.
-pub fn find(table: &[u8], index: &[u64], count: u16, id: u32) -> Sought
+// The number of an entry that bears the ID, and where it stands, or none; where the IDs rise and the index is the table's, it is the operation
+// of that ID.
+pub fn find(table: &[u8], index: &[u64], count: u16, id: u32) -> Option<(u16, usize)>
     ensures { result ≡ sought_in table.now index.now count id }
 {
-    match said(index, count, id) {
-        Sought::At(number, place) => borne(table, id, number, place),
-        Sought::Nowhere => Sought::Nowhere,
-    }
+    let (number, place) = said(index, count, id)?;
+    borne(table, id, number, place)
 }
 
 // What the index says, in as many looks as the count alone asks for: no jump from one to the next hangs on the ID, so that a
 // processor foretells each. The lower end is chosen by a move, and its word with it, so that the last look is at hand: the compiler
 // makes a jump of a move that waits for a load in a loop, unless what is moved was loaded too. A word is read at the lower end, among
 // those from half the size on: so the load waits for no sum of what hangs on the ID.
-fn said(index: &[u64], count: u16, id: u32) -> Sought
+fn said(index: &[u64], count: u16, id: u32) -> Option<(u16, usize)>
     ensures { Says index.now count id result }
 {
     if count == 0 {
-        return Sought::Nowhere;
+        return None;
     }
     let bound = id as u64 * 4294967296 + 4294967295;
     let mut base: usize = 0;
@@ -73,19 +72,19 @@ fn first_word(index: &[u64]) -> u64
 }
 
 // What one word says of an ID; one that is not there is 0.
-fn told(word: u64, id: u32, number: usize) -> Sought
+fn told(word: u64, id: u32, number: usize) -> Option<(u16, usize)>
     requires { number < 65536 }
     ensures { result ≡ said_by word id number }
 {
     if word / 4294967296 == id as u64 {
-        Sought::At(number as u16, (word % 4294967296) as usize)
+        Some((number as u16, (word % 4294967296) as usize))
     } else {
-        Sought::Nowhere
+        None
     }
 }
 
 // The same of a word of the index, there or not.
-fn told_in(index: &[u64], id: u32, number: usize) -> Sought
+fn told_in(index: &[u64], id: u32, number: usize) -> Option<(u16, usize)>
     requires { number < 65536 }
     ensures { result ≡ told_by index.now id number }
 {
@@ -97,7 +96,7 @@ fn told_in(index: &[u64], id: u32, number: usize) -> Sought
 
 // The index may be anybody's: the entry that it says is found only where all its bytes are there and bear the ID. Whether they are is
 // asked by a width that is chosen, and not by a jump for each kind, which would be foretold badly.
-fn borne(table: &[u8], id: u32, number: u16, place: usize) -> Sought
+fn borne(table: &[u8], id: u32, number: u16, place: usize) -> Option<(u16, usize)>
     ensures { result ≡ borne table.now id number place }
 {
     if wire::has_room(table.len(), place, 8) {
@@ -105,9 +104,9 @@ fn borne(table: &[u8], id: u32, number: u16, place: usize) -> Sought
         if entries::id_of(head) == id {
             let width = entries::width_of(entries::kind_of(head));
             if wire::has_room(table.len(), place, width) {
-                return Sought::At(number, place);
+                return Some((number, place));
             }
         }
     }
-    Sought::Nowhere
+    None
 }

@@ -1,12 +1,10 @@
 -- A list is like its map: from fresh, when a request is entered at the free place under a free number, and when a place is freed.
 -- Assumes nothing.
 use Rattle.std.proofs.Common.{◌≡◌, ℕ, ◌+◌, ◌-◌, ◌*◌, ◌/◌, ◌%◌, ◌^◌, ◌<◌, Bool, true, false, cond, not, eqb, List, get_or, sym, refl, ap, ◌∙◌, subst, ap₂, true≢false, arith, eq-eqb, ne_eqb, eqb-true}
+use Rattle.std.specs.Prelude.{Option, Some, None}
 use borrow.Author.Tests.{eqb-false}
 use lib.ListN.{length-replicate, get_or-replicate}
 use Rattle.wire.proofs.Cond.{yes-if, no-if}
-use Rattle.pending.specs.declared.Slot.{Slot}
-use Rattle.pending.specs.declared.Slot.TheVariants.{At, Nowhere}
-use Rattle.pending.specs.declared.Asked.TheVariants.{Of, Nothing}
 use Rattle.pending.specs.Places.{number_at, target_at, place_of, free_place, entered, cleared}
 use Rattle.pending.specs.Free.{is_at, is_pending}
 use Rattle.pending.specs.Answers.{asked_at, awaited_of, cleared_at, cancelled, bears_at, is_response}
@@ -18,38 +16,38 @@ use Rattle.pending.proofs.Counts.{one_more, count_all, not_all}
 
 -- where a number stands
 module _ (l : List ℕ) (n : ℕ) where
-  pub stands : Once l → (j : ℕ) → j < 64 → number_at l j ≡ n → (n ≡ 0 → ⊥) → place_of l n ≡ At j
+  pub stands : Once l → (j : ℕ) → j < 64 → number_at l j ≡ n → (n ≡ 0 → ⊥) → place_of l n ≡ Some j
   stands only j h e z = go (place_of l n) refl
     where
-      go : (s : Slot) → place_of l n ≡ s → place_of l n ≡ At j
-      go (At i) p =
+      go : (s : Option ℕ) → place_of l n ≡ s → place_of l n ≡ Some j
+      go (Some i) p =
           let f : IsFirst l n 64 0 i = its-place l n i p in
-          p ∙ ap At (only i j f.below h (λ q. z (sym f.named ∙ q)) (f.named ∙ sym e))
-      go Nowhere p = absurd (no_place l n p z j h e)
+          p ∙ ap Some (only i j f.below h (λ q. z (sym f.named ∙ q)) (f.named ∙ sym e))
+      go None p = absurd (no_place l n p z j h e)
 
-  pub absent : ((j : ℕ) → j < 64 → number_at l j ≡ n → n ≡ 0) → place_of l n ≡ Nowhere
+  pub absent : ((j : ℕ) → j < 64 → number_at l j ≡ n → n ≡ 0) → place_of l n ≡ None
   absent none = go (place_of l n) refl
     where
-      go : (s : Slot) → place_of l n ≡ s → place_of l n ≡ Nowhere
-      go (At i) p =
+      go : (s : Option ℕ) → place_of l n ≡ s → place_of l n ≡ None
+      go (Some i) p =
           let f : IsFirst l n 64 0 i = its-place l n i p in
           absurd (number-not-zero l n i p (none i f.below f.named))
-      go Nowhere p = p
+      go None p = p
 
-  pub not-standing : is_pending l n ≡ false → place_of l n ≡ Nowhere
+  pub not-standing : is_pending l n ≡ false → place_of l n ≡ None
   not-standing e = go (place_of l n) refl
     where
-      go : (s : Slot) → place_of l n ≡ s → place_of l n ≡ Nowhere
-      go (At i) p = absurd (true≢false (sym (ap is_at p) ∙ e))
-      go Nowhere p = p
+      go : (s : Option ℕ) → place_of l n ≡ s → place_of l n ≡ None
+      go (Some i) p = absurd (true≢false (sym (ap is_at p) ∙ e))
+      go None p = p
 
   -- a message is the response by what is pending under its number
   pub response-by : (id sender : ℕ) → is_response l n id sender ≡ asks (awaited_of l n) id sender
   response-by id sender = go (place_of l n) refl
     where
-      go : (s : Slot) → place_of l n ≡ s → is_response l n id sender ≡ asks (awaited_of l n) id sender
-      go (At k) p = ap (λ (s : Slot). bears_at l s id sender) p ∙ sym (ap (λ (s : Slot). asks (asked_at l s) id sender) p)
-      go Nowhere p = ap (λ (s : Slot). bears_at l s id sender) p ∙ sym (ap (λ (s : Slot). asks (asked_at l s) id sender) p)
+      go : (s : Option ℕ) → place_of l n ≡ s → is_response l n id sender ≡ asks (awaited_of l n) id sender
+      go (Some k) p = ap (λ (s : Option ℕ). bears_at l s id sender) p ∙ sym (ap (λ (s : Option ℕ). asks (asked_at l s) id sender) p)
+      go None p = ap (λ (s : Option ℕ). bears_at l s id sender) p ∙ sym (ap (λ (s : Option ℕ). asks (asked_at l s) id sender) p)
 
 -- lists that differ at place k alone, and numbers that stand there in neither
 module _ (l r : List ℕ) (k : ℕ) (words : (j : ℕ) → (j ≡ k → ⊥) → j < 64 → get_or r j 0 ≡ get_or l j 0)
@@ -61,20 +59,20 @@ module _ (l r : List ℕ) (k : ℕ) (words : (j : ℕ) → (j ≡ k → ⊥) →
     elsewhere : awaited_of r x ≡ awaited_of l x
     elsewhere = go (place_of l x) refl
       where
-        gone : place_of l x ≡ Nowhere → (j : ℕ) → j < 64 → number_at r j ≡ x → (s : Bool) → eqb x 0 ≡ s → (t : Bool) → eqb j k ≡ t → x ≡ 0
+        gone : place_of l x ≡ None → (j : ℕ) → j < 64 → number_at r j ≡ x → (s : Bool) → eqb x 0 ≡ s → (t : Bool) → eqb j k ≡ t → x ≡ 0
         gone p j h e true s t u = eqb-true x 0 s
         gone p j h e false s true u = b (subst (λ (i : ℕ). number_at r i ≡ x) (eqb-true j k u) e)
         gone p j h e false s false u = absurd (no_place l x p (eqb-false x 0 s) j h (sym (same_number j (eqb-false j k u) h) ∙ e))
 
-        go : (s : Slot) → place_of l x ≡ s → awaited_of r x ≡ awaited_of l x
-        go (At j) p =
+        go : (s : Option ℕ) → place_of l x ≡ s → awaited_of r x ≡ awaited_of l x
+        go (Some j) p =
             let f : IsFirst l x 64 0 j = its-place l x j p in
             let z : x ≡ 0 → ⊥ = number-not-zero l x j p in
             let d : j ≡ k → ⊥ = λ e. z (a (subst (λ (i : ℕ). number_at l i ≡ x) e f.named)) in
-            let q : place_of r x ≡ At j = stands r x only j f.below (same_number j d f.below ∙ f.named) z in
-            ap (asked_at r) q ∙ ap₂ Of (ap (λ (y : ℕ). y % 2 ^ 32) (words j d f.below)) (targets j d f.below) ∙ sym (ap (asked_at l) p)
-        go Nowhere p =
-            let q : place_of r x ≡ Nowhere = absent r x (λ j h e. gone p j h e (eqb x 0) refl (eqb j k) refl) in
+            let q : place_of r x ≡ Some j = stands r x only j f.below (same_number j d f.below ∙ f.named) z in
+            ap (asked_at r) q ∙ ap₂ Some ((ap (λ (y : ℕ). y % 2 ^ 32) (words j d f.below)), targets j d f.below) ∙ sym (ap (asked_at l) p)
+        go None p =
+            let q : place_of r x ≡ None = absent r x (λ j h e. gone p j h e (eqb x 0) refl (eqb j k) refl) in
             ap (asked_at r) q ∙ sym (ap (asked_at l) p)
 
   -- a place that is used in one of them alone
@@ -99,12 +97,12 @@ fresh_like =
 
 module _ (l : List ℕ) (m : Map) (like : LikeMap l m) where
   -- "A full list refuses with 60, and only then"
-  pub full-counts : free_place l ≡ Nowhere → m.count ≡ 64
+  pub full-counts : free_place l ≡ None → m.count ≡ 64
   full-counts e =
       sym like.counted
       ∙ count_all (used l) 64 (λ k h. ap not (ne_eqb (number_at l k) 0 (none-bears-it l 0 64 0 k e (omega arith) h)))
 
-  pub room-counts : (k : ℕ) → free_place l ≡ At k → m.count < 64
+  pub room-counts : (k : ℕ) → free_place l ≡ Some k → m.count < 64
   room-counts k e =
       let f : IsFirst l 0 64 0 k = is-first l 0 64 0 k e in
       let h : how_many (used l) 64 < 64 = not_all (used l) 64 k f.below (ap not (eq-eqb (number_at l k) 0 f.named)) in
@@ -114,12 +112,12 @@ module _ (l : List ℕ) (m : Map) (like : LikeMap l m) where
   pub same_taken : (n : ℕ) → is_pending l n ≡ taken m n
   same_taken n = go (place_of l n) refl
     where
-      go : (s : Slot) → place_of l n ≡ s → is_pending l n ≡ taken m n
-      go (At k) p = ap is_at p ∙ ap is_asked (sym (ap (asked_at l) p) ∙ like.looked n)
-      go Nowhere p = ap is_at p ∙ ap is_asked (sym (ap (asked_at l) p) ∙ like.looked n)
+      go : (s : Option ℕ) → place_of l n ≡ s → is_pending l n ≡ taken m n
+      go (Some k) p = ap is_at p ∙ ap is_asked (sym (ap (asked_at l) p) ∙ like.looked n)
+      go None p = ap is_at p ∙ ap is_asked (sym (ap (asked_at l) p) ∙ like.looked n)
 
   -- a request is entered
-  module _ (k n id target : ℕ) (free : free_place l ≡ At k) (id-small : id < 2 ^ 32) (not_zero : n ≡ 0 → ⊥) (not_taken : is_pending l n ≡ false) where
+  module _ (k n id target : ℕ) (free : free_place l ≡ Some k) (id-small : id < 2 ^ 32) (not_zero : n ≡ 0 → ⊥) (not_taken : is_pending l n ≡ false) where
     there : IsFirst l 0 64 0 k
     there = is-first l 0 64 0 k free
 
@@ -159,20 +157,20 @@ module _ (l : List ℕ) (m : Map) (like : LikeMap l m) where
         go false s true t = absurd (not_in i hi (sym (same i hi s) ∙ e ∙ at-k j t))
         go false s false t = like.once i j hi hj (λ q. d (same i hi s ∙ q)) (sym (same i hi s) ∙ e ∙ same j hj t)
 
-    new-looked : (x : ℕ) → awaited_of new x ≡ cond (eqb x n) (Of id target) (m.under x)
+    new-looked : (x : ℕ) → awaited_of new x ≡ cond (eqb x n) (Some (id, target)) (m.under x)
     unfolding new
     new-looked x = go (eqb x n) refl
       where
-        here : awaited_of new n ≡ Of id target
+        here : awaited_of new n ≡ Some (id, target)
         here =
             ap (asked_at new) (stands new n new-once k there.below new-number not_zero)
-            ∙ ap₂ Of (ap (λ (y : ℕ). y % 2 ^ 32) new_word ∙ id-in n id id-small) (target-here l k (n * 2 ^ 32 + id) target there.below like.whole)
+            ∙ ap₂ Some ((ap (λ (y : ℕ). y % 2 ^ 32) new_word ∙ id-in n id id-small), target-here l k (n * 2 ^ 32 + id) target there.below like.whole)
 
-        go : (s : Bool) → eqb x n ≡ s → awaited_of new x ≡ cond (eqb x n) (Of id target) (m.under x)
-        go true s = ap (awaited_of new) (eqb-true x n s) ∙ here ∙ sym (yes-if (Of id target) (m.under x) s)
+        go : (s : Bool) → eqb x n ≡ s → awaited_of new x ≡ cond (eqb x n) (Some (id, target)) (m.under x)
+        go true s = ap (awaited_of new) (eqb-true x n s) ∙ here ∙ sym (yes-if (Some (id, target)) (m.under x) s)
         go false s =
             elsewhere l new k new-words new-targets new-once x (λ e. sym e ∙ there.named) (λ e. absurd (eqb-false x n s (sym e ∙ new-number)))
-            ∙ like.looked x ∙ sym (no-if (Of id target) (m.under x) s)
+            ∙ like.looked x ∙ sym (no-if (Some (id, target)) (m.under x) s)
 
     pub entered-like : LikeMap (entered l k n id target) (inserted m n id target)
     unfolding new
@@ -187,7 +185,7 @@ module _ (l : List ℕ) (m : Map) (like : LikeMap l m) where
         }
 
   -- a place is freed
-  module _ (k n : ℕ) (place : place_of l n ≡ At k) where
+  module _ (k n : ℕ) (place : place_of l n ≡ Some k) where
     its : IsFirst l n 64 0 k
     its = its-place l n k place
 
@@ -223,7 +221,7 @@ module _ (l : List ℕ) (m : Map) (like : LikeMap l m) where
         go false s true t = absurd (d (e ∙ rest-zero j t))
         go false s false t = like.once i j hi hj (λ q. d (rest-same i hi s ∙ q)) (sym (rest-same i hi s) ∙ e ∙ rest-same j hj t)
 
-    rest-looked : (x : ℕ) → awaited_of rest x ≡ cond (eqb x n) Nothing (m.under x)
+    rest-looked : (x : ℕ) → awaited_of rest x ≡ cond (eqb x n) None (m.under x)
     rest-looked x = go (eqb x n) refl
       where
         not_again : (j : ℕ) → j < 64 → number_at rest j ≡ n → (s : Bool) → eqb j k ≡ s → n ≡ 0
@@ -232,14 +230,14 @@ module _ (l : List ℕ) (m : Map) (like : LikeMap l m) where
             let f : number_at l j ≡ n = sym (rest-same j h s) ∙ e in
             absurd (eqb-false j k s (like.once j k h its.below (λ q. named-so (sym f ∙ q)) (f ∙ sym its.named)))
 
-        here : awaited_of rest n ≡ Nothing
+        here : awaited_of rest n ≡ None
         here = ap (asked_at rest) (absent rest n (λ j h e. not_again j h e (eqb j k) refl))
 
-        go : (s : Bool) → eqb x n ≡ s → awaited_of rest x ≡ cond (eqb x n) Nothing (m.under x)
-        go true s = ap (awaited_of rest) (eqb-true x n s) ∙ here ∙ sym (yes-if Nothing (m.under x) s)
+        go : (s : Bool) → eqb x n ≡ s → awaited_of rest x ≡ cond (eqb x n) None (m.under x)
+        go true s = ap (awaited_of rest) (eqb-true x n s) ∙ here ∙ sym (yes-if None (m.under x) s)
         go false s =
             elsewhere l rest k rest-words rest-targets rest-once x (λ e. absurd (eqb-false x n s (sym e ∙ its.named))) (λ e. sym e ∙ rest-number)
-            ∙ like.looked x ∙ sym (no-if Nothing (m.under x) s)
+            ∙ like.looked x ∙ sym (no-if None (m.under x) s)
 
     rest-counted : how_many (used rest) 64 ≡ m.count - cond (taken m n) 1 0
     rest-counted =
@@ -264,11 +262,11 @@ module _ (l : List ℕ) (m : Map) (like : LikeMap l m) where
   pub cancelled-like : (n : ℕ) → LikeMap (cancelled l n) (deleted m n)
   cancelled-like n = go (place_of l n) refl
     where
-      nothing : place_of l n ≡ Nowhere → (x : ℕ) (s : Bool) → eqb x n ≡ s → awaited_of l x ≡ cond (eqb x n) Nothing (m.under x)
-      nothing p x true s = ap (awaited_of l) (eqb-true x n s) ∙ ap (asked_at l) p ∙ sym (yes-if Nothing (m.under x) s)
-      nothing p x false s = like.looked x ∙ sym (no-if Nothing (m.under x) s)
+      nothing : place_of l n ≡ None → (x : ℕ) (s : Bool) → eqb x n ≡ s → awaited_of l x ≡ cond (eqb x n) None (m.under x)
+      nothing p x true s = ap (awaited_of l) (eqb-true x n s) ∙ ap (asked_at l) p ∙ sym (yes-if None (m.under x) s)
+      nothing p x false s = like.looked x ∙ sym (no-if None (m.under x) s)
 
-      stays : place_of l n ≡ Nowhere → LikeMap l (deleted m n)
+      stays : place_of l n ≡ None → LikeMap l (deleted m n)
       stays p =
           let t : taken m n ≡ false = sym (same_taken n) ∙ ap is_at p in
           let o : ◌≡◌ {A = ℕ} (cond (taken m n) 1 0) 0 = ap (λ (b : Bool). cond b 1 0) t in
@@ -280,6 +278,6 @@ module _ (l : List ℕ) (m : Map) (like : LikeMap l m) where
             counted = omega arith;
           }
 
-      go : (s : Slot) → place_of l n ≡ s → LikeMap (cancelled l n) (deleted m n)
-      go (At k) p = subst (λ (s : Slot). LikeMap (cleared_at l s) (deleted m n)) (sym p) (cleared-like k n p)
-      go Nowhere p = subst (λ (s : Slot). LikeMap (cleared_at l s) (deleted m n)) (sym p) (stays p)
+      go : (s : Option ℕ) → place_of l n ≡ s → LikeMap (cancelled l n) (deleted m n)
+      go (Some k) p = subst (λ (s : Option ℕ). LikeMap (cleared_at l s) (deleted m n)) (sym p) (cleared-like k n p)
+      go None p = subst (λ (s : Option ℕ). LikeMap (cleared_at l s) (deleted m n)) (sym p) (stays p)

@@ -3,10 +3,9 @@
 -- and where there are none it is free.
 -- Assumes nothing.
 use Rattle.std.proofs.Common.{◌≡◌, ℕ, zero, suc, ◌+◌, ◌-◌, ◌%◌, ◌^◌, ◌<◌, ◌≤◌, Bool, true, false, cond, ◌||◌, eqb, leb, List, sym, refl, ap, ◌∙◌, subst, true≢false, arith, ne_eqb, eqb-true, le-leb, leb-false, leb-true}
+use Rattle.std.specs.Prelude.{Option, Some, None}
 use borrow.Author.Tests.{eqb-false, lt-leb}
 use Rattle.wire.proofs.Cond.{yes-if, no-if}
-use Rattle.pending.specs.declared.Slot.{Slot}
-use Rattle.pending.specs.declared.Slot.TheVariants.{At, Nowhere}
 use Rattle.pending.specs.Places.{number_at, place_of}
 use Rattle.pending.specs.Free.{drawn, is_at, is_pending, blocked, free_within, next_free, on_from, IsNextFree}
 use Rattle.pending.specs.Counted.{how_many}
@@ -72,7 +71,7 @@ module _ (l : List ℕ) (n : ℕ) (n-small : n < 2 ^ 32) where
     unfolding left before after
     one_fewer e = go (eqb (on_from n d) 0) refl (place_of l (on_from n d)) refl
       where
-        go : (b : Bool) → eqb (on_from n d) 0 ≡ b → (s : Slot) → place_of l (on_from n d) ≡ s
+        go : (b : Bool) → eqb (on_from n d) 0 ≡ b → (s : Option ℕ) → place_of l (on_from n d) ≡ s
             → one (ahead n (d + 1) 0) + how_many after 64 < one (ahead n d 0) + how_many before 64
         go true t s p =
             let z : 0 ≡ on_from n d = sym (eqb-true (on_from n d) 0 t) in
@@ -80,14 +79,14 @@ module _ (l : List ℕ) (n : ℕ) (n-small : n < 2 ^ 32) where
             let c : one (ahead n (d + 1) 0) ≡ 0 = ap one (left_behind 0 z) in
             let r : how_many after 64 ≤ how_many before 64 = count-le before after 64 (λ k b. still (number_at l k)) in
             omega arith
-        go false t (At k) p =
+        go false t (Some k) p =
             let q : number_at l k ≡ on_from n d = (its-place l (on_from n d) k p).named in
             let b : k < 64 = (its-place l (on_from n d) k p).below in
             let r : how_many after 64 < how_many before 64 =
             count-lt before after 64 k (λ i c. still (number_at l i)) b (met (number_at l k) q) (left_behind (number_at l k) q) in
             let o : one (ahead n (d + 1) 0) ≤ one (ahead n d 0) = one_le (ahead n d 0) (ahead n (d + 1) 0) (still 0) in
             omega arith
-        go false t Nowhere p = absurd (true≢false (sym (or_right (eqb (on_from n d) 0) (is_pending l (on_from n d)) e t) ∙ ap is_at p))
+        go false t None p = absurd (true≢false (sym (or_right (eqb (on_from n d) 0) (is_pending l (on_from n d)) e t) ∙ ap is_at p))
 
   Passed : ℕ → Type 0
   Passed d = (i : ℕ) → i < d → (on_from n i ≡ 0 → ⊥) → is_pending l (on_from n i) ≡ true

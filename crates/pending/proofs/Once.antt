@@ -2,9 +2,8 @@
 -- it was. The map that such a list is like is the one that the list itself tells.
 -- Assumes nothing.
 use Rattle.std.proofs.Common.{◌≡◌, ℕ, true, false, cond, eqb, List, length, refl, ap, ◌∙◌}
+use Rattle.std.specs.Prelude.{Option, None}
 use Rattle.wire.proofs.Cond.{yes-eq, no_eq, yes-if}
-use Rattle.pending.specs.declared.Asked.{Asked}
-use Rattle.pending.specs.declared.Asked.TheVariants.{Nothing}
 use Rattle.pending.specs.Answers.{awaited_of, cancelled, is_response, responded}
 use Rattle.pending.specs.Counted.{how_many}
 use Rattle.pending.specs.PlainMap.{Map, asks, used, Once, LikeMap}
@@ -18,14 +17,14 @@ module _ (l : List ℕ) (whole : length l ≡ 128) (once : Once l) where
   like-its-map = record { whole = whole; once = once; looked = λ n. refl; counted = refl }
 
   module _ (n : ℕ) where
-    after : (x : ℕ) → awaited_of (cancelled l n) x ≡ cond (eqb x n) Nothing (awaited_of l x)
+    after : (x : ℕ) → awaited_of (cancelled l n) x ≡ cond (eqb x n) None (awaited_of l x)
     after x = (cancelled-like l its_map like-its-map n).looked x
 
-    pub gone : awaited_of (cancelled l n) n ≡ Nothing
-    gone = after n ∙ yes-eq Nothing (awaited_of l n) n n refl
+    pub gone : awaited_of (cancelled l n) n ≡ None
+    gone = after n ∙ yes-eq None (awaited_of l n) n n refl
 
     pub others_stay : (x : ℕ) → (x ≡ n → ⊥) → awaited_of (cancelled l n) x ≡ awaited_of l x
-    others_stay x h = after x ∙ no_eq Nothing (awaited_of l x) x n h
+    others_stay x h = after x ∙ no_eq None (awaited_of l x) x n h
 
     pub still-once : Once (cancelled l n)
     still-once = (cancelled-like l its_map like-its-map n).once
@@ -35,11 +34,11 @@ module _ (l : List ℕ) (whole : length l ≡ 128) (once : Once l) where
       as-cancelled : responded l n id sender ≡ cancelled l n
       as-cancelled = yes-if (cancelled l n) l e
 
-      pub answered-gone : awaited_of (responded l n id sender) n ≡ Nothing
+      pub answered-gone : awaited_of (responded l n id sender) n ≡ None
       answered-gone = ap (λ (r : List ℕ). awaited_of r n) as-cancelled ∙ gone
 
       pub answered-others : (x : ℕ) → (x ≡ n → ⊥) → awaited_of (responded l n id sender) x ≡ awaited_of l x
       answered-others x h = ap (λ (r : List ℕ). awaited_of r x) as-cancelled ∙ others_stay x h
 
       pub not_again : is_response (responded l n id sender) n id sender ≡ false
-      not_again = response-by (responded l n id sender) n id sender ∙ ap (λ (a : Asked). asks a id sender) answered-gone
+      not_again = response-by (responded l n id sender) n id sender ∙ ap (λ (a : Option (ℕ × ℕ)). asks a id sender) answered-gone

@@ -1,12 +1,10 @@
 -- What the functions of `pending` come to at their returns.
 -- Assumes nothing.
 use Rattle.std.proofs.Common.{◌≡◌, ℕ, suc, ◌+◌, ◌-◌, ◌<◌, ◌≤◌, Bool, true, false, cond, ◌&&◌, ◌||◌, eqb, leb, List, length, set, sym, refl, ap, ◌∙◌, subst, ap₂, arith, eq-eqb, ne_eqb, leb-true}
+use Rattle.std.specs.Prelude.{Option, Some, None}
 use lib.Seq.{set_out}
 use Rattle.wire.proofs.Cond.{yes_lt, no_lt, yes-eq, no_eq, yes-if, no-if}
 use Rattle.pending.proofs.Looking.{its-place}
-use Rattle.pending.specs.declared.Slot.{Slot}
-use Rattle.pending.specs.declared.Slot.TheVariants.{At, Nowhere}
-use Rattle.pending.specs.declared.Asked.TheVariants.{Of, Nothing}
 use Rattle.pending.specs.Places.{number_at, pending_id_at, target_at, bearing, first_bearing, place_of, placed, cleared}
 use Rattle.pending.specs.Free.{drawn, is_at, is_pending, blocked, free_within, next_free}
 use Rattle.pending.specs.Answers.{asked_at, awaited_of, cleared_at, cancelled, bears, bears_at, is_response, responded}
@@ -24,21 +22,21 @@ module _ (l : List ℕ) where
 
   -- the place looked at, and those behind it
   module _ (n k : ℕ) (h : k < 64) where
-    next_place : bearing l n (64 - k) k ≡ cond (eqb (number_at l k) n) (At k) (bearing l n (64 - (k + 1)) (k + 1))
+    next_place : bearing l n (64 - k) k ≡ cond (eqb (number_at l k) n) (Some k) (bearing l n (64 - (k + 1)) (k + 1))
     unfolding bearing
     next_place =
         let e : 64 - k ≡ suc (64 - (k + 1)) = omega arith in
         rw e refl
 
     module _ (x : ℕ) (p : x ≡ number_at l k) (left : bearing l n (64 - k) k ≡ first_bearing l n) where
-      pub bears-it : x ≡ n → At k ≡ first_bearing l n
-      bears-it e = sym (yes-eq (At k) (bearing l n (64 - (k + 1)) (k + 1)) (number_at l k) n (sym p ∙ e)) ∙ sym next_place ∙ left
+      pub bears-it : x ≡ n → Some k ≡ first_bearing l n
+      bears-it e = sym (yes-eq (Some k) (bearing l n (64 - (k + 1)) (k + 1)) (number_at l k) n (sym p ∙ e)) ∙ sym next_place ∙ left
 
       pub bears-another : (x ≡ n → ⊥) → bearing l n (64 - (k + 1)) (k + 1) ≡ first_bearing l n
       bears-another e =
-          sym (no_eq (At k) (bearing l n (64 - (k + 1)) (k + 1)) (number_at l k) n (λ q. e (p ∙ q))) ∙ sym next_place ∙ left
+          sym (no_eq (Some k) (bearing l n (64 - (k + 1)) (k + 1)) (number_at l k) n (λ q. e (p ∙ q))) ∙ sym next_place ∙ left
 
-  pub none-bears : (n k : ℕ) → k ≤ 64 → 64 ≤ k → bearing l n (64 - k) k ≡ first_bearing l n → Nowhere ≡ first_bearing l n
+  pub none-bears : (n k : ℕ) → k ≤ 64 → 64 ≤ k → bearing l n (64 - k) k ≡ first_bearing l n → None ≡ first_bearing l n
   unfolding bearing
   none-bears n k a b left =
       let e : 64 - k ≡ 0 = omega arith in
@@ -58,7 +56,7 @@ module _ (l : List ℕ) where
       omega arith
 
   -- the same where only whether one bears it is asked
-  or_at : (k : ℕ) (s : Slot) (a b : Bool) → ((a || b) || is_at s) ≡ (a || is_at (cond b (At k) s))
+  or_at : (k : ℕ) (s : Option ℕ) (a b : Bool) → ((a || b) || is_at s) ≡ (a || is_at (cond b (Some k) s))
   or_at k s true b = refl
   or_at k s false true = refl
   or_at k s false false = refl
@@ -68,7 +66,7 @@ module _ (l : List ℕ) where
   borne-on n k x f h p left =
       ap (λ (y : ℕ). (f || eqb y n) || is_at (bearing l n (64 - (k + 1)) (k + 1))) p
       ∙ or_at k (bearing l n (64 - (k + 1)) (k + 1)) f (eqb (number_at l k) n)
-      ∙ sym (ap (λ (s : Slot). f || is_at s) (next_place n k h)) ∙ left
+      ∙ sym (ap (λ (s : Option ℕ). f || is_at s) (next_place n k h)) ∙ left
 
   pub borne-all : (n k : ℕ) (f : Bool) → k ≤ 64 → 64 ≤ k → (f || is_at (bearing l n (64 - k) k)) ≡ is_at (first_bearing l n)
       → f ≡ is_at (first_bearing l n)
@@ -83,11 +81,11 @@ module _ (l : List ℕ) where
 
   -- where a number stands, and whether it is one that a request may take
   module _ (n : ℕ) where
-    pub no_number : n ≡ 0 → Nowhere ≡ place_of l n
-    no_number e = sym (yes-eq Nowhere (first_bearing l n) n 0 e)
+    pub no_number : n ≡ 0 → None ≡ place_of l n
+    no_number e = sym (yes-eq None (first_bearing l n) n 0 e)
 
-    pub some_number : (r : Slot) → (n ≡ 0 → ⊥) → r ≡ first_bearing l n → r ≡ place_of l n
-    some_number r h p = p ∙ sym (no_eq Nowhere (first_bearing l n) n 0 h)
+    pub some_number : (r : Option ℕ) → (n ≡ 0 → ⊥) → r ≡ first_bearing l n → r ≡ place_of l n
+    some_number r h p = p ∙ sym (no_eq None (first_bearing l n) n 0 h)
 
     pub zero-blocked : n ≡ 0 → true ≡ blocked l n
     zero-blocked e = rw (eq-eqb n 0 e)
@@ -120,9 +118,9 @@ module _ (l : List ℕ) where
       sym (ap (λ (k : ℕ). free_within l k x) e) ∙ left
 
   -- what was found under a number
-  module _ (n : ℕ) (s : Slot) (p : s ≡ place_of l n) where
-    module _ (k : ℕ) (e : s ≡ At k) where
-      there : place_of l n ≡ At k
+  module _ (n : ℕ) (s : Option ℕ) (p : s ≡ place_of l n) where
+    module _ (k : ℕ) (e : s ≡ Some k) where
+      there : place_of l n ≡ Some k
       there = sym p ∙ e
 
       pub in_list : k < 64
@@ -134,12 +132,12 @@ module _ (l : List ℕ) where
       pub given_up : (r : List ℕ) → r ≡ cleared l k → r ≡ cancelled l n
       given_up r q = q ∙ sym (ap (cleared_at l) there)
 
-      pub what-was-asked : (i t : ℕ) → i ≡ pending_id_at l k → t ≡ target_at l k → Of i t ≡ awaited_of l n
-      what-was-asked i t a b = ap₂ Of a b ∙ sym (ap (asked_at l) there)
+      pub what-was-asked : (i t : ℕ) → i ≡ pending_id_at l k → t ≡ target_at l k → Some (i, t) ≡ awaited_of l n
+      what-was-asked i t a b = ap₂ Some (a, b) ∙ sym (ap (asked_at l) there)
 
       module _ (id sender : ℕ) (b : Bool) (q : b ≡ bears l k id sender) where
         its-bearing : is_response l n id sender ≡ b
-        its-bearing = ap (λ (x : Slot). bears_at l x id sender) there ∙ sym q
+        its-bearing = ap (λ (x : Option ℕ). bears_at l x id sender) there ∙ sym q
 
         pub the-response : b ≡ true → true ≡ is_response l n id sender
         the-response t = sym (its-bearing ∙ t)
@@ -153,8 +151,8 @@ module _ (l : List ℕ) where
         pub place_kept : b ≡ false → l ≡ responded l n id sender
         place_kept t = sym (no-if (cancelled l n) l (its-bearing ∙ t))
 
-    module _ (e : s ≡ Nowhere) where
-      nowhere : place_of l n ≡ Nowhere
+    module _ (e : s ≡ None) where
+      nowhere : place_of l n ≡ None
       nowhere = sym p ∙ e
 
       pub not_there : false ≡ is_pending l n
@@ -163,12 +161,12 @@ module _ (l : List ℕ) where
       pub all-stays : l ≡ cancelled l n
       all-stays = sym (ap (cleared_at l) nowhere)
 
-      pub nothing-asked : Nothing ≡ awaited_of l n
+      pub nothing-asked : None ≡ awaited_of l n
       nothing-asked = sym (ap (asked_at l) nowhere)
 
       module _ (id sender : ℕ) where
         pub no_response : false ≡ is_response l n id sender
-        no_response = sym (ap (λ (x : Slot). bears_at l x id sender) nowhere)
+        no_response = sym (ap (λ (x : Option ℕ). bears_at l x id sender) nowhere)
 
         pub list_kept : l ≡ responded l n id sender
         list_kept = sym (no-if (cancelled l n) l (sym no_response))

@@ -1,12 +1,10 @@
 -- A list tells over any turns what the plain map does, and the map tells one thing only.
 -- Assumes nothing.
 use Rattle.std.proofs.Common.{◌≡◌, ℕ, ◌+◌, ◌*◌, ◌^◌, ◌<◌, Bool, true, false, eqb, List, [], ◌∷◌, length, sym, refl, ap, ◌∙◌, subst, arith, eqb-true}
+use Rattle.std.specs.Prelude.{Option, Some, None}
 use borrow.Author.Tests.{eqb-false}
 use lib.ListN.{get_or-replicate}
 use Rattle.wire.proofs.Cond.{yes-if, no-if}
-use Rattle.pending.specs.declared.Slot.{Slot}
-use Rattle.pending.specs.declared.Slot.TheVariants.{At, Nowhere}
-use Rattle.pending.specs.declared.Asked.{Asked}
 use Rattle.pending.specs.Places.{target_at, place_of, free_place, placed, entered_at}
 use Rattle.pending.specs.Free.{is_pending, next_free, on_from, IsNextFree}
 use Rattle.pending.specs.Answers.{cleared_at, cancelled, is_response, responded}
@@ -43,28 +41,28 @@ module _ (l : List ℕ) (m : Map) (same : LikeMap l m) where
       found : IsNextFree (is_pending l) next (next_free l next)
       found = next-is-free l next a
 
-      go : (s : Slot) → free_place l ≡ s → Along l m (request next id target)
-      go (At k) p =
+      go : (s : Option ℕ) → free_place l ≡ s → Along l m (request next id target)
+      go (Some k) p =
           let n : ℕ = next_free l next in
           record {
             after = inserted m n id target;
             goes =
-                subst (λ (s : Slot). MapTurn m (request next id target) (numbered_at s n) (inserted m n id target)) (sym p)
+                subst (λ (s : Option ℕ). MapTurn m (request next id target) (numbered_at s n) (inserted m n id target)) (sym p)
                 (enters (room-counts l m same k p) (next_by (is_pending l) (taken m) next n (same_taken l m same) found));
             like =
-                subst (λ (s : Slot). LikeMap (entered_at l s n id target) (inserted m n id target)) (sym p)
+                subst (λ (s : Option ℕ). LikeMap (entered_at l s n id target) (inserted m n id target)) (sym p)
                 (entered-like l m same k n id target p b found.not_zero found.not_taken);
           }
-      go Nowhere p =
+      go None p =
           let n : ℕ = next_free l next in
           record {
             after = m;
-            goes = subst (λ (s : Slot). MapTurn m (request next id target) (numbered_at s n) m) (sym p) (refuses (full-counts l m same p));
-            like = subst (λ (s : Slot). LikeMap (entered_at l s n id target) m) (sym p) same;
+            goes = subst (λ (s : Option ℕ). MapTurn m (request next id target) (numbered_at s n) m) (sym p) (refuses (full-counts l m same p));
+            like = subst (λ (s : Option ℕ). LikeMap (entered_at l s n id target) m) (sym p) same;
           }
 
   same_asked : (n id sender : ℕ) → is_response l n id sender ≡ asks (m.under n) id sender
-  same_asked n id sender = response-by l n id sender ∙ ap (λ (x : Asked). asks x id sender) (same.looked n)
+  same_asked n id sender = response-by l n id sender ∙ ap (λ (x : Option (ℕ × ℕ)). asks x id sender) (same.looked n)
 
   arrivals-along : (n id sender : ℕ) → Along l m (arrival n id sender)
   arrivals-along n id sender = go (is_response l n id sender) refl
@@ -98,7 +96,7 @@ module _ (l : List ℕ) (m : Map) (same : LikeMap l m) where
   along (ask n) h =
       record {
         after = m;
-        goes = subst (λ (x : Asked). MapTurn m (ask n) (what x) m) (sym (same.looked n)) looks;
+        goes = subst (λ (x : Option (ℕ × ℕ)). MapTurn m (ask n) (what x) m) (sym (same.looked n)) looks;
         like = same;
       }
 
@@ -128,10 +126,10 @@ module _ (l : List ℕ) (whole : length l ≡ 128) (narrow : (k : ℕ) → k < 6
   cancelled-narrow : (n j : ℕ) → j < 64 → target_at (cancelled l n) j < 2 ^ 32
   cancelled-narrow n j b = go (place_of l n) refl
     where
-      go : (s : Slot) → place_of l n ≡ s → target_at (cleared_at l (place_of l n)) j < 2 ^ 32
-      go (At k) p =
-          subst (λ (s : Slot). target_at (cleared_at l s) j < 2 ^ 32) (sym p) (placed-narrow k 0 0 (its-place l n k p).below (omega arith) j b)
-      go Nowhere p = subst (λ (s : Slot). target_at (cleared_at l s) j < 2 ^ 32) (sym p) (narrow j b)
+      go : (s : Option ℕ) → place_of l n ≡ s → target_at (cleared_at l (place_of l n)) j < 2 ^ 32
+      go (Some k) p =
+          subst (λ (s : Option ℕ). target_at (cleared_at l s) j < 2 ^ 32) (sym p) (placed-narrow k 0 0 (its-place l n k p).below (omega arith) j b)
+      go None p = subst (λ (s : Option ℕ). target_at (cleared_at l s) j < 2 ^ 32) (sym p) (narrow j b)
 
   after-narrow : (t : Turn) → Narrow t → (j : ℕ) → j < 64 → target_at (list_after l t) j < 2 ^ 32
   after-narrow (request next id target) h j b = go (free_place l) refl
@@ -139,11 +137,11 @@ module _ (l : List ℕ) (whole : length l ≡ 128) (narrow : (k : ℕ) → k < 6
       n : ℕ
       n = next_free l next
 
-      go : (s : Slot) → free_place l ≡ s → target_at (entered_at l (free_place l) n id target) j < 2 ^ 32
-      go (At k) p =
-          subst (λ (s : Slot). target_at (entered_at l s n id target) j < 2 ^ 32) (sym p)
+      go : (s : Option ℕ) → free_place l ≡ s → target_at (entered_at l (free_place l) n id target) j < 2 ^ 32
+      go (Some k) p =
+          subst (λ (s : Option ℕ). target_at (entered_at l s n id target) j < 2 ^ 32) (sym p)
           (placed-narrow k (n * 2 ^ 32 + id) target (is-first l 0 64 0 k p).below h.1.1 j b)
-      go Nowhere p = subst (λ (s : Slot). target_at (entered_at l s n id target) j < 2 ^ 32) (sym p) (narrow j b)
+      go None p = subst (λ (s : Option ℕ). target_at (entered_at l s n id target) j < 2 ^ 32) (sym p) (narrow j b)
   after-narrow (give_up n) h j b = cancelled-narrow n j b
   after-narrow (arrival n id sender) h j b = go (is_response l n id sender) refl
     where

@@ -1,16 +1,15 @@
 -- 02, request 1: which number a request takes: "the next one free, going round at 0xFFFFFFFF".
 use Rattle.std.specs.Prelude.{◌≡◌, ℕ, zero, suc, ◌+◌, ◌%◌, ◌^◌, ◌<◌, Bool, true, false, cond, ◌||◌, List, ◌==◌, ◌≢◌}
-use Rattle.pending.specs.declared.Slot.{Slot}
-use Rattle.pending.specs.declared.Slot.TheVariants.{At, Nowhere}
+use Rattle.std.specs.Prelude.{Option, Some, None}
 use Rattle.pending.specs.Places.{places, place_of}
 
 -- the next own number: after 0xFFFFFFFF comes 0 (docs/DECISIONS.md, 25)
 abbrev pub drawn : ℕ → ℕ
 drawn n = (n + 1) % 2 ^ 32
 
-abbrev pub is_at : Slot → Bool
-is_at (At k) = true
-is_at Nowhere = false
+abbrev pub is_at : Option ℕ → Bool
+is_at (Some k) = true
+is_at None = false
 
 abbrev pub is_pending : List ℕ → ℕ → Bool
 is_pending l n = is_at (place_of l n)

@@ -2,36 +2,35 @@
 -- number, and how many numbers there are. `LikeMap` is what a list and its map have in common; proofs/AsMap shows that a fresh list
 -- has it with the empty map, and that every call keeps it and answers as the map does.
 use Rattle.std.specs.Prelude.{◌≡◌, ℕ, ◌+◌, ◌-◌, ◌<◌, Bool, true, false, cond, not, ◌&&◌, List, length, replicate, ◌==◌, ◌≢◌}
-use Rattle.pending.specs.declared.Asked.{Asked}
-use Rattle.pending.specs.declared.Asked.TheVariants.{Of, Nothing}
+use Rattle.std.specs.Prelude.{Option, Some, None}
 use Rattle.pending.specs.Places.{number_at}
 use Rattle.pending.specs.Answers.{awaited_of}
 use Rattle.pending.specs.Counted.{how_many}
 
 pub record Map : Type 0 where
-  pub under : ℕ → Asked
+  pub under : ℕ → Option (ℕ × ℕ)
   pub count : ℕ
 
-abbrev pub is_asked : Asked → Bool
-is_asked (Of id target) = true
-is_asked Nothing = false
+abbrev pub is_asked : Option (ℕ × ℕ) → Bool
+is_asked (Some (id, target)) = true
+is_asked None = false
 
 -- whether it is this operation of this platform
-abbrev pub asks : Asked → ℕ → ℕ → Bool
-asks (Of i t) id target = i == id && t == target
-asks Nothing id target = false
+abbrev pub asks : Option (ℕ × ℕ) → ℕ → ℕ → Bool
+asks (Some (i, t)) id target = i == id && t == target
+asks None id target = false
 
 abbrev pub taken : Map → ℕ → Bool
 taken m n = is_asked (m.under n)
 
 abbrev pub empty_map : Map
-empty_map = record { under = λ n. Nothing; count = 0 }
+empty_map = record { under = λ n. None; count = 0 }
 
 abbrev pub inserted : Map → ℕ → ℕ → ℕ → Map
-inserted m n id target = record { under = λ x. cond (x == n) (Of id target) (m.under x); count = m.count + 1 }
+inserted m n id target = record { under = λ x. cond (x == n) (Some (id, target)) (m.under x); count = m.count + 1 }
 
 abbrev pub deleted : Map → ℕ → Map
-deleted m n = record { under = λ x. cond (x == n) Nothing (m.under x); count = m.count - cond (taken m n) 1 0 }
+deleted m n = record { under = λ x. cond (x == n) None (m.under x); count = m.count - cond (taken m n) 1 0 }
 
 -- a fresh platform has asked nothing
 abbrev pub fresh_list : List ℕ

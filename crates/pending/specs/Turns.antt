@@ -1,10 +1,8 @@
 -- 02, request 1: "Over any calls the list answers as a plain map does." A turn is what one call does with the list; what a list tells
 -- over any turns from fresh, the plain map tells. The theorems are in proofs/Turning.
 use Rattle.std.specs.Prelude.{◌≡◌, ℕ, ◌^◌, ◌<◌, Bool, true, false, List, [], ◌∷◌, length}
+use Rattle.std.specs.Prelude.{Option, Some, None}
 use Prim.{Unit}
-use Rattle.pending.specs.declared.Slot.{Slot}
-use Rattle.pending.specs.declared.Slot.TheVariants.{At, Nowhere}
-use Rattle.pending.specs.declared.Asked.{Asked}
 use Rattle.pending.specs.Places.{target_at, free_place, entered_at}
 use Rattle.pending.specs.Free.{is_pending, next_free, IsNextFree}
 use Rattle.pending.specs.Answers.{awaited_of, cancelled, is_response, responded}
@@ -28,12 +26,12 @@ pub data Told : Type 0 where
   full : Told
   numbered : ℕ → Told
   whether : Bool → Told
-  what : Asked → Told
+  what : Option (ℕ × ℕ) → Told
 
 -- the list
-abbrev pub numbered_at : Slot → ℕ → Told
-numbered_at (At k) n = numbered n
-numbered_at Nowhere n = full
+abbrev pub numbered_at : Option ℕ → ℕ → Told
+numbered_at (Some k) n = numbered n
+numbered_at None n = full
 
 abbrev pub list_after : List ℕ → Turn → List ℕ
 list_after l (request next id target) = entered_at l (free_place l) (next_free l next) id target

@@ -8,37 +8,23 @@ ghost use Rattle.pending.specs.Places.{places, number_at, pending_id_at, target_
 ghost use Rattle.pending.specs.Free.{drawn, is_at, is_pending, blocked, next_free};
 ghost use Rattle.pending.specs.Answers.{awaited_of, cancelled, bears, is_response, responded};
 
-// Which place of a list.
-#[derive(Clone, Copy)]
-pub enum Slot {
-    At(usize),
-    Nowhere,
-}
-
-// What was asked under a number: the operation of this ID, of this platform. A target above 0xFFFFFFFF is nobody's.
-#[derive(Clone, Copy)]
-pub enum Asked {
-    Of { id: u32, target: u64 },
-    Nothing,
-}
-
 pub const PLACES: usize = 64;
 
 // A place's number is the upper half of its word.
 const NUMBER: u64 = 4294967296;
 
 // The first place that bears the number.
-pub fn place_of(list: &[u64], number: u32) -> Slot
+pub fn place_of(list: &[u64], number: u32) -> Option<usize>
     ensures { result ≡ place_of list.now number }
 {
     if number == 0 {
-        Slot::Nowhere
+        None
     } else {
         first_bearing(list, number)
     }
 }
 
-pub fn free_place(list: &[u64]) -> Slot
+pub fn free_place(list: &[u64]) -> Option<usize>
     ensures { result ≡ free_place list.now }
 {
     first_bearing(list, 0)
@@ -93,25 +79,20 @@ pub fn cancel(list: &mut [u64], number: u32) -> bool
     ensures list { list.new ≡ cancelled list.old number }
 {
     match place_of(list, number) {
-        Slot::At(place) => {
+        Some(place) => {
             clear(list, place);
             true
         }
-        Slot::Nowhere => false,
+        None => false,
     }
 }
 
-// What is pending under a number.
-pub fn awaited(list: &[u64], number: u32) -> Asked
+// What is pending under a number: the ID of the operation that was asked, and the platform. A target above 0xFFFFFFFF is nobody's.
+pub fn awaited(list: &[u64], number: u32) -> Option<(u32, u64)>
     ensures { result ≡ awaited_of list.now number }
 {
-    match place_of(list, number) {
-        Slot::At(place) => Asked::Of {
-            id: id_at(list, place),
-            target: target_at(list, place),
-        },
-        Slot::Nowhere => Asked::Nothing,
-    }
+    let place = place_of(list, number)?;
+    Some((id_at(list, place), target_at(list, place)))
 }
 
 // A message with this number and ID from this sender: whether it is the response to a request, which is then pending no more.
@@ -120,7 +101,7 @@ pub fn take_response(list: &mut [u64], number: u32, id: u32, sender: u32) -> boo
     ensures list { list.new ≡ responded list.old number id sender }
 {
     match place_of(list, number) {
-        Slot::At(place) => {
+        Some(place) => {
             if is_for(list, place, id, sender) {
                 clear(list, place);
                 true
@@ -128,7 +109,7 @@ pub fn take_response(list: &mut [u64], number: u32, id: u32, sender: u32) -> boo
                 false
             }
         }
-        Slot::Nowhere => false,
+        None => false,
     }
 }
 
@@ -158,27 +139,27 @@ fn is_borne(list: &[u64], number: u32) -> bool
 
 // The first place with this number, 0 too. Whether the list has all its places is tested once; and with four places a turn the
 // compiler leaves this a function of its own.
-fn first_bearing(list: &[u64], number: u32) -> Slot
+fn first_bearing(list: &[u64], number: u32) -> Option<usize>
     ensures { result ≡ first_bearing list.now number }
 {
     let whole = PLACES <= list.len();
     let mut k: usize = 0;
     while k < PLACES {
         if number_in(list, k, whole) == number {
-            return Slot::At(k);
+            return Some(k);
         }
         if number_in(list, k + 1, whole) == number {
-            return Slot::At(k + 1);
+            return Some(k + 1);
         }
         if number_in(list, k + 2, whole) == number {
-            return Slot::At(k + 2);
+            return Some(k + 2);
         }
         if number_in(list, k + 3, whole) == number {
-            return Slot::At(k + 3);
+            return Some(k + 3);
         }
         k += 4;
     }
-    Slot::Nowhere
+    None
 }
 
 // A place's number, where it is known whether the list has all its places.

@@ -1,13 +1,12 @@
 -- What the functions of `reacting` come to at their returns.
 -- Assumes nothing.
 use Prim.Native.Nat.{ℕ, ◌≤◌, ◌<◌}
+use Rattle.std.specs.Prelude.{Option, Some, None}
 use mathlib.Core.Path.{◌≡◌, refl, sym, ap, ap₂, ◌∙◌}
 use mathlib.Core.Bool.{Bool, true, false}
 use mathlib.Core.List.{List}
 use lib.Dec.{eqb}
 use Rattle.table.specs.declared.Sections.{Sections}
-use Rattle.operations.specs.declared.Sought.{Sought}
-use Rattle.operations.specs.declared.Sought.TheVariants as sought
 use Rattle.operations.specs.Entries.{kind_at}
 use Rattle.operations.specs.Search.{sought_in}
 use Rattle.pending.specs.Free.{drawn}
@@ -33,34 +32,34 @@ use Rattle.platform.specs.Reaction.{on_state, on_status, not_versioned, on_pull_
 
 -- what is looked up
 module _ (t : List ℕ) (s : Sections) (index : List ℕ) (h : Header) (m : Message) where
-  pub none-for-status : (x : Status) → m ≡ message.PlatformStatus x → sought.Nowhere ≡ operation_for t s index h m
+  pub none-for-status : (x : Status) → m ≡ message.PlatformStatus x → None ≡ operation_for t s index h m
   unfolding operation_for
   none-for-status x e = rw e refl
 
-  pub none-for-request : m ≡ message.PlatformStatusRequest → sought.Nowhere ≡ operation_for t s index h m
+  pub none-for-request : m ≡ message.PlatformStatusRequest → None ≡ operation_for t s index h m
   unfolding operation_for
   none-for-request e = rw e refl
 
-  pub none-for-unknown : (id : ℕ) → m ≡ message.UnknownOperation id → sought.Nowhere ≡ operation_for t s index h m
+  pub none-for-unknown : (id : ℕ) → m ≡ message.UnknownOperation id → None ≡ operation_for t s index h m
   unfolding operation_for
   none-for-unknown id e = rw e refl
 
-  pub for-pull : (id : ℕ) (f : Sought) → m ≡ message.VersionedDataPull id → f ≡ sought_in t index s.operations.count id
+  pub for-pull : (id : ℕ) (f : Option (ℕ × ℕ)) → m ≡ message.VersionedDataPull id → f ≡ sought_in t index s.operations.count id
       → f ≡ operation_for t s index h m
   unfolding operation_for
   for-pull id f e a = rw e a
 
-  pub for-operation : (f : Sought) → m ≡ message.Operation → f ≡ sought_in t index s.operations.count h.id
+  pub for-operation : (f : Option (ℕ × ℕ)) → m ≡ message.Operation → f ≡ sought_in t index s.operations.count h.id
       → f ≡ operation_for t s index h m
   unfolding operation_for
   for-operation f e a = rw e a
 
 module _ (t : List ℕ) (s : Sections) (index : List ℕ) (x : Reading) where
-  pub none-looked : (n : ℕ) → x ≡ reading.Refused n → sought.Nowhere ≡ operation_in t s index x
+  pub none-looked : (n : ℕ) → x ≡ reading.Refused n → None ≡ operation_in t s index x
   unfolding operation_in
   none-looked n e = rw e refl
 
-  pub is-looked : (h : Header) (m : Message) (start len : ℕ) (f : Sought) → x ≡ reading.Read h m start len → f ≡ operation_for t s index h m
+  pub is-looked : (h : Header) (m : Message) (start len : ℕ) (f : Option (ℕ × ℕ)) → x ≡ reading.Read h m start len → f ≡ operation_for t s index h m
       → f ≡ operation_in t s index x
   unfolding operation_in
   is-looked h m start len f e a = rw e a
@@ -119,8 +118,8 @@ module _ (t : List ℕ) (s : Sections) (p : Standing) (n : ℕ) (r : Reaction) w
     unfolding on_pull_all
     all_of_some f d = rw (← e, f) d
 
-  module _ (f : Sought) (id : ℕ) where
-    module _ (i q : ℕ) (k : f ≡ sought.At i q) (b : Bool) (e : b ≡ is_data t q) where
+  module _ (f : Option (ℕ × ℕ)) (id : ℕ) where
+    module _ (i q : ℕ) (k : f ≡ Some (i, q)) (b : Bool) (e : b ≡ is_data t q) where
       pub one-data : b ≡ true → r ≡ silent p (heard.PullOfOne id i) → r ≡ on_pull_one t f p n id
       unfolding on_pull_one
       one-data z d = rw (k, ← e, z) d
@@ -129,7 +128,7 @@ module _ (t : List ℕ) (s : Sections) (p : Standing) (n : ℕ) (r : Reaction) w
       unfolding on_pull_one
       one-event z d = rw (k, ← e, z) d
 
-    pub one_missing : f ≡ sought.Nowhere → r ≡ not_versioned p n id → r ≡ on_pull_one t f p n id
+    pub one_missing : f ≡ None → r ≡ not_versioned p n id → r ≡ on_pull_one t f p n id
     unfolding on_pull_one
     one_missing k d = rw k d
 
@@ -142,17 +141,17 @@ module _ (t : List ℕ) (s : Sections) (p : Standing) (n : ℕ) (r : Reaction) w
     pulls-one h d = d ∙ sym (no_eq {A = Reaction} (on_pull_all t s p n) (on_pull_one t f p n id) id all_data h)
 
 -- an operation
-module _ (f : Sought) (p : Standing) (h : Header) (start len : ℕ) (r : Reaction) where
-  pub operation-in : (i q : ℕ) → f ≡ sought.At i q → r ≡ silent p (heard.Operation i start len) → r ≡ on_operation f p h start len
+module _ (f : Option (ℕ × ℕ)) (p : Standing) (h : Header) (start len : ℕ) (r : Reaction) where
+  pub operation-in : (i q : ℕ) → f ≡ Some (i, q) → r ≡ silent p (heard.Operation i start len) → r ≡ on_operation f p h start len
   unfolding on_operation
   operation-in i q k d = rw k d
 
-  pub operation-not-in : f ≡ sought.Nowhere → r ≡ replied p (heard.NotInTable h.id) (Unknown h.sequence h.id) → r ≡ on_operation f p h start len
+  pub operation-not-in : f ≡ None → r ≡ replied p (heard.NotInTable h.id) (Unknown h.sequence h.id) → r ≡ on_operation f p h start len
   unfolding on_operation
   operation-not-in k d = rw k d
 
 -- each message
-module _ (own : ℕ) (t : List ℕ) (s : Sections) (f : Sought) (p : Standing) (h : Header) (m : Message) (start len : ℕ) (r : Reaction) where
+module _ (own : ℕ) (t : List ℕ) (s : Sections) (f : Option (ℕ × ℕ)) (p : Standing) (h : Header) (m : Message) (start len : ℕ) (r : Reaction) where
   pub to-status : (x : Status) → m ≡ message.PlatformStatus x → r ≡ on_status own p h.platform x → r ≡ reaction_to own t s f p h m start len
   unfolding reaction_to
   to-status x k d = rw k d

@@ -2,6 +2,7 @@
 -- must, and stands in the output.
 -- Assumes nothing.
 use Prim.{Unit}
+use Rattle.std.specs.Prelude.{Option, Some, None}
 use Prim.Native.Nat.{ℕ, ◌^◌, ◌≤◌, ◌<◌}
 use mathlib.Core.Path.{◌≡◌, refl, sym, ap, ◌∙◌}
 use mathlib.Core.Bool.{Bool, true, false, cond}
@@ -15,8 +16,6 @@ use Rattle.wire.proofs.Numbers.{number_bytes}
 use Rattle.wire.proofs.Runs.{part_over}
 use Rattle.wire.proofs.Cond.{no_lt}
 use Rattle.table.specs.declared.Sections.{Sections}
-use Rattle.operations.specs.declared.Sought.{Sought}
-use Rattle.operations.specs.declared.Sought.TheVariants as sought
 use Rattle.pending.specs.Free.{drawn}
 use Rattle.message.specs.declared.Header.{Header}
 use Rattle.message.specs.declared.Status.{Status}
@@ -93,16 +92,16 @@ module _ (t : List ℕ) (s : Sections) (p : Standing) (n : ℕ) where
       go true = tt
       go false = (refl, tt)
 
-  pull-one-repeats : (f : Sought) (id : ℕ) → Repeats n (on_pull_one t f p n id).owed
+  pull-one-repeats : (f : Option (ℕ × ℕ)) (id : ℕ) → Repeats n (on_pull_one t f p n id).owed
   unfolding on_pull_one
-  pull-one-repeats (sought.At i q) id = go (is_data t q)
+  pull-one-repeats (Some (i, q)) id = go (is_data t q)
     where
       go : (b : Bool) → Repeats n (cond b (silent p (heard.PullOfOne id i)) (not_versioned p n id)).owed
       go true = tt
       go false = (refl, tt)
-  pull-one-repeats sought.Nowhere id = (refl, tt)
+  pull-one-repeats None id = (refl, tt)
 
-  pull-repeats : (f : Sought) (id : ℕ) → Repeats n (on_pull t s f p n id).owed
+  pull-repeats : (f : Option (ℕ × ℕ)) (id : ℕ) → Repeats n (on_pull t s f p n id).owed
   unfolding on_pull
   pull-repeats f id = go (eqb id all_data)
     where
@@ -110,15 +109,15 @@ module _ (t : List ℕ) (s : Sections) (p : Standing) (n : ℕ) where
       go true = pull-all-repeats
       go false = pull-one-repeats f id
 
-pub repeats_its_number : (own : ℕ) (t : List ℕ) (s : Sections) (f : Sought) (p : Standing) (h : Header) (m : Message) (start len : ℕ)
+pub repeats_its_number : (own : ℕ) (t : List ℕ) (s : Sections) (f : Option (ℕ × ℕ)) (p : Standing) (h : Header) (m : Message) (start len : ℕ)
     → (IsStatus m → ⊥) → Each (λ (r : Reply). reply_number r ≡ h.sequence) (replies (reaction_to own t s f p h m start len).owed)
 unfolding reaction_to on_operation
 repeats_its_number own t s f p h (message.PlatformStatus x) start len k = absurd (k tt)
 repeats_its_number own t s f p h message.PlatformStatusRequest start len k = (refl, tt)
 repeats_its_number own t s f p h (message.UnknownOperation id) start len k = tt
 repeats_its_number own t s f p h (message.VersionedDataPull id) start len k = pull-repeats t s p h.sequence f id
-repeats_its_number own t s (sought.At i q) p h message.Operation start len k = tt
-repeats_its_number own t s sought.Nowhere p h message.Operation start len k = (refl, tt)
+repeats_its_number own t s (Some (i, q)) p h message.Operation start len k = tt
+repeats_its_number own t s None p h message.Operation start len k = (refl, tt)
 
 -- a status: DOWN to UP is answered with the next two own numbers, and nothing else is; nothing above 255
 module _ (own : ℕ) (p : Standing) (sender : ℕ) where

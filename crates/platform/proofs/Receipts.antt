@@ -1,6 +1,7 @@
 -- What the calls for one message come to at their returns.
 -- Assumes nothing.
 use Prim.Native.Nat.{ℕ, ◌+◌}
+use Rattle.std.specs.Prelude.{Option}
 use mathlib.Core.Path.{◌≡◌, refl, sym, ap, ◌∙◌}
 use mathlib.Core.Bool.{Bool, true, false, cond}
 use mathlib.Core.List.{List, []}
@@ -9,7 +10,6 @@ use lib.ListN.{length, take, drop}
 use Rattle.wire.specs.Bytes.{part}
 use Rattle.wire.proofs.Cond.{yes-if, no-if}
 use Rattle.table.specs.declared.Sections.{Sections}
-use Rattle.operations.specs.declared.Sought.{Sought}
 use Rattle.table.specs.declared.Checked.{Checked}
 use Rattle.table.specs.declared.Checked.TheVariants as checked
 use Rattle.table.specs.Layout.{cut_short, within}
@@ -31,7 +31,7 @@ use Rattle.platform.specs.Receiving.{sections_outcome, sections_output, sections
 use Rattle.platform.specs.Heard.{payload_heard}
 
 -- the message was refused, answers a request, or has a reaction
-module _ (own : ℕ) (t : List ℕ) (s : Sections) (f : Sought) (p : Standing) (l : List ℕ) (x : Reading) where
+module _ (own : ℕ) (t : List ℕ) (s : Sections) (f : Option (ℕ × ℕ)) (p : Standing) (l : List ℕ) (x : Reading) where
   module _ (n : ℕ) (e : x ≡ reading.Refused n) where
     pub unread : (room : ℕ) (r : Received) → r ≡ refused p n → r ≡ outcome_of own t s f p l x room
     unfolding outcome_of
@@ -73,18 +73,18 @@ module _ (own : ℕ) (t : List ℕ) (s : Sections) (f : Sought) (p : Standing) (
     read-list z = rw (e, ← g, z) refl
 
 -- what the message asks for is looked up
-module _ (own : ℕ) (t : List ℕ) (s : Sections) (index : List ℕ) (p : Standing) (l m : List ℕ) (x : Reading) (f : Sought) (e : x ≡ read_of own m)
+module _ (own : ℕ) (t : List ℕ) (s : Sections) (index : List ℕ) (p : Standing) (l m : List ℕ) (x : Reading) (f : Option (ℕ × ℕ)) (e : x ≡ read_of own m)
     (g : f ≡ operation_in t s index x) where
   pub looked-up : (room : ℕ) (r : Received) → r ≡ outcome_of own t s f p l x room → r ≡ outcome_in own t s index p l m room
   looked-up room r a =
-      a ∙ ap (λ (y : Sought). outcome_of own t s y p l x room) g ∙ ap (λ (y : Reading). outcome_of own t s (operation_in t s index y) p l y room) e
+      a ∙ ap (λ (y : Option (ℕ × ℕ)). outcome_of own t s y p l x room) g ∙ ap (λ (y : Reading). outcome_of own t s (operation_in t s index y) p l y room) e
 
   pub looked-up-output : (out o : List ℕ) → o ≡ output_of own t s f p x out → o ≡ output_in own t s index p m out
   looked-up-output out o a =
-      a ∙ ap (λ (y : Sought). output_of own t s y p x out) g ∙ ap (λ (y : Reading). output_of own t s (operation_in t s index y) p y out) e
+      a ∙ ap (λ (y : Option (ℕ × ℕ)). output_of own t s y p x out) g ∙ ap (λ (y : Reading). output_of own t s (operation_in t s index y) p y out) e
 
   pub looked-up-list : (k : List ℕ) → k ≡ list_of t f l x → k ≡ list_in own t s index l m
-  looked-up-list k a = a ∙ ap (λ (y : Sought). list_of t y l x) g ∙ ap (λ (y : Reading). list_of t (operation_in t s index y) l y) e
+  looked-up-list k a = a ∙ ap (λ (y : Option (ℕ × ℕ)). list_of t y l x) g ∙ ap (λ (y : Reading). list_of t (operation_in t s index y) l y) e
 
 -- by the index that was laid
 module _ (own : ℕ) (t : List ℕ) (s : Sections) (index : List ℕ) (p : Standing) (l m : List ℕ) (e : index ≡ index_of t s) where

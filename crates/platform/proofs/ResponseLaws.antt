@@ -1,12 +1,11 @@
 -- What the functions of `answering` come to at their returns.
 -- Assumes nothing.
 use Prim.Native.Nat.{ℕ}
+use Rattle.std.specs.Prelude.{Option, Some, None}
 use mathlib.Core.Path.{◌≡◌, refl, sym, ap, ◌∙◌}
 use mathlib.Core.Bool.{Bool, true, false}
 use mathlib.Core.List.{List}
 use lib.Dec.{eqb}
-use Rattle.operations.specs.declared.Sought.{Sought}
-use Rattle.operations.specs.declared.Sought.TheVariants as sought
 use Rattle.operations.specs.Entries.{kind_at}
 use Rattle.message.specs.declared.Header.{Header}
 use Rattle.message.specs.declared.Message.{Message}
@@ -18,12 +17,12 @@ use Rattle.platform.specs.declared.Noting.TheVariants.{Response}
 use Rattle.platform.specs.declared.Received.{Received}
 use Rattle.platform.specs.Receiving.{refused, not_awaited, is_sent, is_answer, entry_of, delivered, response_to}
 
-module _ (t : List ℕ) (f : Sought) where
-  pub sent_found : (i p k : ℕ) → f ≡ sought.At i p → k ≡ kind_at t p → eqb k 2 ≡ is_sent t f
+module _ (t : List ℕ) (f : Option (ℕ × ℕ)) where
+  pub sent_found : (i p k : ℕ) → f ≡ Some (i, p) → k ≡ kind_at t p → eqb k 2 ≡ is_sent t f
   unfolding is_sent
   sent_found i p k e a = rw (e, ← a) refl
 
-  pub none_found : f ≡ sought.Nowhere → false ≡ is_sent t f
+  pub none_found : f ≡ None → false ≡ is_sent t f
   unfolding is_sent
   none_found e = rw e refl
 
@@ -39,17 +38,17 @@ module _ (t : List ℕ) (f : Sought) where
   of-another (message.VersionedDataPull id) h = refl
   of-another message.Operation h = absurd (h refl)
 
-pub found_entry : (f : Sought) (i p : ℕ) → f ≡ sought.At i p → i ≡ entry_of f
+pub found_entry : (f : Option (ℕ × ℕ)) (i p : ℕ) → f ≡ Some (i, p) → i ≡ entry_of f
 found_entry f i p e = rw e refl
 
-pub no_entry : (f : Sought) → f ≡ sought.Nowhere → 0 ≡ entry_of f
+pub no_entry : (f : Option (ℕ × ℕ)) → f ≡ None → 0 ≡ entry_of f
 no_entry f e = rw e refl
 
-pub delivered_is : (f : Sought) (p : Standing) (h : Header) (start len i : ℕ) → i ≡ entry_of f
+pub delivered_is : (f : Option (ℕ × ℕ)) (p : Standing) (h : Header) (start len i : ℕ) → i ≡ entry_of f
     → ◌≡◌ {A = Received} (record { standing = p; answer = Response h i start len }) (delivered f p h start len)
 delivered_is f p h start len i e = ap (λ (n : ℕ). record { standing = p; answer = Response h n start len }) e
 
-module _ (l : List ℕ) (f : Sought) (p : Standing) (h : Header) (start len : ℕ) (b : Bool) (e : b ≡ is_response l h.sequence h.id h.platform)
+module _ (l : List ℕ) (f : Option (ℕ × ℕ)) (p : Standing) (h : Header) (start len : ℕ) (b : Bool) (e : b ≡ is_response l h.sequence h.id h.platform)
     (r : Received) where
   pub is-awaited : b ≡ true → r ≡ delivered f p h start len → r ≡ response_to l f p h start len
   unfolding response_to

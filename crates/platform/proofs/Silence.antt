@@ -4,6 +4,7 @@
 -- smaller.
 -- Assumes nothing.
 use Prim.Native.Nat.{ℕ, ◌+◌, ◌*◌, ◌^◌, ◌≤◌, ◌<◌}
+use Rattle.std.specs.Prelude.{Option}
 use mathlib.Core.Path.{◌≡◌, refl, sym, ap, subst, ◌∙◌}
 use mathlib.Core.Bool.{Bool, true, false, not, cond}
 use mathlib.Core.List.{List, [], ◌∷◌, ◌++◌}
@@ -13,7 +14,6 @@ use borrow.Author.Tests.{lt-ltb}
 use lib.Dec.{ltb}
 use lib.Pow.{pow_pos}
 use Rattle.table.specs.declared.Sections.{Sections}
-use Rattle.operations.specs.declared.Sought.{Sought}
 use Rattle.pending.specs.Free.{drawn}
 use Rattle.message.specs.declared.Reading.{Reading}
 use Rattle.message.specs.Header.{header_length}
@@ -56,7 +56,7 @@ record Lighter (own other : ℕ) (p : Standing) (r : Reply) (q : Standing) (sent
   wide : Each (λ (x : Reply). Wide x) sent
   next : q.next < 2 ^ 32
 
-module _ (own other : ℕ) (t : List ℕ) (s : Sections) (f : Sought) (p : Standing) (hp : other < 256) (d : other ≡ own → ⊥) (hn : p.next < 2 ^ 32) where
+module _ (own other : ℕ) (t : List ℕ) (s : Sections) (f : Option (ℕ × ℕ)) (p : Standing) (hp : other < 256) (d : other ≡ own → ⊥) (hn : p.next < 2 ^ 32) where
   abbrev X : Reply → Reaction
   X r = reaction_to own t s f p (reply_header other r) (meant r) header_length 4
 
@@ -97,7 +97,7 @@ module _ (own other : ℕ) (t : List ℕ) (s : Sections) (f : Sought) (p : Stand
       go false = reaction-lighter r w
 
 -- no reply is a message of domain 1
-no_answer : (t : List ℕ) (f : Sought) (r : Reply) → is_answer t f (meant r) ≡ false
+no_answer : (t : List ℕ) (f : Option (ℕ × ℕ)) (r : Reply) → is_answer t f (meant r) ≡ false
 unfolding is_answer
 no_answer t f (StatusUp n) = refl
 no_answer t f (PullAll n) = refl
@@ -109,7 +109,7 @@ unfolding keeps sends outcome_of sent_of
 arrival_lighter own other c p r h d n w =
     let t : List ℕ = c.table in
     let s : Sections = c.sections in
-    let f : Sought = c.looked in
+    let f : Option (ℕ × ℕ) = c.looked in
     subst
     (λ (x : Reading). Lighter own other p r (outcome_of own t s f p c.list x c.room).standing (sent_of own t s f p x c.room))
     (sym (reply_reads_back other own r h d w))

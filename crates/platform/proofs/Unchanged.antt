@@ -2,6 +2,7 @@
 -- the output's start, the rest of it as it was.
 -- Assumes nothing.
 use Prim.Native.Nat.{ℕ, ◌+◌, ◌-◌, ◌≤◌}
+use Rattle.std.specs.Prelude.{Option}
 use mathlib.Core.Path.{◌≡◌, refl, sym, ap, ◌∙◌}
 use mathlib.Core.Bool.{Bool, true, false, cond}
 use mathlib.Core.List.{List, [], ◌∷◌, ◌++◌, append-nil}
@@ -13,7 +14,6 @@ use lib.Seq.{take_all}
 use Rattle.wire.specs.Bytes.{over, part}
 use Rattle.wire.proofs.Runs.{part_in, part_over}
 use Rattle.table.specs.declared.Sections.{Sections}
-use Rattle.operations.specs.declared.Sought.{Sought}
 use Rattle.pending.specs.Answers.{is_response, cancelled}
 use Rattle.table.specs.declared.Checked.{Checked}
 use Rattle.table.specs.declared.Checked.TheVariants as checked
@@ -68,7 +68,7 @@ module _ (own : ℕ) (p : Standing) (n : ℕ) (out l : List ℕ) where
       go true q k = rw q (record { standing = refl; output = refl; list = refl })
       go false q k = absurd (never k)
 
-  response-unchanged : (f : Sought) (h : Header) (start len : ℕ) → (response_to l f p h start len).answer ≡ Refused n
+  response-unchanged : (f : Option (ℕ × ℕ)) (h : Header) (start len : ℕ) → (response_to l f p h start len).answer ≡ Refused n
       → Stays (response_to l f p h start len) out (list_answered l h)
   unfolding response_to
   response-unchanged f h start len e = go (is_response l h.sequence h.id h.platform) e
@@ -78,7 +78,7 @@ module _ (own : ℕ) (p : Standing) (n : ℕ) (out l : List ℕ) where
       go true k = absurd (never_delivered k)
       go false k = record { standing = refl; output = refl; list = refl }
 
-  outcome-unchanged : (t : List ℕ) (s : Sections) (f : Sought) (x : Reading) → (outcome_of own t s f p l x (length out)).answer ≡ Refused n
+  outcome-unchanged : (t : List ℕ) (s : Sections) (f : Option (ℕ × ℕ)) (x : Reading) → (outcome_of own t s f p l x (length out)).answer ≡ Refused n
       → Stays (outcome_of own t s f p l x (length out)) (output_of own t s f p x out) (list_of t f l x)
   unfolding outcome_of output_of list_of
   outcome-unchanged t s f (reading.Refused k) e = record { standing = refl; output = refl; list = refl }
@@ -139,7 +139,7 @@ module _ (own : ℕ) (p : Standing) (out l : List ℕ) where
           let k : owed_length x.owed ≤ length out = ltb-false (length out) (owed_length x.owed) q in
           ap (part (over out 0 (owed_bytes own x.owed)) 0) (sym l) ∙ part_over out 0 (owed_bytes own x.owed) (omega arith) ∙ owed-bytes own x.owed
 
-  none-is-sent : (f : Sought) (h : Header) (start len : ℕ) → part out 0 (bytes_in (response_to l f p h start len).answer) ≡ []
+  none-is-sent : (f : Option (ℕ × ℕ)) (h : Header) (start len : ℕ) → part out 0 (bytes_in (response_to l f p h start len).answer) ≡ []
   unfolding response_to
   none-is-sent f h start len = go (is_response l h.sequence h.id h.platform)
     where
@@ -147,7 +147,7 @@ module _ (own : ℕ) (p : Standing) (out l : List ℕ) where
       go true = part_in out 0 0 (omega arith)
       go false = part_in out 0 0 (omega arith)
 
-  pub written-is-sent : (t : List ℕ) (s : Sections) (f : Sought) (x : Reading)
+  pub written-is-sent : (t : List ℕ) (s : Sections) (f : Option (ℕ × ℕ)) (x : Reading)
       → part (output_of own t s f p x out) 0 (bytes_in (outcome_of own t s f p l x (length out)).answer) ≡ all_bytes own (sent_of own t s f p x (length out))
   unfolding outcome_of output_of sent_of
   written-is-sent t s f (reading.Refused k) = part_in out 0 0 (omega arith)

@@ -1,8 +1,8 @@
 -- Two platforms that answer each other: what each sends on receiving a message, and the exchanges that can follow. Messages
 -- under way may arrive in any order or be lost; each platform may have any table, and lend any output.
 use Rattle.std.specs.Prelude.{ℕ, zero, suc, cond, List, [], ◌∷◌, ◌++◌, ltb}
+use Rattle.std.specs.Prelude.{Option}
 use Rattle.table.specs.declared.Sections.{Sections}
-use Rattle.operations.specs.declared.Sought.{Sought}
 use Rattle.message.specs.declared.Reading.{Reading}
 use Rattle.message.specs.declared.Reading.TheVariants as reading
 use Rattle.message.specs.Reading.{read_of}
@@ -18,7 +18,7 @@ use Rattle.platform.specs.Receiving.{is_answer, outcome_of}
 abbrev pub written : Reaction → ℕ → List Reply
 written x room = cond (ltb room (owed_length x.owed)) [] (replies x.owed)
 
-unfoldable pub sent_of : ℕ → List ℕ → Sections → Sought → Standing → Reading → ℕ → List Reply
+unfoldable pub sent_of : ℕ → List ℕ → Sections → Option (ℕ × ℕ) → Standing → Reading → ℕ → List Reply
 sent_of own t s f p (reading.Refused n) room = []
 sent_of own t s f p (reading.Read h m start len) room = cond (is_answer t f m) [] (written (reaction_to own t s f p h m start len) room)
 
@@ -26,7 +26,7 @@ sent_of own t s f p (reading.Read h m start len) room = cond (is_answer t f m) [
 pub record Setting : Type 0 where
   pub table : List ℕ
   pub sections : Sections
-  pub looked : Sought
+  pub looked : Option (ℕ × ℕ)
   pub list : List ℕ
   pub room : ℕ
 

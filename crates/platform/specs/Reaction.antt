@@ -1,9 +1,8 @@
 -- 01, "Platform states and replies": what a message that was read is here, the states and the own number after it, and the
 -- replies that are owed to its sender.
 use Rattle.std.specs.Prelude.{ℕ, Bool, false, cond, List, eqb, ltb}
+use Rattle.std.specs.Prelude.{Option, Some, None}
 use Rattle.table.specs.declared.Sections.{Sections}
-use Rattle.operations.specs.declared.Sought.{Sought}
-use Rattle.operations.specs.declared.Sought.TheVariants as sought
 use Rattle.operations.specs.Entries.{data_kind, kind_at}
 use Rattle.operations.specs.Rules.{has_data}
 use Rattle.operations.specs.Search.{sought_in}
@@ -28,24 +27,24 @@ use Rattle.platform.specs.Replies.{all_data}
 
 -- the operation that a message asks for, looked up by the table's index: a pull's ID, or the ID of a message of domain 1. No other
 -- message, and none that was refused, has anything looked up
-unfoldable pub operation_for : List ℕ → Sections → List ℕ → Header → Message → Sought
-operation_for t s index h (message.PlatformStatus x) = sought.Nowhere
-operation_for t s index h message.PlatformStatusRequest = sought.Nowhere
-operation_for t s index h (message.UnknownOperation id) = sought.Nowhere
+unfoldable pub operation_for : List ℕ → Sections → List ℕ → Header → Message → Option (ℕ × ℕ)
+operation_for t s index h (message.PlatformStatus x) = None
+operation_for t s index h message.PlatformStatusRequest = None
+operation_for t s index h (message.UnknownOperation id) = None
 operation_for t s index h (message.VersionedDataPull id) = sought_in t index s.operations.count id
 operation_for t s index h message.Operation = sought_in t index s.operations.count h.id
 
-unfoldable pub operation_in : List ℕ → Sections → List ℕ → Reading → Sought
-operation_in t s index (reading.Refused n) = sought.Nowhere
+unfoldable pub operation_in : List ℕ → Sections → List ℕ → Reading → Option (ℕ × ℕ)
+operation_in t s index (reading.Refused n) = None
 operation_in t s index (reading.Read h m start len) = operation_for t s index h m
 
 -- versioned data: an operation of kind 1, which stands at p
 unfoldable pub is_data : List ℕ → ℕ → Bool
 is_data t p = eqb (kind_at t p) data_kind
 
-unfoldable pub found_data : List ℕ → Sought → Bool
-found_data t (sought.At i p) = is_data t p
-found_data t sought.Nowhere = false
+unfoldable pub found_data : List ℕ → Option (ℕ × ℕ) → Bool
+found_data t (Some (i, p)) = is_data t p
+found_data t None = false
 
 -- 000, 6.1.2.1: the platform provides versioned data
 abbrev pub some_data : List ℕ → Sections → Bool
@@ -87,20 +86,20 @@ not_versioned p n id = replied p (heard.NotVersionedData id) (Unknown n id)
 unfoldable pub on_pull_all : List ℕ → Sections → Standing → ℕ → Reaction
 on_pull_all t s p n = cond (some_data t s) (silent p heard.PullOfAll) (not_versioned p n all_data)
 
-unfoldable pub on_pull_one : List ℕ → Sought → Standing → ℕ → ℕ → Reaction
-on_pull_one t (sought.At i q) p n id = cond (is_data t q) (silent p (heard.PullOfOne id i)) (not_versioned p n id)
-on_pull_one t sought.Nowhere p n id = not_versioned p n id
+unfoldable pub on_pull_one : List ℕ → Option (ℕ × ℕ) → Standing → ℕ → ℕ → Reaction
+on_pull_one t (Some (i, q)) p n id = cond (is_data t q) (silent p (heard.PullOfOne id i)) (not_versioned p n id)
+on_pull_one t None p n id = not_versioned p n id
 
-unfoldable pub on_pull : List ℕ → Sections → Sought → Standing → ℕ → ℕ → Reaction
+unfoldable pub on_pull : List ℕ → Sections → Option (ℕ × ℕ) → Standing → ℕ → ℕ → Reaction
 on_pull t s f p n id = cond (eqb id all_data) (on_pull_all t s p n) (on_pull_one t f p n id)
 
 -- domain 1, but for what answers a request of ours (Receiving): the operation and its payload's place; if the ID isn't in the table, UNKNOWN_OPERATION
-unfoldable pub on_operation : Sought → Standing → Header → ℕ → ℕ → Reaction
-on_operation (sought.At i q) p h start len = silent p (heard.Operation i start len)
-on_operation sought.Nowhere p h start len = replied p (heard.NotInTable h.id) (Unknown h.sequence h.id)
+unfoldable pub on_operation : Option (ℕ × ℕ) → Standing → Header → ℕ → ℕ → Reaction
+on_operation (Some (i, q)) p h start len = silent p (heard.Operation i start len)
+on_operation None p h start len = replied p (heard.NotInTable h.id) (Unknown h.sequence h.id)
 
 -- the reaction to each message
-unfoldable pub reaction_to : ℕ → List ℕ → Sections → Sought → Standing → Header → Message → ℕ → ℕ → Reaction
+unfoldable pub reaction_to : ℕ → List ℕ → Sections → Option (ℕ × ℕ) → Standing → Header → Message → ℕ → ℕ → Reaction
 reaction_to own t s f p h (message.PlatformStatus x) start len = on_status own p h.platform x
 reaction_to own t s f p h message.PlatformStatusRequest start len = replied p heard.Request (StatusUp h.sequence)
 reaction_to own t s f p h (message.UnknownOperation id) start len = silent p (heard.UnknownOperation id)

@@ -1,10 +1,9 @@
 -- 01, "Platform states and replies"; 02, 1: what the one call for one message answers, the states and the own number after it, the
 -- output, and the list of the requests that are pending.
 use Rattle.std.specs.Prelude.{ℕ, Bool, false, cond, List, ltb, eqb, length, replicate}
+use Rattle.std.specs.Prelude.{Option, Some, None}
 use Rattle.wire.specs.Bytes.{over}
 use Rattle.table.specs.declared.Sections.{Sections}
-use Rattle.operations.specs.declared.Sought.{Sought}
-use Rattle.operations.specs.declared.Sought.TheVariants as sought
 use Rattle.operations.specs.Entries.{sent_kind, kind_at}
 use Rattle.operations.specs.Search.{indexed}
 use Rattle.pending.specs.Answers.{is_response, responded}
@@ -50,12 +49,12 @@ abbrev pub not_awaited : ℕ
 not_awaited = 61
 
 -- an operation of kind 2: "we send the request"
-unfoldable pub is_sent : List ℕ → Sought → Bool
-is_sent t (sought.At i p) = eqb (kind_at t p) sent_kind
-is_sent t sought.Nowhere = false
+unfoldable pub is_sent : List ℕ → Option (ℕ × ℕ) → Bool
+is_sent t (Some (i, p)) = eqb (kind_at t p) sent_kind
+is_sent t None = false
 
 -- a message of domain 1 with such an ID answers a request of ours, or none
-unfoldable pub is_answer : List ℕ → Sought → Message → Bool
+unfoldable pub is_answer : List ℕ → Option (ℕ × ℕ) → Message → Bool
 is_answer t f (message.PlatformStatus x) = false
 is_answer t f message.PlatformStatusRequest = false
 is_answer t f (message.UnknownOperation id) = false
@@ -64,14 +63,14 @@ is_answer t f message.Operation = is_sent t f
 
 -- "A domain 1 message with that ID, number and sender is the response: it is delivered": the number of its entry, and its payload's
 -- place; nothing is owed, and states and own number stay
-abbrev pub entry_of : Sought → ℕ
-entry_of (sought.At i p) = i
-entry_of sought.Nowhere = 0
+abbrev pub entry_of : Option (ℕ × ℕ) → ℕ
+entry_of (Some (i, p)) = i
+entry_of None = 0
 
-abbrev pub delivered : Sought → Standing → Header → ℕ → ℕ → Received
+abbrev pub delivered : Option (ℕ × ℕ) → Standing → Header → ℕ → ℕ → Received
 delivered f p h start len = record { standing = p; answer = Response h (entry_of f) start len }
 
-unfoldable pub response_to : List ℕ → Sought → Standing → Header → ℕ → ℕ → Received
+unfoldable pub response_to : List ℕ → Option (ℕ × ℕ) → Standing → Header → ℕ → ℕ → Received
 response_to l f p h start len = cond (is_response l h.sequence h.id h.platform) (delivered f p h start len) (refused p not_awaited)
 
 -- "and its place is free again"
@@ -79,16 +78,16 @@ abbrev pub list_answered : List ℕ → Header → List ℕ
 list_answered l h = responded l h.sequence h.id h.platform
 
 -- a message that was read, or refused, with the operation that was looked up for it, on a platform that keeps p and the list l
-unfoldable pub outcome_of : ℕ → List ℕ → Sections → Sought → Standing → List ℕ → Reading → ℕ → Received
+unfoldable pub outcome_of : ℕ → List ℕ → Sections → Option (ℕ × ℕ) → Standing → List ℕ → Reading → ℕ → Received
 outcome_of own t s f p l (reading.Refused n) room = refused p n
 outcome_of own t s f p l (reading.Read h m start len) room =
     cond (is_answer t f m) (response_to l f p h start len) (answered p h (reaction_to own t s f p h m start len) room)
 
-unfoldable pub output_of : ℕ → List ℕ → Sections → Sought → Standing → Reading → List ℕ → List ℕ
+unfoldable pub output_of : ℕ → List ℕ → Sections → Option (ℕ × ℕ) → Standing → Reading → List ℕ → List ℕ
 output_of own t s f p (reading.Refused n) out = out
 output_of own t s f p (reading.Read h m start len) out = cond (is_answer t f m) out (laid_out own (reaction_to own t s f p h m start len) out)
 
-unfoldable pub list_of : List ℕ → Sought → List ℕ → Reading → List ℕ
+unfoldable pub list_of : List ℕ → Option (ℕ × ℕ) → List ℕ → Reading → List ℕ
 list_of t f l (reading.Refused n) = l
 list_of t f l (reading.Read h m start len) = cond (is_answer t f m) (list_answered l h) l
 

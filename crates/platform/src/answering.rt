@@ -5,12 +5,11 @@ ghost use Rattle.platform.specs.Receiving.{is_sent, is_answer, entry_of, deliver
 use crate::reactions::Standing;
 use crate::{Noting, Received};
 use message::{Header, Message};
-use operations::Sought;
 
 // The number of a message that no pending request asked for.
 pub const NOT_AWAITED: u32 = 61;
 
-pub(crate) fn is_answer(table: &[u8], found: Sought, message: Message) -> bool
+pub(crate) fn is_answer(table: &[u8], found: Option<(u16, usize)>, message: Message) -> bool
     ensures { result ≡ is_answer table.now found message }
 {
     match message {
@@ -22,7 +21,7 @@ pub(crate) fn is_answer(table: &[u8], found: Sought, message: Message) -> bool
 // Its request is pending no more once it is delivered.
 pub(crate) fn response_to(
     list: &mut [u64],
-    found: Sought,
+    found: Option<(u16, usize)>,
     standing: Standing,
     header: Header,
     start: usize,
@@ -39,17 +38,17 @@ pub(crate) fn response_to(
 }
 
 // Whether what was found is an operation whose requests we send.
-pub fn is_sent(table: &[u8], found: Sought) -> bool
+pub fn is_sent(table: &[u8], found: Option<(u16, usize)>) -> bool
     ensures { result ≡ is_sent table.now found }
 {
     match found {
-        Sought::At(_, place) => operations::kind_at(table, place) == operations::REQUEST_SENT,
-        Sought::Nowhere => false,
+        Some((_, place)) => operations::kind_at(table, place) == operations::REQUEST_SENT,
+        None => false,
     }
 }
 
 fn delivered(
-    found: Sought,
+    found: Option<(u16, usize)>,
     standing: Standing,
     header: Header,
     start: usize,
@@ -69,11 +68,11 @@ fn delivered(
     }
 }
 
-pub fn entry_of(found: Sought) -> u16
+pub fn entry_of(found: Option<(u16, usize)>) -> u16
     ensures { result ≡ entry_of found }
 {
     match found {
-        Sought::At(entry, _) => entry,
-        Sought::Nowhere => 0,
+        Some((entry, _)) => entry,
+        None => 0,
     }
 }

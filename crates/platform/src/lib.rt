@@ -17,7 +17,6 @@ ghost use Rattle.platform.specs.Heard.{payload_heard};
 
 pub use answering::{NOT_AWAITED, entry_of, is_sent};
 use message::{Header, Own, Reading};
-use operations::Sought;
 pub use reacting::noted;
 pub use reactions::{Heard, Owed, REPLY_LENGTH, Reaction, Reply, Standing};
 pub use replies::ALL_DATA;
@@ -169,7 +168,7 @@ fn settled(
     own: Own,
     table: &[u8],
     s: Sections,
-    found: Sought,
+    found: Option<(u16, usize)>,
     standing: Standing,
     list: &mut [u64],
     reading: Reading,

@@ -7,15 +7,14 @@ ghost use Rattle.platform.specs.Reaction.{reaction_to};
 use crate::reactions::{Heard, Owed, Reaction, Reply, Standing};
 use crate::replies;
 use message::{Header, Message, Own, Reading, Status};
-use operations::Sought;
 use table::Sections;
 
 // The operation that the message asks for, if it asks for one.
-pub(crate) fn look_up(table: &[u8], s: Sections, index: &[u64], reading: Reading) -> Sought
+pub(crate) fn look_up(table: &[u8], s: Sections, index: &[u64], reading: Reading) -> Option<(u16, usize)>
     ensures { result ≡ operation_in table.now s index.now reading }
 {
     match reading {
-        Reading::Refused(_) => Sought::Nowhere,
+        Reading::Refused(_) => None,
         Reading::Read {
             header,
             message,
@@ -30,7 +29,7 @@ pub(crate) fn reaction_to(
     own: Own,
     table: &[u8],
     s: Sections,
-    found: Sought,
+    found: Option<(u16, usize)>,
     standing: Standing,
     header: Header,
     message: Message,
@@ -54,13 +53,13 @@ pub(crate) fn reaction_to(
     }
 }
 
-fn looked_for(table: &[u8], s: Sections, index: &[u64], header: Header, message: Message) -> Sought
+fn looked_for(table: &[u8], s: Sections, index: &[u64], header: Header, message: Message) -> Option<(u16, usize)>
     ensures { result ≡ operation_for table.now s index.now header message }
 {
     match message {
-        Message::PlatformStatus(_) => Sought::Nowhere,
-        Message::PlatformStatusRequest => Sought::Nowhere,
-        Message::UnknownOperation(_) => Sought::Nowhere,
+        Message::PlatformStatus(_) => None,
+        Message::PlatformStatusRequest => None,
+        Message::UnknownOperation(_) => None,
         Message::VersionedDataPull(id) => operations::find(table, index, s.operations.count, id),
         Message::Operation => operations::find(table, index, s.operations.count, header.id),
     }
@@ -129,7 +128,7 @@ pub fn noted(standing: Standing, sender: u32, next: u32) -> Standing
 fn on_pull(
     table: &[u8],
     s: Sections,
-    found: Sought,
+    found: Option<(u16, usize)>,
     standing: Standing,
     number: u32,
     id: u32,
@@ -154,23 +153,23 @@ fn on_pull_all(table: &[u8], s: Sections, standing: Standing, number: u32) -> Re
     }
 }
 
-fn on_pull_one(table: &[u8], found: Sought, standing: Standing, number: u32, id: u32) -> Reaction
+fn on_pull_one(table: &[u8], found: Option<(u16, usize)>, standing: Standing, number: u32, id: u32) -> Reaction
     ensures { result ≡ on_pull_one table.now found standing number id }
 {
     match found {
-        Sought::At(entry, place) => {
+        Some((entry, place)) => {
             if is_data(table, place) {
                 silent(standing, Heard::PullOfOne(id, entry))
             } else {
                 not_versioned(standing, number, id)
             }
         }
-        Sought::Nowhere => not_versioned(standing, number, id),
+        None => not_versioned(standing, number, id),
     }
 }
 
 fn on_operation(
-    found: Sought,
+    found: Option<(u16, usize)>,
     standing: Standing,
     header: Header,
     start: usize,
@@ -179,7 +178,7 @@ fn on_operation(
     ensures { result ≡ on_operation found standing header start length }
 {
     match found {
-        Sought::At(entry, _) => silent(
+        Some((entry, _)) => silent(
             standing,
             Heard::Operation {
                 entry,
@@ -187,7 +186,7 @@ fn on_operation(
                 length,
             },
         ),
-        Sought::Nowhere => replied(
+        None => replied(
             standing,
             Heard::NotInTable(header.id),
             Reply::Unknown(header.sequence, header.id),

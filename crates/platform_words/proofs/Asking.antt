@@ -1,6 +1,7 @@
 -- What sending a request shows at its returns.
 -- Assumes nothing.
 use Prim.Native.Nat.{ℕ, ◌-◌, ◌≤◌}
+use Rattle.std.specs.Prelude.{Option, Some, None}
 use mathlib.Core.Path.{◌≡◌, sym, ap, ap₂, ◌∙◌}
 use mathlib.Core.Bool.{Bool, true, false}
 use mathlib.Core.List.{List, [], ◌∷◌, ◌++◌, append_assoc}
@@ -13,8 +14,6 @@ use Rattle.wire.proofs.Cond.{yes-if, no-if}
 use Rattle.table.specs.declared.Sections.{Sections}
 use Rattle.table.specs.Layout.{cut_short, within}
 use Rattle.table.specs.Words.{bounds_words, sections_in}
-use Rattle.operations.specs.declared.Sought.{Sought}
-use Rattle.operations.specs.declared.Sought.TheVariants.{At, Nowhere}
 use Rattle.operations.specs.Entries.{event_kind, kind_at}
 use Rattle.operations.specs.Search.{sought_in}
 use Rattle.requests.specs.declared.Issue.{Issue}
@@ -30,12 +29,12 @@ use Rattle.platform_words.specs.SendCalls.{send_number_for, send_words_for, send
 use Rattle.platform_words.proofs.Behind.{lent-behind, back-behind}
 
 -- `kind_found`
-module _ {f : Sought} (t : List ℕ) where
-  pub kind-there : {k : ℕ} (i p : ℕ) → f ≡ At i p → k ≡ kind_at t p → k ≡ kind_found t f
+module _ {f : Option (ℕ × ℕ)} (t : List ℕ) where
+  pub kind-there : {k : ℕ} (i p : ℕ) → f ≡ Some (i, p) → k ≡ kind_at t p → k ≡ kind_found t f
   unfolding kind_found
   kind-there i p ef ek = ek ∙ ap (kind_found t) (sym ef)
 
-  pub no_kind : f ≡ Nowhere → event_kind ≡ kind_found t f
+  pub no_kind : f ≡ None → event_kind ≡ kind_found t f
   unfolding kind_found
   no_kind ef = ap (kind_found t) (sym ef)
 
@@ -111,7 +110,7 @@ module _ {s : Sections} {b : Bool} (issue : Issue) (ws t ss payload : List ℕ) 
   is_within : within t (sections_in ss) ≡ b
   is_within = ap (within t) (sym es) ∙ sym eb
 
-  module _ {f : Sought} {k : ℕ} (yes : b ≡ true) (ef : f ≡ sought_in t (take (length ss - 8) (drop 8 ss)) s.operations.count id)
+  module _ {f : Option (ℕ × ℕ)} {k : ℕ} (yes : b ≡ true) (ef : f ≡ sought_in t (take (length ss - 8) (drop 8 ss)) s.operations.count id)
       (ek : k ≡ kind_found t f) where
     kind-is : k ≡ kind_of t ss id
     kind-is =

@@ -2,13 +2,12 @@
 -- that is not pending.
 -- Assumes nothing.
 use Prim.Native.Nat.{ℕ}
+use Rattle.std.specs.Prelude.{Option, Some, None}
 use mathlib.Core.Path.{◌≡◌, refl, ap, ap₂, ◌∙◌}
 use mathlib.Core.Bool.{false}
 use mathlib.Core.List.{List, ◌++◌}
 use lib.ListN.{length, take, take-append-drop}
 use Rattle.wire.specs.Bytes.{over}
-use Rattle.pending.specs.declared.Slot.{Slot}
-use Rattle.pending.specs.declared.Slot.TheVariants.{At, Nowhere}
 use Rattle.pending.specs.Places.{place_of}
 use Rattle.pending.specs.Free.{is_at, is_pending}
 use Rattle.pending.specs.Answers.{cleared_at}
@@ -75,9 +74,9 @@ module _ (issue : Issue) (ws t ss : List ℕ) (id : ℕ) (payload out : List ℕ
   send-keeps-sent was = untold (outcome_sent_for issue ws t ss id payload (length out)).answer was d
 
 -- a number that is not pending
-not_cleared : (l : List ℕ) (s : Slot) → is_at s ≡ false → cleared_at l s ≡ l
-not_cleared l Nowhere e = refl
-not_cleared l (At k) e = cc
+not_cleared : (l : List ℕ) (s : Option ℕ) → is_at s ≡ false → cleared_at l s ≡ l
+not_cleared l None e = refl
+not_cleared l (Some k) e = cc
 
 pub cancel_keeps : (ws : List ℕ) (n : ℕ) → is_pending (pending_in ws) n ≡ false → cancel_words ws n ≡ ws
 cancel_keeps ws n e =

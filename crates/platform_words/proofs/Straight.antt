@@ -1,6 +1,7 @@
 -- A message under the ID of an operation of the table, told straight from its bytes, is told as the general way tells it.
 -- Assumes nothing.
 use Prim.Native.Nat.{ℕ, ◌-◌, ◌≤◌}
+use Rattle.std.specs.Prelude.{Option, Some, None}
 use mathlib.Core.Path.{◌≡◌, refl, sym, ap, ap₂, subst, ◌∙◌}
 use mathlib.Core.Bool.{Bool, true, false, cond}
 use mathlib.Core.List.{List, [], ◌∷◌, ◌++◌}
@@ -13,8 +14,6 @@ use Rattle.wire.specs.Bytes.{number, over}
 use Rattle.wire.proofs.Cond.{no-if, yes-eq, no_eq, no_lt}
 use Rattle.wire.proofs.Runs.{over_none}
 use Rattle.table.specs.declared.Sections.{Sections}
-use Rattle.operations.specs.declared.Sought.{Sought}
-use Rattle.operations.specs.declared.Sought.TheVariants as sought
 use Rattle.operations.specs.Entries.{sent_kind, kind_at}
 use Rattle.operations.specs.Search.{sought_in}
 use Rattle.pending.specs.Answers.{is_response}
@@ -47,27 +46,27 @@ use Rattle.platform_words.proofs.Telling.{told_behind}
 
 -- `operation_heard`
 module _ (own : ℕ) (t : List ℕ) (s : Sections) (index m : List ℕ) (d : ℕ) (ed : d ≡ domain_in m) where
-  abbrev looked_up : Sought
+  abbrev looked_up : Option (ℕ × ℕ)
   looked_up = sought_in t index s.operations.count (id_in m)
 
-  abbrev ifRead : Sought
-  ifRead = cond (eqb (read_refusal own m) 0) looked_up sought.Nowhere
+  abbrev ifRead : Option (ℕ × ℕ)
+  ifRead = cond (eqb (read_refusal own m) 0) looked_up None
 
-  pub of_platform : d ≡ platform_domain → sought.Nowhere ≡ operation_heard own t s index m
+  pub of_platform : d ≡ platform_domain → None ≡ operation_heard own t s index m
   unfolding operation_heard
-  of_platform z = sym (yes-eq {A = Sought} sought.Nowhere ifRead (domain_in m) platform_domain (sym ed ∙ z))
+  of_platform z = sym (yes-eq {A = Option (ℕ × ℕ)} None ifRead (domain_in m) platform_domain (sym ed ∙ z))
 
   module _ (zd : d ≡ platform_domain → ⊥) (n : ℕ) (en : n ≡ read_refusal own m) where
     other : operation_heard own t s index m ≡ ifRead
     unfolding operation_heard
-    other = no_eq {A = Sought} sought.Nowhere ifRead (domain_in m) platform_domain (λ (z : domain_in m ≡ platform_domain). zd (ed ∙ z))
+    other = no_eq {A = Option (ℕ × ℕ)} None ifRead (domain_in m) platform_domain (λ (z : domain_in m ≡ platform_domain). zd (ed ∙ z))
 
-    pub unread : (n ≡ 0 → ⊥) → sought.Nowhere ≡ operation_heard own t s index m
-    unread z = sym (other ∙ no_eq {A = Sought} looked_up sought.Nowhere (read_refusal own m) 0 (λ (k : read_refusal own m ≡ 0). z (en ∙ k)))
+    pub unread : (n ≡ 0 → ⊥) → None ≡ operation_heard own t s index m
+    unread z = sym (other ∙ no_eq {A = Option (ℕ × ℕ)} looked_up None (read_refusal own m) 0 (λ (k : read_refusal own m ≡ 0). z (en ∙ k)))
 
-    pub was_read : {x : Sought} {id : ℕ} → n ≡ 0 → id ≡ id_in m → x ≡ sought_in t index s.operations.count id → x ≡ operation_heard own t s index m
+    pub was_read : {x : Option (ℕ × ℕ)} {id : ℕ} → n ≡ 0 → id ≡ id_in m → x ≡ sought_in t index s.operations.count id → x ≡ operation_heard own t s index m
     was_read z ei ex =
-        ex ∙ ap (sought_in t index s.operations.count) ei ∙ sym (other ∙ yes-eq {A = Sought} looked_up sought.Nowhere (read_refusal own m) 0 (sym en ∙ z))
+        ex ∙ ap (sought_in t index s.operations.count) ei ∙ sym (other ∙ yes-eq {A = Option (ℕ × ℕ)} looked_up None (read_refusal own m) 0 (sym en ∙ z))
 
 -- `put_straight`
 pub straight_bytes : {a b c d : ℕ} (kind : ℕ) (m : List ℕ) (i : ℕ) → a ≡ number 2 m 8 → b ≡ number 2 m 4 → c ≡ number 2 m 16 → d ≡ number 2 m 12 → kind
@@ -109,18 +108,18 @@ module _ (p : Standing) (m : List ℕ) (i : ℕ) where
   as-told false awaited d = record { number_is = refl; words_are = λ ws l. refl; heard-is = λ heard. refl }
 
 -- what the general way comes to where there is such an operation
-pub never : {i q : ℕ} → ◌≡◌ {A = Sought} sought.Nowhere (sought.At i q) → ⊥
+pub never : {i q : ℕ} → ◌≡◌ {A = Option (ℕ × ℕ)} None (Some (i, q)) → ⊥
 never e = let z : ◌≡◌ {A = ℕ} 0 1 = cc in omega arith
 
 module _ (own : ℕ) (t : List ℕ) (s : Sections) (index : List ℕ) (p : Standing) (l m : List ℕ) (i q : ℕ) where
-  abbrev sought-is : Sought
+  abbrev sought-is : Option (ℕ × ℕ)
   sought-is = sought_in t index s.operations.count (id_in m)
 
   pub record Straight : Type 0 where
     pub read_is : read_of own m ≡ reading.Read (header_in m) message.Operation header_length (payload_size_in m)
-    pub looked-is : sought_in t index s.operations.count (id_in m) ≡ sought.At i q
+    pub looked-is : sought_in t index s.operations.count (id_in m) ≡ Some (i, q)
 
-  pub straight : operation_heard own t s index m ≡ sought.At i q → Straight
+  pub straight : operation_heard own t s index m ≡ Some (i, q) → Straight
   unfolding operation_heard
   straight e = go (eqb (domain_in m) platform_domain) refl (eqb (read_refusal own m) 0) refl e
     where
@@ -132,7 +131,7 @@ module _ (own : ℕ) (t : List ℕ) (s : Sections) (index : List ℕ) (p : Stand
           (no-if {A = Message} (platform_message (id_in m) (number 2 (payload_in m) 0)) message.Operation ed)
 
       go : (a : Bool) → eqb (domain_in m) platform_domain ≡ a → (b : Bool) → eqb (read_refusal own m) 0 ≡ b
-          → cond a sought.Nowhere (cond b sought-is sought.Nowhere) ≡ sought.At i q → Straight
+          → cond a None (cond b sought-is None) ≡ Some (i, q) → Straight
       go true ea b eb h = absurd (never h)
       go false ea false eb h = absurd (never h)
       go false ea true eb h = record { read_is = as_read (eqb-true (read_refusal own m) 0 eb) ea; looked-is = h }
@@ -146,9 +145,9 @@ module _ (own : ℕ) (t : List ℕ) (s : Sections) (index : List ℕ) (p : Stand
     its-outcome room =
         let h : Header = header_in m in
         ap (λ (x : Reading). outcome_of own t s (operation_in t s index x) p l x room) k.read_is
-        ∙ ap (λ (f : Sought). cond (is_sent t f) (response_to l f p h header_length (payload_size_in m))
+        ∙ ap (λ (f : Option (ℕ × ℕ)). cond (is_sent t f) (response_to l f p h header_length (payload_size_in m))
         (answered p h (on_operation f p h header_length (payload_size_in m)) room)) k.looked-is
-        ∙ ap (λ (o : Received). cond sent (response_to l (sought.At i q) p h header_length (payload_size_in m)) o)
+        ∙ ap (λ (o : Received). cond sent (response_to l (Some (i, q)) p h header_length (payload_size_in m)) o)
         (no_lt {A = Received} (refused p no_room) (operation p m i) room 0 (omega arith))
 
     pub its-output : (out : List ℕ) → output_in own t s index p m out ≡ out
@@ -156,7 +155,7 @@ module _ (own : ℕ) (t : List ℕ) (s : Sections) (index : List ℕ) (p : Stand
     its-output out =
         let h : Header = header_in m in
         ap (λ (x : Reading). output_of own t s (operation_in t s index x) p x out) k.read_is
-        ∙ ap (λ (f : Sought). cond (is_sent t f) out (laid_out own (on_operation f p h header_length (payload_size_in m)) out)) k.looked-is
+        ∙ ap (λ (f : Option (ℕ × ℕ)). cond (is_sent t f) out (laid_out own (on_operation f p h header_length (payload_size_in m)) out)) k.looked-is
         ∙ ap (λ (o : List ℕ). cond sent out o) (no_lt out (over out 0 []) (length out) 0 (omega arith) ∙ sym (over_none out 0 [])) ∙ either_way sent
       where
         either_way : (b : Bool) → cond b out out ≡ out
@@ -167,11 +166,11 @@ module _ (own : ℕ) (t : List ℕ) (s : Sections) (index : List ℕ) (p : Stand
     unfolding list_of operation_in operation_for is_answer is_sent
     its-list =
         ap (λ (x : Reading). list_of t (operation_in t s index x) l x) k.read_is
-        ∙ ap (λ (f : Sought). cond (is_sent t f) (list_answered l (header_in m)) l) k.looked-is
+        ∙ ap (λ (f : Option (ℕ × ℕ)). cond (is_sent t f) (list_answered l (header_in m)) l) k.looked-is
 
 -- `received`: straight from its bytes
-module _ {f : Sought} {kind : ℕ} (own : ℕ) (ws t : List ℕ) (s : Sections) (index m out : List ℕ) (i q : ℕ) (ef : f ≡ operation_heard own t s index m)
-    (at : f ≡ sought.At i q) (ek : kind ≡ kind_heard (pending_in ws) t q m) where
+module _ {f : Option (ℕ × ℕ)} {kind : ℕ} (own : ℕ) (ws t : List ℕ) (s : Sections) (index m out : List ℕ) (i q : ℕ) (ef : f ≡ operation_heard own t s index m)
+    (at : f ≡ Some (i, q)) (ek : kind ≡ kind_heard (pending_in ws) t q m) where
   its : Straight own t s index (standing_in ws) (pending_in ws) m i q
   its = straight own t s index (standing_in ws) (pending_in ws) m i q (sym ef ∙ at)
 

@@ -1,10 +1,9 @@
 -- 02, requests 1 and 8: what sending a request in its target's issue answers in lent words, by the sections that a check gave.
 use Rattle.std.specs.Prelude.{ℕ, cond, List, [], ◌∷◌, ◌++◌, length, take}
+use Rattle.std.specs.Prelude.{Option, Some, None}
 use Rattle.wire.specs.Bytes.{over}
 use Rattle.table.specs.Layout.{cut_short, within}
 use Rattle.table.specs.Words.{sections_in, index_in}
-use Rattle.operations.specs.declared.Sought.{Sought}
-use Rattle.operations.specs.declared.Sought.TheVariants.{At, Nowhere}
 use Rattle.operations.specs.Entries.{event_kind, kind_at}
 use Rattle.operations.specs.Search.{sought_in}
 use Rattle.pending.specs.Places.{free_place, entered_at}
@@ -18,9 +17,9 @@ use Rattle.requests.specs.Sending.{bytes_for, refused_with, sent_for, number_giv
 use Rattle.platform_words.specs.Words.{next_in, pending_in}
 
 -- the kind of the operation that was found; an ID that is not in the table is no request's, and counts as an event's
-unfoldable pub kind_found : List ℕ → Sought → ℕ
-kind_found t (At i p) = kind_at t p
-kind_found t Nowhere = event_kind
+unfoldable pub kind_found : List ℕ → Option (ℕ × ℕ) → ℕ
+kind_found t (Some (i, p)) = kind_at t p
+kind_found t None = event_kind
 
 abbrev pub kind_of : List ℕ → List ℕ → ℕ → ℕ
 kind_of t ss id = kind_found t (sought_in t (index_in ss) (sections_in ss).operations.count id)

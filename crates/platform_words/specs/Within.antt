@@ -1,8 +1,7 @@
 -- What the call for one message answers on sections that lie in the table, and which messages are told straight from their bytes.
 use Rattle.std.specs.Prelude.{ℕ, Bool, cond, List, [], ◌∷◌, eqb, length}
+use Rattle.std.specs.Prelude.{Option, None}
 use Rattle.table.specs.declared.Sections.{Sections}
-use Rattle.operations.specs.declared.Sought.{Sought}
-use Rattle.operations.specs.declared.Sought.TheVariants.{Nowhere}
 use Rattle.operations.specs.Entries.{sent_kind, kind_at}
 use Rattle.operations.specs.Search.{sought_in}
 use Rattle.pending.specs.Answers.{is_response}
@@ -31,10 +30,10 @@ abbrev pub heard_within : ℕ → List ℕ → List ℕ → Sections → List �
 heard_within own ws t s index m out heard = heard_after (outcome_within own ws t s index m out) heard
 
 -- the operation of the table that a message is, where nothing refuses it
-unfoldable pub operation_heard : ℕ → List ℕ → Sections → List ℕ → List ℕ → Sought
+unfoldable pub operation_heard : ℕ → List ℕ → Sections → List ℕ → List ℕ → Option (ℕ × ℕ)
 operation_heard own t s index m =
-    cond (eqb (domain_in m) platform_domain) Nowhere
-    (cond (eqb (read_refusal own m) 0) (sought_in t index s.operations.count (id_in m)) Nowhere)
+    cond (eqb (domain_in m) platform_domain) None
+    (cond (eqb (read_refusal own m) 0) (sought_in t index s.operations.count (id_in m)) None)
 
 -- 02, 1: whether a message under the ID of a request that we send is the response to one that is pending in the list l
 abbrev pub is_awaited : List ℕ → List ℕ → Bool

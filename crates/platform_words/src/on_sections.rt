@@ -12,7 +12,6 @@ use crate::heard_words::HEARD_WORDS;
 use crate::standing_words::{PENDING_AT, PLATFORM_WORDS};
 use crate::{heard_words, standing_words};
 use message::{Header, Own};
-use operations::Sought;
 use platform::Received;
 use table::{BOUNDS_WORDS, SECTIONS_WORDS, Sections};
 
@@ -81,7 +80,7 @@ fn received(
         heard.old }
 {
     match operation_heard(own, table, s, index, message) {
-        Sought::At(entry, place) => {
+        Some((entry, place)) => {
             let kind = kind_in(words, table, place, message);
             if kind == NOTHING {
                 platform::NOT_AWAITED
@@ -90,7 +89,7 @@ fn received(
                 0
             }
         }
-        Sought::Nowhere => {
+        None => {
             let outcome = taken(own, words, table, s, index, message, out);
             heard_words::tell(outcome, words, heard)
         }
@@ -130,17 +129,17 @@ fn taken(
 }
 
 // The operation of the table that the message is, where nothing refuses it.
-fn operation_heard(own: Own, table: &[u8], s: Sections, index: &[u64], message: &[u8]) -> Sought
+fn operation_heard(own: Own, table: &[u8], s: Sections, index: &[u64], message: &[u8]) -> Option<(u16, usize)>
     ensures { result ≡ operation_heard own.platform table.now s index.now message.now }
 {
     if wire::u8_at(message, Header::DOMAIN_AT) == Header::PLATFORM_DOMAIN {
-        return Sought::Nowhere;
+        return None;
     }
     if message::read_refusal(own, message) == 0 {
         let id = wire::u32_at(message, Header::ID_AT);
         operations::find(table, index, s.operations.count, id)
     } else {
-        Sought::Nowhere
+        None
     }
 }
 

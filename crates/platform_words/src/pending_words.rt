@@ -5,7 +5,6 @@ ghost use Rattle.platform_words.specs.Words.{standing_length, pending_in};
 ghost use Rattle.platform_words.specs.PendingCalls.{cancel_count, cancel_words, awaited_words};
 
 use crate::standing_words::{PENDING_AT, PLATFORM_WORDS};
-use pending::Asked;
 
 // How many words a request that is pending is.
 pub const AWAITED_WORDS: usize = 3;
@@ -40,11 +39,11 @@ pub fn awaited(
 {
     let words: &[u64] = platform;
     match pending::awaited(&words[PENDING_AT..], number) {
-        Asked::Of { id, target } => {
+        Some((id, target)) => {
             *awaited = [AWAITED, id as u64, target];
             0
         }
-        Asked::Nothing => {
+        None => {
             *awaited = [0, 0, 0];
             0
         }

@@ -7,7 +7,6 @@ ghost use Rattle.platform_words.specs.SendCalls.{kind_found, send_number_for, se
 use crate::standing_words;
 use crate::standing_words::{NEXT_AT, PENDING_AT, PLATFORM_WORDS};
 use message::Own;
-use operations::Sought;
 use requests::{Issue, Sent};
 use table::{BOUNDS_WORDS, SECTIONS_WORDS};
 
@@ -61,12 +60,12 @@ pub fn send(
 }
 
 // An ID that is not in the table counts as an event's, which is no request's.
-fn kind_found(table: &[u8], found: Sought) -> u16
+fn kind_found(table: &[u8], found: Option<(u16, usize)>) -> u16
     ensures { result ≡ kind_found table.now found }
 {
     match found {
-        Sought::At(_, place) => operations::kind_at(table, place),
-        Sought::Nowhere => operations::EVENT,
+        Some((_, place)) => operations::kind_at(table, place),
+        None => operations::EVENT,
     }
 }
 

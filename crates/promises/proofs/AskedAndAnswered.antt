@@ -1,6 +1,7 @@
 -- What is sent, on a table that `check` accepts; a request asked, served and answered.
 -- Assumes nothing.
 use Prim.Native.Nat.{ℕ, ◌+◌, ◌%◌, ◌^◌, ◌≤◌, ◌<◌}
+use Rattle.std.specs.Prelude.{Option, Some, None}
 use mathlib.Core.Path.{◌≡◌, refl, sym, ap, subst, ◌∙◌}
 use mathlib.Core.Bool.{true}
 use mathlib.Core.List.{List}
@@ -12,7 +13,6 @@ use Rattle.wire.proofs.Cond.{yes-if, no-if, no-ne}
 use Rattle.table.specs.declared.Sections.{Sections}
 use Rattle.table.specs.declared.Checked.TheVariants.{Table}
 use Rattle.types.specs.Table.{checked}
-use Rattle.operations.specs.declared.Sought.TheVariants as sought
 use Rattle.operations.specs.Entries.{op_place}
 use Rattle.message.specs.declared.Message.TheVariants as message
 use Rattle.message.specs.declared.Reading.TheVariants.{Read}
@@ -21,9 +21,6 @@ use Rattle.message.specs.Reading.{read_of, payload_of}
 use Rattle.message.specs.Writing.{header_for, message_bytes, left_over_by, answered}
 use Rattle.message.proofs.Accepted.{admits}
 use Rattle.message.proofs.RoundTrip.{reads-back, payload-back}
-use Rattle.pending.specs.declared.Slot.{Slot}
-use Rattle.pending.specs.declared.Slot.TheVariants.{At, Nowhere}
-use Rattle.pending.specs.declared.Asked.TheVariants.{Of, Nothing}
 use Rattle.pending.specs.Places.{free_place, entered, entered_at}
 use Rattle.pending.specs.Free.{is_pending, next_free, IsNextFree}
 use Rattle.pending.specs.Answers.{awaited_of, cancelled, is_response}
@@ -120,17 +117,17 @@ module _ (a b from id : ℕ) (t : List ℕ) (s : Sections) (words l payload out 
       omega arith
 
   -- a place is free
-  there : (k : ℕ) × (free_place l ≡ At k)
+  there : (k : ℕ) × (free_place l ≡ Some k)
   there = go (free_place l) refl
     where
-      go : (x : Slot) → free_place l ≡ x → (k : ℕ) × (free_place l ≡ At k)
-      go (At k) p = (k, p)
-      go Nowhere p = absurd (none-bears-it l 0 64 0 c.place p (omega arith) c.places c.free)
+      go : (x : Option ℕ) → free_place l ≡ x → (k : ℕ) × (free_place l ≡ Some k)
+      go (Some k) p = (k, p)
+      go None p = absurd (none-bears-it l 0 64 0 c.place p (omega arith) c.places c.free)
 
   not_refused : send_refusal l kind id payload (length out) ≡ 0
   not_refused =
       no-ne 62 _ kind 2 (its-kind t s c.table words c.index id 2 c.entry c.sent)
-      ∙ ap (λ (x : Slot). unless_full x (write_refusal 1 id payload (length out))) there.1
+      ∙ ap (λ (x : Option ℕ). unless_full x (write_refusal 1 id payload (length out))) there.1
       ∙ writes id payload (length out) c.size c.room
 
   -- what platform b gets, and what platform a waits for
@@ -139,14 +136,14 @@ module _ (a b from id : ℕ) (t : List ℕ) (s : Sections) (words l payload out 
 
   waiting-is : waiting a b from id t s words l payload out ≡ entered l there.0 (next_free l from) id b
   waiting-is =
-      entered_so Six l kind id payload (length out) from b not_refused ∙ ap (λ (x : Slot). entered_at l x (next_free l from) id b) there.1
+      entered_so Six l kind id payload (length out) from b not_refused ∙ ap (λ (x : Option ℕ). entered_at l x (next_free l from) id b) there.1
 
-  awaited : awaited_of (waiting a b from id t s words l payload out) n ≡ Of id b
+  awaited : awaited_of (waiting a b from id t s words l payload out) n ≡ Some (id, b)
   awaited =
       ap (λ (r : List ℕ). awaited_of r n) waiting-is
       ∙ is-awaited l c.whole there.0 n id b there.1 c.id_fits number.not_zero number.not_taken
 
-  gone : awaited_of (cancelled (waiting a b from id t s words l payload out) n) n ≡ Nothing
+  gone : awaited_of (cancelled (waiting a b from id t s words l payload out) n) n ≡ None
   gone =
       ap (λ (r : List ℕ). awaited_of (cancelled r n) n) waiting-is
       ∙ no_longer l c.whole there.0 n id b there.1 c.id_fits number.not_zero number.not_taken
@@ -195,7 +192,7 @@ module _ (a b from id : ℕ) (t : List ℕ) (s : Sections) (words l payload out 
           ∙ in_front b id n response outB
 
       by : (q : Standing) (list : List ℕ) (space : ℕ) → received_of a u q list (message_bytes b 1 id n response) space
-          ≡ response_to list (sought.At j (op_place u r.operations.at j)) q (header_for b 1 id n response) 20 (length response)
+          ≡ response_to list (Some (j, op_place u r.operations.at j)) q (header_for b 1 id n response) 20 (length response)
       by q list space = by-list a u r e _ (header_for b 1 id n response) 2 j (length response) x.0 k refl q list space
 
       is-response : is_response (waiting a b from id t s words l payload out) n id b ≡ true
@@ -207,9 +204,9 @@ module _ (a b from id : ℕ) (t : List ℕ) (s : Sections) (words l payload out 
           list-by a u r e _ (header_for b 1 id n response) 2 j (length response) x.0 k refl (waiting a b from id t s words l payload out)
           ∙ yes-if (cancelled (waiting a b from id t s words l payload out) n) (waiting a b from id t s words l payload out) is-response
 
-      not_again : ¬ (awaited_of (cancelled (waiting a b from id t s words l payload out) n) n ≡ Of id b)
+      not_again : ¬ (awaited_of (cancelled (waiting a b from id t s words l payload out) n) n ≡ Some (id, b))
       not_again q =
-          let d : Nothing ≡ Of id b = sym gone ∙ q in
+          let d : None ≡ Some (id, b) = sym gone ∙ q in
           let z : ◌≡◌ {A = ℕ} 0 1 = cc in
           omega arith
 

@@ -2,11 +2,11 @@
 -- entry that bears it, and one entry only does.
 -- Assumes nothing.
 use Prim.Native.Nat.{ℕ, ◌≤◌}
+use Rattle.std.specs.Prelude.{Some, None}
 use mathlib.Core.Path.{◌≡◌, sym, ◌∙◌}
 use mathlib.Core.List.{List}
 use native.Mathlib.Omega.{arith}
 use lib.ListN.{length, replicate, length-replicate}
-use Rattle.operations.specs.declared.Sought.TheVariants as sought
 use Rattle.operations.specs.Search.{sought_in}
 use Rattle.table.specs.declared.Sections.{Sections}
 use Rattle.table.specs.declared.Checked.TheVariants.{Table}
@@ -19,7 +19,7 @@ use Rattle.promises.specs.Reports.{HasID}
 use Rattle.promises.specs.Platforms.{operation_with}
 use Rattle.promises.proofs.Lookups.{lookups}
 
-same_number : {i j p q : ℕ} → sought.At i p ≡ sought.At j q → i ≡ j
+same_number : {i j p q : ℕ} → Some (i, p) ≡ Some (j, q) → i ≡ j
 same_number e = cc
 
 module _ (t : List ℕ) (s : Sections) (e : checked t ≡ Table s) where
@@ -36,13 +36,13 @@ module _ (t : List ℕ) (s : Sections) (e : checked t ≡ Table s) where
     pub looked : sought_in t (index_of t s) s.operations.count id ≡ operation_with t s id
     looked = looks.first
 
-    pub bears : (i q : ℕ) → operation_with t s id ≡ sought.At i q → HasID t s id i × (q ≡ operation_place t s i)
+    pub bears : (i q : ℕ) → operation_with t s id ≡ Some (i, q) → HasID t s id i × (q ≡ operation_place t s i)
     bears i q f = let b = looks.bears i q (looked ∙ f) in ((b.0, b.2), b.1)
 
-    pub bears-not : operation_with t s id ≡ sought.Nowhere → (i : ℕ) → ¬ (HasID t s id i)
+    pub bears-not : operation_with t s id ≡ None → (i : ℕ) → ¬ (HasID t s id i)
     bears-not f i h = looks.none.0 (looked ∙ f) i h.0 h.1
 
-    pub there : (i : ℕ) → HasID t s id i → operation_with t s id ≡ sought.At i (operation_place t s i)
+    pub there : (i : ℕ) → HasID t s id i → operation_with t s id ≡ Some (i, operation_place t s i)
     there i h = sym looked ∙ looks.each i h.0 h.1
 
     pub same : (i j : ℕ) → HasID t s id i → HasID t s id j → i ≡ j

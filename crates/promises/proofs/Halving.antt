@@ -1,6 +1,7 @@
 -- How many looks a search by halving takes, what a forged index can lead to, and what `nyr_find` tells of a table that was checked.
 -- Assumes nothing.
 use Prim.Native.Nat.{ℕ}
+use Rattle.std.specs.Prelude.{Option, Some, None}
 use mathlib.Core.Path.{◌≡◌, refl, ap, ap₂, ◌∙◌}
 use mathlib.Core.Bool.{true}
 use mathlib.Core.List.{List}
@@ -11,8 +12,6 @@ use Rattle.table.specs.Layout.{cut_short, within}
 use Rattle.table.specs.Words.{sections_in, index_in}
 use Rattle.types.specs.Table.{checked}
 use Rattle.types.proofs.Accepted.{accepted, is_within}
-use Rattle.operations.specs.declared.Sought.{Sought}
-use Rattle.operations.specs.declared.Sought.TheVariants.{At, Nowhere}
 use Rattle.operations.specs.Entries.{width_of, kind_at, op_width, response_at, operation_at}
 use Rattle.operations.specs.Search.{halved, sought_in, borne}
 use Rattle.operations.proofs.Halving as laws
@@ -25,7 +24,7 @@ use Rattle.promises.proofs.Lookups.{lookups}
 use Rattle.promises.proofs.LinkedPayloads.{sections_back}
 
 -- what is told of what was found at entry i
-entry_told : (t : List ℕ) (s : Sections) (i : ℕ) → found_words t (At i (operation_place t s i)) ≡ told_of t s i
+entry_told : (t : List ℕ) (s : Sections) (i : ℕ) → found_words t (Some (i, operation_place t s i)) ≡ told_of t s i
 unfolding operation_at kind_at response_at
 entry_told t s i = refl
 
@@ -43,7 +42,7 @@ module _ (t : List ℕ) (s : Sections) (words ss : List ℕ) (id : ℕ) (e : che
   pub finds-number : (n : ℕ) → n ≡ find_number t (sections_in ss) → n ≡ 0
   finds-number n p = p ∙ ap (find_number t) its_sections ∙ yes-if 0 cut_short inside
 
-  pub finds-answer : (was x : List ℕ) (f : Sought) → x ≡ find_answer t (sections_in ss) (index_in ss) id was → looked_up t s words id ≡ f → x ≡ found_words t f
+  pub finds-answer : (was x : List ℕ) (f : Option (ℕ × ℕ)) → x ≡ find_answer t (sections_in ss) (index_in ss) id was → looked_up t s words id ≡ f → x ≡ found_words t f
   finds-answer was x f p q =
       p ∙ ap₂ (λ (y : Sections) (index : List ℕ). find_answer t y index id was) its_sections its-index
       ∙ yes-if (found_words t (looked_up t s words id)) was inside ∙ ap (found_words t) q
@@ -63,12 +62,12 @@ halving =
           let t = a.0.now in
           let l = lookups.looks_up t s words a.1.1.0 ok c.1 in (
             finds-number t s words a.1.0.now a.1.1.0 ok c n p.0,
-            finds-answer t s words a.1.0.now a.1.1.0 ok c _ _ (At i (operation_place t s i)) p.1 (l.each i h q) ∙ entry_told t s i,
+            finds-answer t s words a.1.0.now a.1.1.0 ok c _ _ (Some (i, operation_place t s i)) p.1 (l.each i h q) ∙ entry_told t s i,
           );
       finds_none = λ s words k a n e p ok c h.
           let t = a.0.now in
           let l = lookups.looks_up t s words a.1.1.0 ok c.1 in (
             finds-number t s words a.1.0.now a.1.1.0 ok c n p.0,
-            finds-answer t s words a.1.0.now a.1.1.0 ok c _ _ Nowhere p.1 (l.none.1 h),
+            finds-answer t s words a.1.0.now a.1.1.0 ok c _ _ None p.1 (l.none.1 h),
           );
     }

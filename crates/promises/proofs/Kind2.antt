@@ -1,17 +1,14 @@
 -- 02, 1: what is tested of a message with a kind 2 ID is what 02 says of it, on a table that `check` accepts.
 -- Assumes nothing.
 use Prim.Native.Nat.{ℕ, ◌<◌}
+use Rattle.std.specs.Prelude.{Option, Some, None}
 use mathlib.Core.Path.{◌≡◌, refl, sym, ap, ap₂, subst, ◌∙◌}
 use mathlib.Core.Bool.{Bool, false}
 use mathlib.Core.List.{List}
 use native.Mathlib.Omega.{arith}
 use lib.Dec.{eqb}
-use Rattle.operations.specs.declared.Sought.{Sought}
-use Rattle.operations.specs.declared.Sought.TheVariants as sought
 use Rattle.operations.specs.Entries.{kind_at}
 use Rattle.operations.specs.Search.{sought_in}
-use Rattle.pending.specs.declared.Asked.{Asked}
-use Rattle.pending.specs.declared.Asked.TheVariants.{Of, Nothing}
 use Rattle.pending.specs.Answers.{awaited_of, is_response}
 use Rattle.pending.specs.PlainMap.{asks}
 use Rattle.pending.proofs.AsMap.{response-by}
@@ -32,30 +29,30 @@ use Rattle.promises.proofs.ByID.{looked, bears, there}
 
 -- what is pending under a number
 module _ (id target : ℕ) where
-  asks-decides : (x : Asked) → Decides (asks x id target) (x ≡ Of id target)
-  asks-decides (Of i t) =
+  asks-decides : (x : Option (ℕ × ℕ)) → Decides (asks x id target) (x ≡ Some (id, target))
+  asks-decides (Some (i, t)) =
       decides_same (and_decides (eqb i id) (eqb t target) (eq_decides i id) (eq_decides t target))
-      (λ e. ap₂ Of e.0 e.1) (λ (e : Of i t ≡ Of id target). (cc, cc))
-  asks-decides Nothing =
+      (λ e. ap₂ Some (e.0, e.1)) (λ (e : Some (i, t) ≡ Some (id, target)). (cc, cc))
+  asks-decides None =
       record {
         yes_is = λ e. let z : ◌≡◌ {A = ℕ} 0 1 = cc in absurd (omega arith);
-        no_is = λ e (f : Nothing ≡ Of id target). let z : ◌≡◌ {A = ℕ} 0 1 = cc in omega arith;
+        no_is = λ e (f : None ≡ Some (id, target)). let z : ◌≡◌ {A = ℕ} 0 1 = cc in omega arith;
       }
 
-  pub awaited-decides : (l : List ℕ) (n : ℕ) → Decides (is_response l n id target) (awaited_of l n ≡ Of id target)
+  pub awaited-decides : (l : List ℕ) (n : ℕ) → Decides (is_response l n id target) (awaited_of l n ≡ Some (id, target))
   awaited-decides l n =
-      subst (λ (b : Bool). Decides b (awaited_of l n ≡ Of id target)) (sym (response-by l n id target)) (asks-decides (awaited_of l n))
+      subst (λ (b : Bool). Decides b (awaited_of l n ≡ Some (id, target))) (sym (response-by l n id target)) (asks-decides (awaited_of l n))
 
 -- what is looked up is of kind 2
-sent_decides : (t : List ℕ) (x : Sought) → Decides (is_sent t x) ((i : ℕ) × (q : ℕ) × (x ≡ sought.At i q) × (kind_at t q ≡ 2))
+sent_decides : (t : List ℕ) (x : Option (ℕ × ℕ)) → Decides (is_sent t x) ((i : ℕ) × (q : ℕ) × (x ≡ Some (i, q)) × (kind_at t q ≡ 2))
 unfolding is_sent
-sent_decides t (sought.At i q) =
+sent_decides t (Some (i, q)) =
     decides_same (eq_decides (kind_at t q) 2) (λ e. (i, q, refl, e))
-    (λ p. let k : q ≡ p.1 = (let z : sought.At i q ≡ sought.At p.0 p.1 = p.2 in cc) in ap (kind_at t) k ∙ p.3)
-sent_decides t sought.Nowhere =
+    (λ p. let k : q ≡ p.1 = (let z : Some (i, q) ≡ Some (p.0, p.1) = p.2 in cc) in ap (kind_at t) k ∙ p.3)
+sent_decides t None =
     record {
       yes_is = λ e. let z : ◌≡◌ {A = ℕ} 0 1 = cc in absurd (omega arith);
-      no_is = λ e p. let f : sought.Nowhere ≡ sought.At p.0 p.1 = p.2 in let z : ◌≡◌ {A = ℕ} 0 1 = cc in omega arith;
+      no_is = λ e p. let f : None ≡ Some (p.0, p.1) = p.2 in let z : ◌≡◌ {A = ℕ} 0 1 = cc in omega arith;
     }
 
 -- a message of another kind than an operation, which is kind 5

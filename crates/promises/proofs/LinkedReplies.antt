@@ -1,6 +1,7 @@
 -- What is linked notes and replies as the platform does.
 -- Assumes nothing.
 use Prim.Native.Nat.{ℕ, ◌-◌, ◌≤◌, ◌<◌}
+use Rattle.std.specs.Prelude.{Option, Some, None}
 use mathlib.Core.Path.{◌≡◌, refl, sym, ap, ap₂, ◌∙◌}
 use mathlib.Core.Bool.{Bool, true, false, cond}
 use mathlib.Core.List.{List, [], ◌∷◌, ◌++◌}
@@ -12,8 +13,6 @@ use lib.Pow.{pow_pos}
 use lib.ListN.{length, get_or, drop}
 use Rattle.wire.proofs.Cond.{no_lt}
 use Rattle.table.specs.declared.Sections.{Sections}
-use Rattle.operations.specs.declared.Sought.{Sought}
-use Rattle.operations.specs.declared.Sought.TheVariants as sought
 use Rattle.table.specs.declared.Checked.TheVariants.{Table}
 use Rattle.types.specs.Table.{checked}
 use Rattle.table.specs.Words.{sections_in, index_in}
@@ -75,9 +74,9 @@ module _ (own : ℕ) (t : List ℕ) (s : Sections) (index : List ℕ) (p : Stand
     unfolding reaction_to operation_for on_operation
     on-operation = go (operation_with t s h.id) refl (scan h.id)
       where
-        go : (x : Sought) → operation_with t s h.id ≡ x → Finds t s index h.id → HeardSo message.Operation
-        go (sought.At i q) f g = rw (g, f)
-        go sought.Nowhere f g = rw (g, f)
+        go : (x : Option (ℕ × ℕ)) → operation_with t s h.id ≡ x → Finds t s index h.id → HeardSo message.Operation
+        go (Some (i, q)) f g = rw (g, f)
+        go None f g = rw (g, f)
 
     heard-so : (kind : Message) → HeardSo kind
     unfolding reaction_to

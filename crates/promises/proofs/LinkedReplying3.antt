@@ -1,6 +1,7 @@
 -- What a linked call for one message of Issue 3 says, by what the platform's call notes and writes.
 -- Assumes nothing.
 use Prim.Native.Nat.{ℕ, ◌-◌, ◌^◌, ◌≤◌}
+use Rattle.std.specs.Prelude.{Option, Some, None}
 use mathlib.Core.Path.{◌≡◌, refl, ap, ap₂, ◌∙◌}
 use mathlib.Core.Bool.{true, false}
 use mathlib.Core.List.{List, [], ◌∷◌, ◌++◌}
@@ -11,8 +12,6 @@ use Rattle.table.specs.declared.Sections.{Sections}
 use Rattle.table.specs.declared.Checked.TheVariants.{Table}
 use Rattle.table.specs.Words.{sections_in, index_in}
 use Rattle.types.specs.Table.{checked}
-use Rattle.operations.specs.declared.Sought.{Sought}
-use Rattle.operations.specs.declared.Sought.TheVariants as sought
 use Rattle.message.specs.declared.Status.TheVariants.{Down, Up}
 use Rattle.message3.specs.declared.Header3.{Header3}
 use Rattle.message3.specs.declared.Message3.{Message3}
@@ -67,9 +66,9 @@ module _ (c : MixedCall) (s : Sections) (index : List ℕ) (h : Header3) (n : �
     unfolding reaction3 operation_for3 commonly reaction_to on_operation
     on-operation = go (operation_with c.table s h.id) refl (scan h.id)
       where
-        go : (x : Sought) → operation_with c.table s h.id ≡ x → Finds c.table s index h.id → HeardSo message3.Operation
-        go (sought.At i q) f g = rw (g, f)
-        go sought.Nowhere f g = rw (g, f)
+        go : (x : Option (ℕ × ℕ)) → operation_with c.table s h.id ≡ x → Finds c.table s index h.id → HeardSo message3.Operation
+        go (Some (i, q)) f g = rw (g, f)
+        go None f g = rw (g, f)
 
     heard-so : (kind : Message3) → HeardSo kind
     unfolding reaction3 commonly reaction_to on_services_request

@@ -1,11 +1,10 @@
 -- What is linked tells of a message with a kind 2 ID what the platform makes of it.
 -- Assumes nothing.
 use Prim.Native.Nat.{ℕ, ◌-◌, ◌<◌}
+use Rattle.std.specs.Prelude.{Option, Some, None}
 use mathlib.Core.Path.{◌≡◌, refl, ap, ap₂, ◌∙◌}
 use mathlib.Core.List.{List, ◌++◌}
 use lib.ListN.{length, get_or, drop, take-append-drop}
-use Rattle.pending.specs.declared.Asked.{Asked}
-use Rattle.pending.specs.declared.Asked.TheVariants.{Of, Nothing}
 use Rattle.pending.specs.Answers.{awaited_of}
 use Rattle.table.specs.declared.Sections.{Sections}
 use Rattle.table.specs.Words.{sections_in, index_in}
@@ -27,9 +26,9 @@ use Rattle.promises.specs.LinkedResponses.{TellsResponse, TellsNothing, TellsOf,
 use Rattle.promises.proofs.Responses.{responses}
 use Rattle.promises.proofs.LinkedReplies.{up_is, outcome-same, output-same, list_same}
 
-asked_so : (x : Asked) → asked_words x ≡ asked_is x
-asked_so (Of id target) = refl
-asked_so Nothing = refl
+asked_so : (x : Option (ℕ × ℕ)) → asked_words x ≡ asked_is x
+asked_so (Some (id, target)) = refl
+asked_so None = refl
 
 -- a message that comes to a platform in words
 module _ (own : ℕ) (ws t : List ℕ) (s : Sections) (m out : List ℕ) (h : Header) (i : ℕ) (ho : own < 256) (c : ComesUnder own t s m h i) (k : IsSent t s i) where

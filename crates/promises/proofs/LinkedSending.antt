@@ -1,6 +1,7 @@
 -- What is linked writes a request in its target's issue.
 -- Assumes nothing.
 use Prim.Native.Nat.{ℕ, ◌+◌, ◌%◌, ◌^◌}
+use Rattle.std.specs.Prelude.{Option, Some, None}
 use mathlib.Core.Path.{◌≡◌, refl, sym, ap, ap₂, subst, ◌∙◌}
 use mathlib.Core.Bool.{Bool, true, false, cond}
 use mathlib.Core.List.{List}
@@ -14,8 +15,6 @@ use Rattle.table.specs.Layout.{within}
 use Rattle.table.specs.Words.{sections_in, index_in}
 use Rattle.types.specs.Table.{checked}
 use Rattle.types.proofs.Accepted.{accepted, is_within}
-use Rattle.operations.specs.declared.Sought.{Sought}
-use Rattle.operations.specs.declared.Sought.TheVariants.{At, Nowhere}
 use Rattle.operations.specs.Search.{sought_in}
 use Rattle.message3.specs.declared.Message3.TheVariants.{Operation}
 use Rattle.partners.proofs.Counting.{above_is_none}
@@ -159,10 +158,10 @@ module _ (l : SendMixedLent) (n : ℕ) (r : SendLeft) (s : SendsMixed l n r) (th
     back : sections_in x.sections ≡ ss
     back = sections_back x.table ss x.sections (laid x.table ss words) e f.0
 
-    kind-same : (y : Sought) → kind_found x.table y ≡ calls.kind_found x.table y
+    kind-same : (y : Option (ℕ × ℕ)) → kind_found x.table y ≡ calls.kind_found x.table y
     unfolding kind_found
-    kind-same (At i p) = refl
-    kind-same Nowhere = refl
+    kind-same (Some (i, p)) = refl
+    kind-same None = refl
 
     kind-is : kind_of x.table x.sections x.id ≡ kind_in x.table ss words x.id
     kind-is =

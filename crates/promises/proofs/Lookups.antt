@@ -1,6 +1,7 @@
 -- On a table that `check` accepts the IDs rise, so that what is found is the operation of that ID.
 -- Assumes nothing.
 use Prim.Native.Nat.{ℕ, ◌+◌, ◌*◌, ◌^◌, ◌≤◌, ◌<◌}
+use Rattle.std.specs.Prelude.{Option, Some, None}
 use mathlib.Core.Path.{◌≡◌, refl, sym, ap, ap₂, subst, ◌∙◌}
 use mathlib.Core.Bool.{Bool, true, false}
 use mathlib.Core.Logic.{◌⊎◌, ⊎_elim}
@@ -15,8 +16,6 @@ use Rattle.table.specs.declared.Sections.{Sections}
 use Rattle.table.specs.declared.Checked.TheVariants.{Table}
 use Rattle.types.specs.Table.{checked}
 use Rattle.types.proofs.Accepted.{Accepted, accepted, ids-rise}
-use Rattle.operations.specs.declared.Sought.{Sought}
-use Rattle.operations.specs.declared.Sought.TheVariants.{At, Nowhere}
 use Rattle.operations.specs.Entries.{op_place, kind_at, response_at, operation_at, id_at}
 use Rattle.operations.specs.Rules.{ids_rise}
 use Rattle.operations.specs.Search.{half, index_word, place_in, operation_of}
@@ -96,14 +95,14 @@ module _ (t : List ℕ) (s : Sections) (words : List ℕ) (id : ℕ) (e : checke
   accepted-find = laid-first t s.operations.at id s.operations.count rises words room inside starts-low few
 
   -- the ID of an entry, and one that no entry bears
-  none-bears : looked_up t s words id ≡ Nowhere → (i : ℕ) → i < s.operations.count → ¬ (id_of t s i ≡ id)
+  none-bears : looked_up t s words id ≡ None → (i : ℕ) → i < s.operations.count → ¬ (id_of t s i ≡ id)
   none-bears n i l q = laid-nowhere t s.operations.at id s.operations.count rises words room inside starts-low few n i l (id_is t s i ∙ q)
 
-  then_none : ((i : ℕ) → i < s.operations.count → ¬ (id_of t s i ≡ id)) → looked_up t s words id ≡ Nowhere
+  then_none : ((i : ℕ) → i < s.operations.count → ¬ (id_of t s i ≡ id)) → looked_up t s words id ≡ None
   then_none f =
       laid_none t s.operations.at id s.operations.count rises words room inside starts-low few (λ i l q. f i l (sym (id_is t s i) ∙ q))
 
-  bears : (i p : ℕ) → looked_up t s words id ≡ At i p → (i < s.operations.count) × (p ≡ operation_place t s i) × (id_of t s i ≡ id)
+  bears : (i p : ℕ) → looked_up t s words id ≡ Some (i, p) → (i < s.operations.count) × (p ≡ operation_place t s i) × (id_of t s i ≡ id)
   bears i p f =
       let b = found-bears t (laid t s words) id s.operations.count i p f in
       let low : op_place t s.operations.at i < half = omega (arith, b.0, place-most t s.operations.at i, starts-low, few) in
@@ -112,15 +111,15 @@ module _ (t : List ℕ) (s : Sections) (words : List ℕ) (id : ℕ) (e : checke
       let place : p ≡ operation_place t s i = b.1 ∙ q ∙ place_is t s i in
       (b.0, place, ap (number 2 t) (sym place) ∙ b.2)
 
-  each : (i : ℕ) → i < s.operations.count → id_of t s i ≡ id → looked_up t s words id ≡ At i (operation_place t s i)
+  each : (i : ℕ) → i < s.operations.count → id_of t s i ≡ id → looked_up t s words id ≡ Some (i, operation_place t s i)
   each i l q = go (looked_up t s words id) refl
     where
-      go : (x : Sought) → looked_up t s words id ≡ x → x ≡ At i (operation_place t s i)
-      go Nowhere f = absurd (none-bears f i l q)
-      go (At j p) f =
+      go : (x : Option (ℕ × ℕ)) → looked_up t s words id ≡ x → x ≡ Some (i, operation_place t s i)
+      go None f = absurd (none-bears f i l q)
+      go (Some (j, p)) f =
           let b = bears j p f in
           let same : j ≡ i = same-entry t s rises j i b.0 l (b.2 ∙ sym q) in
-          ap₂ At same (b.1 ∙ ap (operation_place t s) same)
+          ap₂ Some (same, b.1 ∙ ap (operation_place t s) same)
 
   looks_up : LooksUp t s words id
   looks_up =

@@ -1,6 +1,7 @@
 -- A request asked in the issue that the other speaks, heard there, and answered.
 -- Assumes nothing.
 use Prim.Native.Nat.{ℕ, ◌+◌, ◌^◌, ◌≤◌, ◌<◌}
+use Rattle.std.specs.Prelude.{Option, Some, None}
 use mathlib.Core.Path.{◌≡◌, refl, sym, ap, subst, ◌∙◌}
 use mathlib.Core.Bool.{Bool, true, false, cond}
 use mathlib.Core.List.{List}
@@ -25,9 +26,6 @@ use Rattle.message3.proofs.RoundTrip.{reads-back, front}
 use Rattle.partners.specs.Threes.{is_three}
 use Rattle.mixed.specs.Reading.{any_of}
 use Rattle.mixed.proofs.NoCrossing.{all_of_six, all_of_three}
-use Rattle.pending.specs.declared.Slot.{Slot}
-use Rattle.pending.specs.declared.Slot.TheVariants.{At, Nowhere}
-use Rattle.pending.specs.declared.Asked.TheVariants.{Of, Nothing}
 use Rattle.pending.specs.Places.{free_place, entered, entered_at}
 use Rattle.pending.specs.Free.{is_pending, next_free, IsNextFree}
 use Rattle.pending.specs.Answers.{awaited_of, cancelled}
@@ -99,11 +97,11 @@ number_is : (issue : Issue) (own id n : ℕ) (payload : List ℕ) → number_of 
 number_is Six own id n payload = refl
 number_is (Three t) own id n payload = refl
 
-pending_is : (issue : Issue) (own id n : ℕ) (payload l : List ℕ) → awaited_of l n ≡ Of id own → IsPending l (header_in issue own id n payload)
+pending_is : (issue : Issue) (own id n : ℕ) (payload l : List ℕ) → awaited_of l n ≡ Some (id, own) → IsPending l (header_in issue own id n payload)
 pending_is Six own id n payload l e = e
 pending_is (Three t) own id n payload l e = e
 
-is-pending : (issue : Issue) (own id n : ℕ) (payload l : List ℕ) → IsPending l (header_in issue own id n payload) → awaited_of l n ≡ Of id own
+is-pending : (issue : Issue) (own id n : ℕ) (payload l : List ℕ) → IsPending l (header_in issue own id n payload) → awaited_of l n ≡ Some (id, own)
 is-pending Six own id n payload l e = e
 is-pending (Three t) own id n payload l e = e
 
@@ -137,17 +135,17 @@ module _ (x : ToSend) (c : CanAskAny x) where
   number_fits : n < 2 ^ 32
   number_fits = number_small x.list x.next c.narrow.next_fits
 
-  there : (k : ℕ) × (free_place x.list ≡ At k)
+  there : (k : ℕ) × (free_place x.list ≡ Some k)
   there = go (free_place x.list) refl
     where
-      go : (y : Slot) → free_place x.list ≡ y → (k : ℕ) × (free_place x.list ≡ At k)
-      go (At k) p = (k, p)
-      go Nowhere p = absurd (none-bears-it x.list 0 64 0 c.place p (omega arith) c.places c.free)
+      go : (y : Option ℕ) → free_place x.list ≡ y → (k : ℕ) × (free_place x.list ≡ Some k)
+      go (Some k) p = (k, p)
+      go None p = absurd (none-bears-it x.list 0 64 0 c.place p (omega arith) c.places c.free)
 
   not_refused : send_refusal_for (issue_in x) x.list x.kind x.id x.payload (length x.out) ≡ 0
   not_refused =
       no-ne 62 _ x.kind 2 c.sent
-      ∙ ap (λ (y : Slot). unless_full y (write_refusal_for (issue_in x) x.id x.payload (length x.out))) there.1
+      ∙ ap (λ (y : Option ℕ). unless_full y (write_refusal_for (issue_in x) x.id x.payload (length x.out))) there.1
       ∙ writes_in (issue_in x) x.id x.payload (length x.out) c.size c.room
 
   asked_is : asked_bytes x ≡ bytes_for (issue_in x) x.own x.id n x.payload
@@ -159,14 +157,14 @@ module _ (x : ToSend) (c : CanAskAny x) where
   waiting-is : waiting_for x ≡ entered x.list there.0 n x.id x.target
   waiting-is =
       entered_so (issue_in x) x.list x.kind x.id x.payload (length x.out) x.next x.target not_refused
-      ∙ ap (λ (y : Slot). entered_at x.list y n x.id x.target) there.1
+      ∙ ap (λ (y : Option ℕ). entered_at x.list y n x.id x.target) there.1
 
-  awaited : awaited_of (waiting_for x) n ≡ Of x.id x.target
+  awaited : awaited_of (waiting_for x) n ≡ Some (x.id, x.target)
   awaited =
       ap (λ (r : List ℕ). awaited_of r n) waiting-is
       ∙ is-awaited x.list c.whole there.0 n x.id x.target there.1 c.narrow.id_fits free-number.not_zero free-number.not_taken
 
-  gone : awaited_of (cancelled (waiting_for x) n) n ≡ Nothing
+  gone : awaited_of (cancelled (waiting_for x) n) n ≡ None
   gone =
       ap (λ (r : List ℕ). awaited_of (cancelled r n) n) waiting-is
       ∙ no_longer x.list c.whole there.0 n x.id x.target there.1 c.narrow.id_fits free-number.not_zero free-number.not_taken
@@ -217,7 +215,7 @@ module _ (x : ToSend) (c : CanAskAny x) where
       where
         not_again : ¬ (IsPending (cancelled (waiting_for x) n) (header_in issue x.target x.id n response))
         not_again u =
-            let d : Nothing ≡ Of x.id x.target = sym gone ∙ is-pending issue x.target x.id n response (cancelled (waiting_for x) n) u in
+            let d : None ≡ Some (x.id, x.target) = sym gone ∙ is-pending issue x.target x.id n response (cancelled (waiting_for x) n) u in
             let z : ◌≡◌ {A = ℕ} 0 1 = cc in
             omega arith
 

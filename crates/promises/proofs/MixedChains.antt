@@ -1,6 +1,7 @@
 -- The number that the platform call gives back for a message of Issue 3 that was read, by its ID and its first field.
 -- Assumes nothing.
 use Prim.Native.Nat.{ℕ, ◌+◌, ◌*◌, ◌^◌, ◌≤◌}
+use Rattle.std.specs.Prelude.{Option, Some, None}
 use mathlib.Core.Path.{◌≡◌, refl, sym, ap, ◌∙◌}
 use mathlib.Core.Bool.{Bool, true, false, not, cond, ◌&&◌, ◌||◌}
 use mathlib.Core.List.{List}
@@ -10,8 +11,6 @@ use lib.Dec.{eqb, leb, ltb}
 use lib.ListN.{length}
 use Rattle.wire.proofs.Cond.{no_lt}
 use Rattle.table.specs.declared.Sections.{Sections}
-use Rattle.operations.specs.declared.Sought.{Sought}
-use Rattle.operations.specs.declared.Sought.TheVariants as sought
 use Rattle.operations.specs.Search.{sought_in}
 use Rattle.message.specs.declared.Status.TheVariants.{Down, Up}
 use Rattle.message3.specs.declared.Header3.{Header3}
@@ -63,7 +62,7 @@ module _ (own : ℕ) (i ours t : List ℕ) (s : Sections) (index : List ℕ) (p 
   abbrev pub fits : Bool
   fits = status_fits (block_of i h.platform ws) payload
 
-  abbrev pub look : ℕ → Sought
+  abbrev pub look : ℕ → Option (ℕ × ℕ)
   look id = sought_in t index s.operations.count id
 
   -- by its ID and its first field
@@ -144,16 +143,16 @@ module _ (own : ℕ) (i ours t : List ℕ) (s : Sections) (index : List ℕ) (p 
   unfolding reaction3 kept_number number_for
   of-not-available field second = no-reply
 
-  pulled_one : (field : ℕ) (f : Sought) → number_for (deed_for h.sequence (on_pull_one t f p h.sequence field).heard)
+  pulled_one : (field : ℕ) (f : Option (ℕ × ℕ)) → number_for (deed_for h.sequence (on_pull_one t f p h.sequence field).heard)
       ≡ cond (ltb room (cond (found_data t f) 0 28)) 10 0
   unfolding on_pull_one found_data kept_number number_for
-  pulled_one field (sought.At j q) = go (is_data t q)
+  pulled_one field (Some (j, q)) = go (is_data t q)
     where
       go : (b : Bool) → number_for (deed_for h.sequence (cond b (silent p (heard.PullOfOne field j)) (not_versioned p h.sequence field)).heard)
           ≡ cond (ltb room (cond b 0 28)) 10 0
       go true = no-reply
       go false = one-reply (ltb room 28)
-  pulled_one field sought.Nowhere = one-reply (ltb room 28)
+  pulled_one field None = one-reply (ltb room 28)
 
   of-pull : ItsNumber 7
   unfolding reaction3 operation_for3 on_pull3 commonly reaction_to on_pull kept_number number_for
@@ -176,7 +175,7 @@ module _ (own : ℕ) (i ours t : List ℕ) (s : Sections) (index : List ℕ) (p 
   pub by-id : (id : ℕ) → 1 ≤ id → id ≤ 9 → ItsNumber id
   by-id = nine ItsNumber (of-status, of-request, of-services, of-services-request, of-unknown, of-not-available, of-pull, of-composite, of-ack)
 
-  pub of_operation : (f : Sought) → number_for (reaction3 own ours t s f p h message3.Operation 24 len).deed ≡ cond (ltb room (cond (isFound f) 0 28)) 10 0
+  pub of_operation : (f : Option (ℕ × ℕ)) → number_for (reaction3 own ours t s f p h message3.Operation 24 len).deed ≡ cond (ltb room (cond (isFound f) 0 28)) 10 0
   unfolding reaction3 commonly reaction_to on_operation kept_number number_for
-  of_operation (sought.At j q) = no-reply
-  of_operation sought.Nowhere = one-reply (ltb room 28)
+  of_operation (Some (j, q)) = no-reply
+  of_operation None = one-reply (ltb room 28)

@@ -1,6 +1,7 @@
 -- What one call changes of the services' words.
 -- Assumes nothing.
 use Prim.Native.Nat.{ℕ, zero, suc}
+use Rattle.std.specs.Prelude.{Option}
 use mathlib.Core.Path.{◌≡◌, refl, sym, ap, subst, ◌∙◌}
 use mathlib.Core.Bool.{Bool, true, false, not, cond, ◌&&◌}
 use mathlib.Core.Logic.{◌⊎◌, inl, inr, ⊎_elim}
@@ -12,7 +13,6 @@ use lib.ListN.{drop}
 use Rattle.wire.specs.Bytes.{part}
 use Rattle.wire.proofs.Cond.{clash, and_true, both, yes-if, no-if, no_lt, no_eq}
 use Rattle.table.specs.declared.Sections.{Sections}
-use Rattle.operations.specs.declared.Sought.{Sought}
 use Rattle.message3.specs.declared.Header3.{Header3}
 use Rattle.message3.specs.declared.Message3.{Message3}
 use Rattle.message3.specs.declared.Message3.TheVariants as message3
@@ -91,7 +91,7 @@ module _ (own : ℕ) (i ours t : List ℕ) (s : Sections) (index : List ℕ) (p 
   operation-after : After message3.Operation ≡ ws
   operation-after = go (is_answer3 t f message3.Operation)
     where
-      f : Sought
+      f : Option (ℕ × ℕ)
       f = operation_for3 t s index head message3.Operation
 
       go : (b : Bool) → cond b ws (kept3 i ours head (reaction3 own ours t s f p head message3.Operation 24 size) body ws room) ≡ ws

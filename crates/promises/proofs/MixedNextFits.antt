@@ -1,6 +1,7 @@
 -- The next own number stays one of 32 bits over a call for one message among partners of both issues.
 -- Assumes nothing.
 use Prim.Native.Nat.{ℕ, ◌^◌, ◌<◌}
+use Rattle.std.specs.Prelude.{Option}
 use mathlib.Core.Path.{◌≡◌, refl, sym, ap, subst, ◌∙◌}
 use mathlib.Core.Bool.{Bool, true, false, cond}
 use mathlib.Core.List.{List}
@@ -11,7 +12,6 @@ use Rattle.wire.specs.Bytes.{part}
 use Rattle.table.specs.declared.Sections.{Sections}
 use Rattle.table.specs.declared.Checked.TheVariants.{Table}
 use Rattle.types.specs.Table.{checked}
-use Rattle.operations.specs.declared.Sought.{Sought}
 use Rattle.message.specs.declared.Status.{Status}
 use Rattle.message.specs.declared.Status.TheVariants.{Down, Up}
 use Rattle.message.specs.declared.Message.TheVariants as message
@@ -40,7 +40,7 @@ use Rattle.promises.proofs.MixedReceipts.{index, outcome-by, six-outcome}
 abbrev Small : Standing → Type 0
 Small p = p.next < 2 ^ 32
 
-module _ (own : ℕ) (ours t : List ℕ) (s : Sections) (f : Sought) (p : Standing) (fits : Small p) where
+module _ (own : ℕ) (ours t : List ℕ) (s : Sections) (f : Option (ℕ × ℕ)) (p : Standing) (fits : Small p) where
   status-small : (sender : ℕ) (x : Status) (c : ℕ) → Small (on_status3 own p sender x c).standing
   unfolding on_status3 coming_up3
   status-small sender Up c = go (stands_up own p.states sender)
@@ -97,7 +97,7 @@ module _ (x : ToReceive) (s : Sections) (e : checked x.table ≡ Table s) (p : S
   unfolding any_outcome_of response_to3
   three-small h k start len = go (is_answer3 x.table found k) (is_response l h.sequence h.id h.platform)
     where
-      found : Sought
+      found : Option (ℕ × ℕ)
       found = operation_for3 x.table s (index x s e) h k
 
       reacts : Reaction3

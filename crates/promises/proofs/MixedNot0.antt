@@ -1,6 +1,7 @@
 -- No refusal of the platform call among partners of both issues is 0.
 -- Assumes nothing.
 use Prim.Native.Nat.{ℕ, zero, suc}
+use Rattle.std.specs.Prelude.{Option}
 use mathlib.Core.Path.{◌≡◌, refl, sym, ap, ◌∙◌}
 use mathlib.Core.Bool.{Bool, true, false, cond}
 use mathlib.Core.List.{List}
@@ -9,7 +10,6 @@ use borrow.Author.Tests.{eqb-false}
 use lib.Dec.{eqb, ltb}
 use Rattle.wire.specs.Bytes.{part}
 use Rattle.table.specs.declared.Sections.{Sections}
-use Rattle.operations.specs.declared.Sought.{Sought}
 use Rattle.pending.specs.Answers.{is_response}
 use Rattle.message.specs.declared.Reading.{Reading}
 use Rattle.message.specs.declared.Reading.TheVariants as six
@@ -108,7 +108,7 @@ module _ (own : ℕ) (i ours : List ℕ) (p : Standing) (l ws m : List ℕ) (roo
   refused-not-0 : (k : ℕ) → ¬ (k ≡ 0) → Not0 (Refused k)
   refused-not-0 k h e z = h (let d : k ≡ n = cc in d ∙ z)
 
-  response-not-0 : (f : Sought) (h : Header3) (start len : ℕ) → Not0 (response_to3 l f p h start len).answer
+  response-not-0 : (f : Option (ℕ × ℕ)) (h : Header3) (start len : ℕ) → Not0 (response_to3 l f p h start len).answer
   unfolding response_to3
   response-not-0 f h start len = go (is_response l h.sequence h.id h.platform)
     where
@@ -133,7 +133,7 @@ module _ (own : ℕ) (i ours : List ℕ) (p : Standing) (l ws m : List ℕ) (roo
       go true ea false eb q = refused-not-0 k (eqb-false k 0 eb) q
       go false ea b eb q = refused-not-0 short (eqb-false short 0 ea) q
 
-  platform-not-0 : (t : List ℕ) (s : Sections) (f : Sought) (x : Reading) → read_of own m ≡ x → (outcome_of own t s f p l x room).answer ≡ noting.Refused n
+  platform-not-0 : (t : List ℕ) (s : Sections) (f : Option (ℕ × ℕ)) (x : Reading) → read_of own m ≡ x → (outcome_of own t s f p l x room).answer ≡ noting.Refused n
       → ¬ (n ≡ 0)
   unfolding outcome_of response_to answered
   platform-not-0 t s f (six.Refused k) e q z = six_not_0 own m k e (let d : k ≡ n = cc in d ∙ z)
@@ -159,7 +159,7 @@ module _ (own : ℕ) (i ours : List ℕ) (p : Standing) (l ws m : List ℕ) (roo
       platform-not-0 t s (operation_in t s index (read_of own m)) (read_of own m) refl (was_refused (outcome_in own t s index p l m room).answer n e)
   read-not-0 t s index (reading.Three h k start len) q e = go (is_answer3 t f k) e
     where
-      f : Sought
+      f : Option (ℕ × ℕ)
       f = operation_for3 t s index h k
 
       go : (b : Bool) → Not0 (cond b (response_to3 l f p h start len)

@@ -1,6 +1,7 @@
 -- On an accepted table the index is no matter: the operation of each ID is the same.
 -- Assumes nothing.
 use Prim.Native.Nat.{ℕ, ◌≤◌}
+use Rattle.std.specs.Prelude.{Option}
 use mathlib.Core.Path.{◌≡◌, refl, sym, ap, ◌∙◌}
 use mathlib.Core.Bool.{true, cond}
 use mathlib.Core.List.{List}
@@ -11,7 +12,6 @@ use Rattle.table.specs.declared.Sections.{Sections}
 use Rattle.table.specs.declared.Checked.{Checked}
 use Rattle.table.specs.declared.Checked.TheVariants.{Table}
 use Rattle.table.specs.Layout.{cut_short, within}
-use Rattle.operations.specs.declared.Sought.{Sought}
 use Rattle.operations.specs.Search.{sought_in}
 use Rattle.types.specs.Table.{checked}
 use Rattle.types.proofs.Accepted.{accepted, is_within}
@@ -85,10 +85,10 @@ module _ (c : MixedCall) (s : Sections) (words : List ℕ) (e : checked c.table 
   unfolding any_outcome_of
   outcome-same (reading.Refused n) = refl
   outcome-same (reading.Six h k start len) =
-      ap (λ (f : Sought). from_received (outcome_of c.own t s f c.standing c.pending (read_of c.own c.message) (length c.output)))
+      ap (λ (f : Option (ℕ × ℕ)). from_received (outcome_of c.own t s f c.standing c.pending (read_of c.own c.message) (length c.output)))
       (same_in (read_of c.own c.message))
   outcome-same (reading.Three h k start len) =
-      ap (λ (f : Sought). cond (is_answer3 t f k) (response_to3 c.pending f c.standing h start len)
+      ap (λ (f : Option (ℕ × ℕ)). cond (is_answer3 t f k) (response_to3 c.pending f c.standing h start len)
       (settled3 c.partners c.ours c.standing h (reaction3 c.own c.ours t s f c.standing h k start len) (part c.message start len)
       c.services (length c.output))) (same-for3 h k)
 
@@ -98,9 +98,9 @@ module _ (c : MixedCall) (s : Sections) (words : List ℕ) (e : checked c.table 
   unfolding any_output_of
   output-same (reading.Refused n) = refl
   output-same (reading.Six h k start len) =
-      ap (λ (f : Sought). output_of c.own t s f c.standing (read_of c.own c.message) c.output) (same_in (read_of c.own c.message))
+      ap (λ (f : Option (ℕ × ℕ)). output_of c.own t s f c.standing (read_of c.own c.message) c.output) (same_in (read_of c.own c.message))
   output-same (reading.Three h k start len) =
-      ap (λ (f : Sought). cond (is_answer3 t f k) c.output
+      ap (λ (f : Option (ℕ × ℕ)). cond (is_answer3 t f k) c.output
       (laid3 c.own c.stamp c.composite c.partners c.ours h (reaction3 c.own c.ours t s f c.standing h k start len)
       (part c.message start len) c.services c.output)) (same-for3 h k)
 
@@ -108,8 +108,8 @@ module _ (c : MixedCall) (s : Sections) (words : List ℕ) (e : checked c.table 
   unfolding any_list_of
   list_same (reading.Refused n) = refl
   list_same (reading.Six h k start len) =
-      ap (λ (f : Sought). list_of t f c.pending (read_of c.own c.message)) (same_in (read_of c.own c.message))
-  list_same (reading.Three h k start len) = ap (λ (f : Sought). cond (is_answer3 t f k) (list_answered3 c.pending h) c.pending) (same-for3 h k)
+      ap (λ (f : Option (ℕ × ℕ)). list_of t f c.pending (read_of c.own c.message)) (same_in (read_of c.own c.message))
+  list_same (reading.Three h k start len) = ap (λ (f : Option (ℕ × ℕ)). cond (is_answer3 t f k) (list_answered3 c.pending h) c.pending) (same-for3 h k)
 
   words_same : (x : AnyReading)
       → any_words_of c.own c.partners c.ours t s one c.standing c.services c.message (length c.output) x
@@ -118,7 +118,7 @@ module _ (c : MixedCall) (s : Sections) (words : List ℕ) (e : checked c.table 
   words_same (reading.Refused n) = refl
   words_same (reading.Six h k start len) = refl
   words_same (reading.Three h k start len) =
-      ap (λ (f : Sought). cond (is_answer3 t f k) c.services
+      ap (λ (f : Option (ℕ × ℕ)). cond (is_answer3 t f k) c.services
       (kept3 c.partners c.ours h (reaction3 c.own c.ours t s f c.standing h k start len) (part c.message start len)
       c.services (length c.output))) (same-for3 h k)
 

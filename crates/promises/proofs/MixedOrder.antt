@@ -2,6 +2,7 @@
 -- message has.
 -- Assumes nothing.
 use Prim.Native.Nat.{ℕ, ◌+◌, ◌<◌, ◌≤◌}
+use Rattle.std.specs.Prelude.{Option}
 use mathlib.Core.Path.{◌≡◌, refl, sym, ap, subst, ◌∙◌}
 use mathlib.Core.Bool.{Bool, true, false, not, cond}
 use mathlib.Core.List.{List, ◌++◌}
@@ -19,7 +20,6 @@ use Rattle.table.specs.declared.Checked.{Checked}
 use Rattle.table.specs.declared.Checked.TheVariants as check
 use Rattle.table.specs.Layout.{cut_short, within}
 use Rattle.types.specs.Table.{checked}
-use Rattle.operations.specs.declared.Sought.{Sought}
 use Rattle.operations.specs.Search.{sought_in}
 use Rattle.message.specs.declared.Header.{Header}
 use Rattle.message.specs.declared.Message.TheVariants as message
@@ -70,7 +70,7 @@ FullBy i ws m Full =
     ThreeForm i m → is_there i (sender_in3 m) ws ≡ true → Decides (not (status_fits (block_of i (sender_in3 m) ws) (drop 24 m))) Full
 
 module _ (own : ℕ) (i ours t : List ℕ) (s : Sections) (index : List ℕ) (p : Standing) (l ws m : List ℕ) (room : ℕ)
-    (F : ℕ → Sought) (finds : (id : ℕ) → sought_in t index s.operations.count id ≡ F id)
+    (F : ℕ → Option (ℕ × ℕ)) (finds : (id : ℕ) → sought_in t index s.operations.count id ≡ F id)
     (K : ℕ → Type 0) (sent : (id : ℕ) → Decides (is_sent t (sought_in t index s.operations.count id)) (K id)) (Full : Type 0)
     (full : FullBy i ws m Full) where
   abbrev behind : List Check

@@ -1,6 +1,7 @@
 -- What is known of a message of Issue 3 that the platform call reads, and the number that it gives for a platform message.
 -- Assumes nothing.
 use Prim.Native.Nat.{ℕ, ◌≤◌}
+use Rattle.std.specs.Prelude.{Option}
 use mathlib.Core.Path.{◌≡◌, refl, sym, ap, ◌∙◌}
 use mathlib.Core.Bool.{false, cond}
 use mathlib.Core.Logic.{⊎_elim}
@@ -12,7 +13,6 @@ use Rattle.wire.specs.Bytes.{part}
 use Rattle.wire.proofs.Cond.{passed, no-if, yes-eq}
 use Rattle.wire.proofs.Runs.{part_in}
 use Rattle.table.specs.declared.Sections.{Sections}
-use Rattle.operations.specs.declared.Sought.{Sought}
 use Rattle.operations.specs.Search.{sought_in}
 use Rattle.message3.specs.declared.Header3.{Header3}
 use Rattle.message3.specs.declared.Message3.{Message3}
@@ -51,7 +51,7 @@ module _ (own : ℕ) (i ours t : List ℕ) (s : Sections) (index : List ℕ) (p 
   abbrev pub payload : List ℕ
   payload = part m 24 len
 
-  abbrev pub look : ℕ → Sought
+  abbrev pub look : ℕ → Option (ℕ × ℕ)
   look id = sought_in t index s.operations.count id
 
   pub seen : Readable own m
@@ -82,10 +82,10 @@ module _ (own : ℕ) (i ours t : List ℕ) (s : Sections) (index : List ℕ) (p 
     pub bounds : (1 ≤ ID) × (ID ≤ 9)
     bounds = ⊎_elim (λ o. absurd (not-reserved o)) (λ b. b) (where_is 1 9 ID)
 
-    pub no_answer : (id : ℕ) → 1 ≤ id → id ≤ 9 → (f : Sought) (a b : ℕ) → is_answer3 t f (platform_message3 id a b) ≡ false
+    pub no_answer : (id : ℕ) → 1 ≤ id → id ≤ 9 → (f : Option (ℕ × ℕ)) (a b : ℕ) → is_answer3 t f (platform_message3 id a b) ≡ false
     unfolding is_answer3
     no_answer =
-        nine (λ (n : ℕ). (f : Sought) (a b : ℕ) → is_answer3 t f (platform_message3 n a b) ≡ false) (
+        nine (λ (n : ℕ). (f : Option (ℕ × ℕ)) (a b : ℕ) → is_answer3 t f (platform_message3 n a b) ≡ false) (
           λ f a b. refl,
           λ f a b. refl,
           λ f a b. refl,

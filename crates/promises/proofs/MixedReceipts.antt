@@ -2,6 +2,7 @@
 -- another, and for every other message.
 -- Assumes nothing.
 use Prim.Native.Nat.{ℕ, zero, suc, ◌-◌, ◌≤◌}
+use Rattle.std.specs.Prelude.{Option, Some}
 use mathlib.Core.Path.{◌≡◌, refl, sym, ap, ◌∙◌}
 use mathlib.Core.Bool.{Bool, true, false, cond}
 use mathlib.Core.List.{List}
@@ -17,8 +18,6 @@ use Rattle.table.specs.declared.Sections.{Sections}
 use Rattle.table.specs.declared.Checked.{Checked}
 use Rattle.table.specs.declared.Checked.TheVariants.{Table}
 use Rattle.types.specs.Table.{checked}
-use Rattle.operations.specs.declared.Sought.{Sought}
-use Rattle.operations.specs.declared.Sought.TheVariants.{At}
 use Rattle.operations.specs.Entries.{op_place}
 use Rattle.message.specs.declared.Header.{Header}
 use Rattle.message.specs.declared.Message.{Message}
@@ -150,8 +149,8 @@ module _ (x : ToReceive) (s : Sections) (e : checked x.table ≡ Table s) where
   -- of Issue 3, domain 1, under an ID of this kind
   module _ (h : Header3) (kind i len : ℕ) (r : any_of x.partners x.own x.bytes ≡ reading.Three h message3.Operation 24 len)
       (has : HasKind x.table s h.id kind i) where
-    abbrev entry : Sought
-    entry = At i (op_place x.table s.operations.at i)
+    abbrev entry : Option (ℕ × ℕ)
+    entry = Some (i, op_place x.table s.operations.at i)
 
     its-entry : operation_for3 x.table s index h message3.Operation ≡ entry
     unfolding operation_for3
@@ -171,7 +170,7 @@ module _ (x : ToReceive) (s : Sections) (e : checked x.table ≡ Table s) where
           outcome-by p l
           ∙ ap (any_outcome_of x.own x.partners x.ours x.table s index p l x.services x.bytes (length x.out)) r
           ∙ yes-if {A = AnyReceived} _ _ yes
-          ∙ ap (λ (f : Sought). cond (is_response l h.sequence h.id h.platform) (delivered3 f p h 24 len) (refused_any p 61)) its-entry
+          ∙ ap (λ (f : Option (ℕ × ℕ)). cond (is_response l h.sequence h.id h.platform) (delivered3 f p h 24 len) (refused_any p 61)) its-entry
 
       pub three-output : (p : Standing) (l : List ℕ) → our_any_receiving.output x p l ≡ x.out
       unfolding any_output_of
@@ -205,7 +204,7 @@ module _ (x : ToReceive) (s : Sections) (e : checked x.table ≡ Table s) where
           ∙ ap (any_outcome_of x.own x.partners x.ours x.table s index p l x.services x.bytes (length x.out)) r
           ∙ no-if {A = AnyReceived} _ _ no
           ∙ ap
-          (λ (f : Sought).
+          (λ (f : Option (ℕ × ℕ)).
           settled3 x.partners x.ours p h (reaction3 x.own x.ours x.table s f p h message3.Operation 24 len) (part x.bytes 24 len)
           x.services (length x.out))
           its-entry

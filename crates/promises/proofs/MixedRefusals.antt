@@ -1,6 +1,7 @@
 -- A refusal of the platform call among partners of both issues changes nothing.
 -- Assumes nothing.
 use Prim.Native.Nat.{ℕ}
+use Rattle.std.specs.Prelude.{Option}
 use mathlib.Core.Path.{◌≡◌, refl, sym, ap, ◌∙◌}
 use mathlib.Core.Bool.{Bool, true, false, cond}
 use mathlib.Core.List.{List, ◌++◌}
@@ -11,7 +12,6 @@ use Rattle.wire.specs.Bytes.{over, part}
 use Rattle.table.specs.declared.Sections.{Sections}
 use Rattle.table.specs.Layout.{cut_short, within}
 use Rattle.wire.proofs.Cond.{clash}
-use Rattle.operations.specs.declared.Sought.{Sought}
 use Rattle.pending.specs.Answers.{is_response, cancelled}
 use Rattle.message.specs.Refusal.{no_room}
 use Rattle.message3.specs.declared.Stamp.{Stamp}
@@ -92,7 +92,7 @@ module _ (own : ℕ) (st : Stamp) (c : ℕ) (i ours : List ℕ) (p : Standing) (
   all_same : (r : AnyReceived) → r.standing ≡ p → Same r out l ws
   all_same r e = record { standing = e; output = refl; list = refl; services = refl }
 
-  response-same : (f : Sought) (h : Header3) (start len : ℕ) → (response_to3 l f p h start len).answer ≡ Refused n
+  response-same : (f : Option (ℕ × ℕ)) (h : Header3) (start len : ℕ) → (response_to3 l f p h start len).answer ≡ Refused n
       → Same (response_to3 l f p h start len) out (list_answered3 l h) ws
   unfolding response_to3
   response-same f h start len e = go (is_response l h.sequence h.id h.platform) e
@@ -166,7 +166,7 @@ module _ (own : ℕ) (st : Stamp) (c : ℕ) (i ours : List ℕ) (p : Standing) (
         record { standing = u.standing; output = u.output; list = u.list; services = refl }
     read_same (reading.Three h k start len) e = go (is_answer3 t f k) e
       where
-        f : Sought
+        f : Option (ℕ × ℕ)
         f = operation_for3 t s index h k
 
         x : Reaction3

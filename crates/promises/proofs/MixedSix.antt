@@ -1,6 +1,7 @@
 -- The checks behind 1 to 9 for a message of Issue 6 that the platform call among partners of both issues reads: those of the call of before.
 -- Assumes nothing.
 use Prim.Native.Nat.{ℕ, zero, suc, ◌^◌, ◌≤◌, ◌<◌}
+use Rattle.std.specs.Prelude.{Option, Some, None}
 use mathlib.Core.Path.{◌≡◌, refl, sym, ap, subst, ◌∙◌}
 use mathlib.Core.Bool.{Bool, true, false, cond, ◌||◌}
 use mathlib.Core.Logic.{◌⊎◌, inl, inr, ⊎_elim}
@@ -12,8 +13,6 @@ use lib.ListN.{length}
 use Rattle.wire.specs.Bytes.{number}
 use Rattle.wire.proofs.Cond.{passed, yes-eq, no_eq}
 use Rattle.table.specs.declared.Sections.{Sections}
-use Rattle.operations.specs.declared.Sought.{Sought}
-use Rattle.operations.specs.declared.Sought.TheVariants as sought
 use Rattle.operations.specs.Search.{sought_in}
 use Rattle.message.specs.declared.Header.{Header}
 use Rattle.message.specs.declared.Status.TheVariants.{Down, Up}
@@ -58,7 +57,7 @@ four P a b c d (suc (suc (suc (suc (suc n))))) l m = absurd (omega arith)
 
 -- how many bytes of replies are owed, by the message's ID and first field
 module _ (own : ℕ) (t : List ℕ) (s : Sections) (index : List ℕ) (p : Standing) (h : Header) (len : ℕ) where
-  abbrev look : ℕ → Sought
+  abbrev look : ℕ → Option (ℕ × ℕ)
   look id = sought_in t index s.operations.count id
 
   abbrev up : Bool
@@ -103,14 +102,14 @@ module _ (own : ℕ) (t : List ℕ) (s : Sections) (index : List ℕ) (p : Stand
   unfolding reaction_to
   of-unknown field = refl
 
-  pulled_one : (field : ℕ) (f : Sought) → owed_length (on_pull_one t f p h.sequence field).owed ≡ cond (found_data t f) 0 24
+  pulled_one : (field : ℕ) (f : Option (ℕ × ℕ)) → owed_length (on_pull_one t f p h.sequence field).owed ≡ cond (found_data t f) 0 24
   unfolding on_pull_one found_data
-  pulled_one field (sought.At j q) = go (is_data t q)
+  pulled_one field (Some (j, q)) = go (is_data t q)
     where
       go : (b : Bool) → owed_length (cond b (silent p (heard.PullOfOne field j)) (not_versioned p h.sequence field)).owed ≡ cond b 0 24
       go true = refl
       go false = refl
-  pulled_one field sought.Nowhere = refl
+  pulled_one field None = refl
 
   pulled-all : owed_length (on_pull_all t s p h.sequence).owed ≡ cond (some_data t s) 0 24
   unfolding on_pull_all
@@ -132,10 +131,10 @@ module _ (own : ℕ) (t : List ℕ) (s : Sections) (index : List ℕ) (p : Stand
   by-id : (id : ℕ) → 1 ≤ id → id ≤ 4 → IsOwed id
   by-id = four IsOwed of-status of-request of-unknown of-pull
 
-  of_operation : (f : Sought) → owed_length (reaction_to own t s f p h message.Operation 20 len).owed ≡ cond (isFound f) 0 24
+  of_operation : (f : Option (ℕ × ℕ)) → owed_length (reaction_to own t s f p h message.Operation 20 len).owed ≡ cond (isFound f) 0 24
   unfolding reaction_to on_operation
-  of_operation (sought.At j q) = refl
-  of_operation sought.Nowhere = refl
+  of_operation (Some (j, q)) = refl
+  of_operation None = refl
 
 number_same : (x : Noting) → number_given (from_noting x) ≡ receive_number x
 number_same (noting.Refused n) = refl
@@ -143,7 +142,7 @@ number_same (noting.Noted h x n) = refl
 number_same (noting.Response h j start len) = refl
 
 module _ (own : ℕ) (i ours t : List ℕ) (s : Sections) (index : List ℕ) (p : Standing) (l ws m : List ℕ) (room : ℕ)
-    (F : ℕ → Sought) (finds : (id : ℕ) → sought_in t index s.operations.count id ≡ F id)
+    (F : ℕ → Option (ℕ × ℕ)) (finds : (id : ℕ) → sought_in t index s.operations.count id ≡ F id)
     (K : ℕ → Type 0) (sent : (id : ℕ) → Decides (is_sent t (sought_in t index s.operations.count id)) (K id)) (Full : Type 0)
     (nf : ¬ (ThreeForm i m)) (e : read_of own m ≡ reading_out m) where
   abbrev h : Header
@@ -171,7 +170,7 @@ module _ (own : ℕ) (i ours t : List ℕ) (s : Sections) (index : List ℕ) (p 
       ap (λ (k : Message). owed_length (reaction_to own t s (operation_for t s index h k) p h k 20 (payload_size_in m)).owed)
       (yes-eq {A = Message} _ _ (domain_in m) 0 d)
       ∙ by-id own t s index p h (payload_size_in m) (id_in m) b.0 b.1 field
-      ∙ ap (λ (f : Sought). cond (eqb (id_in m) 1) (cond (eqb field 0) 0 (cond (stands_up own p.states (sender_in m) || leb 256 (sender_in m)) 0 48))
+      ∙ ap (λ (f : Option (ℕ × ℕ)). cond (eqb (id_in m) 1) (cond (eqb field 0) 0 (cond (stands_up own p.states (sender_in m) || leb 256 (sender_in m)) 0 48))
       (cond (eqb (id_in m) 2) 24
       (cond (eqb (id_in m) 4) (cond (eqb field 0xFFFFFFFF) (cond (some_data t s) 0 24) (cond (found_data t f) 0 24))
       0))) (finds field)
@@ -183,7 +182,7 @@ module _ (own : ℕ) (i ours t : List ℕ) (s : Sections) (index : List ℕ) (p 
       ap (λ (k : Message). owed_length (reaction_to own t s (operation_for t s index h k) p h k 20 (payload_size_in m)).owed)
       (no_eq {A = Message} _ _ (domain_in m) 0 d)
       ∙ of_operation own t s index p h (payload_size_in m) (look own t s index p h (payload_size_in m) (id_in m))
-      ∙ ap (λ (f : Sought). cond (isFound f) 0 24) (finds (id_in m))
+      ∙ ap (λ (f : Option (ℕ × ℕ)). cond (isFound f) 0 24) (finds (id_in m))
       ∙ sym (no_eq {A = ℕ} _ _ (domain_in m) 0 d)
 
   is-owed : owed_in own t s index p m ≡ owed6 t s F own p m
@@ -198,7 +197,7 @@ module _ (own : ℕ) (i ours t : List ℕ) (s : Sections) (index : List ℕ) (p 
       let k = (decided (its_message m)).yes_is a in
       let d : domain_in m ≡ 1 = its-domain own m e k.0 in
       no_eq {A = ℕ} _ _ (domain_in m) 0 (λ z. omega arith)
-      ∙ ap (λ (f : Sought). cond (isFound f) 0 24) (sym (finds (id_in m)))
+      ∙ ap (λ (f : Option (ℕ × ℕ)). cond (isFound f) 0 24) (sym (finds (id_in m)))
       ∙ ap (λ (b : Bool). cond b 0 24) (sent_is_found t (look own t s index p h 0 (id_in m)) (found k.1))
     where
       found : K h.id → is_sent t (look own t s index p h 0 (id_in m)) ≡ true

@@ -1,6 +1,7 @@
 -- A message of Issue 6 that arrives makes the sum smaller, whatever it is, and whether or not its replies fit.
 -- Assumes nothing.
 use Prim.Native.Nat.{ℕ, ◌+◌, ◌≤◌, ◌<◌}
+use Rattle.std.specs.Prelude.{Option, Some, None}
 use mathlib.Core.Path.{◌≡◌, refl, sym, ap, subst}
 use mathlib.Core.Bool.{Bool, true, false, cond}
 use mathlib.Core.List.{List}
@@ -9,8 +10,6 @@ use lib.Dec.{eqb, ltb}
 use lib.ListN.{length}
 use Rattle.wire.specs.Bytes.{over}
 use Rattle.table.specs.declared.Sections.{Sections}
-use Rattle.operations.specs.declared.Sought.{Sought}
-use Rattle.operations.specs.declared.Sought.TheVariants as sought
 use Rattle.pending.specs.Answers.{is_response}
 use Rattle.message.specs.declared.Header.{Header}
 use Rattle.message.specs.declared.Status.{Status}
@@ -37,7 +36,7 @@ use Rattle.promises.proofs.MixedReplies.{owed_weight, owed-light}
 use Rattle.promises.proofs.MixedHeld.{answer_weight, held, held_le, After, nothing-sent, light-sent, came_up}
 
 module _ (own other : ℕ) (i j : List ℕ) (p : Standing) (small : own < 256) (hp : other < 256) (d : other ≡ own → ⊥) where
-  module _ (t : List ℕ) (s : Sections) (f : Sought) (h : Header) (from : h.platform ≡ other) (six : is_three i other ≡ false) (start len : ℕ) where
+  module _ (t : List ℕ) (s : Sections) (f : Option (ℕ × ℕ)) (h : Header) (from : h.platform ≡ other) (six : is_three i other ≡ false) (start len : ℕ) where
     abbrev X6 : Message → Reaction
     X6 k = reaction_to own t s f p h k start len
 
@@ -75,15 +74,15 @@ module _ (own other : ℕ) (i j : List ℕ) (p : Standing) (small : own < 256) (
         all-or-none true = omega arith
         all-or-none false = omega arith
 
-        go : (b : Bool) (g : Sought) → Less6 2 (cond b (on_pull_all t s p n) (on_pull_one t g p n id))
+        go : (b : Bool) (g : Option (ℕ × ℕ)) → Less6 2 (cond b (on_pull_all t s p n) (on_pull_one t g p n id))
         go true g = all-or-none (some_data t s)
-        go false (sought.At k q) = data-or-not (is_data t q) (heard.PullOfOne id k)
-        go false sought.Nowhere = omega arith
+        go false (Some (k, q)) = data-or-not (is_data t q) (heard.PullOfOne id k)
+        go false None = omega arith
 
-    operation-less : (g : Sought) → Less6 2 (on_operation g p h start len)
+    operation-less : (g : Option (ℕ × ℕ)) → Less6 2 (on_operation g p h start len)
     unfolding on_operation
-    operation-less (sought.At k q) = omega arith
-    operation-less sought.Nowhere = omega arith
+    operation-less (Some (k, q)) = omega arith
+    operation-less None = omega arith
 
     six-less : (k : Message) → Less6 (cost6 k) (X6 k)
     unfolding reaction_to

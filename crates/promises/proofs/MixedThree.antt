@@ -1,6 +1,7 @@
 -- The checks behind 1 to 9 for a message of Issue 3 that the platform call reads.
 -- Assumes nothing.
 use Prim.Native.Nat.{ℕ, ◌+◌, ◌*◌, ◌^◌, ◌≤◌, ◌<◌}
+use Rattle.std.specs.Prelude.{Option, Some, None}
 use mathlib.Core.Path.{◌≡◌, refl, sym, ap, subst, ◌∙◌}
 use mathlib.Core.Bool.{Bool, true, false, not, cond, ◌&&◌}
 use mathlib.Core.Logic.{◌⊎◌, inl, inr, ⊎_elim}
@@ -12,10 +13,7 @@ use lib.ListN.{length, drop}
 use Rattle.wire.specs.Bytes.{part}
 use Rattle.wire.proofs.Cond.{clash, and_left, yes-eq, no_eq}
 use Rattle.table.specs.declared.Sections.{Sections}
-use Rattle.operations.specs.declared.Sought.{Sought}
-use Rattle.operations.specs.declared.Sought.TheVariants as sought
 use Rattle.operations.specs.Search.{sought_in}
-use Rattle.pending.specs.declared.Asked.TheVariants.{Of}
 use Rattle.pending.specs.Answers.{awaited_of, is_response}
 use Rattle.message3.specs.declared.Header3.{Header3}
 use Rattle.message3.specs.declared.Message3.{Message3}
@@ -43,13 +41,13 @@ use Rattle.promises.proofs.MixedRead.{seen, payload-is, Given, kind, given_is}
 use Rattle.promises.proofs.MixedChains.{settled-number, needs, owedTo, of_operation}
 
 -- what is sent is found
-pub sent_is_found : (t : List ℕ) (f : Sought) → is_sent t f ≡ true → isFound f ≡ true
+pub sent_is_found : (t : List ℕ) (f : Option (ℕ × ℕ)) → is_sent t f ≡ true → isFound f ≡ true
 unfolding is_sent
-sent_is_found t (sought.At j q) e = refl
-sent_is_found t sought.Nowhere e = absurd (clash refl e)
+sent_is_found t (Some (j, q)) e = refl
+sent_is_found t None e = absurd (clash refl e)
 
 module _ (own : ℕ) (i ours t : List ℕ) (s : Sections) (index : List ℕ) (p : Standing) (l ws m : List ℕ) (room : ℕ)
-    (F : ℕ → Sought) (finds : (id : ℕ) → sought_in t index s.operations.count id ≡ F id)
+    (F : ℕ → Option (ℕ × ℕ)) (finds : (id : ℕ) → sought_in t index s.operations.count id ≡ F id)
     (K : ℕ → Type 0) (sent : (id : ℕ) → Decides (is_sent t (sought_in t index s.operations.count id)) (K id)) (Full : Type 0)
     (tf : ThreeForm i m) (e : read_of3 own m ≡ read_out3 m)
     (full : is_there i (sender_in3 m) ws ≡ true → Decides (not (status_fits (block_of i (sender_in3 m) ws) (drop 24 m))) Full) where
@@ -74,7 +72,7 @@ module _ (own : ℕ) (i ours t : List ℕ) (s : Sections) (index : List ℕ) (p 
   abbrev payload : List ℕ
   payload = part m 24 len
 
-  abbrev look : ℕ → Sought
+  abbrev look : ℕ → Option (ℕ × ℕ)
   look id = sought_in t index s.operations.count id
 
   abbrev pub number_of : Message3 → ℕ
@@ -131,7 +129,7 @@ module _ (own : ℕ) (i ours t : List ℕ) (s : Sections) (index : List ℕ) (p 
 
     owed-is : owedTo own i ours t s index p h payload ws len room ID field ≡ owed3 t F own ours p m
     owed-is =
-        ap (λ (f : Sought). cond (eqb ID 1) (cond (eqb field 0) 0 (cond (stands_up own p.states (sender_in3 m)) 0 88))
+        ap (λ (f : Option (ℕ × ℕ)). cond (eqb ID 1) (cond (eqb field 0) 0 (cond (stands_up own p.states (sender_in3 m)) 0 88))
         (cond (eqb ID 2) 32
         (cond (eqb ID 4) (cond (eqb field 0xFFFFFFFF) (28 + 8 * length ours) 36)
         (cond (eqb ID 7) (cond (eqb field 0xFFFFFFFF) 0 (cond (found_data t f) 0 28))
@@ -168,12 +166,12 @@ module _ (own : ℕ) (i ours t : List ℕ) (s : Sections) (index : List ℕ) (p 
     operation-is = no_eq {A = Message3} _ _ D 0 d
 
     owed-for : cond (isFound (look ID)) 0 28 ≡ owed3 t F own ours p m
-    owed-for = ap (λ (f : Sought). cond (isFound f) 0 28) (finds ID) ∙ sym (no_eq {A = ℕ} _ _ D 0 d)
+    owed-for = ap (λ (f : Option (ℕ × ℕ)). cond (isFound f) 0 28) (finds ID) ∙ sym (no_eq {A = ℕ} _ _ D 0 d)
 
     abbrev matched : Bool
     matched = is_response l h.sequence h.id h.platform
 
-    awaited : Decides matched (awaited_of l h.sequence ≡ Of h.id h.platform)
+    awaited : Decides matched (awaited_of l h.sequence ≡ Some (h.id, h.platform))
     awaited = awaited-decides h.id h.platform l h.sequence
 
     of-response : is_sent t (look ID) ≡ true → number_of message3.Operation ≡ cond matched 0 61

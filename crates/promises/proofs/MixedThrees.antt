@@ -1,6 +1,7 @@
 -- A message of Issue 3 that arrives makes the sum smaller, whatever it is, and whether or not its replies fit.
 -- Assumes nothing.
 use Prim.Native.Nat.{ℕ, ◌+◌, ◌≤◌, ◌<◌}
+use Rattle.std.specs.Prelude.{Option}
 use mathlib.Core.Path.{◌≡◌, refl, sym, ap, subst}
 use mathlib.Core.Bool.{Bool, true, false, cond}
 use mathlib.Core.List.{List}
@@ -9,7 +10,6 @@ use lib.Dec.{eqb}
 use lib.ListN.{length}
 use Rattle.wire.specs.Bytes.{part}
 use Rattle.table.specs.declared.Sections.{Sections}
-use Rattle.operations.specs.declared.Sought.{Sought}
 use Rattle.pending.specs.Answers.{is_response}
 use Rattle.message.specs.declared.Status.{Status}
 use Rattle.message.specs.declared.Status.TheVariants.{Down, Up}
@@ -41,7 +41,7 @@ use Rattle.promises.proofs.MixedReplies.{deed_weight, deed-light}
 use Rattle.promises.proofs.MixedHeld.{answer_weight, held, answer_le, held_le, After, nothing-sent, light-sent, came_up}
 
 module _ (own other : ℕ) (i j : List ℕ) (p : Standing) (hp : other < 256) (d : other ≡ own → ⊥) where
-  module _ (ours t : List ℕ) (s : Sections) (f : Sought) (h : Header3) (from : h.platform ≡ other) (three : is_three i other ≡ true) (start len : ℕ) where
+  module _ (ours t : List ℕ) (s : Sections) (f : Option (ℕ × ℕ)) (h : Header3) (from : h.platform ≡ other) (three : is_three i other ≡ true) (start len : ℕ) where
     abbrev X3 : Message3 → Reaction3
     X3 k = reaction3 own ours t s f p h k start len
 

@@ -2,12 +2,12 @@
 -- its sender's, and any other message none.
 -- Assumes nothing.
 use Prim.Native.Nat.{ℕ, ◌≤◌}
+use Rattle.std.specs.Prelude.{Option}
 use mathlib.Core.Path.{◌≡◌, refl}
 use mathlib.Core.Bool.{Bool, true, false, cond, ◌&&◌}
 use mathlib.Core.List.{List}
 use lib.Dec.{eqb, ltb}
 use Rattle.table.specs.declared.Sections.{Sections}
-use Rattle.operations.specs.declared.Sought.{Sought}
 use Rattle.operations.specs.Search.{sought_in}
 use Rattle.message.specs.declared.Status.TheVariants.{Down, Up}
 use Rattle.message.specs.declared.Message.{Message}
@@ -66,7 +66,7 @@ module _ (own : ℕ) (i ours t : List ℕ) (s : Sections) (index : List ℕ) (p 
   commonly-same n (heard.Operation j start size) = refl
   commonly-same n (heard.NotInTable id) = same (eqb (cond (ltb room 28) 10 0) 0)
 
-  common : (f : Sought) (m : Message) → wordsFor (commonly own t s f p h m 24 len).deed ≡ ws
+  common : (f : Option (ℕ × ℕ)) (m : Message) → wordsFor (commonly own t s f p h m 24 len).deed ≡ ws
   unfolding commonly
   common f m = commonly-same h.sequence (reaction_to own t s f p (in_six_words h) m 24 len).heard
 
@@ -109,7 +109,7 @@ module _ (own : ℕ) (i ours t : List ℕ) (s : Sections) (index : List ℕ) (p 
   unfolding reaction3 operation_for3 on_pull3
   of-pull field second = go (eqb field 0xFFFFFFFF) refl
     where
-      f : Sought
+      f : Option (ℕ × ℕ)
       f = sought_in t index s.operations.count field
 
       go : (a : Bool) → eqb field 0xFFFFFFFF ≡ a → wordsFor (on_pull3 own t s f p h field 24 len).deed ≡ ws
@@ -127,6 +127,6 @@ module _ (own : ℕ) (i ours t : List ℕ) (s : Sections) (index : List ℕ) (p 
   pub words-by-id : (id : ℕ) → 1 ≤ id → id ≤ 9 → ItsWords id
   words-by-id = nine ItsWords (of-status, of-request, of-services, of-services-request, of-unknown, of-not-available, of-pull, of-composite, of-ack)
 
-  pub operation-words : (f : Sought) → wordsFor (reaction3 own ours t s f p h message3.Operation 24 len).deed ≡ ws
+  pub operation-words : (f : Option (ℕ × ℕ)) → wordsFor (reaction3 own ours t s f p h message3.Operation 24 len).deed ≡ ws
   unfolding reaction3
   operation-words f = common f message.Operation

@@ -2,15 +2,13 @@
 -- nothing is pending under its number.
 -- Assumes nothing.
 use Prim.Native.Nat.{ℕ, ◌+◌, ◌*◌, ◌/◌, ◌%◌, ◌^◌, ◌<◌}
+use Rattle.std.specs.Prelude.{Option, Some, None}
 use mathlib.Core.Path.{◌≡◌, refl, sym, ap, ap₂, ◌∙◌}
 use mathlib.Core.Bool.{Bool, true, false}
 use mathlib.Core.List.{List}
 use borrow.Author.Tests.{eqb-true, eqb-false}
 use lib.Dec.{eqb}
 use lib.ListN.{length}
-use Rattle.pending.specs.declared.Slot.{Slot}
-use Rattle.pending.specs.declared.Slot.TheVariants.{At, Nowhere}
-use Rattle.pending.specs.declared.Asked.TheVariants.{Of, Nothing}
 use Rattle.pending.specs.Places.{number_at, place_of, free_place, entered, cleared}
 use Rattle.pending.specs.Free.{is_pending}
 use Rattle.pending.specs.Answers.{asked_at, awaited_of, cleared_at, cancelled}
@@ -18,7 +16,7 @@ use Rattle.pending.proofs.Looking.{IsFirst, is-first, its-place, no_place}
 use Rattle.pending.proofs.Placing.{placed-length, word-here, target-here, word-elsewhere, number_in, id-in}
 use Rattle.pending.proofs.AsMap.{absent, not-standing}
 
-module _ (l : List ℕ) (whole : length l ≡ 128) (k n id target : ℕ) (free : free_place l ≡ At k) (small : id < 2 ^ 32) (not_zero : n ≡ 0 → ⊥)
+module _ (l : List ℕ) (whole : length l ≡ 128) (k n id target : ℕ) (free : free_place l ≡ Some k) (small : id < 2 ^ 32) (not_zero : n ≡ 0 → ⊥)
     (not_taken : is_pending l n ≡ false) where
   place_is : k < 64
   place_is = (is-first l 0 64 0 k free).below
@@ -35,25 +33,25 @@ module _ (l : List ℕ) (whole : length l ≡ 128) (k n id target : ℕ) (free :
       no_place l n (not-standing l n not_taken) not_zero j h
       (sym (ap (λ (x : ℕ). x / 2 ^ 32) (word-elsewhere l k (n * 2 ^ 32 + id) target place_is j d h)) ∙ e)
 
-  stands-new : place_of new n ≡ At k
+  stands-new : place_of new n ≡ Some k
   stands-new = go (place_of new n) refl
     where
       same : (j : ℕ) → IsFirst new n 64 0 j → (b : Bool) → eqb j k ≡ b → j ≡ k
       same j f true e = eqb-true j k e
       same j f false e = absurd (elsewhere j f.below (eqb-false j k e) f.named)
 
-      go : (s : Slot) → place_of new n ≡ s → place_of new n ≡ At k
-      go (At j) p = p ∙ ap At (same j (its-place new n j p) (eqb j k) refl)
-      go Nowhere p = absurd (no_place new n p not_zero k place_is new-number)
+      go : (s : Option ℕ) → place_of new n ≡ s → place_of new n ≡ Some k
+      go (Some j) p = p ∙ ap Some (same j (its-place new n j p) (eqb j k) refl)
+      go None p = absurd (no_place new n p not_zero k place_is new-number)
 
-  pub is-awaited : awaited_of (entered l k n id target) n ≡ Of id target
+  pub is-awaited : awaited_of (entered l k n id target) n ≡ Some (id, target)
   is-awaited =
       ap (asked_at new) stands-new
-      ∙ ap₂ Of (ap (λ (x : ℕ). x % 2 ^ 32) (word-here l k (n * 2 ^ 32 + id) target place_is whole) ∙ id-in n id small)
+      ∙ ap₂ (λ (a b : ℕ). Some (a, b)) (ap (λ (x : ℕ). x % 2 ^ 32) (word-here l k (n * 2 ^ 32 + id) target place_is whole) ∙ id-in n id small)
       (target-here l k (n * 2 ^ 32 + id) target place_is whole)
 
-  pub no_longer : awaited_of (cancelled (entered l k n id target) n) n ≡ Nothing
-  no_longer = ap (λ (s : Slot). awaited_of (cleared_at new s) n) stands-new ∙ ap (asked_at (cleared new k)) (absent (cleared new k) n none)
+  pub no_longer : awaited_of (cancelled (entered l k n id target) n) n ≡ None
+  no_longer = ap (λ (s : Option ℕ). awaited_of (cleared_at new s) n) stands-new ∙ ap (asked_at (cleared new k)) (absent (cleared new k) n none)
     where
       long : length new ≡ 128
       long = placed-length l k (n * 2 ^ 32 + id) target place_is ∙ whole

@@ -1,11 +1,11 @@
 -- The plain map shows one thing only of each call, mixed ones among them, and so over any calls.
 -- Assumes nothing.
 use Prim.Native.Nat.{ℕ}
+use Rattle.std.specs.Prelude.{Some}
 use mathlib.Core.Path.{◌≡◌, refl, sym, ap, ap₂, subst, ◌∙◌}
 use mathlib.Core.List.{List, [], ◌∷◌}
 use native.Mathlib.Omega.{arith}
 use Rattle.table.specs.declared.Sections.{Sections}
-use Rattle.pending.specs.declared.Asked.TheVariants.{Of}
 use Rattle.pending.specs.PlainMap.{Map, taken, inserted, deleted}
 use Rattle.pending.proofs.Drawing.{one_is_next}
 use Rattle.pending.proofs.Turning.{next_by}
@@ -51,13 +51,13 @@ module _ (own : ℕ) (p : Standing) (m w : Map) (same : SameMap m w) where
     same-response =
         ap₂ (λ (y : AnyHeader) (z : ℕ). response_as y z len) both.0 same-entry ∙ ap (λ (z : ℕ). response_as k j z) both.1
 
-    same-under : m.under (number_of h) ≡ Of (id_of h) (sender_of h) → w.under (number_of k) ≡ Of (id_of k) (sender_of k)
+    same-under : m.under (number_of h) ≡ Some (id_of h, sender_of h) → w.under (number_of k) ≡ Some (id_of k, sender_of k)
     same-under u =
-        subst (λ (y : AnyHeader). w.under (number_of y) ≡ Of (id_of y) (sender_of y)) both.0 (sym (same.everywhere (number_of h)) ∙ u)
+        subst (λ (y : AnyHeader). w.under (number_of y) ≡ Some (id_of y, sender_of y)) both.0 (sym (same.everywhere (number_of h)) ∙ u)
 
-    under_same : w.under (number_of k) ≡ Of (id_of k) (sender_of k) → m.under (number_of h) ≡ Of (id_of h) (sender_of h)
+    under_same : w.under (number_of k) ≡ Some (id_of k, sender_of k) → m.under (number_of h) ≡ Some (id_of h, sender_of h)
     under_same u =
-        subst (λ (y : AnyHeader). m.under (number_of y) ≡ Of (id_of y) (sender_of y)) (sym both.0) (same.everywhere (number_of k) ∙ u)
+        subst (λ (y : AnyHeader). m.under (number_of y) ≡ Some (id_of y, sender_of y)) (sym both.0) (same.everywhere (number_of k) ∙ u)
 
   one-any : (c : AnyCall) {x y : OnMapAny} → FairAny c → MixedMapCall own p m c x → MixedMapCall own p w c y → SameOnAny x y
   one-any (plain c) fair (as_one {x = x} a) (as_one {x = y} b) =

@@ -1,6 +1,7 @@
 -- The plain map shows one thing only of each call, and so over any calls.
 -- Assumes nothing.
 use Prim.Native.Nat.{ℕ, ◌+◌}
+use Rattle.std.specs.Prelude.{Option, Some}
 use mathlib.Core.Path.{◌≡◌, refl, sym, ap, ap₂, subst, ◌∙◌}
 use mathlib.Core.Bool.{cond}
 use mathlib.Core.List.{List, [], ◌∷◌}
@@ -11,8 +12,6 @@ use Rattle.types.specs.Table.{checked}
 use Rattle.message.specs.declared.Header.{Header}
 use Rattle.message.specs.declared.Message.TheVariants as message
 use Rattle.message.specs.declared.Reading.TheVariants as reading
-use Rattle.pending.specs.declared.Asked.{Asked}
-use Rattle.pending.specs.declared.Asked.TheVariants.{Of}
 use Rattle.pending.specs.PlainMap.{Map, is_asked, taken, inserted, deleted}
 use Rattle.pending.specs.Turns.{give_up, forgets as Gives-up}
 use Rattle.pending.proofs.Drawing.{one_is_next}
@@ -54,7 +53,7 @@ module _ (own : ℕ) (p : Standing) (m w : Map) (same : SameMap m w) where
   pub same-inserted : (n id target : ℕ) → SameMap (inserted m n id target) (inserted w n id target)
   same-inserted n id target =
       record {
-        everywhere = λ x. ap (λ (z : Asked). cond (eqb x n) (Of id target) z) (same.everywhere x);
+        everywhere = λ x. ap (λ (z : Option (ℕ × ℕ)). cond (eqb x n) (Some (id, target)) z) (same.everywhere x);
         counts = ap (λ (c : ℕ). c + 1) same.counts;
       }
 
@@ -83,13 +82,13 @@ module _ (own : ℕ) (p : Standing) (m w : Map) (same : SameMap m w) where
         ap₂ (λ (x : Header) (y : ℕ). noting.Response x y 20 len) same-header same-entry
         ∙ ap (λ (y : ℕ). noting.Response k j 20 y) same_size
 
-    same-under : m.under h.sequence ≡ Of h.id h.platform → w.under k.sequence ≡ Of k.id k.platform
+    same-under : m.under h.sequence ≡ Some (h.id, h.platform) → w.under k.sequence ≡ Some (k.id, k.platform)
     same-under u =
-        subst (λ (x : Header). w.under x.sequence ≡ Of x.id x.platform) same-header (sym (same.everywhere h.sequence) ∙ u)
+        subst (λ (x : Header). w.under x.sequence ≡ Some (x.id, x.platform)) same-header (sym (same.everywhere h.sequence) ∙ u)
 
-    under_same : w.under k.sequence ≡ Of k.id k.platform → m.under h.sequence ≡ Of h.id h.platform
+    under_same : w.under k.sequence ≡ Some (k.id, k.platform) → m.under h.sequence ≡ Some (h.id, h.platform)
     under_same u =
-        subst (λ (x : Header). m.under x.sequence ≡ Of x.id x.platform) (sym same-header) (same.everywhere k.sequence ∙ u)
+        subst (λ (x : Header). m.under x.sequence ≡ Some (x.id, x.platform)) (sym same-header) (same.everywhere k.sequence ∙ u)
 
   pub one_seen : (c : RequestCall) {x y : OnMap} → Fair c → MapCall own p m c x → MapCall own p w c y → SameOn x y
   one_seen (send t s words id target payload out) fair (sends {n = n} a u) (sends {n = k} b v) =
@@ -114,8 +113,8 @@ module _ (own : ℕ) (p : Standing) (m w : Map) (same : SameMap m w) where
   one_seen (receive t s bytes out) fair (passes u) (delivers {h = k} {i = j} {len = size} q v) = absurd (u k j size q)
   one_seen (receive t s bytes out) fair (passes u) (refuses {h = k} {i = j} {len = size} q v) = absurd (u k j size q)
   one_seen (receive t s bytes out) fair (passes u) (passes v) = (refl, same)
-  one_seen (cancel n) fair forgets forgets = (ap (λ (z : Asked). shown (whether (is_asked z)) [] p) (same.everywhere n), same-deleted n)
-  one_seen (ask n) fair looks looks = (ap (λ (z : Asked). shown (what z) [] p) (same.everywhere n), same)
+  one_seen (cancel n) fair forgets forgets = (ap (λ (z : Option (ℕ × ℕ)). shown (whether (is_asked z)) [] p) (same.everywhere n), same-deleted n)
+  one_seen (ask n) fair looks looks = (ap (λ (z : Option (ℕ × ℕ)). shown (what z) [] p) (same.everywhere n), same)
 
 -- over any calls
 pub one_run : (own : ℕ) (p q : Standing) (m w : Map) (cs : List RequestCall) {xs ys : List Shown} {v z : Map} → p ≡ q → SameMap m w → AllFair cs

@@ -1,6 +1,7 @@
 -- With our deeds the frame of the wrong calls (specs/WrongMixed) is our call: number and words, on every input.
 -- Assumes nothing.
 use Prim.Native.Nat.{ℕ}
+use Rattle.std.specs.Prelude.{Option}
 use mathlib.Core.Path.{◌≡◌, refl, sym, ◌∙◌}
 use mathlib.Core.Bool.{Bool, true, false, cond}
 use mathlib.Core.List.{List}
@@ -19,7 +20,6 @@ use Rattle.message.specs.declared.Message.TheVariants as message
 use Rattle.message3.specs.declared.Header3.{Header3}
 use Rattle.message3.specs.declared.Message3.{Message3}
 use Rattle.message3.specs.declared.Message3.TheVariants as message3
-use Rattle.operations.specs.declared.Sought.{Sought}
 use Rattle.states.specs.States.{stands_up}
 use Rattle.platform.specs.declared.reactions.Standing.{Standing}
 use Rattle.platform.specs.declared.reactions.Heard.{Heard}
@@ -66,7 +66,7 @@ module _ (own : ℕ) (i ours t : List ℕ) (s : Sections) (index : List ℕ) (p 
   wordsAt x = any_words_of own i ours t s index p ws m room x
 
   module _ (h : Header3) (start len : ℕ) where
-    abbrev found : Message3 → Sought
+    abbrev found : Message3 → Option (ℕ × ℕ)
     found k = operation_for3 t s index h k
 
     down-number : (c : ℕ) → number_read our_deeds own i p ws m (number_at (Three h (message3.PlatformStatus Down c) start len))
@@ -117,7 +117,7 @@ module _ (own : ℕ) (i ours t : List ℕ) (s : Sections) (index : List ℕ) (p 
         same_words (eqb (short_by ours x.deed room) 0) (kept_words i h.platform x.deed (part m start len) ws) ws e
         ∙ sym (kept-as (kept_words i h.platform x.deed (part m start len) ws) ws ours x.deed room)
 
-    common : (k : Message) (f : Sought) → ws ≡ kept3 i ours h (commonly own t s f p h k start len) (part m start len) ws room
+    common : (k : Message) (f : Option (ℕ × ℕ)) → ws ≡ kept3 i ours h (commonly own t s f p h k start len) (part m start len) ws room
     unfolding commonly
     common k f = settled-words (commonly own t s f p h k start len) (common-words h.sequence (reaction_to own t s f p (in_six_words h) k start len).heard)
 
@@ -150,7 +150,7 @@ module _ (own : ℕ) (i ours t : List ℕ) (s : Sections) (index : List ℕ) (p 
         go true = refl
         go false = refl
 
-    pull-words : (id : ℕ) (f : Sought) → ws ≡ kept3 i ours h (on_pull3 own t s f p h id start len) (part m start len) ws room
+    pull-words : (id : ℕ) (f : Option (ℕ × ℕ)) → ws ≡ kept3 i ours h (on_pull3 own t s f p h id start len) (part m start len) ws room
     unfolding on_pull3 kept3 room_for kept_words
     pull-words id f = go (eqb id all_data) refl
       where
@@ -158,7 +158,7 @@ module _ (own : ℕ) (i ours t : List ℕ) (s : Sections) (index : List ℕ) (p 
         go true e = rw e refl
         go false e = rw e (common (message.VersionedDataPull id) f)
 
-    operation-words : (b : Bool) (f : Sought)
+    operation-words : (b : Bool) (f : Option (ℕ × ℕ))
         → ws ≡ cond b ws (kept3 i ours h (commonly own t s f p h message.Operation start len) (part m start len) ws room)
     operation-words true f = refl
     operation-words false f = common message.Operation f

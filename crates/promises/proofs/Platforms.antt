@@ -1,9 +1,9 @@
 -- Platforms: states, replies, silence.
 -- Assumes nothing.
 use mathlib.Core.Path.{refl}
+use Rattle.std.specs.Prelude.{None}
 use mathlib.Core.List.{[]}
 use Rattle.table.specs.declared.Section.{Section}
-use Rattle.operations.specs.declared.Sought.TheVariants as sought
 use Rattle.operations.specs.Rules.{has_data}
 use Rattle.wire.specs.All.{all_below}
 use Rattle.states.specs.States.{word_of, with_word, bit_of, stands_up, turned, with_own}
@@ -37,7 +37,7 @@ bare =
     record {
       table = [];
       sections = record { types = empty; members = empty; values = empty; operations = empty };
-      looked = sought.Nowhere;
+      looked = None;
       list = [];
       room = 48;
     }

@@ -1,6 +1,7 @@
 -- What a message comes to at a platform: the replies that are owed for it, the next own number and the states after it.
 -- Assumes nothing.
 use Prim.Native.Nat.{ℕ, ◌+◌, ◌*◌, ◌^◌, ◌≤◌, ◌<◌}
+use Rattle.std.specs.Prelude.{Option, Some, None}
 use mathlib.Core.Path.{◌≡◌, refl, sym, ap, ◌∙◌}
 use mathlib.Core.Bool.{Bool, true, false, not, cond, ◌||◌}
 use mathlib.Core.List.{List, [], ◌∷◌, map}
@@ -12,8 +13,6 @@ use lib.Pow.{pow_pos}
 use lib.ListN.{length}
 use Rattle.wire.specs.Bytes.{number}
 use Rattle.table.specs.declared.Sections.{Sections}
-use Rattle.operations.specs.declared.Sought.{Sought}
-use Rattle.operations.specs.declared.Sought.TheVariants as sought
 use Rattle.operations.specs.Search.{sought_in}
 use Rattle.message.specs.declared.Header.{Header}
 use Rattle.message.specs.declared.Status.{Status}
@@ -50,17 +49,17 @@ Finds t s index id = sought_in t index s.operations.count id ≡ operation_with 
 pub data Pull (t : List ℕ) (s : Sections) (index : List ℕ) (id : ℕ) : Type 0 where
   all_of_none : eqb id all_data ≡ true → some_data t s ≡ false → Pull t s index id
   all_of_some : eqb id all_data ≡ true → some_data t s ≡ true → Pull t s index id
-  one_entry : (i q : ℕ) → eqb id all_data ≡ false → operation_with t s id ≡ sought.At i q → Finds t s index id → (b : Bool) → is_data t q ≡ b → Pull t s index id
-  no_entry : eqb id all_data ≡ false → operation_with t s id ≡ sought.Nowhere → Finds t s index id → Pull t s index id
+  one_entry : (i q : ℕ) → eqb id all_data ≡ false → operation_with t s id ≡ Some (i, q) → Finds t s index id → (b : Bool) → is_data t q ≡ b → Pull t s index id
+  no_entry : eqb id all_data ≡ false → operation_with t s id ≡ None → Finds t s index id → Pull t s index id
 
 pub pulled : (t : List ℕ) (s : Sections) (index : List ℕ) (id : ℕ) → Finds t s index id → Pull t s index id
 pulled t s index id g = go (eqb id all_data) refl (some_data t s) refl (operation_with t s id) refl
   where
-    go : (a : Bool) → eqb id all_data ≡ a → (b : Bool) → some_data t s ≡ b → (x : Sought) → operation_with t s id ≡ x → Pull t s index id
+    go : (a : Bool) → eqb id all_data ≡ a → (b : Bool) → some_data t s ≡ b → (x : Option (ℕ × ℕ)) → operation_with t s id ≡ x → Pull t s index id
     go true e true d x f = all_of_some e d
     go true e false d x f = all_of_none e d
-    go false e b d (sought.At i q) f = one_entry i q e f g (is_data t q) refl
-    go false e b d sought.Nowhere f = no_entry e f g
+    go false e b d (Some (i, q)) f = one_entry i q e f g (is_data t q) refl
+    go false e b d None f = no_entry e f g
 
 -- a state that is as it was said already, and one that is turned
 module _ (own : ℕ) (s : States) (k who : ℕ) where
@@ -220,9 +219,9 @@ module _ (own : ℕ) (t : List ℕ) (s : Sections) (index : List ℕ) (p : Stand
       unfolding reaction_to operation_for on_operation
       on-operation = go (operation_with t s h.id) refl (scan h.id)
         where
-          go : (x : Sought) → operation_with t s h.id ≡ x → Finds t s index h.id → Reacts message.Operation
-          go (sought.At i q) f g = rw (g, f) (record { owed-is = refl; long = refl; wide = tt; next = refl; states = λ k l. refl })
-          go sought.Nowhere f g = rw (g, f) (record {
+          go : (x : Option (ℕ × ℕ)) → operation_with t s h.id ≡ x → Finds t s index h.id → Reacts message.Operation
+          go (Some (i, q)) f g = rw (g, f) (record { owed-is = refl; long = refl; wide = tt; next = refl; states = λ k l. refl })
+          go None f g = rw (g, f) (record {
             owed-is = refl;
             long = refl;
             wide = (record { number = hq; field = hi }, tt);

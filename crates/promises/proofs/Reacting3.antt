@@ -2,6 +2,7 @@
 -- whether it changes what is known of services.
 -- Assumes nothing.
 use Prim.Native.Nat.{ℕ, ◌^◌, ◌<◌}
+use Rattle.std.specs.Prelude.{Option, Some, None}
 use mathlib.Core.Path.{◌≡◌, refl, sym, ap, ◌∙◌}
 use mathlib.Core.Bool.{Bool, true, false, true≢false}
 use mathlib.Core.List.{List, [], ◌∷◌}
@@ -10,8 +11,6 @@ use lib.Dec.{eqb}
 use lib.ListN.{length, drop}
 use Rattle.wire.proofs.Cond.{yes_le}
 use Rattle.table.specs.declared.Sections.{Sections}
-use Rattle.operations.specs.declared.Sought.{Sought}
-use Rattle.operations.specs.declared.Sought.TheVariants as sought
 use Rattle.message.specs.declared.Status.TheVariants.{Down, Up}
 use Rattle.message.specs.Refusal.{platforms}
 use Rattle.message3.specs.declared.Header3.{Header3}
@@ -209,8 +208,8 @@ module _ (c : MixedCall) (s : Sections) (index : List ℕ) (h : Header3) (start 
       unfolding reaction3 operation_for3 commonly reaction_to on_operation kept_number kept_words
       on-operation3 = go (operation_with c.table s h.id) refl (scan h.id)
         where
-          go : (x : Sought) → operation_with c.table s h.id ≡ x → Finds c.table s index h.id → Reacts3 Operation
-          go (sought.At i q) f g = rw (g, f) (record {
+          go : (x : Option (ℕ × ℕ)) → operation_with c.table s h.id ≡ x → Finds c.table s index h.id → Reacts3 Operation
+          go (Some (i, q)) f g = rw (g, f) (record {
             owed-is = refl;
             wide = tt;
             next = refl;
@@ -219,7 +218,7 @@ module _ (c : MixedCall) (s : Sections) (index : List ℕ) (h : Header3) (start 
             stay = λ z. refl;
             few = λ z. refl;
           })
-          go sought.Nowhere f g = rw (g, f) (record {
+          go None f g = rw (g, f) (record {
             owed-is = refl;
             wide = (hq, hi);
             next = refl;

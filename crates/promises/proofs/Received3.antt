@@ -1,6 +1,7 @@
 -- What a message of Issue 3 that was read says: its header's numbers fit, it is no response, and what it comes to.
 -- Assumes nothing.
 use Prim.Native.Nat.{ℕ, ◌-◌, ◌^◌, ◌≤◌, ◌<◌}
+use Rattle.std.specs.Prelude.{Option}
 use mathlib.Core.Path.{◌≡◌, refl, sym, ap, subst, ◌∙◌}
 use mathlib.Core.Bool.{Bool, true, false, cond}
 use mathlib.Core.List.{List}
@@ -10,7 +11,6 @@ use lib.ListN.{length}
 use Rattle.wire.specs.Bytes.{number}
 use Rattle.wire.proofs.Numbers.{number_lt, octets_drop}
 use Rattle.table.specs.declared.Sections.{Sections}
-use Rattle.operations.specs.declared.Sought.{Sought}
 use Rattle.message.specs.declared.Message.TheVariants as message
 use Rattle.message.specs.Refusal.{platforms}
 use Rattle.message3.specs.declared.Header3.{Header3}
@@ -153,7 +153,7 @@ module _ (c : MixedCall) (s : Sections) (h : Header3) (kind : Message3) (r : Rec
       (looked c.table s r.table)
       kind its-field
 
-  abbrev pub itsOperation : Sought
+  abbrev pub itsOperation : Option (ℕ × ℕ)
   itsOperation = operation_for3 c.table s (index_of c.table s) h kind
 
   pub not_answer : is_answer3 c.table itsOperation kind ≡ false

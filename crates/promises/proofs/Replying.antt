@@ -1,6 +1,7 @@
 -- What a call for one message notes and writes: the replies that are owed, as their receiver reads them.
 -- Assumes nothing.
 use Prim.Native.Nat.{ℕ, ◌+◌, ◌-◌, ◌*◌, ◌^◌, ◌≤◌, ◌<◌}
+use Rattle.std.specs.Prelude.{Option}
 use mathlib.Core.Path.{◌≡◌, refl, sym, ap, subst, ◌∙◌}
 use mathlib.Core.Bool.{Bool, true, false, cond}
 use mathlib.Core.List.{List, [], ◌∷◌, map}
@@ -29,7 +30,6 @@ use Rattle.platform.specs.declared.Noting.TheVariants.{Refused, Noted}
 use Rattle.platform.specs.declared.Received.{Received}
 use Rattle.states.specs.States.{stands_up}
 use Rattle.platform.specs.Replies.{reply_bytes, reply_header, Wide, replies, Each, owed_bytes, owed_length}
-use Rattle.operations.specs.declared.Sought.{Sought}
 use Rattle.platform.specs.Reaction.{operation_for, operation_in}
 use Rattle.platform.specs.Receiving.{refused, taken, answered, laid_out, is_answer, response_to, list_answered, outcome_of, output_of, list_of, index_of}
 use Rattle.platform.specs.Receiving.{received_by, received_of, left_if, left_of, list_if, list_after}
@@ -98,7 +98,7 @@ module _ (own : ℕ) (t : List ℕ) (s : Sections) (p : Standing) (l m out : Lis
   abbrev pub the : Reaction
   the = X own t s (index_of t s) p h c.start c.len kind
 
-  abbrev itsOperation : Sought
+  abbrev itsOperation : Option (ℕ × ℕ)
   itsOperation = operation_for t s (index_of t s) h kind
 
   not_answer : is_answer t itsOperation kind ≡ false

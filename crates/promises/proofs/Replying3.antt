@@ -1,6 +1,7 @@
 -- What a call for one message of Issue 3 notes and writes: the replies that are owed, as their receiver reads them.
 -- Assumes nothing.
 use Prim.Native.Nat.{ℕ, ◌+◌, ◌^◌, ◌≤◌, ◌<◌}
+use Rattle.std.specs.Prelude.{Option}
 use mathlib.Core.Path.{◌≡◌, sym, ap, ap₂, subst, ◌∙◌}
 use mathlib.Core.Bool.{false}
 use mathlib.Core.List.{List}
@@ -12,7 +13,6 @@ use Rattle.wire.specs.Bytes.{over, part}
 use Rattle.wire.proofs.Cond.{no-if}
 use Rattle.table.specs.declared.Sections.{Sections}
 use Rattle.table.specs.declared.Checked.{Checked}
-use Rattle.operations.specs.declared.Sought.{Sought}
 use Rattle.message3.specs.declared.Header3.{Header3}
 use Rattle.message3.specs.declared.Message3.{Message3}
 use Rattle.message3.specs.declared.Message3.TheVariants as message3
@@ -39,7 +39,7 @@ module _ (c : MixedCall) (s : Sections) (h : Header3) (kind : Message3) (r : Rec
   abbrev the : Reaction3
   the = its-reaction c s h kind r
 
-  abbrev itsOperation : Sought
+  abbrev itsOperation : Option (ℕ × ℕ)
   itsOperation = operation_for3 c.table s (index_of c.table s) h kind
 
   how : Reacts3 c s (index_of c.table s) h r.start r.len kind

@@ -1,6 +1,7 @@
 -- What is reported of a message of each kind.
 -- Assumes nothing.
 use Prim.Native.Nat.{ℕ, ◌-◌, ◌≤◌, ◌<◌}
+use Rattle.std.specs.Prelude.{Option, Some, None}
 use mathlib.Core.Path.{◌≡◌, refl, sym, ap, ap₂, subst, ◌∙◌}
 use mathlib.Core.Bool.{Bool, true, false, not}
 use mathlib.Core.List.{List}
@@ -13,8 +14,6 @@ use Rattle.wire.specs.Bytes.{part}
 use Rattle.wire.proofs.Runs.{part_in}
 use Rattle.wire.specs.All.{all_below}
 use Rattle.wire.proofs.AllBelow.{at-below}
-use Rattle.operations.specs.declared.Sought.{Sought}
-use Rattle.operations.specs.declared.Sought.TheVariants as sought
 use Rattle.operations.specs.Entries.{kind_at}
 use Rattle.operations.specs.Rules.{not_data, has_data}
 use Rattle.table.specs.declared.Sections.{Sections}
@@ -75,10 +74,10 @@ module _ (t : List ℕ) (s : Sections) where
 
   module _ (accepted : checked t ≡ Table s) where
     -- the entry of an ID is versioned data, or is not
-    one-data : (id i q : ℕ) → operation_with t s id ≡ sought.At i q → is_data t q ≡ true → IsVersioned t s i
+    one-data : (id i q : ℕ) → operation_with t s id ≡ Some (i, q) → is_data t q ≡ true → IsVersioned t s i
     one-data id i q f d = data_is i (ap (is_data t) (sym (bears t s accepted id i q f).1) ∙ d)
 
-    one-event : (id i q : ℕ) → operation_with t s id ≡ sought.At i q → is_data t q ≡ false → (j : ℕ) → HasID t s id j → ¬ (IsVersioned t s j)
+    one-event : (id i q : ℕ) → operation_with t s id ≡ Some (i, q) → is_data t q ≡ false → (j : ℕ) → HasID t s id j → ¬ (IsVersioned t s j)
     one-event id i q f d j k v =
         let b : HasID t s id i × (q ≡ operation_place t s i) = bears t s accepted id i q f in
         not-data i (ap (is_data t) (sym b.1) ∙ d) (subst (IsVersioned t s) (same t s accepted id j i k b.0) v)
@@ -111,12 +110,12 @@ module _ (t : List ℕ) (s : Sections) where
       unfolding reaction_to operation_for on_operation
       of_operation = go (operation_with t s h.id) refl (looked t s accepted h.id)
         where
-          go : (x : Sought) → operation_with t s h.id ≡ x → Finds t s (index_of t s) h.id
+          go : (x : Option (ℕ × ℕ)) → operation_with t s h.id ≡ x → Finds t s (index_of t s) h.id
               → Operated t s h.id m (its message.Operation).heard
-          go (sought.At i q) f g =
+          go (Some (i, q)) f g =
               let e : (its message.Operation).heard ≡ heard.Operation i 20 (length m - 20) = rw (g, f) (ap₂ (heard.Operation i) at rest) in
               in_table i (bears t s accepted h.id i q f).0 e (ap (payload_heard m) e ∙ payload_part m long)
-          go sought.Nowhere f g = not_in_table (bears-not t s accepted h.id f) (rw (g, f))
+          go None f g = not_in_table (bears-not t s accepted h.id f) (rw (g, f))
 
       pub reports : (kind : Message) → Reports t s h m kind (its kind).heard
       unfolding reaction_to

@@ -1,6 +1,7 @@
 -- What is reported of a message of Issue 3 of each kind.
 -- Assumes nothing.
 use Prim.Native.Nat.{ℕ, ◌-◌, ◌≤◌}
+use Rattle.std.specs.Prelude.{Option, Some, None}
 use mathlib.Core.Path.{◌≡◌, refl, sym, ap, ap₂, subst, ◌∙◌}
 use mathlib.Core.Bool.{Bool, true, false, cond}
 use mathlib.Core.List.{List}
@@ -13,8 +14,6 @@ use Rattle.wire.specs.Bytes.{part}
 use Rattle.wire.proofs.Runs.{part_in}
 use Rattle.table.specs.declared.Sections.{Sections}
 use Rattle.table.specs.declared.Checked.TheVariants.{Table}
-use Rattle.operations.specs.declared.Sought.{Sought}
-use Rattle.operations.specs.declared.Sought.TheVariants as sought
 use Rattle.types.specs.Table.{checked}
 use Rattle.message.specs.declared.Status.TheVariants.{Down, Up}
 use Rattle.message.specs.declared.Message.TheVariants as message
@@ -103,13 +102,13 @@ module _ (c : MixedCall) (s : Sections) (accepted : checked c.table ≡ Table s)
   unfolding reaction3 operation_for3 commonly reaction_to on_operation
   of_operation = go (operation_with c.table s h.id) refl (looked c.table s accepted h.id)
     where
-      go : (x : Sought) → operation_with c.table s h.id ≡ x → Finds c.table s (index_of c.table s) h.id
+      go : (x : Option (ℕ × ℕ)) → operation_with c.table s h.id ≡ x → Finds c.table s (index_of c.table s) h.id
           → Operated3 c.table s h.id c.message (its Operation)
-      go (sought.At i q) f g =
+      go (Some (i, q)) f g =
           let e : its Operation ≡ heard3.Common (heard.Operation i 24 (length c.message - 24)) =
           rw (g, f) (ap₂ (λ (x y : ℕ). heard3.Common (heard.Operation i x y)) at rest) in
           three.in_table i (bears c.table s accepted h.id i q f).0 e (payload_part3 c.message long)
-      go sought.Nowhere f g = three.not_in_table (bears-not c.table s accepted h.id f) (rw (g, f))
+      go None f g = three.not_in_table (bears-not c.table s accepted h.id f) (rw (g, f))
 
   pub reports3 : (kind : Message3) → Reports3 c.table s h c.message kind (its kind)
   unfolding reaction3 commonly reaction_to on_services_request

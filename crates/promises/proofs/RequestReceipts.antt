@@ -1,6 +1,7 @@
 -- What receiving comes to, on a table that `check` accepts: for a message of domain 1 under an ID of kind 2, and for every other.
 -- Assumes nothing.
 use Prim.Native.Nat.{ℕ, zero, suc, ◌^◌, ◌≤◌, ◌<◌}
+use Rattle.std.specs.Prelude.{Option, Some, None}
 use mathlib.Core.Path.{◌≡◌, refl, sym, ap, ap₂, subst, ◌∙◌}
 use mathlib.Core.Bool.{Bool, true, false, cond}
 use mathlib.Core.List.{List}
@@ -15,8 +16,6 @@ use Rattle.table.specs.declared.Checked.{Checked}
 use Rattle.table.specs.declared.Checked.TheVariants.{Table}
 use Rattle.types.specs.Table.{checked}
 use Rattle.types.proofs.Accepted.{accepted}
-use Rattle.operations.specs.declared.Sought.{Sought}
-use Rattle.operations.specs.declared.Sought.TheVariants.{At, Nowhere}
 use Rattle.operations.specs.Entries.{op_place}
 use Rattle.operations.specs.Search.{sought_in}
 use Rattle.message.specs.declared.Header.{Header}
@@ -46,17 +45,17 @@ use Rattle.promises.specs.RequestCalls.{HasKind, kind_found, kind_in}
 use Rattle.promises.specs.RequestRuns.{Responds}
 use Rattle.promises.proofs.RequestTables.{finds, its-kind, has-kind}
 
-pub sent_by : (t : List ℕ) (x : Sought) → is_sent t x ≡ eqb (kind_found t x) 2
+pub sent_by : (t : List ℕ) (x : Option (ℕ × ℕ)) → is_sent t x ≡ eqb (kind_found t x) 2
 unfolding is_sent
-sent_by t (At i p) = refl
-sent_by t Nowhere = refl
+sent_by t (Some (i, p)) = refl
+sent_by t None = refl
 
 -- whether a message that was read answers a request of ours
-abbrev pub answers_in : List ℕ → Sought → Reading → Bool
+abbrev pub answers_in : List ℕ → Option (ℕ × ℕ) → Reading → Bool
 answers_in t f (reading.Refused n) = false
 answers_in t f (reading.Read h m start len) = is_answer t f m
 
-module _ (own : ℕ) (t : List ℕ) (s : Sections) (f : Sought) where
+module _ (own : ℕ) (t : List ℕ) (s : Sections) (f : Option (ℕ × ℕ)) where
   no-list-outcome : (p : Standing) (x : Reading) (l k : List ℕ) (room : ℕ) → answers_in t f x ≡ false
       → outcome_of own t s f p l x room ≡ outcome_of own t s f p k x room
   unfolding outcome_of
@@ -68,7 +67,7 @@ module _ (own : ℕ) (t : List ℕ) (s : Sections) (f : Sought) where
   no-list (reading.Refused n) l e = refl
   no-list (reading.Read h m start len) l e = no-if _ _ e
 
-module _ (own : ℕ) (t : List ℕ) (s : Sections) (f : Sought) (p : Standing) (fits : p.next < 2 ^ 32) where
+module _ (own : ℕ) (t : List ℕ) (s : Sections) (f : Option (ℕ × ℕ)) (p : Standing) (fits : p.next < 2 ^ 32) where
   status-next : (sender : ℕ) (x : Status) → (on_status own p sender x).standing.next < 2 ^ 32
   unfolding on_status on_state coming_up
   status-next sender Up = go (ltb sender platforms) (stands_up own p.states sender)
@@ -90,15 +89,15 @@ module _ (own : ℕ) (t : List ℕ) (s : Sections) (f : Sought) (p : Standing) (
   unfolding on_pull on_pull_all on_pull_one
   pull-next n id = go (eqb id all_data) (some_data t s) f
     where
-      one : (y : Sought) → (on_pull_one t y p n id).standing.next < 2 ^ 32
-      one (At i q) = either (is_data t q)
+      one : (y : Option (ℕ × ℕ)) → (on_pull_one t y p n id).standing.next < 2 ^ 32
+      one (Some (i, q)) = either (is_data t q)
         where
           either : (c : Bool) → (cond c (silent p (heard.PullOfOne id i)) (not_versioned p n id)).standing.next < 2 ^ 32
           either true = fits
           either false = fits
-      one Nowhere = fits
+      one None = fits
 
-      go : (a b : Bool) (y : Sought)
+      go : (a b : Bool) (y : Option (ℕ × ℕ))
           → (cond a (cond b (silent p heard.PullOfAll) (not_versioned p n all_data)) (on_pull_one t y p n id)).standing.next < 2 ^ 32
       go true true y = fits
       go true false y = fits
@@ -112,9 +111,9 @@ module _ (own : ℕ) (t : List ℕ) (s : Sections) (f : Sought) (p : Standing) (
   reaction-next h (message.VersionedDataPull id) start len = pull-next h.sequence id
   reaction-next h message.Operation start len = go f
     where
-      go : (y : Sought) → (on_operation y p h start len).standing.next < 2 ^ 32
-      go (At i q) = fits
-      go Nowhere = fits
+      go : (y : Option (ℕ × ℕ)) → (on_operation y p h start len).standing.next < 2 ^ 32
+      go (Some (i, q)) = fits
+      go None = fits
 
   outcome-next : (l : List ℕ) (x : Reading) (room : ℕ) → (outcome_of own t s f p l x room).standing.next < 2 ^ 32
   unfolding outcome_of response_to receiving.answered
@@ -133,7 +132,7 @@ module _ (own : ℕ) (t : List ℕ) (s : Sections) (f : Sought) (p : Standing) (
       go false b = fit (ltb room (owed_length (reaction_to own t s f p h m start len).owed))
 
 module _ (own : ℕ) (t : List ℕ) (s : Sections) (e : checked t ≡ Table s) (bytes : List ℕ) where
-  abbrev pub found : Sought
+  abbrev pub found : Option (ℕ × ℕ)
   found = operation_in t s (index_of t s) (read_of own bytes)
 
   abbrev pub zeros : List ℕ
@@ -159,8 +158,8 @@ module _ (own : ℕ) (t : List ℕ) (s : Sections) (e : checked t ≡ Table s) (
   -- a message of domain 1 under an ID of this kind
   module _ (h : Header) (kind i len : ℕ) (read : read_of own bytes ≡ reading.Read h message.Operation 20 len)
       (has : HasKind t s h.id kind i) where
-    abbrev entry : Sought
-    entry = At i (op_place t s.operations.at i)
+    abbrev entry : Option (ℕ × ℕ)
+    entry = Some (i, op_place t s.operations.at i)
 
     found_entry : found ≡ entry
     unfolding operation_in operation_for
@@ -173,14 +172,14 @@ module _ (own : ℕ) (t : List ℕ) (s : Sections) (e : checked t ≡ Table s) (
     pub its-outcome : (p : Standing) (l : List ℕ) (room : ℕ)
         → received_of own t p l bytes room ≡ outcome_of own t s entry p l (reading.Read h message.Operation 20 len) room
     its-outcome p l room =
-        in-outcome p l room ∙ ap₂ (λ (f : Sought) (x : Reading). outcome_of own t s f p l x room) found_entry read
+        in-outcome p l room ∙ ap₂ (λ (f : Option (ℕ × ℕ)) (x : Reading). outcome_of own t s f p l x room) found_entry read
 
     pub its-output : (p : Standing) (out : List ℕ)
         → left_of own t p bytes out ≡ output_of own t s entry p (reading.Read h message.Operation 20 len) out
-    its-output p out = in-output p out ∙ ap₂ (λ (f : Sought) (x : Reading). output_of own t s f p x out) found_entry read
+    its-output p out = in-output p out ∙ ap₂ (λ (f : Option (ℕ × ℕ)) (x : Reading). output_of own t s f p x out) found_entry read
 
     pub its-list : (l : List ℕ) → list_after own t l bytes ≡ list_of t entry l (reading.Read h message.Operation 20 len)
-    its-list l = in_list l ∙ ap₂ (λ (f : Sought) (x : Reading). list_of t f l x) found_entry read
+    its-list l = in_list l ∙ ap₂ (λ (f : Option (ℕ × ℕ)) (x : Reading). list_of t f l x) found_entry read
 
     -- kind 2: it is judged by the list
     module _ (two : kind ≡ 2) where
@@ -252,7 +251,7 @@ module _ (own : ℕ) (t : List ℕ) (s : Sections) (e : checked t ≡ Table s) (
           ∙ sent_by t (sought_in t (index_of t s) s.operations.count (id_in bytes)) ∙ d)
 
       another : (m : Message) → ((n : Header) (k a b : ℕ) (h : Header) → reading.Read n m k a ≡ reading.Read h message.Operation 20 b → ⊥)
-          → ((f : Sought) → is_answer t f m ≡ false)
+          → ((f : Option (ℕ × ℕ)) → is_answer t f m ≡ false)
           → read_of own bytes ≡ reading.Read (header_in bytes) m 20 (payload_size_in bytes) → Receipt
       another m d n q =
           other (λ h i len r. d (header_in bytes) 20 (payload_size_in bytes) len h (sym q ∙ r.read))

@@ -1,6 +1,7 @@
 -- On a table that `check` accepts the operation that is found for an ID is the entry that bears it, and its kind that entry's.
 -- Assumes nothing.
 use Prim.Native.Nat.{ℕ, ◌≤◌, ◌<◌}
+use Rattle.std.specs.Prelude.{Option, Some, None}
 use mathlib.Core.Path.{◌≡◌, refl, sym, ap, ap₂, subst, ◌∙◌}
 use mathlib.Core.List.{List}
 use native.Mathlib.Omega.{arith}
@@ -9,8 +10,6 @@ use Rattle.table.specs.declared.Sections.{Sections}
 use Rattle.table.specs.declared.Checked.TheVariants.{Table}
 use Rattle.types.specs.Table.{checked}
 use Rattle.types.proofs.Accepted.{accepted, ids-rise}
-use Rattle.operations.specs.declared.Sought.{Sought}
-use Rattle.operations.specs.declared.Sought.TheVariants.{At, Nowhere}
 use Rattle.operations.specs.Entries.{op_place, kind_at, id_at}
 use Rattle.operations.specs.Search.{indexed, sought_in, operation_of}
 use Rattle.operations.proofs.WhereIDsRise.{Bears, scanned, same_id}
@@ -28,7 +27,7 @@ module _ (t : List ℕ) (s : Sections) (e : checked t ≡ Table s) where
       same_id t s.operations.at 0 s.operations.count (ids-rise t s (accepted t s e)) i j hi hj q
 
   module _ (words : List ℕ) (room : s.operations.count ≤ length words) (id : ℕ) where
-    abbrev sought : Sought
+    abbrev sought : Option (ℕ × ℕ)
     sought = sought_in t (indexed t s.operations.at s.operations.count words) s.operations.count id
 
     bears : Bears t s.operations.at id s.operations.count sought
@@ -38,30 +37,30 @@ module _ (t : List ℕ) (s : Sections) (e : checked t ≡ Table s) where
         (scanned t s.operations.at id s.operations.count)
 
     -- what bears the ID is found
-    pub finds : (kind i : ℕ) → HasKind t s id kind i → sought ≡ At i (places i)
+    pub finds : (kind i : ℕ) → HasKind t s id kind i → sought ≡ Some (i, places i)
     finds kind i h = go sought bears
       where
-        go : (x : Sought) → Bears t s.operations.at id s.operations.count x → x ≡ At i (places i)
-        go (At j p) b =
+        go : (x : Option (ℕ × ℕ)) → Bears t s.operations.at id s.operations.count x → x ≡ Some (i, places i)
+        go (Some (j, p)) b =
             let q : j ≡ i = one_entry j i b.0 h.there (b.1.1 ∙ sym h.named) in
-            ap₂ At q (b.1.0 ∙ ap places q)
-        go Nowhere b = absurd (b i h.there h.named)
+            ap₂ Some (q, b.1.0 ∙ ap places q)
+        go None b = absurd (b i h.there h.named)
 
     pub its-kind : (kind i : ℕ) → HasKind t s id kind i → kind_in t s words id ≡ kind
     its-kind kind i h = ap (kind_found t) (finds kind i h) ∙ h.kinded
 
     -- and what is found bears it
-    pub found-has : (kind i p : ℕ) → sought ≡ At i p → kind_at t p ≡ kind → HasKind t s id kind i
+    pub found-has : (kind i p : ℕ) → sought ≡ Some (i, p) → kind_at t p ≡ kind → HasKind t s id kind i
     found-has kind i p f k =
-        let b : Bears t s.operations.at id s.operations.count (At i p) = subst (Bears t s.operations.at id s.operations.count) f bears in
+        let b : Bears t s.operations.at id s.operations.count (Some (i, p)) = subst (Bears t s.operations.at id s.operations.count) f bears in
         record { there = b.0; named = b.1.1; kinded = ap (kind_at t) (sym b.1.0) ∙ k }
 
     pub has-kind : kind_in t s words id ≡ 2 → (i : ℕ) × HasKind t s id 2 i
     has-kind k = go sought refl
       where
-        go : (x : Sought) → sought ≡ x → (i : ℕ) × HasKind t s id 2 i
-        go (At i p) f = (i, found-has 2 i p f (sym (ap (kind_found t) f) ∙ k))
-        go Nowhere f =
+        go : (x : Option (ℕ × ℕ)) → sought ≡ x → (i : ℕ) × HasKind t s id 2 i
+        go (Some (i, p)) f = (i, found-has 2 i p f (sym (ap (kind_found t) f) ∙ k))
+        go None f =
             let z : ◌≡◌ {A = ℕ} 0 2 = sym (ap (kind_found t) f) ∙ k in
             absurd (omega arith)
 

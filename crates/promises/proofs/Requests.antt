@@ -1,6 +1,7 @@
 -- What is promised of the list of pending requests and of sending.
 -- Assumes nothing.
 use Prim.Native.Nat.{ℕ, ◌+◌, ◌^◌, ◌<◌}
+use Rattle.std.specs.Prelude.{Option, Some, None}
 use mathlib.Core.Path.{◌≡◌, refl, sym, ap, ap₂, subst, ◌∙◌}
 use mathlib.Core.Bool.{Bool, true, false, ◌&&◌}
 use mathlib.Core.List.{List}
@@ -11,8 +12,6 @@ use lib.ListN.{length, take}
 use Rattle.wire.proofs.Cond.{both, no-if}
 use Rattle.message.specs.Refusal.{write_refusal}
 use Rattle.message.proofs.RoundTrip.{reads-back, payload-back}
-use Rattle.pending.specs.declared.Asked.{Asked}
-use Rattle.pending.specs.declared.Asked.TheVariants.{Of, Nothing}
 use Rattle.pending.specs.Free.{next_free}
 use Rattle.pending.specs.Answers.{awaited_of, cleared_at, cancelled, is_response}
 use Rattle.pending.specs.PlainMap.{asks}
@@ -42,22 +41,22 @@ module _ (own from kind id : ℕ) (l payload out : List ℕ) (e : number_given (
 
 -- which message is the response
 module _ (l : List ℕ) (n id sender : ℕ) where
-  is-response : awaited_of l n ≡ Of id sender → is_response l n id sender ≡ true
+  is-response : awaited_of l n ≡ Some (id, sender) → is_response l n id sender ≡ true
   is-response e =
-      response-by l n id sender ∙ ap (λ (a : Asked). asks a id sender) e ∙ ap₂ ◌&&◌ (eq-eqb id id refl) (eq-eqb sender sender refl)
+      response-by l n id sender ∙ ap (λ (a : Option (ℕ × ℕ)). asks a id sender) e ∙ ap₂ ◌&&◌ (eq-eqb id id refl) (eq-eqb sender sender refl)
 
-  no_response : ¬ (awaited_of l n ≡ Of id sender) → is_response l n id sender ≡ false
+  no_response : ¬ (awaited_of l n ≡ Some (id, sender)) → is_response l n id sender ≡ false
   no_response d = response-by l n id sender ∙ go (awaited_of l n) d
     where
-      pair : (i t : ℕ) → ¬ (Of i t ≡ Of id sender) → (b : Bool) → (eqb i id && eqb t sender) ≡ b → (eqb i id && eqb t sender) ≡ false
+      pair : (i t : ℕ) → ¬ (Some (i, t) ≡ Some (id, sender)) → (b : Bool) → (eqb i id && eqb t sender) ≡ b → (eqb i id && eqb t sender) ≡ false
       pair i t h true e =
           let p : (eqb i id ≡ true) × (eqb t sender ≡ true) = both (eqb i id) (eqb t sender) e in
-          absurd (h (ap₂ Of (eqb-true i id p.0) (eqb-true t sender p.1)))
+          absurd (h (ap₂ Some (eqb-true i id p.0, eqb-true t sender p.1)))
       pair i t h false e = e
 
-      go : (a : Asked) → ¬ (a ≡ Of id sender) → asks a id sender ≡ false
-      go (Of i t) h = pair i t h (eqb i id && eqb t sender) refl
-      go Nothing h = refl
+      go : (a : Option (ℕ × ℕ)) → ¬ (a ≡ Some (id, sender)) → asks a id sender ≡ false
+      go (Some (i, t)) h = pair i t h (eqb i id && eqb t sender) refl
+      go None h = refl
 
 pub requests : Requests
 requests =

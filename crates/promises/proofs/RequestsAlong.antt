@@ -1,6 +1,7 @@
 -- One call on a list that is like a map: the map can show what the list shows, and the list stays like it.
 -- Assumes nothing.
 use Prim.Native.Nat.{ℕ, zero, suc, ◌+◌, ◌%◌, ◌^◌, ◌≤◌, ◌<◌}
+use Rattle.std.specs.Prelude.{Option, Some, None}
 use mathlib.Core.Path.{◌≡◌, refl, sym, ap, ap₂, subst, ◌∙◌}
 use mathlib.Core.Bool.{Bool, true, false, true≢false}
 use mathlib.Core.List.{List, [], ◌++◌}
@@ -13,12 +14,9 @@ use Rattle.wire.specs.Bytes.{over}
 use Rattle.table.specs.declared.Sections.{Sections}
 use Rattle.table.specs.declared.Checked.TheVariants.{Table}
 use Rattle.types.specs.Table.{checked}
-use Rattle.operations.specs.declared.Sought.TheVariants as sought
 use Rattle.operations.specs.Entries.{op_place}
 use Rattle.message.specs.declared.Header.{Header}
 use Rattle.message.specs.Writing.{message_bytes}
-use Rattle.pending.specs.declared.Asked.{Asked}
-use Rattle.pending.specs.declared.Asked.TheVariants.{Of, Nothing}
 use Rattle.pending.specs.Places.{free_place, entered_at}
 use Rattle.pending.specs.Free.{next_free}
 use Rattle.pending.specs.Answers.{cancelled, is_response}
@@ -52,15 +50,15 @@ by_map {own} {p} {l} {m} {c} x g e k =
     record { after = x.after; goes = subst (λ (y : Shown). MapCall own p m c (record { seen = y; after = x.after })) e g; like = k }
 
 -- what a map says is asked under a number
-pub asks_it : (a : Asked) (id sender : ℕ) → asks a id sender ≡ true → a ≡ Of id sender
-asks_it (Of i t) id sender e =
+pub asks_it : (a : Option (ℕ × ℕ)) (id sender : ℕ) → asks a id sender ≡ true → a ≡ Some (id, sender)
+asks_it (Some (i, t)) id sender e =
     let h : (eqb i id ≡ true) × (eqb t sender ≡ true) = both (eqb i id) (eqb t sender) e in
-    ap₂ Of (eqb-true i id h.0) (eqb-true t sender h.1)
-asks_it Nothing id sender e = absurd (true≢false (sym e))
+    ap₂ Some (eqb-true i id h.0, eqb-true t sender h.1)
+asks_it None id sender e = absurd (true≢false (sym e))
 
 module _ (own : ℕ) (p : Standing) (l : List ℕ) (m : Map) (same : LikeMap l m) where
   pub asked-same : (x id sender : ℕ) → is_response l x id sender ≡ asks (m.under x) id sender
-  asked-same x id sender = response-by l x id sender ∙ ap (λ (a : Asked). asks a id sender) (same.looked x)
+  asked-same x id sender = response-by l x id sender ∙ ap (λ (a : Option (ℕ × ℕ)). asks a id sender) (same.looked x)
 
   -- a request is sent, or refused
   module _ (fits : p.next < 2 ^ 32) (t : List ℕ) (s : Sections) (words : List ℕ) (id target : ℕ) (payload out : List ℕ) (e : checked t ≡ Table s)
@@ -121,7 +119,7 @@ module _ (own : ℕ) (p : Standing) (l : List ℕ) (m : Map) (same : LikeMap l m
     unfolding response_to
     responds-along h i len r = go (is_response l h.sequence h.id h.platform) refl
       where
-        judged : received_of own t p l bytes (length out) ≡ response_to l (sought.At i (op_place t s.operations.at i)) p h 20 len
+        judged : received_of own t p l bytes (length out) ≡ response_to l (Some (i, op_place t s.operations.at i)) p h 20 len
         judged = by-list own t s e bytes h 2 i len r.read r.request refl p l (length out)
 
         stays : left_of own t p bytes out ≡ out
@@ -175,7 +173,7 @@ module _ (own : ℕ) (p : Standing) (l : List ℕ) (m : Map) (same : LikeMap l m
       by_map (record { seen = shown (whether (taken m n)) [] p; after = deleted m n }) forgets
       (ap (λ (b : Bool). shown (whether b) [] p) (sym (same_taken l m same n))) (cancelled-like l m same n)
   along-call fits (ask n) h =
-      by_map (record { seen = shown (what (m.under n)) [] p; after = m }) looks (ap (λ (x : Asked). shown (what x) [] p) (sym (same.looked n))) same
+      by_map (record { seen = shown (what (m.under n)) [] p; after = m }) looks (ap (λ (x : Option (ℕ × ℕ)). shown (what x) [] p) (sym (same.looked n))) same
 
 -- the next own number stays one of 32 bits
 pub sent_fits : (issue : Issue) (next : ℕ) (l : List ℕ) (kind id : ℕ) (payload : List ℕ) (space : ℕ) → next < 2 ^ 32

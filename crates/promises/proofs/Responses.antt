@@ -1,6 +1,7 @@
 -- A domain 1 message with a kind 2 ID is the response, or is refused; one with a kind 3 ID is heard.
 -- Assumes nothing.
 use Prim.Native.Nat.{ℕ, ◌-◌, ◌≤◌}
+use Rattle.std.specs.Prelude.{Option, Some, None}
 use mathlib.Core.Path.{◌≡◌, refl, sym, ap, ap₂, subst, ◌∙◌}
 use mathlib.Core.Bool.{Bool, true, false}
 use mathlib.Core.List.{List}
@@ -8,10 +9,7 @@ use native.Mathlib.Omega.{arith}
 use borrow.Author.Tests.{eq-eqb, ne_eqb, le-ltb}
 use lib.ListN.{length}
 use Rattle.wire.proofs.Cond.{yes-if, no-if}
-use Rattle.operations.specs.declared.Sought.{Sought}
-use Rattle.operations.specs.declared.Sought.TheVariants as sought
 use Rattle.operations.specs.Entries.{kind_at}
-use Rattle.pending.specs.declared.Asked.TheVariants.{Of, Nothing}
 use Rattle.pending.specs.Answers.{cancelled, is_response}
 use Rattle.pending.specs.PlainMap.{Once}
 use Rattle.pending.proofs.Once.{gone}
@@ -39,8 +37,8 @@ use Rattle.promises.proofs.Replying.{its-payload}
 
 module _ (own : ℕ) (t : List ℕ) (s : Sections) (p : Standing) (l m out : List ℕ) (h : Header) (i : ℕ) (c : ComesUnder own t s m h i) where
   -- the entry is found, and by it the call goes
-  abbrev its : Sought
-  its = sought.At i (operation_place t s i)
+  abbrev its : Option (ℕ × ℕ)
+  its = Some (i, operation_place t s i)
 
   found : operation_for t s (index_of t s) h message.Operation ≡ its
   unfolding operation_for
@@ -54,7 +52,7 @@ module _ (own : ℕ) (t : List ℕ) (s : Sections) (p : Standing) (l m out : Lis
   came =
       ap (λ (x : Checked). received_by x own t p l m (length out)) c.table
       ∙ ap (λ (x : Reading). outcome_of own t s (operation_in t s (index_of t s) x) p l x (length out)) c.read
-      ∙ ap (λ (f : Sought). outcome_of own t s f p l read (length out)) found
+      ∙ ap (λ (f : Option (ℕ × ℕ)). outcome_of own t s f p l read (length out)) found
 
   stands : (c.start ≡ 20) × (c.len ≡ length m - 20) × (20 ≤ length m)
   stands = its-payload own m h message.Operation c.start c.len c.read
@@ -73,7 +71,7 @@ module _ (own : ℕ) (t : List ℕ) (s : Sections) (p : Standing) (l m out : Lis
     output-stays =
         ap (λ (x : Checked). left_if x own t p m out) c.table
         ∙ ap (λ (x : Reading). output_of own t s (operation_in t s (index_of t s) x) p x out) c.read
-        ∙ ap (λ (f : Sought). output_of own t s f p read out) found
+        ∙ ap (λ (f : Option (ℕ × ℕ)). output_of own t s f p read out) found
         ∙ yes-if out _ is-answer
 
     list-after : list_after own t l m ≡ list_answered l h
@@ -81,7 +79,7 @@ module _ (own : ℕ) (t : List ℕ) (s : Sections) (p : Standing) (l m out : Lis
     list-after =
         ap (λ (x : Checked). list_if x own t l m) c.table
         ∙ ap (λ (x : Reading). list_of t (operation_in t s (index_of t s) x) l x) c.read
-        ∙ ap (λ (f : Sought). list_of t f l read) found
+        ∙ ap (λ (f : Option (ℕ × ℕ)). list_of t f l read) found
         ∙ yes-if (list_answered l h) l is-answer
 
     abbrev matched : Bool
@@ -132,7 +130,7 @@ module _ (own : ℕ) (t : List ℕ) (s : Sections) (p : Standing) (l m out : Lis
 
 no_longer : (l : List ℕ) (h : Header) → length l ≡ 128 → Once l → ¬ (IsAwaited (cancelled l h.sequence) h)
 no_longer l h whole o e =
-    let f : Nothing ≡ Of h.id h.platform = sym (gone l whole o h.sequence) ∙ e in
+    let f : None ≡ Some (h.id, h.platform) = sym (gone l whole o h.sequence) ∙ e in
     let z : ◌≡◌ {A = ℕ} 0 1 = cc in
     omega arith
 

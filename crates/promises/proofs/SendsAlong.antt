@@ -1,6 +1,7 @@
 -- A request on a list that is like a map, in either issue: the map's checks decide as the list's do, and the list stays like the map.
 -- Assumes nothing.
 use Prim.Native.Nat.{ℕ, zero, suc, ◌+◌, ◌^◌, ◌≤◌, ◌<◌}
+use Rattle.std.specs.Prelude.{Option, Some, None}
 use mathlib.Core.Path.{◌≡◌, refl, sym, subst}
 use mathlib.Core.List.{List}
 use native.Mathlib.Omega.{arith}
@@ -8,8 +9,6 @@ use lib.ListN.{length}
 use Rattle.table.specs.declared.Sections.{Sections}
 use Rattle.table.specs.declared.Checked.TheVariants.{Table}
 use Rattle.types.specs.Table.{checked}
-use Rattle.pending.specs.declared.Slot.{Slot}
-use Rattle.pending.specs.declared.Slot.TheVariants.{At, Nowhere}
 use Rattle.pending.specs.Places.{number_at, free_place, entered_at}
 use Rattle.pending.specs.Free.{is_pending, next_free, IsNextFree}
 use Rattle.pending.specs.PlainMap.{Map, taken, inserted, LikeMap}
@@ -43,16 +42,16 @@ module _ (l : List ℕ) (m : Map) (same : LikeMap l m) (from : ℕ) where
   is-full : NoneFree → Full m
   is-full h = go (free_place l) refl
     where
-      go : (x : Slot) → free_place l ≡ x → Full m
-      go (At k) q = absurd (h k (is-first l 0 64 0 k q).below (is-first l 0 64 0 k q).named)
-      go Nowhere q = full-counts l m same q
+      go : (x : Option ℕ) → free_place l ≡ x → Full m
+      go (Some k) q = absurd (h k (is-first l 0 64 0 k q).below (is-first l 0 64 0 k q).named)
+      go None q = full-counts l m same q
 
   not_full : ¬ NoneFree → ¬ (Full m)
   not_full d c = go (free_place l) refl
     where
-      go : (x : Slot) → free_place l ≡ x → ⊥
-      go (At k) q = omega (arith, room-counts l m same k q)
-      go Nowhere q = d (λ k h. none-bears-it l 0 64 0 k q (omega arith) h)
+      go : (x : Option ℕ) → free_place l ≡ x → ⊥
+      go (Some k) q = omega (arith, room-counts l m same k q)
+      go None q = d (λ k h. none-bears-it l 0 64 0 k q (omega arith) h)
 
   -- the number that a request takes
   pub free_on : from < 2 ^ 32 → IsNextFree (taken m) from (next_free l from)
@@ -94,5 +93,5 @@ module _ (l : List ℕ) (m : Map) (same : LikeMap l m) (from : ℕ) where
     like-sent issue target fits small q =
         let can : Sendable issue l kind id payload space = sendable issue l kind id payload space q in
         let free : IsNextFree (is_pending l) from (next_free l from) = next-is-free l from fits in
-        subst (λ (x : Slot). LikeMap (entered_at l x (next_free l from) id target) (inserted m (next_free l from) id target)) (sym can.free)
+        subst (λ (x : Option ℕ). LikeMap (entered_at l x (next_free l from) id target) (inserted m (next_free l from) id target)) (sym can.free)
         (entered-like l m same can.place (next_free l from) id target can.free small free.not_zero free.not_taken)

@@ -1,6 +1,7 @@
 -- What sending a request comes to, whichever issue its target speaks: the order of its checks, and the message at the output's start.
 -- Assumes nothing.
 use Prim.Native.Nat.{ℕ, ◌+◌, ◌%◌, ◌^◌, ◌≤◌, ◌<◌}
+use Rattle.std.specs.Prelude.{Option, Some, None}
 use mathlib.Core.Path.{◌≡◌, refl, sym, ap, ◌∙◌}
 use mathlib.Core.Bool.{not, cond}
 use mathlib.Core.List.{List, [], ◌∷◌, ◌++◌}
@@ -8,8 +9,6 @@ use native.Mathlib.Omega.{arith}
 use lib.Dec.{eqb, leb, ltb}
 use lib.ListN.{length, take, drop}
 use lib.Seq.{take_at, drop_at}
-use Rattle.pending.specs.declared.Slot.{Slot}
-use Rattle.pending.specs.declared.Slot.TheVariants.{At, Nowhere}
 use Rattle.pending.specs.Places.{number_at, free_place}
 use Rattle.pending.specs.Free.{is_pending, next_free, IsNextFree}
 use Rattle.pending.proofs.Looking.{is-first, none-bears-it}
@@ -53,12 +52,12 @@ module _ (header from kind : ℕ) (l payload : List ℕ) (room : ℕ) where
       rest : ℕ
       rest = cond (leb (2 ^ 32) (length payload)) 5 (cond (ltb room (header + length payload)) 10 0)
 
-      full : (s : Slot) → free_place l ≡ s
+      full : (s : Option ℕ) → free_place l ≡ s
           → Answers (not_sent from) sentAt
           (60 when ((k : ℕ) → k < 64 → ¬ (number_at l k ≡ 0)) ∷ 5 when (2 ^ 32 ≤ length payload) ∷ 10 when (room < header + length payload) ∷ [])
           (whole (unless_full s rest))
-      full Nowhere p = this {c = 60 when ((k : ℕ) → k < 64 → ¬ (number_at l k ≡ 0))} (λ k h. none-bears-it l 0 64 0 k p (omega arith) h)
-      full (At k) p =
+      full None p = this {c = 60 when ((k : ℕ) → k < 64 → ¬ (number_at l k ≡ 0))} (λ k h. none-bears-it l 0 64 0 k p (omega arith) h)
+      full (Some k) p =
           next {c = 60 when ((k : ℕ) → k < 64 → ¬ (number_at l k ≡ 0))} (λ f. f k (is-first l 0 64 0 k p).below (is-first l 0 64 0 k p).named)
           (by_number (not_sent from) sentAt whole (λ k. refl) (leb (2 ^ 32) (length payload)) 4 _ (le_decides (2 ^ 32) (length payload))
           (by_number (not_sent from) sentAt whole (λ k. refl) (ltb room (header + length payload)) 9 0 (lt_decides room (header + length payload)) none))

@@ -1,14 +1,13 @@
 -- Platforms that take another message for the response, or the same one twice, or none: one message on a small table, computed.
 -- Assumes nothing.
 use Prim.Native.Nat.{ℕ}
+use Rattle.std.specs.Prelude.{Option, Some}
 use mathlib.Core.Path.{◌≡◌, refl, sym, ap, ◌∙◌}
 use mathlib.Core.Bool.{Bool, true, false, cond}
 use mathlib.Core.List.{List, [], ◌∷◌}
 use native.Mathlib.Omega.{arith}
 use lib.ListN.{get_or}
 use Rattle.wire.specs.All.{all_below, above}
-use Rattle.operations.specs.declared.Sought.{Sought}
-use Rattle.operations.specs.declared.Sought.TheVariants as sought
 use Rattle.operations.specs.Entries.{width_of, kind_at, op_width, op_place, response_at, operation_at, id_at}
 use Rattle.operations.specs.Rules as rules
 use Rattle.pending.specs.Places.{bearing, entered}
@@ -56,7 +55,7 @@ module _ (own : ℕ) (t : List ℕ) (p : Standing) (l m : List ℕ) (room : ℕ)
       by-test true r a = refl
       by-test false r a = refl
 
-      by_read : (s : Sections) (f : Sought) (x : Reading) → outcome_by rightly t f p l x (outcome_of own t s f p l x room) ≡ outcome_of own t s f p l x room
+      by_read : (s : Sections) (f : Option (ℕ × ℕ)) (x : Reading) → outcome_by rightly t f p l x (outcome_of own t s f p l x room) ≡ outcome_of own t s f p l x room
       by_read s f (reading.Refused n) = refl
       by_read s f (reading.Read h k start len) =
           by-test (is_answer t f k) (response_to l f p h start len) (answered p h (reaction_to own t s f p h k start len) room)
@@ -69,7 +68,7 @@ module _ (own : ℕ) (t : List ℕ) (p : Standing) (l m : List ℕ) (room : ℕ)
   unfolding list_after platform.list_if list_of
   ours_list = go (checked t)
     where
-      by_read : (f : Sought) (x : Reading) → list_by rightly t f l x ≡ list_of t f l x
+      by_read : (f : Option (ℕ × ℕ)) (x : Reading) → list_by rightly t f l x ≡ list_of t f l x
       by_read f (reading.Refused n) = refl
       by_read f (reading.Read h k start len) = refl
 
@@ -131,26 +130,26 @@ not-awaited e = let z : ◌≡◌ {A = ℕ} 4 3 = cc in omega arith
 
 -- what such a platform answers, and the list after it
 module _ (M : Matching) (l : List ℕ) where
-  its-operation : operation_in t s (index_of t s) (reading.Read h message.Operation 20 2) ≡ sought.At 1 24
+  its-operation : operation_in t s (index_of t s) (reading.Read h message.Operation 20 2) ≡ Some (1, 24)
   unfolding operation_in operation_for
   its-operation = looked t s is_table h.id ∙ there t s is_table h.id 1 (omega arith, refl)
 
   abbrev ours : Received
   ours = received_of 1 t p l operation 0
 
-  answers : (matching M).outcome 1 t p l operation 0 ≡ cond (M.is_it l h) (delivered (sought.At 1 24) p h 20 2) (refused p 61)
+  answers : (matching M).outcome 1 t p l operation 0 ≡ cond (M.is_it l h) (delivered (Some (1, 24)) p h 20 2) (refused p 61)
   unfolding is_answer is_sent kind_at comes
   answers =
       ap (λ (c : Checked). outcome_for M c t p l (read_of 1 operation) ours) is_table
       ∙ ap (λ (x : Reading). outcome_by M t (operation_in t s (index_of t s) x) p l x ours) comes.read
-      ∙ ap (λ (f : Sought). outcome_by M t f p l (reading.Read h message.Operation 20 2) ours) its-operation
+      ∙ ap (λ (f : Option (ℕ × ℕ)). outcome_by M t f p l (reading.Read h message.Operation 20 2) ours) its-operation
 
   leaves : (matching M).list 1 t p l operation 0 ≡ cond (M.is_it l h) (M.freed l h.sequence) l
   unfolding is_answer is_sent kind_at comes
   leaves =
       ap (λ (c : Checked). list_for M c t l (read_of 1 operation)) is_table
       ∙ ap (λ (x : Reading). list_by M t (operation_in t s (index_of t s) x) l x) comes.read
-      ∙ ap (λ (f : Sought). list_by M t f l (reading.Read h message.Operation 20 2)) its-operation
+      ∙ ap (λ (f : Option (ℕ × ℕ)). list_by M t f l (reading.Read h message.Operation 20 2)) its-operation
 
 -- one that delivers the message though platform 4 was asked
 delivers_any : (M : Matching) → M.is_it (asked 4) h ≡ true → RespondsBy (matching M) → ⊥

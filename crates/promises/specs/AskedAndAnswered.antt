@@ -1,13 +1,13 @@
 -- 02, request 1: what is sent, on a table that `check` accepts; and a request that one platform asks and another serves, with its
 -- response. The theorems are in proofs/AskedAndAnswered.antt.
 use Rattle.std.specs.Prelude.{ℕ, ◌+◌, ◌^◌, ◌≤◌, ◌<◌, ◌≡◌, List, [], ◌∷◌, length, take}
+use Rattle.std.specs.Prelude.{None}
 use Rattle.wire.specs.Bytes.{part}
 use Rattle.table.specs.declared.Sections.{Sections}
 use Rattle.table.specs.declared.Checked.TheVariants.{Table}
 use Rattle.types.specs.Table.{checked}
 use Rattle.message.specs.declared.Header.{Header}
 use Rattle.message.specs.Writing.{header_for, output_after}
-use Rattle.pending.specs.declared.Asked.TheVariants.{Nothing}
 use Rattle.pending.specs.Places.{number_at}
 use Rattle.pending.specs.Free.{next_free}
 use Rattle.pending.specs.Answers.{awaited_of}
@@ -71,7 +71,7 @@ pub record DeliveredAt (own : ℕ) (t : List ℕ) (p : Standing) (l bytes out : 
   pub answer : received_of own t p l bytes (length out) ≡ record { standing = p; answer = Response h i 20 (length payload) }
   pub handed : part bytes 20 (length payload) ≡ payload
   pub output : left_of own t p bytes out ≡ out
-  pub gone : awaited_of (list_after own t l bytes) h.sequence ≡ Nothing
+  pub gone : awaited_of (list_after own t l bytes) h.sequence ≡ None
   pub once : (q : Standing) (room : ℕ) → received_of own t q (list_after own t l bytes) bytes room ≡ record { standing = q; answer = Refused 61 }
 
 module _ (a b next id : ℕ) (t : List ℕ) (s : Sections) (words l payload out : List ℕ) where

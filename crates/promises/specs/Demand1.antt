@@ -2,9 +2,9 @@
 -- checks, and a refusal changes no channel, room, platform state, sequence number or output byte." That every call answers is the
 -- language's: each function is total. With 02, 1 it changes no list of pending requests either. The theorem is in proofs/Demand1.antt.
 use Rattle.std.specs.Prelude.{ℕ, ◌*◌, ◌^◌, ◌<◌, ◌≡◌, List, [], ◌∷◌, ◌++◌, length}
+use Rattle.std.specs.Prelude.{Some}
 use Rattle.wire.specs.Bytes.{Octets, number}
 use Rattle.table.specs.declared.Sections.{Sections}
-use Rattle.operations.specs.declared.Sought.TheVariants as sought
 use Rattle.operations.specs.Entries.{kind_at}
 use Rattle.operations.specs.Search.{sought_in}
 use Rattle.message.specs.declared.Message.{Message}
@@ -81,7 +81,7 @@ ReceiveInOrder =
 
 -- what the index finds for an ID is of kind 2; and how many bytes of replies are owed, with the operation that is found for the message
 abbrev pub FindsKind2 : List ℕ → Sections → List ℕ → ℕ → Type 0
-FindsKind2 t s index id = (i : ℕ) × (q : ℕ) × (sought_in t index s.operations.count id ≡ sought.At i q) × (kind_at t q ≡ 2)
+FindsKind2 t s index id = (i : ℕ) × (q : ℕ) × (sought_in t index s.operations.count id ≡ Some (i, q)) × (kind_at t q ≡ 2)
 
 abbrev pub owed_in : ℕ → List ℕ → Sections → List ℕ → Standing → List ℕ → ℕ
 owed_in own t s index p m =

@@ -3,11 +3,11 @@
 -- what an index that nobody laid can lead to, and what `nyr_find` tells of a table that was checked; what it comes to over the definitions
 -- is specs/Lookups. That no other outcome is allowed is specs/UniqueOperations and UniqueCalls. The theorem is in proofs/Halving.antt.
 use Rattle.std.specs.Prelude.{ℕ, ◌+◌, ◌*◌, ◌^◌, ◌≤◌, ◌<◌, ◌≡◌, cond, ◌||◌, List, [], ◌∷◌, eqb, length, replicate}
+use Rattle.std.specs.Prelude.{Some, None}
 use Rattle.wire.specs.Bytes.{number}
 use Rattle.table.specs.declared.Sections.{Sections}
 use Rattle.table.specs.declared.Checked.TheVariants.{Table}
 use Rattle.types.specs.Table.{checked}
-use Rattle.operations.specs.declared.Sought.TheVariants.{At, Nowhere}
 use Rattle.operations.specs.Search.{halved, sought_in}
 use Rattle.nyrkovash.proofs.nyr_find.Reads.{Post as nyr-find}
 use Rattle.promises.specs.Rules32.{operation_bytes, id_of, operation_kind, operation_type, response_type}
@@ -31,14 +31,14 @@ told_of t s i =
 pub record Halving : Type 0 where
   -- 11 looks are enough for the 1,024 operations that a table can have, and 10 are not: they miss the first
   pub eleven_looks : (t index : List ℕ) (count id : ℕ) → count ≤ 1024 → sought_in t index count id ≡ halved t index id 11 0 count
-  pub found_by_eleven : halved an_event first_of1024 3 11 0 1024 ≡ At 0 0
-  pub missed_by_ten : halved an_event first_of1024 3 10 0 1024 ≡ Nowhere
+  pub found_by_eleven : halved an_event first_of1024 3 11 0 1024 ≡ Some (0, 0)
+  pub missed_by_ten : halved an_event first_of1024 3 10 0 1024 ≡ None
   -- whatever the words of the index: what is found is below the count, lies whole within the bytes, and bears the ID
-  pub forged : (t index : List ℕ) (count id i p : ℕ) → sought_in t index count id ≡ At i p
+  pub forged : (t index : List ℕ) (count id i p : ℕ) → sought_in t index count id ≡ Some (i, p)
       → (i < count) × (p + operation_bytes (number 1 t (p + 4)) ≤ length t) × (number 2 t p ≡ id)
   -- so that an index that points past the bytes, or at an entry of another ID, leads nowhere
-  pub past_the_bytes : sought_in an_event ((3 * 2 ^ 32 + 1) ∷ []) 1 3 ≡ Nowhere
-  pub another_id : sought_in an_event ((4 * 2 ^ 32) ∷ []) 1 4 ≡ Nowhere
+  pub past_the_bytes : sought_in an_event ((3 * 2 ^ 32 + 1) ∷ []) 1 3 ≡ None
+  pub another_id : sought_in an_event ((4 * 2 ^ 32) ∷ []) 1 4 ≡ None
   -- on a table that `check` accepts, whatever the kinds of its operations
   pub on_accepted : Lookups
   -- and as it is linked, with the words that `nyr_check_table` left: every operation by its ID, and none where no entry bears it

@@ -2,10 +2,9 @@
 -- owed replies at the output's start, the platform's words, and in eight words what was heard. Messages with a kind 2 ID are in
 -- specs/LinkedResponses. The theorems are in proofs/LinkedReplies.antt.
 use Rattle.std.specs.Prelude.{ℕ, ◌-◌, ◌*◌, ◌≤◌, ◌<◌, ◌≡◌, Bool, cond, List, [], ◌∷◌, ◌++◌, eqb, ltb, length, get_or, take, drop, replicate}
+use Rattle.std.specs.Prelude.{Option, Some, None}
 use Rattle.wire.specs.Bytes.{Octets}
 use Rattle.table.specs.declared.Sections.{Sections}
-use Rattle.operations.specs.declared.Sought.{Sought}
-use Rattle.operations.specs.declared.Sought.TheVariants as sought
 use Rattle.table.specs.declared.Checked.TheVariants.{Table}
 use Rattle.table.specs.Words.{words_of}
 use Rattle.types.specs.Table.{checked}
@@ -36,9 +35,9 @@ UpIs own ws up =
 abbrev pub heard_is : Header → ℕ → ℕ → ℕ → ℕ → ℕ → ℕ → List ℕ
 heard_is h n kind value entry start len = kind ∷ value ∷ h.platform ∷ h.sequence ∷ entry ∷ start ∷ len ∷ n ∷ []
 
-abbrev pub entry_of : Sought → ℕ
-entry_of (sought.At i p) = i
-entry_of sought.Nowhere = 0
+abbrev pub entry_of : Option (ℕ × ℕ) → ℕ
+entry_of (Some (i, p)) = i
+entry_of None = 0
 
 -- 1 a status, 2 a request for it, 3 an operation that the sender doesn't know, 4 a pull of all versioned data, 5 of one, 6 of what is
 -- none here, 7 an operation, 8 one that is not in the table

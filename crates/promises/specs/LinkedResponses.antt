@@ -2,10 +2,9 @@
 -- ID comes to at a platform in words, and what is pending under a number. The list of the requests that are pending is all of the
 -- platform's words behind the first five, the states and the next own number. The theorems are in proofs/LinkedResponses.antt.
 use Rattle.std.specs.Prelude.{ℕ, ◌-◌, ◌%◌, ◌^◌, ◌<◌, ◌≡◌, List, [], ◌∷◌, length, get_or, drop}
+use Rattle.std.specs.Prelude.{Option, Some, None}
 use Rattle.table.specs.declared.Sections.{Sections}
 use Rattle.message.specs.declared.Header.{Header}
-use Rattle.pending.specs.declared.Asked.{Asked}
-use Rattle.pending.specs.declared.Asked.TheVariants.{Of, Nothing}
 use Rattle.pending.specs.Answers.{awaited_of, cancelled}
 use Rattle.states.specs.States.{stands_up}
 use Rattle.platform_words.specs.Words.{standing_in}
@@ -39,9 +38,9 @@ pub record TellsOf (own : ℕ) (ws m out was : List ℕ) (h : Header) (i n : ℕ
   pub any_other : ¬ (IsAwaited (drop 5 ws) h) → TellsNothing ws out was n after left heard
 
 -- what is pending under a number: 1, the ID and the target, or three zeros
-abbrev pub asked_is : Asked → List ℕ
-asked_is (Of id target) = 1 ∷ id ∷ target ∷ []
-asked_is Nothing = 0 ∷ 0 ∷ 0 ∷ []
+abbrev pub asked_is : Option (ℕ × ℕ) → List ℕ
+asked_is (Some (id, target)) = 1 ∷ id ∷ target ∷ []
+asked_is None = 0 ∷ 0 ∷ 0 ∷ []
 
 pub record LinkedResponses : Type 0 where
   pub receive : (s : Sections) (h : Header) (i : ℕ) → Whenever nyr-receive (λ k a n e. a.0 < 256 →

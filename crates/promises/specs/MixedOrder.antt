@@ -5,11 +5,10 @@
 -- in four bytes are no 8; 61 for a message of domain 0. The theorem is in proofs/MixedOrder.antt; calls with 10 before 5 and with 61 in
 -- domain 0 are in specs/WrongMixedOrders.
 use Rattle.std.specs.Prelude.{ℕ, ◌+◌, ◌*◌, ◌%◌, ◌^◌, ◌≤◌, ◌<◌, ◌≡◌, true, cond, ◌||◌, ◌⊎◌, List, [], ◌∷◌, ◌++◌, eqb, leb, length, drop}
+use Rattle.std.specs.Prelude.{Option, Some}
 use Rattle.wire.specs.Bytes.{Octets, number}
 use Rattle.table.specs.declared.Sections.{Sections}
-use Rattle.operations.specs.declared.Sought.{Sought}
 use Rattle.operations.specs.Search.{sought_in}
-use Rattle.pending.specs.declared.Asked.TheVariants.{Of}
 use Rattle.pending.specs.Answers.{awaited_of}
 use Rattle.services.specs.Block.{service_place, pairs_told}
 use Rattle.services.specs.Known.{known, known_with}
@@ -42,7 +41,7 @@ abbrev pub sections_of : TableGiven → Sections
 sections_of (bytes t) = sections_in t
 sections_of (sections t s index) = s
 
-abbrev pub found_on : TableGiven → ℕ → Sought
+abbrev pub found_on : TableGiven → ℕ → Option (ℕ × ℕ)
 found_on (bytes t) id = operation_with t (sections_in t) id
 found_on (sections t s index) id = sought_in t index s.operations.count id
 
@@ -53,11 +52,11 @@ Kind2On (sections t s index) id = FindsKind2 t s index id
 -- 61: domain 1, an ID of kind 2, and what is pending under its number is not its ID, asked of its sender
 abbrev pub NotAwaited3 : (ℕ → Type 0) → List ℕ → List ℕ → Type 0
 NotAwaited3 Kind2 l m =
-    (number 0 m 2 % 16 ≡ 1) × (Kind2 (number 2 m 4) × ¬ (awaited_of l (number 2 m 20) ≡ Of (number 2 m 4) (number 0 m 3)))
+    (number 0 m 2 % 16 ≡ 1) × (Kind2 (number 2 m 4) × ¬ (awaited_of l (number 2 m 20) ≡ Some (number 2 m 4, number 0 m 3)))
 
 abbrev pub NotAwaited6 : (ℕ → Type 0) → List ℕ → List ℕ → Type 0
 NotAwaited6 Kind2 l m =
-    (number 0 m 3 ≡ 1) × (Kind2 (number 2 m 8) × ¬ (awaited_of l (number 2 m 16) ≡ Of (number 2 m 8) (number 2 m 4)))
+    (number 0 m 3 ≡ 1) × (Kind2 (number 2 m 8) × ¬ (awaited_of l (number 2 m 16) ≡ Some (number 2 m 8, number 2 m 4)))
 
 -- 001, Table 3 and 6.3: a status of services, and DOWN of a sender that is UP, are those for which services are kept
 abbrev pub TellsServices : List ℕ → Type 0
@@ -88,7 +87,7 @@ AsksForAll m = (number 0 m 2 % 16 ≡ 0) × ((number 2 m 4 ≡ 4) × (number 2 (
 
 -- so many bytes of replies. Issue 3: UP of a sender that is DOWN, a status request, a request for services, a pull of what is not versioned
 -- data, an operation that is not in the table
-abbrev pub owed3 : List ℕ → (ℕ → Sought) → ℕ → List ℕ → Standing → List ℕ → ℕ
+abbrev pub owed3 : List ℕ → (ℕ → Option (ℕ × ℕ)) → ℕ → List ℕ → Standing → List ℕ → ℕ
 owed3 t found own ours p m =
     let id : ℕ = number 2 m 4 in
     let field : ℕ = number 2 (drop 24 m) 0 in
@@ -101,7 +100,7 @@ owed3 t found own ours p m =
     (cond (is_there (found id)) 0 28)
 
 -- Issue 6: the same without services; a pull of all too, where there is no versioned data; and a sender above 255 has no state
-abbrev pub owed6 : List ℕ → Sections → (ℕ → Sought) → ℕ → Standing → List ℕ → ℕ
+abbrev pub owed6 : List ℕ → Sections → (ℕ → Option (ℕ × ℕ)) → ℕ → Standing → List ℕ → ℕ
 owed6 t s found own p m =
     let id : ℕ = number 2 m 8 in
     let field : ℕ = number 2 (drop 20 m) 0 in
@@ -115,7 +114,7 @@ owed6 t s found own p m =
     (cond (is_there (found id)) 0 24)
 
 -- behind 1 to 9: the operation that is found under an ID, whether it is of kind 2, and `Full`, a status of services that needs a 257th
-abbrev pub behind_reading : List ℕ → Sections → (ℕ → Sought) → (ℕ → Type 0) → ℕ → List ℕ → List ℕ → Standing → List ℕ → List ℕ → List ℕ → ℕ
+abbrev pub behind_reading : List ℕ → Sections → (ℕ → Option (ℕ × ℕ)) → (ℕ → Type 0) → ℕ → List ℕ → List ℕ → Standing → List ℕ → List ℕ → List ℕ → ℕ
     → Type 0 → List Check
 behind_reading t s found Kind2 own i ours p l ws m room Full =
     61 when ByForm i m (NotAwaited3 Kind2 l m) (NotAwaited6 Kind2 l m)

@@ -2,11 +2,11 @@
 -- (specs/MixedRequestCalls). Beside what calls answer and leave on the list stands what the same calls answer and leave on the plain map of
 -- specs/RequestRuns, which is one for both issues. The theorem is in proofs/MixedRequestRuns.antt.
 use Rattle.std.specs.Prelude.{ℕ, ◌+◌, ◌%◌, ◌^◌, ◌≡◌, List, [], ◌∷◌, ◌++◌, length, drop}
+use Rattle.std.specs.Prelude.{Some}
 use Rattle.table.specs.declared.Sections.{Sections}
 use Rattle.message.specs.Writing.{message_bytes}
 use Rattle.message3.specs.declared.Stamp.{Stamp}
 use Rattle.message3.specs.Writing.{message_bytes3}
-use Rattle.pending.specs.declared.Asked.TheVariants.{Of}
 use Rattle.pending.specs.Free.{IsNextFree}
 use Rattle.pending.specs.PlainMap.{Map, taken, empty_map, inserted, deleted, fresh_list, LikeMap}
 use Rattle.pending.specs.Turns.{Kempt}
@@ -63,13 +63,13 @@ pub data MixedMapCall (own : ℕ) (p : Standing) (m : Map) : AnyCall → OnMapAn
   -- the response, in its sender's issue: delivered once, and its place is free again
   delivers : {stamp : Stamp} {composite : ℕ} {partners ours t : List ℕ} {s : Sections} {services bytes out : List ℕ} {h : AnyHeader} {i len : ℕ}
       → ComesAs (arriving own stamp composite partners ours t services bytes out) s h 2 i len
-      → m.under (number_of h) ≡ Of (id_of h) (sender_of h)
+      → m.under (number_of h) ≡ Some (id_of h, sender_of h)
       → MixedMapCall own p m (receive_any stamp composite partners ours t s services bytes out)
       (record { seen = shown_any (of_any (response_as h i len)) out services p; after = deleted m (number_of h) })
   -- "any other message with a kind 2 ID is refused with 61"
   refuses : {stamp : Stamp} {composite : ℕ} {partners ours t : List ℕ} {s : Sections} {services bytes out : List ℕ} {h : AnyHeader} {i len : ℕ}
       → ComesAs (arriving own stamp composite partners ours t services bytes out) s h 2 i len
-      → ¬ (m.under (number_of h) ≡ Of (id_of h) (sender_of h))
+      → ¬ (m.under (number_of h) ≡ Some (id_of h, sender_of h))
       → MixedMapCall own p m (receive_any stamp composite partners ours t s services bytes out)
       (record { seen = shown_any (of_any (Refused 61)) out services p; after = m })
   -- every other message, and what is none: as if nothing were pending

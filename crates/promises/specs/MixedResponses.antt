@@ -2,6 +2,7 @@
 -- in: it is the response to a request that is pending, or is refused with 61. It is said of any program that receives, so that wrong ones can be
 -- shown not to meet it (WrongMixedResponses). The theorem is in proofs/MixedResponses.antt.
 use Rattle.std.specs.Prelude.{ℕ, ◌-◌, ◌≡◌, List, length, drop}
+use Rattle.std.specs.Prelude.{Some}
 use Rattle.wire.specs.Bytes.{part}
 use Rattle.table.specs.declared.Sections.{Sections}
 use Rattle.table.specs.declared.Checked.TheVariants.{Table}
@@ -11,7 +12,6 @@ use Rattle.message.specs.declared.Message.TheVariants as message
 use Rattle.message3.specs.declared.Stamp.{Stamp}
 use Rattle.message3.specs.declared.Header3.{Header3}
 use Rattle.message3.specs.declared.Message3.TheVariants as message3
-use Rattle.pending.specs.declared.Asked.TheVariants.{Of}
 use Rattle.pending.specs.Answers.{awaited_of, cancelled}
 use Rattle.pending.specs.PlainMap.{Once}
 use Rattle.platform.specs.declared.reactions.Standing.{Standing}
@@ -101,7 +101,7 @@ pub record ComesAs (x : ToReceive) (s : Sections) (h : AnyHeader) (kind i len : 
 
 -- "A domain 1 message with that ID, number and sender is the response"
 abbrev pub IsPending : List ℕ → AnyHeader → Type 0
-IsPending l h = awaited_of l (number_of h) ≡ Of (id_of h) (sender_of h)
+IsPending l h = awaited_of l (number_of h) ≡ Some (id_of h, sender_of h)
 
 -- "it is delivered": the operation's entry, and the payload part, all of the message behind its header of 20 or 24 bytes; "and its place is
 -- free again". Nothing is owed, and no state, own number or service changes

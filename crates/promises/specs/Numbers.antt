@@ -1,7 +1,7 @@
 -- Whole messages and tables of the papers, byte for byte: 01's own type table, one with 02, 1's operations of both widths, a
 -- PLATFORM_STATUS and an operation by 000, Table 2, each field in its place. The theorem is in proofs/Numbers.antt.
 use Rattle.std.specs.Prelude.{ℕ, ◌≤◌, ◌≡◌, List, [], ◌∷◌, ◌++◌, length, take, drop}
-use Rattle.operations.specs.declared.Sought.TheVariants.{At, Nowhere}
+use Rattle.std.specs.Prelude.{Some, None}
 use Rattle.operations.specs.Entries.{operation_at}
 use Rattle.operations.specs.Search.{indexed, sought_in}
 use Rattle.table.specs.declared.Checked.TheVariants.{Refused, Table}
@@ -79,11 +79,11 @@ pub record FourKindsAre : Type 0 where
   pub data_kept : operation_at four_kinds 34 ≡ record { id = 256; kind = 1; carries = 0; responds = 0xFFFF }
   pub served : operation_at four_kinds 42 ≡ record { id = 0x0A0B0C0D; kind = 3; carries = 0xFFFF; responds = 0 }
   pub index : indexed four_kinds 16 4 (9 ∷ 9 ∷ 9 ∷ 9 ∷ 9 ∷ []) ≡ four_words ++ (9 ∷ [])
-  pub event_found : sought_in four_kinds four_words 4 5 ≡ At 0 16
-  pub sent_found : sought_in four_kinds four_words 4 6 ≡ At 1 24
-  pub data_found : sought_in four_kinds four_words 4 256 ≡ At 2 34
-  pub served_found : sought_in four_kinds four_words 4 0x0A0B0C0D ≡ At 3 42
-  pub none_found : sought_in four_kinds four_words 4 7 ≡ Nowhere
+  pub event_found : sought_in four_kinds four_words 4 5 ≡ Some (0, 16)
+  pub sent_found : sought_in four_kinds four_words 4 6 ≡ Some (1, 24)
+  pub data_found : sought_in four_kinds four_words 4 256 ≡ Some (2, 34)
+  pub served_found : sought_in four_kinds four_words 4 0x0A0B0C0D ≡ Some (3, 42)
+  pub none_found : sought_in four_kinds four_words 4 7 ≡ None
 
 -- the status UP from platform 3, numbered 0x05060708: mark, version, domain, platform, ID, payload size, number, state
 abbrev pub status : List ℕ

@@ -2,11 +2,10 @@
 -- message notes what it says and writes the owed replies, each of which its receiver reads as what is meant; and two platforms
 -- fall silent. The theorems are in proofs/Platforms.antt.
 use Rattle.std.specs.Prelude.{ℕ, ◌+◌, ◌*◌, ◌%◌, ◌^◌, ◌≤◌, ◌<◌, ◌≡◌, Bool, true, false, cond, ◌||◌, List, [], ◌∷◌, eqb, leb, length, take, drop}
+use Rattle.std.specs.Prelude.{Option, Some, None}
 use Rattle.wire.specs.Bytes.{Octets}
 use Rattle.table.specs.declared.Sections.{Sections}
 use Rattle.table.specs.declared.Checked.TheVariants.{Table}
-use Rattle.operations.specs.declared.Sought.{Sought}
-use Rattle.operations.specs.declared.Sought.TheVariants as sought
 use Rattle.operations.specs.Search.{operation_of}
 use Rattle.types.specs.Table.{checked}
 use Rattle.message.specs.declared.Header.{Header}
@@ -40,16 +39,16 @@ pub record OwedReply : Type 0 where
   pub means : Message
 
 -- the operation of an ID: the first that a plain scan of the table meets
-abbrev pub operation_with : List ℕ → Sections → ℕ → Sought
+abbrev pub operation_with : List ℕ → Sections → ℕ → Option (ℕ × ℕ)
 operation_with t s id = operation_of t s.operations.at s.operations.count id
 
 -- the ID is versioned data here; 0xFFFFFFFF is all of it, where there is any (000, Table 4)
 abbrev pub versioned_here : List ℕ → Sections → ℕ → Bool
 versioned_here t s id = cond (eqb id 0xFFFFFFFF) (some_data t s) (found_data t (operation_with t s id))
 
-abbrev pub is_there : Sought → Bool
-is_there (sought.At i p) = true
-is_there sought.Nowhere = false
+abbrev pub is_there : Option (ℕ × ℕ) → Bool
+is_there (Some (i, p)) = true
+is_there None = false
 
 -- "after 0xFFFFFFFF comes 0"
 abbrev pub number_after : ℕ → ℕ

@@ -1,15 +1,13 @@
 -- 02, request 1: the calls on a platform's requests, over the very definitions that the contracts cite. Each call has a table of its own,
 -- any that `check` accepts. What is promised of any run of them is in specs/RequestRuns, and of two platforms in specs/AskedAndAnswered.
 use Prim.{Unit}
+use Rattle.std.specs.Prelude.{Option, Some, None}
 use Rattle.std.specs.Prelude.{ℕ, ◌^◌, ◌≤◌, ◌<◌, ◌≡◌, Bool, List, [], ◌∷◌, length}
 use Rattle.table.specs.declared.Sections.{Sections}
 use Rattle.table.specs.declared.Checked.TheVariants.{Table}
 use Rattle.types.specs.Table.{checked}
-use Rattle.operations.specs.declared.Sought.{Sought}
-use Rattle.operations.specs.declared.Sought.TheVariants.{At, Nowhere}
 use Rattle.operations.specs.Entries.{op_place, kind_at, id_at}
 use Rattle.operations.specs.Search.{indexed, sought_in}
-use Rattle.pending.specs.declared.Asked.{Asked}
 use Rattle.pending.specs.Free.{is_pending}
 use Rattle.pending.specs.Answers.{awaited_of, cancelled}
 use Rattle.requests.specs.declared.Sent.{Sent}
@@ -25,9 +23,9 @@ pub record HasKind (t : List ℕ) (s : Sections) (id kind i : ℕ) : Type 0 wher
   pub kinded : kind_at t (op_place t s.operations.at i) ≡ kind
 
 -- the kind of the operation that is found for an ID, by the table's index as it is laid in any words; none counts as an event
-abbrev pub kind_found : List ℕ → Sought → ℕ
-kind_found t (At i p) = kind_at t p
-kind_found t Nowhere = 0
+abbrev pub kind_found : List ℕ → Option (ℕ × ℕ) → ℕ
+kind_found t (Some (i, p)) = kind_at t p
+kind_found t None = 0
 
 abbrev pub kind_in : List ℕ → Sections → List ℕ → ℕ → ℕ
 kind_in t s words id =
@@ -58,7 +56,7 @@ pub data Said : Type 0 where
   of_send : Sent → Said
   of_receive : Noting → Said
   whether : Bool → Said
-  what : Asked → Said
+  what : Option (ℕ × ℕ) → Said
 
 pub record Shown : Type 0 where
   pub said : Said

@@ -2,13 +2,13 @@
 -- stands what the same calls answer and leave on a plain map from numbers to ID and target, which can insert, look up, delete and count,
 -- and has no places. The theorem is in proofs/RequestRuns.antt.
 use Rattle.std.specs.Prelude.{ℕ, ◌+◌, ◌%◌, ◌^◌, ◌≤◌, ◌<◌, ◌≡◌, List, [], ◌∷◌, ◌++◌, length, drop}
+use Rattle.std.specs.Prelude.{Some}
 use Rattle.table.specs.declared.Sections.{Sections}
 use Rattle.message.specs.declared.Header.{Header}
 use Rattle.message.specs.declared.Message.TheVariants as message
 use Rattle.message.specs.declared.Reading.TheVariants as reading
 use Rattle.message.specs.Reading.{read_of}
 use Rattle.message.specs.Writing.{message_bytes}
-use Rattle.pending.specs.declared.Asked.TheVariants.{Of}
 use Rattle.pending.specs.Free.{IsNextFree}
 use Rattle.pending.specs.PlainMap.{Map, taken, empty_map, inserted, deleted, fresh_list, LikeMap}
 use Rattle.pending.specs.Turns.{Kempt}
@@ -65,12 +65,12 @@ pub data MapCall (own : ℕ) (p : Standing) (m : Map) : RequestCall → OnMap �
       → MapCall own p m (send t s words id target payload out) x
   -- "A domain 1 message with that ID, number and sender is the response: it is delivered once and its place is free again"
   delivers : {t : List ℕ} {s : Sections} {bytes out : List ℕ} {h : Header} {i len : ℕ} → Responds own t s bytes h i len
-      → m.under h.sequence ≡ Of h.id h.platform
+      → m.under h.sequence ≡ Some (h.id, h.platform)
       → MapCall own p m (receive t s bytes out)
       (record { seen = shown (of_receive (noting.Response h i 20 len)) out p; after = deleted m h.sequence })
   -- "any other message with a kind 2 ID is refused with 61"
   refuses : {t : List ℕ} {s : Sections} {bytes out : List ℕ} {h : Header} {i len : ℕ} → Responds own t s bytes h i len
-      → ¬ (m.under h.sequence ≡ Of h.id h.platform)
+      → ¬ (m.under h.sequence ≡ Some (h.id, h.platform))
       → MapCall own p m (receive t s bytes out) (record { seen = shown (of_receive (noting.Refused 61)) out p; after = m })
   -- every other message, and what is none, as in 01: as if nothing were pending
   passes : {t : List ℕ} {s : Sections} {bytes out : List ℕ} → ((h : Header) (i len : ℕ) → ¬ (Responds own t s bytes h i len))

@@ -1,11 +1,11 @@
 -- 02, request 1, "Responses, please": what is promised of the list of pending requests and of sending. The theorem is in
 -- proofs/Requests.antt. Places, limits and numbers stand here as 02 has them.
 use Rattle.std.specs.Prelude.{ℕ, ◌+◌, ◌%◌, ◌^◌, ◌≤◌, ◌<◌, ◌≡◌, Bool, true, false, List, [], ◌∷◌, length, take, drop}
+use Rattle.std.specs.Prelude.{Some, None}
 use Rattle.message.specs.declared.Message.TheVariants as message
 use Rattle.message.specs.declared.Reading.TheVariants as reading
 use Rattle.message.specs.Reading.{read_of, payload_of}
 use Rattle.message.specs.Writing.{header_for}
-use Rattle.pending.specs.declared.Asked.TheVariants.{Of, Nothing}
 use Rattle.pending.specs.Places.{number_at}
 use Rattle.pending.specs.Free.{is_pending, next_free, IsNextFree}
 use Rattle.pending.specs.Answers.{awaited_of, cancelled, is_response, responded}
@@ -41,7 +41,7 @@ pub record Arrives (own id n reader : ℕ) (payload bytes : List ℕ) : Type 0 w
 -- "it is delivered once and its place is free again": once a request is answered, nothing is pending under its number, all else is as
 -- it was, and the same message is not the response again
 pub record AnsweredOnce (l : List ℕ) (n id sender : ℕ) : Type 0 where
-  pub gone : awaited_of (responded l n id sender) n ≡ Nothing
+  pub gone : awaited_of (responded l n id sender) n ≡ None
   pub others : (x : ℕ) → ¬ (x ≡ n) → awaited_of (responded l n id sender) x ≡ awaited_of l x
   pub once : is_response (responded l n id sender) n id sender ≡ false
 
@@ -66,8 +66,8 @@ pub record Requests : Type 1 where
       → drop (20 + length payload) (output_sent own next l kind id payload out) ≡ drop (20 + length payload) out
   -- a message is the response just where its number is pending for its ID and its sender, and on any list without a number twice
   -- it is so once
-  pub is-response : (l : List ℕ) (n id sender : ℕ) → awaited_of l n ≡ Of id sender → is_response l n id sender ≡ true
-  pub no_response : (l : List ℕ) (n id sender : ℕ) → ¬ (awaited_of l n ≡ Of id sender) → is_response l n id sender ≡ false
+  pub is-response : (l : List ℕ) (n id sender : ℕ) → awaited_of l n ≡ Some (id, sender) → is_response l n id sender ≡ true
+  pub no_response : (l : List ℕ) (n id sender : ℕ) → ¬ (awaited_of l n ≡ Some (id, sender)) → is_response l n id sender ≡ false
   pub answered_once : (l : List ℕ) (n id sender : ℕ) → length l ≡ 128 → Once l → is_response l n id sender ≡ true → AnsweredOnce l n id sender
   pub stays : (l : List ℕ) (n id sender : ℕ) → is_response l n id sender ≡ false → responded l n id sender ≡ l
   -- "a number not pending changes nothing"

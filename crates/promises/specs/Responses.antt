@@ -2,6 +2,7 @@
 -- pending, or is refused with 61. A kind 3 ID is heard as 01 has it. The theorems are in proofs/Responses.antt; platforms that take
 -- another message for the response, or the same one twice, or none, are in specs/WrongResponses.
 use Rattle.std.specs.Prelude.{ℕ, ◌-◌, ◌≡◌, List, length, drop}
+use Rattle.std.specs.Prelude.{Some}
 use Rattle.wire.specs.Bytes.{part}
 use Rattle.table.specs.declared.Sections.{Sections}
 use Rattle.table.specs.declared.Checked.TheVariants.{Table}
@@ -10,7 +11,6 @@ use Rattle.message.specs.declared.Header.{Header}
 use Rattle.message.specs.declared.Message.TheVariants as message
 use Rattle.message.specs.declared.Reading.TheVariants.{Read}
 use Rattle.message.specs.Reading.{read_of}
-use Rattle.pending.specs.declared.Asked.TheVariants.{Of}
 use Rattle.pending.specs.Answers.{awaited_of, cancelled}
 use Rattle.pending.specs.PlainMap.{Once}
 use Rattle.platform.specs.declared.reactions.Standing.{Standing}
@@ -29,7 +29,7 @@ pub record ComesUnder (own : ℕ) (t : List ℕ) (s : Sections) (m : List ℕ) (
 
 -- "A domain 1 message with that ID, number and sender is the response": what is pending under its number is its ID, asked of its sender
 abbrev pub IsAwaited : List ℕ → Header → Type 0
-IsAwaited l h = awaited_of l h.sequence ≡ Of h.id h.platform
+IsAwaited l h = awaited_of l h.sequence ≡ Some (h.id, h.platform)
 
 -- "it is delivered": the operation's entry, and the payload part, all of the message behind its 20 bytes of header; "and its place is
 -- free again". Nothing is owed, and no state or own number changes

@@ -1,6 +1,7 @@
 -- 01, "What the promises have to say" and "Easy wrong turns": joiners that are wrong, and that none of them meets demand 3. The
 -- theorems are in proofs/WrongJoiners.antt.
 use Rattle.std.specs.Prelude.{ℕ, ◌≤◌, ◌≡◌, Bool, true, false, cond, ◌&&◌, List, leb, ltb, eqb, length}
+use Rattle.std.specs.Prelude.{Some, None}
 use Rattle.binding.specs.Header.{heading_in, piece_in}
 use Rattle.binding.specs.declared.BindingHeader.{BindingHeader}
 use Rattle.binding.specs.declared.Heading.{Heading}
@@ -10,7 +11,6 @@ use Rattle.binding.specs.declared.MessagePart.TheVariants.{Begin, Middle, End, W
 use Rattle.channel.specs.declared.Channel.{Channel}
 use Rattle.channel.specs.declared.Room.{Room}
 use Rattle.channel.specs.declared.Step.{Step}
-use Rattle.channel.specs.declared.Put.TheVariants.{Nowhere, At}
 use Rattle.channel.specs.declared.Outcome.{Outcome}
 use Rattle.channel.specs.declared.Outcome.TheVariants.{Refused, Repeated, Delivered, Held, Stray, TooLong}
 use Rattle.channel.specs.declared.Slice.{Slice}
@@ -113,7 +113,7 @@ stepping step = record { State = Joiner; start = fresh; take = λ j rooms d. too
 -- steps 1 and 2 by another test of what is repeated
 abbrev pub testing : (Channel → ℕ → Bool) → Stepping
 testing again room ch p c n =
-    cond (again ch c) (record { outcome = Repeated; channel = ch; put = Nowhere }) (placed_of room (noted_of ch c) p n (missed_of ch c))
+    cond (again ch c) (record { outcome = Repeated; channel = ch; put = None }) (placed_of room (noted_of ch c) p n (missed_of ch c))
 
 -- "counters compared with greater than": what is not above the last is repeated
 abbrev pub not_above : Channel → ℕ → Bool
@@ -126,7 +126,7 @@ never ch c = false
 -- "a beginning that keeps the old held length", if there is one
 abbrev pub begun_over : Room → Channel → ℕ → ℕ → ℕ → Step
 begun_over room ch old n m =
-    cond (leb n room.size) (record { outcome = Held m n; channel = holding ch (cond (eqb old 0) n old); put = At room.start }) (too_long ch m)
+    cond (leb n room.size) (record { outcome = Held m n; channel = holding ch (cond (eqb old 0) n old); put = Some room.start }) (too_long ch m)
 
 abbrev pub placed_over : ℕ → Room → Channel → MessagePart → ℕ → ℕ → Step
 placed_over old room ch Begin n m = begun_over room ch old n m
@@ -137,7 +137,7 @@ placed_over old room ch End n m = placed_of room ch End n m
 -- the length held before the datagram came
 abbrev pub beginning_keeps : Stepping
 beginning_keeps room ch p c n =
-    cond (repeated ch c) (record { outcome = Repeated; channel = ch; put = Nowhere })
+    cond (repeated ch c) (record { outcome = Repeated; channel = ch; put = None })
     (placed_over ch.held room (noted_of ch c) p n (missed_of ch c))
 
 -- "a repeated middle appended twice": what is repeated is placed once more
@@ -166,7 +166,7 @@ shared_room room ch p c n = stepped_of (record { start = 0; size = room.size }) 
 -- every channel but the first is passed over
 abbrev pub first_channel_only : Stepping
 first_channel_only room ch p c n =
-    cond (eqb room.start 0) (stepped_of room ch p c n) (record { outcome = Repeated; channel = ch; put = Nowhere })
+    cond (eqb room.start 0) (stepped_of room ch p c n) (record { outcome = Repeated; channel = ch; put = None })
 
 -- with our step it is our_joining; and with the others, and those above, it does not meet demand 3
 pub record NoWrongJoiner : Type 1 where

@@ -1,6 +1,7 @@
 -- 02, request 1: "Over any calls the list answers as a plain map does." Lists that do not, each wrong in one place alone: by a small run
 -- each shows something else than the map does. The theorems are in proofs/WrongListings.antt.
 use Rattle.std.specs.Prelude.{ℕ, ◌+◌, List, length}
+use Rattle.std.specs.Prelude.{Option, Some, None}
 use Rattle.table.specs.declared.Sections.{Sections}
 use Rattle.operations.specs.Entries.{id_at}
 use Rattle.operations.specs.Search.{operation_of}
@@ -8,8 +9,6 @@ use Rattle.message.specs.declared.Header.{Header}
 use Rattle.message.specs.declared.Reading.{Reading}
 use Rattle.message.specs.declared.Reading.TheVariants.{Refused, Read}
 use Rattle.message.specs.Reading.{read_of}
-use Rattle.pending.specs.declared.Slot.{Slot}
-use Rattle.pending.specs.declared.Slot.TheVariants.{At, Nowhere}
 use Rattle.pending.specs.Places.{pending_id_at, target_at, place_of, cleared, entered}
 use Rattle.pending.specs.Answers.{cancelled}
 use Rattle.requests.specs.Sending.{list_sent}
@@ -26,9 +25,9 @@ use Rattle.promises.specs.RequestRuns.{AsMapBy}
 abbrev pub Asking : Type 0
 Asking = List ℕ → Sections → List ℕ → ℕ → Header → List ℕ
 
-abbrev pub read_at : Asking → List ℕ → Sections → List ℕ → Slot → Header → List ℕ
-read_at f t s l (At k) h = f t s l k h
-read_at f t s l Nowhere h = l
+abbrev pub read_at : Asking → List ℕ → Sections → List ℕ → Option ℕ → Header → List ℕ
+read_at f t s l (Some k) h = f t s l k h
+read_at f t s l None h = l
 
 abbrev pub read_by : Asking → List ℕ → Sections → List ℕ → Reading → List ℕ
 read_by f t s l (Refused n) = l
@@ -82,9 +81,9 @@ abbrev pub keeping_entries : Listing
 keeping_entries = record { shows = shows_reading as_entry; leaves = leaves_entry }
 
 -- a cancel that frees the place behind
-abbrev pub cleared_behind : List ℕ → Slot → List ℕ
-cleared_behind l (At k) = cleared l (k + 1)
-cleared_behind l Nowhere = l
+abbrev pub cleared_behind : List ℕ → Option ℕ → List ℕ
+cleared_behind l (Some k) = cleared l (k + 1)
+cleared_behind l None = l
 
 abbrev pub leaves_behind : ℕ → Standing → List ℕ → RequestCall → List ℕ
 leaves_behind own p l (send t s words id target payload out) = our_leaves own p l (send t s words id target payload out)

@@ -1,8 +1,8 @@
 -- 01, "Easy wrong turns": "UP while already UP answered again: two platforms would answer for ever". Such platforms do not fall
 -- silent. The theorems are in proofs/WrongPlatforms.antt.
 use Rattle.std.specs.Prelude.{ℕ, zero, suc, ◌≤◌, cond, List, [], ◌∷◌, ◌++◌}
+use Rattle.std.specs.Prelude.{Option}
 use Rattle.table.specs.declared.Sections.{Sections}
-use Rattle.operations.specs.declared.Sought.{Sought}
 use Rattle.message.specs.declared.Header.{Header}
 use Rattle.message.specs.declared.Status.TheVariants.{Down, Up}
 use Rattle.message.specs.declared.Message.{Message}
@@ -55,7 +55,7 @@ FallSilentBy X =
 
 -- our_answering with another reaction to a message
 abbrev pub Reacting : Type 0
-Reacting = ℕ → List ℕ → Sections → Sought → Standing → Header → Message → ℕ → ℕ → Reaction
+Reacting = ℕ → List ℕ → Sections → Option (ℕ × ℕ) → Standing → Header → Message → ℕ → ℕ → Reaction
 
 abbrev pub kept_by : Reacting → ℕ → Setting → Standing → Reading → Standing
 kept_by react own c p (reading.Refused n) = p

@@ -1,9 +1,7 @@
 -- 02, 1, "All refused, or one constant answer" for responses: platforms that do what ours does but for domain 1 messages with a kind 2
 -- ID. None of them meets `Responses`. The theorems are in proofs/WrongResponses.antt.
 use Rattle.std.specs.Prelude.{ℕ, ◌≡◌, Bool, false, cond, List, eqb}
-use Rattle.operations.specs.declared.Sought.{Sought}
-use Rattle.pending.specs.declared.Asked.{Asked}
-use Rattle.pending.specs.declared.Asked.TheVariants.{Of, Nothing}
+use Rattle.std.specs.Prelude.{Option, Some, None}
 use Rattle.pending.specs.Free.{is_pending}
 use Rattle.pending.specs.Answers.{awaited_of, cancelled, is_response}
 use Rattle.table.specs.declared.Checked.{Checked}
@@ -26,12 +24,12 @@ pub record Matching : Type 0 where
   pub freed : List ℕ → ℕ → List ℕ
 
 -- such a message, with the operation that is found for it, and with what ours makes of any other
-abbrev pub outcome_by : Matching → List ℕ → Sought → Standing → List ℕ → Reading → Received → Received
+abbrev pub outcome_by : Matching → List ℕ → Option (ℕ × ℕ) → Standing → List ℕ → Reading → Received → Received
 outcome_by M t f p l (reading.Refused n) ours = ours
 outcome_by M t f p l (reading.Read h m start len) ours =
     cond (is_answer t f m) (cond (M.is_it l h) (delivered f p h start len) (refused p 61)) ours
 
-abbrev pub list_by : Matching → List ℕ → Sought → List ℕ → Reading → List ℕ
+abbrev pub list_by : Matching → List ℕ → Option (ℕ × ℕ) → List ℕ → Reading → List ℕ
 list_by M t f l (reading.Refused n) = l
 list_by M t f l (reading.Read h m start len) = cond (is_answer t f m) (cond (M.is_it l h) (M.freed l h.sequence) l) l
 
@@ -60,9 +58,9 @@ rightly = record { is_it = λ l h. is_response l h.sequence h.id h.platform; fre
 abbrev pub matched_by_number : Matching
 matched_by_number = record { is_it = λ l h. is_pending l h.sequence; freed = cancelled }
 
-abbrev pub asks_id : Asked → ℕ → Bool
-asks_id (Of i target) id = eqb i id
-asks_id Nothing id = false
+abbrev pub asks_id : Option (ℕ × ℕ) → ℕ → Bool
+asks_id (Some (i, target)) id = eqb i id
+asks_id None id = false
 
 abbrev pub any_sender : Matching
 any_sender = record { is_it = λ l h. asks_id (awaited_of l h.sequence) h.id; freed = cancelled }

@@ -1,6 +1,7 @@
 -- What `send` comes to at its returns.
 -- Assumes nothing.
 use Prim.Native.Nat.{ℕ, zero, suc}
+use Rattle.std.specs.Prelude.{Option, Some, None}
 use mathlib.Core.Path.{◌≡◌, refl, sym, ap, ap₂, ◌∙◌}
 use mathlib.Core.List.{List}
 use native.Mathlib.Omega.{arith}
@@ -11,8 +12,6 @@ use Rattle.message.specs.declared.Writing.{Writing}
 use Rattle.message.specs.declared.Writing.TheVariants as writing
 use Rattle.message.specs.Writing.{answered, write_of, output_after}
 use Rattle.message.specs.Writing as writes
-use Rattle.pending.specs.declared.Slot.{Slot}
-use Rattle.pending.specs.declared.Slot.TheVariants.{At, Nowhere}
 use Rattle.pending.specs.Places.{free_place, entered, entered_at}
 use Rattle.pending.specs.Free.{drawn, next_free}
 use Rattle.message3.specs.declared.Stamp.{Stamp}
@@ -97,16 +96,16 @@ pub sent_output : (issue : Issue) (own next id : ℕ) (l payload out r : List �
 sent_output issue own next id l payload out r x q e = e ∙ ap (λ (n : ℕ). output_for issue own id n payload out) q
 
 -- the kind is right, and a place is free
-module _ (issue : Issue) (next kind id : ℕ) (l payload : List ℕ) (s : Slot) (p : s ≡ free_place l) (right : kind ≡ 2) where
+module _ (issue : Issue) (next kind id : ℕ) (l payload : List ℕ) (s : Option ℕ) (p : s ≡ free_place l) (right : kind ≡ 2) where
   -- 62 is not given
   asked : (room : ℕ) → send_refusal_for issue l kind id payload room ≡ unless_full s (write_refusal_for issue id payload room)
   asked room =
       no-ne no_request (unless_full (free_place l) (write_refusal_for issue id payload room)) kind 2 right
-      ∙ ap (λ (x : Slot). unless_full x (write_refusal_for issue id payload room)) (sym p)
+      ∙ ap (λ (x : Option ℕ). unless_full x (write_refusal_for issue id payload room)) (sym p)
 
-  module _ (k : ℕ) (e : s ≡ At k) where
+  module _ (k : ℕ) (e : s ≡ Some k) where
     as_written : (room : ℕ) → send_refusal_for issue l kind id payload room ≡ write_refusal_for issue id payload room
-    as_written room = asked room ∙ ap (λ (x : Slot). unless_full x (write_refusal_for issue id payload room)) e
+    as_written room = asked room ∙ ap (λ (x : Option ℕ). unless_full x (write_refusal_for issue id payload room)) e
 
     pub tried-answer : (room : ℕ) (r : Sending) → r ≡ written_of issue next l id payload room → r ≡ sent_for issue next l kind id payload room
     tried-answer room r f = f ∙ sym (ap (λ (n : ℕ). answered_by n next (next_free l next) (length_for issue payload)) (as_written room))
@@ -116,7 +115,7 @@ module _ (issue : Issue) (next kind id : ℕ) (l payload : List ℕ) (s : Slot) 
     tried-list room target r f =
         f
         ∙ sym (ap₂
-        (λ (n : ℕ) (x : Slot).
+        (λ (n : ℕ) (x : Option ℕ).
         left_over_by (answered_by n next (next_free l next) (length_for issue payload)).answer l (entered_at l x (next_free l next) id target))
         (as_written room) (sym p ∙ e))
 
@@ -128,8 +127,8 @@ module _ (issue : Issue) (next kind id : ℕ) (l payload : List ℕ) (s : Slot) 
         ∙ sym (ap (λ (n : ℕ). left_over_by (answered_by n next (next_free l next) (length_for issue payload)).answer out new) (as_written (length out)))
 
   -- 60
-  pub full : s ≡ Nowhere → (room : ℕ) → send_refusal_for issue l kind id payload room ≡ 60
-  full e room = asked room ∙ ap (λ (x : Slot). unless_full x (write_refusal_for issue id payload room)) e
+  pub full : s ≡ None → (room : ℕ) → send_refusal_for issue l kind id payload room ≡ 60
+  full e room = asked room ∙ ap (λ (x : Option ℕ). unless_full x (write_refusal_for issue id payload room)) e
 
 -- 62
 pub no-request : (issue : Issue) (kind id : ℕ) (l payload : List ℕ) → (kind ≡ 2 → ⊥) → (room : ℕ) → send_refusal_for issue l kind id payload room ≡ 62
@@ -153,7 +152,7 @@ refused_output issue own next kind id l payload out n e =
     (λ (x : ℕ). left_over_by (answered_by x next (next_free l next) (length_for issue payload)).answer out
     (over out 0 (bytes_for issue own id (next_free l next) payload))) e)
 
-module _ (issue : Issue) (next kind id : ℕ) (l payload : List ℕ) (s : Slot) (p : s ≡ free_place l) (right : kind ≡ 2) (e : s ≡ Nowhere) where
+module _ (issue : Issue) (next kind id : ℕ) (l payload : List ℕ) (s : Option ℕ) (p : s ≡ free_place l) (right : kind ≡ 2) (e : s ≡ None) where
   pub full-answer : (room : ℕ) (r : Sending) → r ≡ refused_with next 60 → r ≡ sent_for issue next l kind id payload room
   full-answer room = refused-answer issue next kind id room l payload 59 (full issue next kind id l payload s p right e room)
 

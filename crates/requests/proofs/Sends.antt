@@ -1,6 +1,7 @@
 -- What is known of a request that nothing refuses, and what a refusal leaves.
 -- Assumes nothing.
 use Prim.Native.Nat.{ℕ, zero, suc}
+use Rattle.std.specs.Prelude.{Option, Some, None}
 use mathlib.Core.Path.{◌≡◌, refl, sym, ap, ◌∙◌}
 use mathlib.Core.Bool.{false, not}
 use mathlib.Core.List.{List}
@@ -10,8 +11,6 @@ use lib.Dec.{eqb}
 use lib.ListN.{length}
 use Rattle.wire.specs.Bytes.{over}
 use Rattle.wire.proofs.Cond.{passed}
-use Rattle.pending.specs.declared.Slot.{Slot}
-use Rattle.pending.specs.declared.Slot.TheVariants.{At, Nowhere}
 use Rattle.pending.specs.Places.{free_place, entered_at}
 use Rattle.pending.specs.Free.{drawn, next_free}
 use Rattle.requests.specs.declared.Issue.{Issue}
@@ -22,7 +21,7 @@ use Rattle.requests.specs.Sending.{sent_for, number_given, left_over_by, list_se
 pub record Sendable (issue : Issue) (l : List ℕ) (kind id : ℕ) (payload : List ℕ) (room : ℕ) : Type 0 where
   pub right : kind ≡ 2
   pub place : ℕ
-  pub free : free_place l ≡ At place
+  pub free : free_place l ≡ Some place
   pub writes : write_refusal_for issue id payload room ≡ 0
 
 module _ (issue : Issue) (l : List ℕ) (kind id : ℕ) (payload : List ℕ) (room : ℕ) where
@@ -40,15 +39,15 @@ module _ (issue : Issue) (l : List ℕ) (kind id : ℕ) (payload : List ℕ) (ro
       both : (not (eqb kind 2) ≡ false) × (unless_full (free_place l) (write_refusal_for issue id payload room) ≡ 0)
       both = passed (not (eqb kind 2)) 61 (unless_full (free_place l) (write_refusal_for issue id payload room)) e
 
-      go : (s : Slot) → free_place l ≡ s → Sendable issue l kind id payload room
-      go (At k) p =
+      go : (s : Option ℕ) → free_place l ≡ s → Sendable issue l kind id payload room
+      go (Some k) p =
           record {
             right = eqb-true kind 2 (not-false (eqb kind 2) both.0);
             place = k;
             free = p;
-            writes = sym (ap (λ (s : Slot). unless_full s (write_refusal_for issue id payload room)) p) ∙ both.1;
+            writes = sym (ap (λ (s : Option ℕ). unless_full s (write_refusal_for issue id payload room)) p) ∙ both.1;
           }
-      go Nowhere p = absurd (suc-ne-zero 59 (sym (ap (λ (s : Slot). unless_full s (write_refusal_for issue id payload room)) p) ∙ both.1))
+      go None p = absurd (suc-ne-zero 59 (sym (ap (λ (s : Option ℕ). unless_full s (write_refusal_for issue id payload room)) p) ∙ both.1))
 
   module _ (next : ℕ) where
     -- what is sent

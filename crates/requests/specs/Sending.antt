@@ -1,6 +1,7 @@
 -- 02, request 1: what sending a request answers, and what it leaves in the list and in the output. 02, request 8: a request is written in its
 -- target's issue, and all else of it is the same in both.
 use Rattle.std.specs.Prelude.{ℕ, zero, suc, ◌+◌, not, cond, List, eqb, length}
+use Rattle.std.specs.Prelude.{Option, Some, None}
 use Rattle.wire.specs.Bytes.{over}
 use Rattle.message.specs.Header.{header_length}
 use Rattle.message.specs.Refusal.{write_refusal}
@@ -11,8 +12,6 @@ use Rattle.message3.specs.Header.{header_length3}
 use Rattle.message3.specs.Refusal.{write_refusal3}
 use Rattle.message3.specs.Writing.{message_bytes3}
 use Rattle.operations.specs.Entries.{sent_kind}
-use Rattle.pending.specs.declared.Slot.{Slot}
-use Rattle.pending.specs.declared.Slot.TheVariants.{At, Nowhere}
 use Rattle.pending.specs.Places.{free_place, entered, entered_at}
 use Rattle.pending.specs.Free.{drawn, next_free}
 use Rattle.requests.specs.declared.Issue.{Issue}
@@ -44,9 +43,9 @@ list_full = 60
 abbrev pub no_request : ℕ
 no_request = 62
 
-abbrev pub unless_full : Slot → ℕ → ℕ
-unless_full (At k) n = n
-unless_full Nowhere n = list_full
+abbrev pub unless_full : Option ℕ → ℕ → ℕ
+unless_full (Some k) n = n
+unless_full None n = list_full
 
 -- "Sending under an ID that isn't kind 2 is 62, checked first, 60 next, then 01's writing numbers": the number that refuses, or 0
 abbrev pub send_refusal_for : Issue → List ℕ → ℕ → ℕ → List ℕ → ℕ → ℕ

@@ -9,7 +9,6 @@ ghost use Rattle.requests.specs.Sending.{written_of, list_written, output_writte
 use message::{Header, Own, Writing};
 use message3::Stamp;
 use operations::REQUEST_SENT;
-use pending::Slot;
 
 // The issue that a target speaks: what is written for Issue 3 bears a timestamp.
 #[derive(Clone, Copy)]
@@ -55,8 +54,8 @@ pub fn send(
 {
     if kind == REQUEST_SENT {
         match pending::free_place(list) {
-            Slot::At(place) => send_at(own, issue, next, list, place, id, target, payload, out),
-            Slot::Nowhere => refused(next, LIST_FULL),
+            Some(place) => send_at(own, issue, next, list, place, id, target, payload, out),
+            None => refused(next, LIST_FULL),
         }
     } else {
         refused(next, NO_REQUEST)

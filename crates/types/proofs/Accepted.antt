@@ -1,12 +1,12 @@
 -- A table that `check` accepts: what the walk's and the platform's proofs may count on.
 -- Assumes nothing.
 use Rattle.std.proofs.Common.{◌≡◌, ℕ, ◌+◌, ◌<◌, ◌≤◌, Bool, true, false, cond, eqb, ltb, leb, List, refl, ◌∙◌, subst, arith, ltb-true, lt-ltb, le-leb, leb-false, leb-true}
+use Rattle.std.specs.Prelude.{Some}
 use borrow.Author.Tests.{eqb-false, not-true}
 use Rattle.table.specs.declared.Sections.{Sections}
 use Rattle.table.specs.declared.Entry.{Entry}
 use Rattle.table.specs.declared.Checked.{Checked}
 use Rattle.table.specs.declared.Checked.TheVariants.{Refused, Table}
-use Rattle.types.specs.declared.Largest.TheVariants.{Bytes}
 use Rattle.wire.specs.All.{all_below}
 use Rattle.table.specs.Leaf.{is_base, is_enum_base, allowed}
 use Rattle.table.specs.Layout.{most_types, sections_of, within}
@@ -152,7 +152,7 @@ module _ (t : List ℕ) (s : Sections) (a : Accepted t s) where
     unfolding sizes_ok fits_in_size
     size_fits = leb-true (largest t s i) most_bytes (at-below (fits_in_size t s) s.types.count i a.fit h)
 
-    pub largest-is : largest_of t s i ≡ Bytes (largest t s i)
+    pub largest-is : largest_of t s i ≡ Some (largest t s i)
     unfolding largest_of largest_below bytes_up_to sizes_ok
     largest-is =
         let few : s.types.count ≤ most_types = a.lie.types.few in

@@ -1,13 +1,12 @@
 -- Laws of the largest sizes: what the returns come to, that nothing wraps, and what filling the room does.
 -- Assumes nothing.
 use Rattle.std.proofs.Common.{◌≡◌, ℕ, zero, suc, ◌+◌, ◌*◌, ◌^◌, ◌<◌, ◌≤◌, Bool, true, false, ◌&&◌, ◌||◌, ltb, List, [], ◌∷◌, ◌++◌, length, get_or, take, set, sym, refl, ap, ◌∙◌, subst, ⊎_elim, mul-le-mul, eq-or-lt_of_le, add-one, arith, length-append, take-suc-set, w16, w32, w64, Fits, ltb-false, ltb-true, eq-eqb, ne_eqb, le-leb}
+use Rattle.std.specs.Prelude.{Option, Some, None}
 use borrow.Author.Tests.{lt-leb}
 use lib.ListN.{get_or-eq_default, get_or-append}
 use lib.Seq.{get_or_at}
 use Rattle.table.specs.declared.Sections.{Sections}
 use Rattle.table.specs.declared.Entry.{Entry}
-use Rattle.types.specs.declared.Largest.{Largest}
-use Rattle.types.specs.declared.Largest.TheVariants.{Bytes, Unknown}
 use Rattle.wire.specs.All.{all_below}
 use Rattle.table.specs.Leaf.{width}
 use Rattle.table.specs.Entries.{type_at, member_at, is_type}
@@ -33,11 +32,11 @@ times_fits n z a b = record { fits = omega (arith, product n z a b) }
 pub times_small : (n z : ℕ) → Fits w16 n → Fits w32 z → n * z < 2 ^ 48
 times_small n z a b = omega (arith, product n z a b)
 
-pub up_to : (z : ℕ) → z ≤ most_bytes → Bytes z ≡ bytes_up_to z
+pub up_to : (z : ℕ) → z ≤ most_bytes → Some z ≡ bytes_up_to z
 unfolding bytes_up_to
 up_to z h = rw (le-leb z most_bytes h) refl
 
-pub over_it : (z : ℕ) → most_bytes < z → Unknown ≡ bytes_up_to z
+pub over_it : (z : ℕ) → most_bytes < z → None ≡ bytes_up_to z
 unfolding bytes_up_to
 over_it z h = rw (lt-leb z most_bytes h) refl
 
@@ -127,27 +126,27 @@ module _ (t : List ℕ) (s : Sections) where
     unfolding fits_in_size
     fits-no-more n l h = stop-below (fits_in_size t s) n i false (rw (← the-largest, lt-leb z 65536 h) refl) refl l
 
-    pub known_bytes : (b : Largest) → b ≡ bytes_up_to z → b ≡ bytes_up_to (largest t s i)
+    pub known_bytes : (b : Option ℕ) → b ≡ bytes_up_to z → b ≡ bytes_up_to (largest t s i)
     known_bytes b h = h ∙ ap bytes_up_to the-largest
 
   pub filled : (room : List ℕ) (i n : ℕ) → take i room ≡ sizes t s i → i ≤ n → n ≤ i → true ≡ true → take n room ≡ sizes t s n
   filled room i n h a b _ = let e : i ≡ n = omega arith in subst (λ (k : ℕ). take k room ≡ sizes t s k) e h
 
   module _ (i : ℕ) (f : Bool) (p : f ≡ all_below (fits_in_size t s) i) where
-    pub below-known : (room : List ℕ) (e : Entry) (z : ℕ) (b : Largest) → f ≡ true → (f ≡ true → take i room ≡ sizes t s i) → e
+    pub below-known : (room : List ℕ) (e : Entry) (z : ℕ) (b : Option ℕ) → f ≡ true → (f ≡ true → take i room ≡ sizes t s i) → e
         ≡ type_at t s i → z ≡ size_of t s (take i room) e → b ≡ bytes_up_to z → b ≡ largest_below t s i
     unfolding largest_below
     below-known room e z b h k q r u = rw (← p, h) (known_bytes room i e z (k h) q r b u)
 
-    pub below-unknown : f ≡ false → Unknown ≡ largest_below t s i
+    pub below-unknown : f ≡ false → None ≡ largest_below t s i
     unfolding largest_below
     below-unknown h = rw (← p, h) refl
 
-  pub is_known : (i : ℕ) (x : Bool) (b : Largest) → x ≡ is_type s i → (x && ltb i 256) ≡ true → b ≡ largest_below t s i → b ≡ largest_of t s i
+  pub is_known : (i : ℕ) (x : Bool) (b : Option ℕ) → x ≡ is_type s i → (x && ltb i 256) ≡ true → b ≡ largest_below t s i → b ≡ largest_of t s i
   unfolding largest_of
   is_known i x b p h q = rw (← p, h) q
 
-  pub is-unknown : (i : ℕ) (x : Bool) → x ≡ is_type s i → (x && ltb i 256) ≡ false → Unknown ≡ largest_of t s i
+  pub is-unknown : (i : ℕ) (x : Bool) → x ≡ is_type s i → (x && ltb i 256) ≡ false → None ≡ largest_of t s i
   unfolding largest_of
   is-unknown i x p h = rw (← p, h) refl
 

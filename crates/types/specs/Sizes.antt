@@ -1,9 +1,8 @@
 -- 01, "The type table": the largest size of a type in bytes. Number 33.
 use Rattle.std.specs.Prelude.{ℕ, zero, suc, ◌+◌, ◌*◌, Bool, cond, ◌&&◌, List, [], ◌∷◌, ◌++◌, ◌==◌, nat_le, nat_lt, slice_index}
+use Rattle.std.specs.Prelude.{Option, Some, None}
 use Rattle.table.specs.declared.Sections.{Sections}
 use Rattle.table.specs.declared.Entry.{Entry}
-use Rattle.types.specs.declared.Largest.{Largest}
-use Rattle.types.specs.declared.Largest.TheVariants.{Bytes, Unknown}
 use Rattle.wire.specs.All.{all_below}
 use Rattle.table.specs.Leaf.{width}
 use Rattle.table.specs.Layout.{most_types}
@@ -47,11 +46,11 @@ unfoldable pub fits_in_size : List ℕ → Sections → ℕ → Bool
 fits_in_size t s i = nat_le (largest t s i) most_bytes
 
 -- the largest size looked up: that of a type of the table, where neither it nor a type before it is too large
-unfoldable pub bytes_up_to : ℕ → Largest
-bytes_up_to size = cond (nat_le size most_bytes) (Bytes size) Unknown
+unfoldable pub bytes_up_to : ℕ → Option ℕ
+bytes_up_to size = cond (nat_le size most_bytes) (Some size) None
 
-unfoldable pub largest_below : List ℕ → Sections → ℕ → Largest
-largest_below t s i = cond (all_below (fits_in_size t s) i) (bytes_up_to (largest t s i)) Unknown
+unfoldable pub largest_below : List ℕ → Sections → ℕ → Option ℕ
+largest_below t s i = cond (all_below (fits_in_size t s) i) (bytes_up_to (largest t s i)) None
 
-unfoldable pub largest_of : List ℕ → Sections → ℕ → Largest
-largest_of t s i = cond (is_type s i && nat_lt i most_types) (largest_below t s i) Unknown
+unfoldable pub largest_of : List ℕ → Sections → ℕ → Option ℕ
+largest_of t s i = cond (is_type s i && nat_lt i most_types) (largest_below t s i) None

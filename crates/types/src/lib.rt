@@ -21,13 +21,6 @@ pub const RULE_BROKEN: u32 = 32;
 
 pub const TOO_LARGE: u32 = 33;
 
-// The largest size of a type in bytes; unknown of a number that is no type's, and where it is above 65,536.
-#[derive(Clone, Copy)]
-pub enum Largest {
-    Bytes(u32),
-    Unknown,
-}
-
 pub fn check(table: &[u8]) -> Checked
     ensures { result ≡ checked table.now }
 {

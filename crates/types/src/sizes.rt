@@ -8,17 +8,17 @@ ghost use Rattle.types.specs.Sizes.{size_of, sum_from, sizes, fits_in_size, byte
 ghost use Rattle.types.specs.Table.{sizes_ok};
 ghost use Rattle.types.specs.Lawful.{Lawful, Smaller};
 
-use crate::{Largest, inside};
+use crate::inside;
 use table::{Entry, Sections, entries};
 
-// The largest size of one type.
-pub fn largest(table: &[u8], s: Sections, i: u16) -> Largest
+// The largest size of one type in bytes; none of a number that is no type's, and where it is above 65,536.
+pub fn largest(table: &[u8], s: Sections, i: u16) -> Option<u32>
     ensures { result ≡ largest_of table.now s i }
 {
     if entries::is_type(s, i) & (i < 256) {
         largest_below(table, s, i)
     } else {
-        Largest::Unknown
+        None
     }
 }
 
@@ -33,7 +33,7 @@ pub(crate) fn all_fit(table: &[u8], s: Sections) -> bool
 }
 
 // From the sizes of the types below i, where none is too large.
-fn largest_below(table: &[u8], s: Sections, i: u16) -> Largest
+fn largest_below(table: &[u8], s: Sections, i: u16) -> Option<u32>
     requires { i < most_types }
     ensures { result ≡ largest_below table.now s i }
 {
@@ -43,17 +43,17 @@ fn largest_below(table: &[u8], s: Sections, i: u16) -> Largest
         let e = entries::type_at(table, s, i);
         bytes_up_to(size_of(table, s, &room[..n], e, false))
     } else {
-        Largest::Unknown
+        None
     }
 }
 
-fn bytes_up_to(size: u64) -> Largest
+fn bytes_up_to(size: u64) -> Option<u32>
     ensures { result ≡ bytes_up_to size }
 {
     if size <= 65536 {
-        Largest::Bytes(size as u32)
+        Some(size as u32)
     } else {
-        Largest::Unknown
+        None
     }
 }
 

@@ -3,8 +3,8 @@
 use Rattle.joiner.proofs.Taking.{put_nowhere, put_at, put_none}
 use Rattle.joiner.proofs.write_piece.Goals as goal
 
-pub returns-in-Nowhere : goal.returns-in-Nowhere
-returns-in-Nowhere c =
+pub returns-in-None : goal.returns-in-None
+returns-in-None c =
     search put_nowhere
 
 pub returns-then-datagram-ge-LENGTH : goal.returns-then-datagram-ge-LENGTH

@@ -7,10 +7,10 @@ pub target_at-requires : goal.target_at-requires
 target_at-requires c =
     search in_list
 
-pub returns-in-At : goal.returns-in-At
-returns-in-At c =
+pub returns-in-Some : goal.returns-in-Some
+returns-in-Some c =
     search what-was-asked
 
-pub returns-in-Nowhere : goal.returns-in-Nowhere
-returns-in-Nowhere c =
+pub returns-in-None : goal.returns-in-None
+returns-in-None c =
     search nothing-asked

@@ -3,18 +3,18 @@
 use Rattle.pending.proofs.Returns.{is-there, given_up, not_there, all-stays}
 use Rattle.pending.proofs.cancel.Goals as goal
 
-pub returns-in-At-clause-answer : goal.returns-in-At-clause-answer
-returns-in-At-clause-answer c =
+pub returns-in-Some-clause-answer : goal.returns-in-Some-clause-answer
+returns-in-Some-clause-answer c =
     search is-there
 
-pub returns-in-At-clause-list : goal.returns-in-At-clause-list
-returns-in-At-clause-list c =
+pub returns-in-Some-clause-list : goal.returns-in-Some-clause-list
+returns-in-Some-clause-list c =
     search given_up
 
-pub returns-in-Nowhere-clause-answer : goal.returns-in-Nowhere-clause-answer
-returns-in-Nowhere-clause-answer c =
+pub returns-in-None-clause-answer : goal.returns-in-None-clause-answer
+returns-in-None-clause-answer c =
     search not_there
 
-pub returns-in-Nowhere-clause-list : goal.returns-in-Nowhere-clause-list
-returns-in-Nowhere-clause-list c =
+pub returns-in-None-clause-list : goal.returns-in-None-clause-list
+returns-in-None-clause-list c =
     search all-stays

@@ -23,10 +23,10 @@ pub returns-else-is_for-clause-list : goal.returns-else-is_for-clause-list
 returns-else-is_for-clause-list c =
     search place_kept
 
-pub returns-in-Nowhere-clause-answer : goal.returns-in-Nowhere-clause-answer
-returns-in-Nowhere-clause-answer c =
+pub returns-in-None-clause-answer : goal.returns-in-None-clause-answer
+returns-in-None-clause-answer c =
     search no_response
 
-pub returns-in-Nowhere-clause-list : goal.returns-in-Nowhere-clause-list
-returns-in-Nowhere-clause-list c =
+pub returns-in-None-clause-list : goal.returns-in-None-clause-list
+returns-in-None-clause-list c =
     search list_kept

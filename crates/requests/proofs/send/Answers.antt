@@ -3,28 +3,28 @@
 use Rattle.requests.proofs.Returns.{tried-answer, tried-list, tried-output, full-answer, full-list, full-output, kind-answer, kind-list, kind-output}
 use Rattle.requests.proofs.send.Goals as goal
 
-pub returns-in-At-clause-answer : goal.returns-in-At-clause-answer
-returns-in-At-clause-answer c =
+pub returns-in-Some-clause-answer : goal.returns-in-Some-clause-answer
+returns-in-Some-clause-answer c =
     search tried-answer
 
-pub returns-in-At-clause-list : goal.returns-in-At-clause-list
-returns-in-At-clause-list c =
+pub returns-in-Some-clause-list : goal.returns-in-Some-clause-list
+returns-in-Some-clause-list c =
     search tried-list
 
-pub returns-in-At-clause-output : goal.returns-in-At-clause-output
-returns-in-At-clause-output c =
+pub returns-in-Some-clause-output : goal.returns-in-Some-clause-output
+returns-in-Some-clause-output c =
     search tried-output
 
-pub returns-in-Nowhere-clause-answer : goal.returns-in-Nowhere-clause-answer
-returns-in-Nowhere-clause-answer c =
+pub returns-in-None-clause-answer : goal.returns-in-None-clause-answer
+returns-in-None-clause-answer c =
     search full-answer
 
-pub returns-in-Nowhere-clause-list : goal.returns-in-Nowhere-clause-list
-returns-in-Nowhere-clause-list c =
+pub returns-in-None-clause-list : goal.returns-in-None-clause-list
+returns-in-None-clause-list c =
     search full-list
 
-pub returns-in-Nowhere-clause-output : goal.returns-in-Nowhere-clause-output
-returns-in-Nowhere-clause-output c =
+pub returns-in-None-clause-output : goal.returns-in-None-clause-output
+returns-in-None-clause-output c =
     search full-output
 
 pub returns-else-kind-eq-REQUEST_SENT-clause-answer : goal.returns-else-kind-eq-REQUEST_SENT-clause-answer

@@ -11,6 +11,6 @@ pub returns-else-kind_at-eq-VERSIONED_DATA : goal.returns-else-kind_at-eq-VERSIO
 returns-else-kind_at-eq-VERSIONED_DATA c =
     search no-pull
 
-pub returns-in-Nowhere : goal.returns-in-Nowhere
-returns-in-Nowhere c =
+pub returns-in-None : goal.returns-in-None
+returns-in-None c =
     search nowhere-pulled

@@ -3,10 +3,10 @@
 use Rattle.mixed.proofs.ReactionLaws.{operation-there, operation-absent}
 use Rattle.mixed.proofs.reacting.operation_heard.Goals as goal
 
-pub returns-in-At : goal.returns-in-At
-returns-in-At c =
+pub returns-in-Some : goal.returns-in-Some
+returns-in-Some c =
     search operation-there
 
-pub returns-in-Nowhere : goal.returns-in-Nowhere
-returns-in-Nowhere c =
+pub returns-in-None : goal.returns-in-None
+returns-in-None c =
     search operation-absent

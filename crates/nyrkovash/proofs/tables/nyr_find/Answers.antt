@@ -8,20 +8,20 @@ pub overflow_cast-count : goal.overflow_cast-count
 overflow_cast-count c =
     search operations-fit
 
-pub returns-in-At-clause-value : goal.returns-in-At-clause-value
-returns-in-At-clause-value c =
+pub returns-in-Some-clause-value : goal.returns-in-Some-clause-value
+returns-in-Some-clause-value c =
     search inside-number
 
-pub returns-in-At-clause-answer_after : goal.returns-in-At-clause-answer_after
-returns-in-At-clause-answer_after c =
+pub returns-in-Some-clause-answer_after : goal.returns-in-Some-clause-answer_after
+returns-in-Some-clause-answer_after c =
     search found-there
 
-pub returns-in-Nowhere-clause-value : goal.returns-in-Nowhere-clause-value
-returns-in-Nowhere-clause-value c =
+pub returns-in-None-clause-value : goal.returns-in-None-clause-value
+returns-in-None-clause-value c =
     search inside-number
 
-pub returns-in-Nowhere-clause-answer_after : goal.returns-in-Nowhere-clause-answer_after
-returns-in-Nowhere-clause-answer_after c =
+pub returns-in-None-clause-answer_after : goal.returns-in-None-clause-answer_after
+returns-in-None-clause-answer_after c =
     search found_none
 
 pub returns-else-lie_in-clause-value : goal.returns-else-lie_in-clause-value

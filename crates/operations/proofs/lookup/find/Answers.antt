@@ -3,10 +3,10 @@
 use Rattle.operations.proofs.Looking.{held-there, held_none}
 use Rattle.operations.proofs.lookup.find.Goals as goal
 
-pub returns-in-At : goal.returns-in-At
-returns-in-At c =
+pub returns-in-Some : goal.returns-in-Some
+returns-in-Some c =
     search held-there
 
-pub returns-in-Nowhere : goal.returns-in-Nowhere
-returns-in-Nowhere c =
+pub returns-in-None : goal.returns-in-None
+returns-in-None c =
     search held_none

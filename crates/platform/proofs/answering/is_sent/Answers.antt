@@ -3,10 +3,10 @@
 use Rattle.platform.proofs.ResponseLaws.{sent_found, none_found}
 use Rattle.platform.proofs.answering.is_sent.Goals as goal
 
-pub returns-in-At : goal.returns-in-At
-returns-in-At c =
+pub returns-in-Some : goal.returns-in-Some
+returns-in-Some c =
     search sent_found
 
-pub returns-in-Nowhere : goal.returns-in-Nowhere
-returns-in-Nowhere c =
+pub returns-in-None : goal.returns-in-None
+returns-in-None c =
     search none_found

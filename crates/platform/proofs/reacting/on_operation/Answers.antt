@@ -3,10 +3,10 @@
 use Rattle.platform.proofs.ReactionLaws.{operation-in, operation-not-in}
 use Rattle.platform.proofs.reacting.on_operation.Goals as goal
 
-pub returns-in-At : goal.returns-in-At
-returns-in-At c =
+pub returns-in-Some : goal.returns-in-Some
+returns-in-Some c =
     search operation-in
 
-pub returns-in-Nowhere : goal.returns-in-Nowhere
-returns-in-Nowhere c =
+pub returns-in-None : goal.returns-in-None
+returns-in-None c =
     search operation-not-in

@@ -11,6 +11,6 @@ pub returns-else-is_data : goal.returns-else-is_data
 returns-else-is_data c =
     search one-event
 
-pub returns-in-Nowhere : goal.returns-in-Nowhere
-returns-in-Nowhere c =
+pub returns-in-None : goal.returns-in-None
+returns-in-None c =
     search one_missing

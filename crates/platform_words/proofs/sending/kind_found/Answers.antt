@@ -4,10 +4,10 @@ use borrow.Author.Rules.{rules}
 use Rattle.platform_words.proofs.Asking.{kind-there, no_kind}
 use Rattle.platform_words.proofs.sending.kind_found.Goals as goal
 
-pub returns-in-At : goal.returns-in-At
-returns-in-At c =
+pub returns-in-Some : goal.returns-in-Some
+returns-in-Some c =
     search kind-there
 
-pub returns-in-Nowhere : goal.returns-in-Nowhere
-returns-in-Nowhere c =
+pub returns-in-None : goal.returns-in-None
+returns-in-None c =
     search no_kind
