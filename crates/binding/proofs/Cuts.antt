@@ -1,6 +1,9 @@
 -- What cutting's functions show at their returns and of the numbers on the way.
 -- Assumes nothing.
 use Prim.Native.Nat.{ℕ, suc, min, ◌+◌, ◌-◌, ◌*◌, ◌/◌, ◌%◌, ◌≤◌, ◌<◌}
+use Rattle.std.specs.Prelude.{Result, Ok, Err}
+use Rattle.refusal.specs.declared.Refusal.{Refusal}
+use Rattle.refusal.specs.declared.Refusal.TheVariants.{CannotCut, DatagramRoom, NoPiece}
 use mathlib.Core.Path.{◌≡◌, refl, sym, ap, ◌∙◌}
 use mathlib.Core.Bool.{Bool, true, false, ◌&&◌, and-eq-true_iff, cond}
 use mathlib.Core.List.{List, ◌++◌}
@@ -17,9 +20,6 @@ use Rattle.wire.proofs.Runs.{written_in, written_out, written_behind, part_in}
 use Rattle.binding.specs.declared.MessagePart.{MessagePart}
 use Rattle.binding.specs.declared.MessagePart.TheVariants.{Begin, Middle, End, Whole}
 use Rattle.binding.specs.declared.BindingHeader.{BindingHeader}
-use Rattle.binding.specs.declared.cutter.Counted.TheVariants.{Refused as NotCounted, Pieces}
-use Rattle.binding.specs.declared.cutter.Made.{Made}
-use Rattle.binding.specs.declared.cutter.Made.TheVariants.{Refused, Datagram}
 use Rattle.binding.specs.Header.{senders, counters, largest_piece, code_of, header_of, header_bytes}
 use Rattle.binding.specs.Cutting.{piece_count, counted_of, part_of_piece, bytes_from, behind, datagram_of, largest_message, can_cut}
 use Rattle.binding.specs.Cutting.{can_head, cannot_cut, no_such_piece, no_room_for_datagram, made_in, made_of, cut_into}
@@ -99,10 +99,10 @@ one_number v k x y h =
 pub said : {r t : Bool} → r ≡ t → r ≡ true → t ≡ true
 said e f = sym e ∙ f
 
-pub counted : {r : Bool} {n : ℕ} (m s : ℕ) → r ≡ can_cut m s → r ≡ true → n ≡ piece_count m s → Pieces n ≡ counted_of m s
+pub counted : {r : Bool} {n : ℕ} (m s : ℕ) → r ≡ can_cut m s → r ≡ true → n ≡ piece_count m s → Ok n ≡ counted_of m s
 counted m s e t f = rw (← e, t, f)
 
-pub not_counted : {r : Bool} (m s : ℕ) → r ≡ can_cut m s → r ≡ false → NotCounted cannot_cut ≡ counted_of m s
+pub not_counted : {r : Bool} (m s : ℕ) → r ≡ can_cut m s → r ≡ false → Err CannotCut ≡ counted_of m s
 not_counted m s e t = rw (← e, t)
 
 pub the_header : {e : List ℕ} {k : ℕ} (s : List ℕ) (h : BindingHeader) → k ≡ code_of h.part → h.counter < counters → e
@@ -135,7 +135,7 @@ module _ (msg : List ℕ) (start size : ℕ) {r : ℕ} (e : r ≡ min size (leng
   module _ (header : BindingHeader) (out : List ℕ) where
     -- it does not fit: 52, and the output is as it was
     module _ (f : length out < 4 + r) where
-      pub made_none : Refused no_room_for_datagram ≡ made_in (behind header msg start size) (length out)
+      pub made_none : Err DatagramRoom ≡ made_in (behind header msg start size) (length out)
       made_none = rw (lt-leb (length (behind header msg start size)) (length out) (omega (arith, long)))
 
       pub wrote_none : out ≡ written out 0 (behind header msg start size)
@@ -143,7 +143,7 @@ module _ (msg : List ℕ) (start size : ℕ) {r : ℕ} (e : r ≡ min size (leng
 
     -- it fits: the header, and the bytes behind it
     module _ (f : 4 + r ≤ length out) where
-      pub made_one : Datagram (4 + r) ≡ made_in (behind header msg start size) (length out)
+      pub made_one : Ok (4 + r) ≡ made_in (behind header msg start size) (length out)
       made_one =
           let n : length (behind header msg start size) ≡ 4 + r = omega (arith, long) in
           rw (le-leb (length (behind header msg start size)) (length out) (omega arith), n)
@@ -199,7 +199,7 @@ module _ (m s sender first : ℕ) {a b : Bool} (ea : a ≡ can_cut m s) (eb : b 
 -- cutting's answers
 module _ (msg : List ℕ) (s sender first i : ℕ) (out : List ℕ) {a b : Bool} (ea : a ≡ can_cut (length msg) s) (eb : b ≡ can_head sender first) where
   module _ (t : (a && b) ≡ false) where
-    pub answer-50 : Refused cannot_cut ≡ made_of msg s sender first i (length out)
+    pub answer-50 : Err CannotCut ≡ made_of msg s sender first i (length out)
     answer-50 = rw (← ea, ← eb, t)
 
     pub output-50 : out ≡ cut_into msg s sender first i out
@@ -207,7 +207,7 @@ module _ (msg : List ℕ) (s sender first i : ℕ) (out : List ℕ) {a b : Bool}
 
   module _ (t : (a && b) ≡ true) {h : Bool} (eh : h ≡ ltb i (piece_count (length msg) s)) where
     module _ (l : h ≡ false) where
-      pub answer-51 : Refused no_such_piece ≡ made_of msg s sender first i (length out)
+      pub answer-51 : Err NoPiece ≡ made_of msg s sender first i (length out)
       answer-51 = rw (← ea, ← eb, t, ← eh, l)
 
       pub output-51 : out ≡ cut_into msg s sender first i out
@@ -221,10 +221,10 @@ module _ (msg : List ℕ) (s sender first i : ℕ) (out : List ℕ) {a b : Bool}
       good : made_of msg s sender first i (length out) ≡ made_in (datagram_of msg s sender first i) (length out)
       good = rw (← ea, ← eb, t, ← eh, l)
 
-      pub answer-made : {r : Made} → r ≡ made_in (behind head msg (i * s) s) (length out) → r ≡ made_of msg s sender first i (length out)
+      pub answer-made : {r : Result ℕ Refusal} → r ≡ made_in (behind head msg (i * s) s) (length out) → r ≡ made_of msg s sender first i (length out)
       answer-made e = e ∙ ap (λ (d : List ℕ). made_in d (length out)) same ∙ sym good
 
       pub output-made : {o : List ℕ} → o ≡ written out 0 (behind head msg (i * s) s) → o ≡ cut_into msg s sender first i out
       output-made e =
           e ∙ ap (written out 0) same ∙ sym (out_written (datagram_of msg s sender first i) out)
-          ∙ ap (λ (r : Made). left_over_by r out (over out 0 (datagram_of msg s sender first i))) (sym good)
+          ∙ ap (λ (r : Result ℕ Refusal). left_over_by r out (over out 0 (datagram_of msg s sender first i))) (sym good)

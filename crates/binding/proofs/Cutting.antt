@@ -2,6 +2,8 @@
 -- its header and its piece.
 -- Assumes nothing.
 use Prim.Native.Nat.{ℕ, zero, suc, min, ◌+◌, ◌-◌, ◌*◌, ◌≤◌, ◌<◌}
+use Rattle.std.specs.Prelude.{Ok, Err}
+use Rattle.refusal.specs.declared.Refusal.TheVariants.{CannotCut, DatagramRoom, NoPiece}
 use mathlib.Core.Path.{◌≡◌, refl, sym, ap, ◌∙◌}
 use mathlib.Core.Logic.{◌↔◌}
 use mathlib.Core.Bool.{Bool, true, false, ◌&&◌, and-eq-true_iff, cond}
@@ -13,9 +15,6 @@ use borrow.Author.Tests.{le-leb, leb-true, lt-ltb, ltb-true}
 use lib.Dec.{ltb, leb}
 use lib.ListN.{length, take, drop, length-take, length-drop}
 use lib.Seq.{take_all, take-add, take_at, drop_at}
-use Rattle.binding.specs.declared.Heading.TheVariants.{Piece}
-use Rattle.binding.specs.declared.cutter.Counted.TheVariants.{Refused as NotCounted, Pieces}
-use Rattle.binding.specs.declared.cutter.Made.TheVariants.{Refused, Datagram}
 use Rattle.binding.specs.Header.{header_length, senders, counters, largest_piece, heading_in, piece_in}
 use Rattle.binding.specs.Cutting.{piece_count, counted_of, piece_at, counter_of, header_of_piece, datagram_of, largest_message}
 use Rattle.binding.specs.Cutting.{can_cut, can_head, made_of, cut_into, together, no_room_for_datagram, no_such_piece, cannot_cut}
@@ -96,16 +95,16 @@ together_all msg s h =
     together_take msg s (piece_count (length msg) s) ∙ take_all (piece_count (length msg) s * s) msg (covered (length msg) s h)
 
 -- answers that differ
-not_made : {n k : ℕ} → Refused n ≡ Datagram k → ⊥
+not_made : {n k : ℕ} → Err n ≡ Ok k → ⊥
 not_made e = let z : ◌≡◌ {A = ℕ} 0 1 = cc in omega arith
 
-same_size : {n k : ℕ} → Datagram n ≡ Datagram k → k ≡ n
+same_size : {n k : ℕ} → Ok n ≡ Ok k → k ≡ n
 same_size e = cc
 
-not_counted : {n k : ℕ} → NotCounted n ≡ Pieces k → ⊥
+not_counted : {n k : ℕ} → Err n ≡ Ok k → ⊥
 not_counted e = let z : ◌≡◌ {A = ℕ} 0 1 = cc in omega arith
 
-same_count : {n k : ℕ} → Pieces n ≡ Pieces k → n ≡ k
+same_count : {n k : ℕ} → Ok n ≡ Ok k → n ≡ k
 same_count e = cc
 
 -- a datagram cut reads back
@@ -114,7 +113,7 @@ counter_lt first i = omega arith
 
 module _ (msg : List ℕ) (s sender first i : ℕ) where
   pub datagram-heading : Cuttable (length msg) s → sender < senders → i < piece_count (length msg) s
-      → heading_in (datagram_of msg s sender first i) ≡ Piece (header_of_piece (length msg) s sender first i)
+      → heading_in (datagram_of msg s sender first i) ≡ Ok (header_of_piece (length msg) s sender first i)
   datagram-heading w k l =
       header_back (header_of_piece (length msg) s sender first i) (piece_at msg s i) k (counter_lt first i) (piece-some msg s i w.size l)
       (omega (arith, piece-most msg s i, w.piece))
@@ -134,7 +133,7 @@ module _ (msg : List ℕ) (s sender first i : ℕ) where
     pub fits : length (datagram_of msg s sender first i) ≤ room
     pub size : n ≡ length (datagram_of msg s sender first i)
 
-  pub makes-made : (room n : ℕ) → Makes room n → made_of msg s sender first i room ≡ Datagram n
+  pub makes-made : (room n : ℕ) → Makes room n → made_of msg s sender first i room ≡ Ok n
   makes-made room n w =
       rw (
         can-cut (length msg) s w.cut,
@@ -145,15 +144,15 @@ module _ (msg : List ℕ) (s sender first i : ℕ) where
         w.size,
       )
 
-  pub made-makes : (room n : ℕ) → made_of msg s sender first i room ≡ Datagram n → Makes room n
+  pub made-makes : (room n : ℕ) → made_of msg s sender first i room ≡ Ok n → Makes room n
   made-makes room n e = go (can_cut (length msg) s) (can_head sender first) (ltb i (piece_count (length msg) s)) (leb (length d) room) refl refl refl refl e
     where
       d : List ℕ
       d = datagram_of msg s sender first i
 
       go : (a b p f : Bool) → can_cut (length msg) s ≡ a → can_head sender first ≡ b → ltb i (piece_count (length msg) s) ≡ p → leb (length d) room ≡ f →
-          cond (a && b) (cond p (cond f (Datagram (length d)) (Refused no_room_for_datagram)) (Refused no_such_piece)) (Refused cannot_cut)
-          ≡ Datagram n → Makes room n
+          cond (a && b) (cond p (cond f (Ok (length d)) (Err DatagramRoom)) (Err NoPiece)) (Err CannotCut)
+          ≡ Ok n → Makes room n
       go true true true true ea eb ep ef q =
           let k : (sender < senders) × (first < counters) = headable sender first eb in
           record {
@@ -170,12 +169,12 @@ module _ (msg : List ℕ) (s sender first i : ℕ) where
       go false b p f ea eb ep ef q = absurd (not_made q)
 
   -- every piece that the count names can be cut, where there is room for it
-  pub pieces-made : (room n : ℕ) → counted_of (length msg) s ≡ Pieces n → sender < senders → first < counters → i < n
-      → header_length + s ≤ room → made_of msg s sender first i room ≡ Datagram (length (datagram_of msg s sender first i))
+  pub pieces-made : (room n : ℕ) → counted_of (length msg) s ≡ Ok n → sender < senders → first < counters → i < n
+      → header_length + s ≤ room → made_of msg s sender first i room ≡ Ok (length (datagram_of msg s sender first i))
   pieces-made room n e k f l r = go (can_cut (length msg) s) refl e
     where
-      go : (t : Bool) → can_cut (length msg) s ≡ t → cond t (Pieces (piece_count (length msg) s)) (NotCounted cannot_cut) ≡ Pieces n
-          → made_of msg s sender first i room ≡ Datagram (length (datagram_of msg s sender first i))
+      go : (t : Bool) → can_cut (length msg) s ≡ t → cond t (Ok (piece_count (length msg) s)) (Err CannotCut) ≡ Ok n
+          → made_of msg s sender first i room ≡ Ok (length (datagram_of msg s sender first i))
       go true t q =
           let c : piece_count (length msg) s ≡ n = same_count q in
           makes-made room (length (datagram_of msg s sender first i))
@@ -184,18 +183,18 @@ module _ (msg : List ℕ) (s sender first i : ℕ) where
 
   module _ (out : List ℕ) where
     -- a refusal leaves the output as it was
-    pub refused-same : {n : ℕ} → made_of msg s sender first i (length out) ≡ Refused n → cut_into msg s sender first i out ≡ out
+    pub refused-same : {n : ℕ} → made_of msg s sender first i (length out) ≡ Err n → cut_into msg s sender first i out ≡ out
     refused-same e = rw e
 
     -- else the datagram stands at its start, and the rest is as it was
-    pub made-front : {n : ℕ} → made_of msg s sender first i (length out) ≡ Datagram n → take n (cut_into msg s sender first i out)
+    pub made-front : {n : ℕ} → made_of msg s sender first i (length out) ≡ Ok n → take n (cut_into msg s sender first i out)
         ≡ datagram_of msg s sender first i
     made-front {n} e =
         let w : Makes (length out) n = made-makes (length out) n e in
         let d : List ℕ = datagram_of msg s sender first i in
         rw e (take_at d (drop (0 + length d) out) n (sym w.size))
 
-    pub made-rest : {n : ℕ} → made_of msg s sender first i (length out) ≡ Datagram n → drop n (cut_into msg s sender first i out) ≡ drop n out
+    pub made-rest : {n : ℕ} → made_of msg s sender first i (length out) ≡ Ok n → drop n (cut_into msg s sender first i out) ≡ drop n out
     made-rest {n} e =
         let w : Makes (length out) n = made-makes (length out) n e in
         let d : List ℕ = datagram_of msg s sender first i in

@@ -1,6 +1,8 @@
 -- Laws of the binding header: what is written reads back, what is read writes back, and the ranges of what is read.
 -- Assumes nothing.
 use Prim.Native.Nat.{ℕ, zero, suc, ◌+◌, ◌-◌, ◌*◌, ◌/◌, ◌%◌, ◌≤◌, ◌<◌}
+use Rattle.std.specs.Prelude.{Ok, Err}
+use Rattle.refusal.specs.declared.Refusal.TheVariants.{DatagramLength, DatagramVersion}
 use mathlib.Core.Path.{◌≡◌, refl, sym, ap, ◌∙◌}
 use mathlib.Core.Bool.{Bool, true, false, ◌&&◌, cond}
 use mathlib.Core.List.{List, ◌∷◌, ◌++◌}
@@ -14,7 +16,6 @@ use Rattle.wire.proofs.Numbers.{number_lt}
 use Rattle.binding.specs.declared.MessagePart.{MessagePart}
 use Rattle.binding.specs.declared.MessagePart.TheVariants.{Begin, Middle, End, Whole}
 use Rattle.binding.specs.declared.BindingHeader.{BindingHeader}
-use Rattle.binding.specs.declared.Heading.TheVariants.{Refused, Piece}
 use Rattle.binding.specs.Header.{header_length, the_version, senders, counters, largest_piece, smallest_datagram}
 use Rattle.binding.specs.Header.{largest_datagram, code_of, part_of_code, version_in, part_carried, sender_in, counter_in, header_in}
 use Rattle.binding.specs.Header.{piece_in, heading_in, wrong_length, wrong_field, header_bytes}
@@ -44,7 +45,7 @@ pub record Headed (d : List ℕ) (h : BindingHeader) : Type 0 where
   pub version : version_in d ≡ the_version
   pub fields : h ≡ header_in d
 
-pub headed_heading : (d : List ℕ) (h : BindingHeader) → Headed d h → heading_in d ≡ Piece h
+pub headed_heading : (d : List ℕ) (h : BindingHeader) → Headed d h → heading_in d ≡ Ok h
 headed_heading d h w = rw (
   w.fields,
   le-leb smallest_datagram (length d) w.long,
@@ -52,11 +53,11 @@ headed_heading d h w = rw (
   eq-eqb (version_in d) the_version w.version,
 )
 
-pub heading_headed : (d : List ℕ) (h : BindingHeader) → heading_in d ≡ Piece h → Headed d h
+pub heading_headed : (d : List ℕ) (h : BindingHeader) → heading_in d ≡ Ok h → Headed d h
 heading_headed d h e = go (leb smallest_datagram (length d)) (leb (length d) largest_datagram) (eqb (version_in d) the_version) refl refl refl e
   where
     go : (a b v : Bool) → leb smallest_datagram (length d) ≡ a → leb (length d) largest_datagram ≡ b → eqb (version_in d) the_version ≡ v →
-        cond (a && b) (cond v (Piece (header_in d)) (Refused wrong_field)) (Refused wrong_length) ≡ Piece h → Headed d h
+        cond (a && b) (cond v (Ok (header_in d)) (Err DatagramVersion)) (Err DatagramLength) ≡ Ok h → Headed d h
     go true true true ea eb ev q = record {
       long = leb-true smallest_datagram (length d) ea;
       short = leb-true (length d) largest_datagram eb;
@@ -68,13 +69,13 @@ heading_headed d h e = go (leb smallest_datagram (length d)) (leb (length d) lar
     go false b v ea eb ev q = let z : ◌≡◌ {A = ℕ} 0 1 = cc in absurd (omega arith)
 
 -- where 21 and 22 apply
-pub too_short : (d : List ℕ) → length d < smallest_datagram → heading_in d ≡ Refused wrong_length
+pub too_short : (d : List ℕ) → length d < smallest_datagram → heading_in d ≡ Err DatagramLength
 too_short d h = rw (lt-leb smallest_datagram (length d) h)
 
-pub too_long : (d : List ℕ) → largest_datagram < length d → heading_in d ≡ Refused wrong_length
+pub too_long : (d : List ℕ) → largest_datagram < length d → heading_in d ≡ Err DatagramLength
 too_long d h = rw (le-leb smallest_datagram (length d) (omega arith), lt-leb (length d) largest_datagram h)
 
-pub other_version : (d : List ℕ) → smallest_datagram ≤ length d → length d ≤ largest_datagram → (version_in d ≡ the_version → ⊥) → heading_in d ≡ Refused wrong_field
+pub other_version : (d : List ℕ) → smallest_datagram ≤ length d → length d ≤ largest_datagram → (version_in d ≡ the_version → ⊥) → heading_in d ≡ Err DatagramVersion
 other_version d l m n = rw (le-leb smallest_datagram (length d) l, le-leb (length d) largest_datagram m, ne_eqb (version_in d) the_version n)
 
 -- the ranges of what is read
@@ -97,7 +98,7 @@ header_octets h q hs hc o (suc (suc (suc (suc i)))) = o i
 
 -- written, then read: the same header, and the piece behind it
 pub header_back : (h : BindingHeader) (q : List ℕ) → h.sender < senders → h.counter < counters → 1 ≤ length q → length q ≤ largest_piece
-    → heading_in (header_bytes h ++ q) ≡ Piece h
+    → heading_in (header_bytes h ++ q) ≡ Ok h
 header_back h q hs hc l m =
     let d : List ℕ = header_bytes h ++ q in
     let k : code_of h.part < 4 = code_lt h.part in
@@ -118,7 +119,7 @@ front_four d h =
     ∙ ap (◌∷◌ (get_or d 2 0)) (drop-cons d 3 0 (omega arith))))
 
 -- read, then written: the same bytes
-pub bytes_back : (d : List ℕ) (h : BindingHeader) → Octets d → heading_in d ≡ Piece h → header_bytes h ++ piece_in d ≡ d
+pub bytes_back : (d : List ℕ) (h : BindingHeader) → Octets d → heading_in d ≡ Ok h → header_bytes h ++ piece_in d ≡ d
 bytes_back d h o e =
     let w : Headed d h = heading_headed d h e in
     let b : get_or d 0 0 < 256 = o 0 in

@@ -1,15 +1,14 @@
 -- Cutting: 01, Joining, last paragraph, and numbers 50 to 52.
 use Rattle.std.specs.Prelude.{ℕ, zero, suc, ◌+◌, ◌-◌, ◌*◌, ◌/◌, ◌%◌, List, [], ◌++◌, Bool, ◌&&◌, cond, ltb, leb, eqb, length, take, drop}
+use Rattle.std.specs.Prelude.{Result, Ok, Err}
+use Rattle.refusal.specs.declared.Refusal.{Refusal}
+use Rattle.refusal.specs.declared.Refusal.TheVariants.{CannotCut, DatagramRoom, NoPiece}
 use Rattle.wire.specs.Bytes.{over}
 use Rattle.binding.specs.Header.{senders, counters, largest_piece, header_of, header_bytes}
 use Rattle.binding.specs.Made.{left_over_by}
 use Rattle.binding.specs.declared.MessagePart.{MessagePart}
 use Rattle.binding.specs.declared.MessagePart.TheVariants.{Begin, Middle, End, Whole}
 use Rattle.binding.specs.declared.BindingHeader.{BindingHeader}
-use Rattle.binding.specs.declared.cutter.Counted.{Counted}
-use Rattle.binding.specs.declared.cutter.Counted.TheVariants.{Refused as NotCounted, Pieces}
-use Rattle.binding.specs.declared.cutter.Made.{Made}
-use Rattle.binding.specs.declared.cutter.Made.TheVariants.{Refused, Datagram}
 
 -- a message of m bytes at piece size s gives m/s pieces, rounded up
 abbrev pub piece_count : ℕ → ℕ → ℕ
@@ -53,30 +52,20 @@ can_cut m s = ((leb 1 m && leb m largest_message) && leb 1 s) && leb s largest_p
 abbrev pub can_head : ℕ → ℕ → Bool
 can_head sender first = ltb sender senders && ltb first counters
 
--- 01, Numbers given back
-abbrev pub cannot_cut : ℕ
-cannot_cut = 50
-
-abbrev pub no_such_piece : ℕ
-no_such_piece = 51
-
-abbrev pub no_room_for_datagram : ℕ
-no_room_for_datagram = 52
-
 -- the number of pieces, by a call of its own
-abbrev pub counted_of : ℕ → ℕ → Counted
-counted_of m s = cond (can_cut m s) (Pieces (piece_count m s)) (NotCounted cannot_cut)
+abbrev pub counted_of : ℕ → ℕ → Result ℕ Refusal
+counted_of m s = cond (can_cut m s) (Ok (piece_count m s)) (Err CannotCut)
 
 -- a datagram in an output of so many bytes
-abbrev pub made_in : List ℕ → ℕ → Made
-made_in d room = cond (leb (length d) room) (Datagram (length d)) (Refused no_room_for_datagram)
+abbrev pub made_in : List ℕ → ℕ → Result ℕ Refusal
+made_in d room = cond (leb (length d) room) (Ok (length d)) (Err DatagramRoom)
 
 -- cutting piece i out for an output of so many bytes: 50, then 51, then 52
-abbrev pub made_of : List ℕ → ℕ → ℕ → ℕ → ℕ → ℕ → Made
+abbrev pub made_of : List ℕ → ℕ → ℕ → ℕ → ℕ → ℕ → Result ℕ Refusal
 made_of msg s sender first i room =
     cond (can_cut (length msg) s && can_head sender first)
-    (cond (ltb i (piece_count (length msg) s)) (made_in (datagram_of msg s sender first i) room) (Refused no_such_piece))
-    (Refused cannot_cut)
+    (cond (ltb i (piece_count (length msg) s)) (made_in (datagram_of msg s sender first i) room) (Err NoPiece))
+    (Err CannotCut)
 
 -- the output afterwards: a refusal leaves it, a datagram goes to its start and leaves the rest
 abbrev pub cut_into : List ℕ → ℕ → ℕ → ℕ → ℕ → List ℕ → List ℕ

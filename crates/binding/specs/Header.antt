@@ -1,11 +1,13 @@
 -- The UDP binding header: 000, annex A.3.1, Table 9, with annex A.4's order of bytes and bits.
 use Rattle.std.specs.Prelude.{ℕ, ◌+◌, ◌-◌, ◌*◌, ◌/◌, ◌%◌, ◌^◌, List, ◌++◌, ◌&&◌, cond, leb, eqb, length, drop}
+use Rattle.std.specs.Prelude.{Result, Ok, Err}
+use Rattle.refusal.specs.declared.Refusal.{Refusal}
+use Rattle.refusal.specs.declared.Refusal.TheVariants.{DatagramLength, DatagramVersion}
 use Rattle.wire.specs.Bytes.{number, bytes}
 use Rattle.binding.specs.declared.MessagePart.{MessagePart}
 use Rattle.binding.specs.declared.MessagePart.TheVariants.{Begin, Middle, End, Whole}
 use Rattle.binding.specs.declared.BindingHeader.{BindingHeader}
-use Rattle.binding.specs.declared.Heading.{Heading}
-use Rattle.binding.specs.declared.Heading.TheVariants.{Refused, Piece}
+use Rattle.refusal.specs.Refusal.{number_of}
 
 -- 000, Table 8
 abbrev pub header_length : ℕ
@@ -77,19 +79,12 @@ header_in d = header_of (part_carried d) (sender_in d) (counter_in d)
 abbrev pub piece_in : List ℕ → List ℕ
 piece_in d = drop header_length d
 
--- 01, Numbers given back
-abbrev pub wrong_length : ℕ
-wrong_length = 21
-
-abbrev pub wrong_field : ℕ
-wrong_field = 22
-
 -- what a datagram is read as: every field but the version may have every value
-abbrev pub heading_in : List ℕ → Heading
+abbrev pub heading_in : List ℕ → Result BindingHeader Refusal
 heading_in d =
     cond (leb smallest_datagram (length d) && leb (length d) largest_datagram)
-    (cond (eqb (version_in d) the_version) (Piece (header_in d)) (Refused wrong_field))
-    (Refused wrong_length)
+    (cond (eqb (version_in d) the_version) (Ok (header_in d)) (Err DatagramVersion))
+    (Err DatagramLength)
 
 -- the header's four bytes, in A.4's order
 abbrev pub header_bytes : BindingHeader → List ℕ
@@ -97,6 +92,6 @@ header_bytes h =
     bytes 0 (the_version * 64 + code_of h.part * 16 + h.sender / 256) ++ (bytes 0 (h.sender % 256) ++ bytes 1 h.counter)
 
 -- by cases: the number that an answer gives back, 0 where the header was read
-abbrev pub number_given : Heading → ℕ
-number_given (Refused n) = n
-number_given (Piece h) = 0
+abbrev pub number_given : Result BindingHeader Refusal → ℕ
+number_given (Err e) = number_of e
+number_given (Ok h) = 0

@@ -1,17 +1,18 @@
 -- What cutting a piece out answers, by cases: 01's number, how many bytes the datagram has, and what a refusal leaves as it was.
 use Rattle.std.specs.Prelude.{ℕ}
-use Rattle.binding.specs.declared.cutter.Made.{Made}
-use Rattle.binding.specs.declared.cutter.Made.TheVariants.{Refused, Datagram}
+use Rattle.std.specs.Prelude.{Result, Ok, Err}
+use Rattle.refusal.specs.declared.Refusal.{Refusal}
+use Rattle.refusal.specs.Refusal.{number_of}
 
 -- 0 where nothing is refused
-abbrev pub number_given : Made → ℕ
-number_given (Refused n) = n
-number_given (Datagram n) = 0
+abbrev pub number_given : Result ℕ Refusal → ℕ
+number_given (Err e) = number_of e
+number_given (Ok n) = 0
 
-abbrev pub bytes_in : Made → ℕ
-bytes_in (Refused n) = 0
-bytes_in (Datagram n) = n
+abbrev pub bytes_in : Result ℕ Refusal → ℕ
+bytes_in (Err n) = 0
+bytes_in (Ok n) = n
 
-abbrev pub left_over_by : {A : Type 0} → Made → A → A → A
-left_over_by (Refused n) was new = was
-left_over_by (Datagram n) was new = new
+abbrev pub left_over_by : {A : Type 0} → Result ℕ Refusal → A → A → A
+left_over_by (Err n) was new = was
+left_over_by (Ok n) was new = new

@@ -6,27 +6,7 @@ ghost use Rattle.binding.specs.Header.{header_length, senders, largest_piece, co
 ghost use Rattle.binding.specs.Cutting.{can_cut, can_head, piece_count, part_of_piece, counted_of, behind, made_in, made_of, cut_into};
 
 use crate::{BindingHeader, COUNTERS, MessagePart, SENDERS};
-
-// How many pieces there are, or the number of the refusal.
-#[derive(Clone, Copy)]
-pub enum Counted {
-    Refused(u32),
-    Pieces(usize),
-}
-
-// What cutting a piece out gives: the number of a refusal, or the length of the datagram that was written.
-#[derive(Clone, Copy)]
-pub enum Made {
-    Refused(u32),
-    Datagram(usize),
-}
-
-// 01's numbers: what cannot be cut, a piece that does not exist, an output that is too short.
-pub const CANNOT_CUT: u32 = 50;
-
-pub const NO_SUCH_PIECE: u32 = 51;
-
-pub const NO_ROOM_FOR_DATAGRAM: u32 = 52;
+use refusal::Refusal;
 
 // The longest message that is cut.
 pub const LARGEST_MESSAGE: usize = 65560;
@@ -35,17 +15,17 @@ pub const LARGEST_MESSAGE: usize = 65560;
 const PARTS: u8 = BindingHeader::PARTS as u8;
 
 // How many pieces a message of `total` bytes is cut into: 50, or the number.
-pub fn pieces(total: usize, size: usize) -> Counted
+pub fn pieces(total: usize, size: usize) -> Result<usize, Refusal>
     ensures { result ≡ counted_of total size }
 {
     if can_cut(total, size) {
-        Counted::Pieces(piece_count(total, size))
+        Ok(piece_count(total, size))
     } else {
-        Counted::Refused(CANNOT_CUT)
+        Err(Refusal::CannotCut)
     }
 }
 
-// Writes the datagram of one piece, header included, at the start of `out`. `sender` and `first` are wider than
+// Writes the datagram of one piece, header included, at the start of `out`, and answers its length. `sender` and `first` are wider than
 // their fields, so that one out of range is seen. All is decided before anything is written.
 pub fn cut(
     message: &[u8],
@@ -54,7 +34,7 @@ pub fn cut(
     first: usize,
     piece: usize,
     out: &mut [u8],
-) -> Made
+) -> Result<usize, Refusal>
     ensures answer { result ≡ made_of message.now size sender first piece (length out.old) }
     ensures output { out.new ≡ cut_into message.now size sender first piece out.old }
 {
@@ -66,10 +46,10 @@ pub fn cut(
             let header = BindingHeader::new(part, sender as u16, counter);
             put_datagram(header, message, piece * size, size, out)
         } else {
-            Made::Refused(NO_SUCH_PIECE)
+            Err(Refusal::NoPiece)
         }
     } else {
-        Made::Refused(CANNOT_CUT)
+        Err(Refusal::CannotCut)
     }
 }
 
@@ -144,7 +124,7 @@ fn put_datagram(
     start: usize,
     size: usize,
     out: &mut [u8],
-) -> Made
+) -> Result<usize, Refusal>
     requires sender_lt_senders { header.sender < senders }
     requires start_in_bounds { start ≤ length message.now }
     requires size_le_largest_piece { size ≤ largest_piece }
@@ -160,9 +140,9 @@ fn put_datagram(
             BindingHeader::LENGTH,
             wire::part(message, start, count),
         );
-        Made::Datagram(whole)
+        Ok(whole)
     } else {
-        Made::Refused(NO_ROOM_FOR_DATAGRAM)
+        Err(Refusal::DatagramRoom)
     }
 }
 

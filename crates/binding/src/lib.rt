@@ -7,9 +7,8 @@ mod cutter;
 ghost use Rattle.std.specs.Prelude.{◌≡◌};
 ghost use Rattle.binding.specs.Header.{part_of_code, header_of, heading_in};
 
-pub use cutter::{
-    CANNOT_CUT, Counted, LARGEST_MESSAGE, Made, NO_ROOM_FOR_DATAGRAM, NO_SUCH_PIECE, cut, pieces,
-};
+pub use cutter::{LARGEST_MESSAGE, cut, pieces};
+use refusal::Refusal;
 
 // Which part of its message a datagram carries (000, Table 9). `Whole` is the table's "begin and end".
 #[derive(Clone, Copy)]
@@ -27,18 +26,6 @@ pub struct BindingHeader {
     pub sender: u16,
     pub counter: u16,
 }
-
-// What reading a datagram's header finds: a refusal's number, or the header. The piece is all that follows it.
-#[derive(Clone, Copy)]
-pub enum Heading {
-    Refused(u32),
-    Piece(BindingHeader),
-}
-
-// 01's numbers: a datagram's length, or a header field's value, that is not allowed.
-pub const WRONG_DATAGRAM_LENGTH: u32 = 21;
-
-pub const WRONG_FIELD: u32 = 22;
 
 // How many values each field of the header has that stands behind another.
 const PARTS: u32 = BindingHeader::PARTS as u32;
@@ -75,8 +62,9 @@ impl BindingHeader {
         }
     }
 
-    // The header of a datagram: its length is judged first, then the version. Every other field may have every value.
-    pub fn read(datagram: &[u8]) -> Heading
+    // The header of a datagram, whose piece is all that follows it: its length is judged first, then the version. Every other field may have
+    // every value.
+    pub fn read(datagram: &[u8]) -> Result<BindingHeader, Refusal>
         ensures { result ≡ heading_in datagram.now }
     {
         let length = datagram.len();
@@ -89,12 +77,12 @@ impl BindingHeader {
                 let part = part_of_code((word / (SENDERS * COUNTERS) % PARTS) as u8);
                 let sender = (word / COUNTERS % SENDERS) as u16;
                 let counter = (word % COUNTERS) as u16;
-                Heading::Piece(BindingHeader::new(part, sender, counter))
+                Ok(BindingHeader::new(part, sender, counter))
             } else {
-                Heading::Refused(WRONG_FIELD)
+                Err(Refusal::DatagramVersion)
             }
         } else {
-            Heading::Refused(WRONG_DATAGRAM_LENGTH)
+            Err(Refusal::DatagramLength)
         }
     }
 }

@@ -1,6 +1,8 @@
 -- What `room_start` and `moved` show: where a room lies, and what a record that can move grants to its step.
 -- Assumes nothing.
 use Prim.Native.Nat.{ℕ, ◌+◌, ◌-◌, ◌*◌, ◌^◌, ◌≤◌, ◌<◌}
+use Rattle.std.specs.Prelude.{Ok, Err}
+use Rattle.refusal.specs.declared.Refusal.TheVariants.{NoJoiner}
 use mathlib.Core.Path.{◌≡◌, sym, ◌∙◌}
 use mathlib.Core.Bool.{Bool, true, false, ◌&&◌}
 use native.Mathlib.Nat.{mul-le-mul, mul-le-mul_right}
@@ -14,7 +16,6 @@ use Rattle.binding.specs.Header.{header_length, largest_datagram, counters}
 use Rattle.binding.specs.declared.BindingHeader.{BindingHeader}
 use Rattle.channel.specs.declared.Channel.{Channel}
 use Rattle.channel.specs.declared.Step.{Step}
-use Rattle.channel.specs.declared.Judged.TheVariants.{Refusal, Move}
 use Rattle.channel.specs.Record.{channel_limit, largest_room, bad_setup, room_start}
 use Rattle.channel.specs.Channel.{Steppable, stepped_of, can_move, moved_of}
 
@@ -66,7 +67,7 @@ can_say k R ch n e =
     length_is = and_right (leb ch.held R && ltb ch.last counters) (leb header_length n && leb n largest_datagram) rest
 
 module _ {t : Bool} (k R : ℕ) (ch : Channel) (n : ℕ) (e : t ≡ can_move k R ch n) where
-  pub not-moved : (h : BindingHeader) → t ≡ false → Refusal bad_setup ≡ moved_of k R ch h n
+  pub not-moved : (h : BindingHeader) → t ≡ false → Err NoJoiner ≡ moved_of k R ch h n
   unfolding moved_of
   not-moved h f = rw (sym e ∙ f)
 
@@ -94,6 +95,6 @@ module _ {t : Bool} (k R : ℕ) (ch : Channel) (n : ℕ) (e : t ≡ can_move k R
         }
 
     pub is-moved : {s : ℕ} {x : Step} (h : BindingHeader) → s ≡ room_start R k → x
-        ≡ stepped_of (record { start = s; size = R }) ch h.part h.counter (n - header_length) → Move k x ≡ moved_of k R ch h n
+        ≡ stepped_of (record { start = s; size = R }) ch h.part h.counter (n - header_length) → Ok (k, x) ≡ moved_of k R ch h n
     unfolding moved_of
     is-moved h es ex = rw (sym e ∙ g, ex, es)

@@ -1,6 +1,9 @@
 -- One channel: what a datagram of message part p, counter c and n bytes of piece does to its record. 01, Joining, steps 1
 -- to 5.
 use Rattle.std.specs.Prelude.{ℕ, ◌+◌, ◌-◌, ◌%◌, ◌^◌, ◌≤◌, ◌<◌, Bool, true, false, ◌&&◌, cond, leb, ltb, eqb}
+use Rattle.std.specs.Prelude.{Result, Ok, Err}
+use Rattle.refusal.specs.declared.Refusal.{Refusal}
+use Rattle.refusal.specs.declared.Refusal.TheVariants.{NoJoiner}
 use Rattle.std.specs.Prelude.{Option, Some, None}
 use Rattle.binding.specs.Header.{header_length, largest_piece, largest_datagram, counters}
 use Rattle.binding.specs.declared.BindingHeader.{BindingHeader}
@@ -10,8 +13,6 @@ use Rattle.channel.specs.Record.{channel_limit, bad_setup, largest_room, room_st
 use Rattle.channel.specs.declared.Channel.{Channel}
 use Rattle.channel.specs.declared.Room.{Room}
 use Rattle.channel.specs.declared.Step.{Step}
-use Rattle.channel.specs.declared.Judged.{Judged}
-use Rattle.channel.specs.declared.Judged.TheVariants.{Refusal, Move}
 use Rattle.channel.specs.declared.Slice.TheVariants.{Datagram, Rooms}
 use Rattle.channel.specs.declared.Outcome.TheVariants.{Repeated, Delivered, Held, Stray, TooLong}
 
@@ -92,5 +93,5 @@ abbrev pub can_move : ℕ → ℕ → Channel → ℕ → Bool
 can_move k R ch n = (ltb k channel_limit && leb R largest_room) && ((leb ch.held R && ltb ch.last counters) && (leb header_length n && leb n largest_datagram))
 
 -- the step of channel k, with rooms of R bytes and a datagram of n; 20 for what no look finds
-unfoldable pub moved_of : ℕ → ℕ → Channel → BindingHeader → ℕ → Judged
-moved_of k R ch h n = cond (can_move k R ch n) (Move k (stepped_of (room_of R k) ch h.part h.counter (n - header_length))) (Refusal bad_setup)
+unfoldable pub moved_of : ℕ → ℕ → Channel → BindingHeader → ℕ → Result (ℕ × Step) Refusal
+moved_of k R ch h n = cond (can_move k R ch n) (Ok (k, stepped_of (room_of R k) ch h.part h.counter (n - header_length))) (Err NoJoiner)

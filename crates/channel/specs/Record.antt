@@ -6,9 +6,6 @@ use Rattle.channel.specs.declared.Channel.{Channel}
 abbrev pub channel_limit : ℕ
 channel_limit = 32
 
-abbrev pub bad_setup : ℕ
-bad_setup = 20
-
 -- 01, number 20: R is at most 65,560
 abbrev pub largest_room : ℕ
 largest_room = 65560

@@ -7,11 +7,9 @@ ghost use Rattle.channel.specs.Channel.{can_move, moved_of};
 ghost use Rattle.channel.specs.Record.{room_start};
 
 use binding::{BindingHeader, COUNTERS};
+use refusal::Refusal;
 
 mod steps;
-
-// 01, Numbers given back.
-pub const BAD_SETUP: u32 = 20;
 
 // How many channels a joiner can have, and how large their rooms are.
 pub const CHANNELS: usize = 32;
@@ -35,9 +33,9 @@ pub enum Slice {
     Rooms { start: usize, length: usize },
 }
 
+// What became of a datagram that was not refused.
 #[derive(Clone, Copy)]
 pub enum Outcome {
-    Refused(u32),
     Repeated,
     Delivered { missed: u32, slice: Slice },
     Held { missed: u32, held: u32 },
@@ -60,16 +58,15 @@ pub struct Step {
     pub put: Option<usize>,
 }
 
-// What a datagram comes to before anything is written: a refusal, or a step of the channel `at`.
-#[derive(Clone, Copy)]
-pub enum Judged {
-    Refusal(u32),
-    Move { at: usize, step: Step },
-}
-
-// The step of channel `at` with rooms of `size` bytes, for a datagram of `length` bytes. A record that no look finds is refused
+// What a datagram comes to before anything is written: the channel, and its step. That of channel `at` with rooms of `size` bytes, for a datagram of `length` bytes. A record that no look finds is refused
 // as a joiner that is not good.
-pub fn moved(at: usize, size: u32, channel: Channel, header: BindingHeader, length: usize) -> Judged
+pub fn moved(
+    at: usize,
+    size: u32,
+    channel: Channel,
+    header: BindingHeader,
+    length: usize,
+) -> Result<(usize, Step), Refusal>
     ensures { result ≡ moved_of at size channel header length }
 {
     if can_move(at, size, channel, length) {
@@ -80,9 +77,9 @@ pub fn moved(at: usize, size: u32, channel: Channel, header: BindingHeader, leng
         };
         let piece = (length - BindingHeader::LENGTH) as u32;
         let step = steps::stepped(room, channel, header, piece);
-        Judged::Move { at, step }
+        Ok((at, step))
     } else {
-        Judged::Refusal(BAD_SETUP)
+        Err(Refusal::NoJoiner)
     }
 }
 

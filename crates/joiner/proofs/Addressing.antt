@@ -2,6 +2,10 @@
 -- channel that it is addressed to.
 -- Assumes nothing.
 use Prim.Native.Nat.{ℕ, ◌≤◌, ◌<◌}
+use Rattle.std.specs.Prelude.{Result, Ok, Err}
+use Rattle.refusal.specs.declared.Refusal.{Refusal}
+use Rattle.refusal.specs.declared.Refusal.TheVariants.{DatagramLength, DatagramVersion, NoJoiner, NotSetUp}
+use Rattle.binding.specs.declared.BindingHeader.{BindingHeader}
 use mathlib.Core.Path.{◌≡◌, refl, sym, ap, ◌∙◌}
 use mathlib.Core.Logic.{◌⊎◌, inl, inr, ⊎_elim}
 use mathlib.Core.Bool.{Bool, true, false, ◌&&◌, cond}
@@ -12,11 +16,7 @@ use lib.Dec.{leb, ltb, eqb}
 use lib.ListN.{length, get_or}
 use Rattle.binding.specs.Header.{the_version, smallest_datagram, largest_datagram, version_in, part_carried, sender_in, counter_in, header_in}
 use Rattle.binding.specs.Header.{heading_in, piece_in, wrong_length, wrong_field}
-use Rattle.binding.specs.declared.Heading.{Heading}
-use Rattle.binding.specs.declared.Heading.TheVariants as heading
 use Rattle.binding.proofs.Headers.{Headed, headed_heading, heading_headed}
-use Rattle.channel.specs.declared.Judged.TheVariants.{Refusal, Move}
-use Rattle.channel.specs.declared.Outcome.TheVariants.{Refused}
 use Rattle.channel.specs.Channel.{room_of, stepped_of}
 use Rattle.channel.specs.Record.{bad_setup}
 use Rattle.joiner.specs.declared.Joiner.{Joiner}
@@ -53,11 +53,11 @@ whose ids d = go (leb smallest_datagram (length d)) refl (leb (length d) largest
           },
         )
 
-heading_refused : (d : List ℕ) (n : ℕ) → heading_in d ≡ heading.Refused n → (wrong_length ≤ n) × (n ≤ wrong_field)
+heading_refused : (d : List ℕ) (n : ℕ) → heading_in d ≡ Err n → (wrong_length ≤ n) × (n ≤ wrong_field)
 heading_refused d n e = go (leb smallest_datagram (length d)) (leb (length d) largest_datagram) (eqb (version_in d) the_version) e
   where
-    go : (a b v : Bool) → cond (a && b) (cond v (heading.Piece (header_in d)) (heading.Refused wrong_field)) (heading.Refused wrong_length)
-        ≡ heading.Refused n → (wrong_length ≤ n) × (n ≤ wrong_field)
+    go : (a b v : Bool) → cond (a && b) (cond v (Ok (header_in d)) (Err DatagramVersion)) (Err DatagramLength)
+        ≡ Err n → (wrong_length ≤ n) × (n ≤ wrong_field)
     go true true true q = let z : ◌≡◌ {A = ℕ} 0 1 = cc in absurd (omega arith)
     go true true false q = let z : n ≡ wrong_field = cc in (omega arith, omega arith)
     go true false v q = let z : n ≡ wrong_length = cc in (omega arith, omega arith)
@@ -76,23 +76,23 @@ module _ (j : Joiner) (b : ℕ) (d : List ℕ) (s : Standing j b) where
   by-header = rw s.well
 
   pub addressed-moves : (k : ℕ) → Addressed (senders_of j) k d → judged_of j b d
-      ≡ Move k (stepped_of (room_of j.room k) (channel_at j k) (part_carried d) (counter_in d) (length (piece_in d)))
+      ≡ Ok (k, stepped_of (room_of j.room k) (channel_at j k) (part_carried d) (counter_in d) (length (piece_in d)))
   unfolding heading_by sent_to
   addressed-moves k a =
       let g : Good j b = standing_good s in
       let l : length (senders_of j) ≡ j.count = senders-length j g.sizes.few s.width in
       let p : place_of (senders_of j) (sender_in d) ≡ k = place_own (senders_of j) k (sender_in d) g.once a.known a.sender in
-      let h : heading_in d ≡ heading.Piece (header_in d) = headed_heading d (header_in d)
+      let h : heading_in d ≡ Ok (header_in d) = headed_heading d (header_in d)
       (record { long = a.long; short = a.short; version = a.version; fields = refl }) in
       let q : k < j.count = omega (arith, l, a.known) in
       by-header ∙ ap (heading_by j d) h ∙ rw (p, lt-ltb k j.count q)
 
-  not_known : Headed d (header_in d) → j.count ≤ place_of (senders_of j) (sender_in d) → judged_of j b d ≡ Refusal not_set_up
+  not_known : Headed d (header_in d) → j.count ≤ place_of (senders_of j) (sender_in d) → judged_of j b d ≡ Err NotSetUp
   unfolding heading_by sent_to
   not_known w h = by-header ∙ ap (heading_by j d) (headed_heading d (header_in d) w) ∙ rw (le-ltb (place_of (senders_of j) (sender_in d)) j.count h)
 
   -- a foreign datagram, and no other, is refused, with 21, 22 or 23
-  pub foreign-refused : Foreign (senders_of j) d → (n : ℕ) × (judged_of j b d ≡ Refusal n) × (wrong_length ≤ n) × (n ≤ not_set_up)
+  pub foreign-refused : Foreign (senders_of j) d → (n : ℕ) × (judged_of j b d ≡ Err n) × (wrong_length ≤ n) × (n ≤ not_set_up)
   unfolding heading_by
   foreign-refused f = go (heading_in d) refl
     where
@@ -107,31 +107,31 @@ module _ (j : Joiner) (b : ℕ) (d : List ℕ) (s : Standing j b) where
           → ⊥ = λ q. h (place_of (senders_of j) (sender_in d)) q (at_place (senders_of j) (sender_in d) q) in
           omega arith
 
-      go : (x : Heading) → heading_in d ≡ x → (n : ℕ) × (judged_of j b d ≡ Refusal n) × (wrong_length ≤ n) × (n ≤ not_set_up)
-      go (heading.Refused n) e = (n, by-header ∙ ap (heading_by j d) e, (heading_refused d n e).0, omega (arith, (heading_refused d n e).1))
-      go (heading.Piece y) e =
+      go : (x : Result BindingHeader Refusal) → heading_in d ≡ x → (n : ℕ) × (judged_of j b d ≡ Err n) × (wrong_length ≤ n) × (n ≤ not_set_up)
+      go (Err n) e = (n, by-header ∙ ap (heading_by j d) e, (heading_refused d n e).0, omega (arith, (heading_refused d n e).1))
+      go (Ok y) e =
           let w : Headed d y = heading_headed d y e in
           let v : Headed d (header_in d) = record { long = w.long; short = w.short; version = w.version; fields = refl } in
           (not_set_up, not_known v (nowhere v f), omega arith, omega arith)
 
-  pub refused-foreign : (n : ℕ) → judged_of j b d ≡ Refusal n → Foreign (senders_of j) d
+  pub refused-foreign : (n : ℕ) → judged_of j b d ≡ Err n → Foreign (senders_of j) d
   refused-foreign n e = ⊎_elim (λ f. f) (λ a. absurd (clash a.0 a.1)) (whose (senders_of j) d)
     where
       clash : (k : ℕ) → Addressed (senders_of j) k d → ⊥
       clash k a =
-          let m : judged_of j b d ≡ Move k (stepped_of (room_of j.room k) (channel_at j k) (part_carried d) (counter_in d) (length (piece_in d))) =
+          let m : judged_of j b d ≡ Ok (k, stepped_of (room_of j.room k) (channel_at j k) (part_carried d) (counter_in d) (length (piece_in d))) =
           addressed-moves k a in
           let z : ◌≡◌ {A = ℕ} 0 1 = cc in
           omega arith
 
 -- 20 cannot arise
-pub never_20 : (j : Joiner) (rooms d : List ℕ) → Standing j (length rooms) → (taken_of j rooms d).outcome ≡ Refused bad_setup → ⊥
+pub never_20 : (j : Joiner) (rooms d : List ℕ) → Standing j (length rooms) → (taken_of j rooms d).outcome ≡ Err NoJoiner → ⊥
 never_20 j rooms d s e =
-    let q : judged_of j (length rooms) d ≡ Refusal bad_setup = refused-here j rooms d bad_setup e in
+    let q : judged_of j (length rooms) d ≡ Err NoJoiner = refused-here j rooms d bad_setup e in
     go q (foreign-refused j (length rooms) d s (refused-foreign j (length rooms) d s bad_setup q))
   where
-    go : judged_of j (length rooms) d ≡ Refusal bad_setup → (n : ℕ) × (judged_of j (length rooms) d ≡ Refusal n) × (wrong_length ≤ n) × (n ≤ not_set_up) → ⊥
+    go : judged_of j (length rooms) d ≡ Err NoJoiner → (n : ℕ) × (judged_of j (length rooms) d ≡ Err n) × (wrong_length ≤ n) × (n ≤ not_set_up) → ⊥
     go q r =
-        let p : judged_of j (length rooms) d ≡ Refusal r.0 = r.1 in
+        let p : judged_of j (length rooms) d ≡ Err r.0 = r.1 in
         let m : r.0 ≡ bad_setup = cc in
         omega (arith, r.2)

@@ -1,6 +1,9 @@
 -- A joiner in its words is found as it is: the look at its words is the look at the joiner.
 -- Assumes nothing.
 use Prim.Native.Nat.{ℕ, zero, suc, ◌+◌, ◌-◌, ◌*◌, ◌≤◌, ◌<◌}
+use Rattle.std.specs.Prelude.{Some, None, Result, Ok, Err}
+use Rattle.refusal.specs.declared.Refusal.{Refusal}
+use Rattle.refusal.specs.declared.Refusal.TheVariants.{NoJoiner}
 use mathlib.Core.Path.{◌≡◌, refl, sym, ap, ◌∙◌}
 use mathlib.Core.Bool.{Bool, true, false, ◌&&◌, cond}
 use mathlib.Core.List.{List, [], ◌∷◌, ◌++◌, map}
@@ -18,8 +21,6 @@ use Rattle.channel.specs.Record.{channel_limit, new_channel, good_channel}
 use Rattle.channel.specs.declared.Channel.{Channel}
 use Rattle.joiner.specs.Setup.{sender_of, channel_at, channels_of, senders_of, place_of, distinct, every, good_sizes, good, found_of}
 use Rattle.joiner.specs.declared.Joiner.{Joiner}
-use Rattle.joiner.specs.declared.looking.Looked.{Looked}
-use Rattle.joiner.specs.declared.looking.Looked.TheVariants.{Bad, Nobody, Somebody}
 use Rattle.joiner.proofs.Places.{not_true_false, every-at}
 use Rattle.joiner.proofs.Lookups.{channels_length, channels-at}
 use Rattle.joiner.specs.JoinerWords.{record_at, joiner_words, sender_limit, record_in, is_record, are_records, records_in}
@@ -66,7 +67,7 @@ module _ (n R : ℕ) (chs : List Channel) where
   all-records : (k : ℕ) → k ≤ length chs → ((i : ℕ) → i < k → (get_or chs i (new_channel 0)).sender < sender_limit) → are_records all k ≡ true
   all-records k h s = all-below (is_record all) k (λ i l. is_one i (omega arith) (s i l))
 
-none_found : (j : Joiner) (b x : ℕ) → good j b ≡ false → found_of j b x ≡ Bad
+none_found : (j : Joiner) (b x : ℕ) → good j b ≡ false → found_of j b x ≡ (Err NoJoiner)
 unfolding found_of
 none_found j b x e = rw e
 
@@ -94,15 +95,15 @@ module _ (j : Joiner) (w : length j.channels ≡ channel_limit) (h : j.count ≤
   same-found : (b x : ℕ) → found_of stored b x ≡ found_of j b x
   unfolding found_of
   same-found b x =
-      ap (λ (t : Bool). cond t (there stored (place_of (senders_of stored) x)) Bad) (same_good b)
-      ∙ ap (λ (l : List Channel). cond (good j b) (there stored (place_of (map sender_of l) x)) Bad) same-channels
-      ∙ ap (λ (f : Looked). cond (good j b) f Bad) (go (place_of (senders_of j) x) (ltb (place_of (senders_of j) x) j.count) refl)
+      ap (λ (t : Bool). cond t (there stored (place_of (senders_of stored) x)) (Err NoJoiner)) (same_good b)
+      ∙ ap (λ (l : List Channel). cond (good j b) (there stored (place_of (map sender_of l) x)) (Err NoJoiner)) same-channels
+      ∙ ap (λ (f : Result (Option (ℕ × Channel)) Refusal). cond (good j b) f (Err NoJoiner)) (go (place_of (senders_of j) x) (ltb (place_of (senders_of j) x) j.count) refl)
     where
-      there : Joiner → ℕ → Looked
-      there i k = cond (ltb k j.count) (Somebody k (channel_at i k)) Nobody
+      there : Joiner → ℕ → Result (Option (ℕ × Channel)) Refusal
+      there i k = cond (ltb k j.count) (Ok (Some (k, channel_at i k))) (Ok None)
 
       go : (k : ℕ) (t : Bool) → ltb k j.count ≡ t → there stored k ≡ there j k
-      go k true q = ap (λ (c : Channel). cond (ltb k j.count) (Somebody k c) Nobody) (same_at k (ltb-true k j.count q))
+      go k true q = ap (λ (c : Channel). cond (ltb k j.count) (Ok (Some (k, c))) (Ok None)) (same_at k (ltb-true k j.count q))
       go k false q = rw q
 
   good-joiner : (b : ℕ) → good j b ≡ true → is_joiner ws ≡ true
@@ -191,6 +192,6 @@ found_back j b x w = go (leb j.count channel_limit) refl
         ∙ none_found (joiner_in (replicate joiner_words 0)) b x (none_in b)
         ∙ sym (none_found j b x (too_many j b q))
 
-pub looked : {f : Looked} {ws : List ℕ} (j : Joiner) (b x : ℕ) → length j.channels ≡ channel_limit → ws ≡ words_of j →
+pub looked : {f : Result (Option (ℕ × Channel)) Refusal} {ws : List ℕ} (j : Joiner) (b x : ℕ) → length j.channels ≡ channel_limit → ws ≡ words_of j →
     f ≡ found_of (joiner_in ws) b x → f ≡ found_of j b x
 looked j b x w ew ef = ef ∙ ap (λ (v : List ℕ). found_of (joiner_in v) b x) ew ∙ found_back j b x w

@@ -2,6 +2,9 @@
 -- grant to the channel's step.
 -- Assumes nothing.
 use Prim.Native.Nat.{ℕ, ◌-◌, ◌≤◌, ◌<◌}
+use Rattle.std.specs.Prelude.{Some, None, Result, Ok, Err}
+use Rattle.refusal.specs.declared.Refusal.{Refusal}
+use Rattle.refusal.specs.declared.Refusal.TheVariants.{NoJoiner, NotSetUp}
 use mathlib.Core.Path.{◌≡◌, refl, sym, ap, ◌∙◌}
 use mathlib.Core.Bool.{Bool, true, false, ◌&&◌, cond}
 use mathlib.Core.List.{List}
@@ -12,19 +15,13 @@ use lib.ListN.{length}
 use Rattle.wire.proofs.Cond.{and_left, and_right}
 use Rattle.binding.specs.Header.{header_length, largest_datagram, counters, heading_in, header_in, part_carried, sender_in, counter_in, piece_in}
 use Rattle.binding.specs.declared.BindingHeader.{BindingHeader}
-use Rattle.binding.specs.declared.Heading.{Heading}
-use Rattle.binding.specs.declared.Heading.TheVariants as heading
 use Rattle.binding.proofs.Headers.{Headed, heading_headed, piece_length}
 use Rattle.channel.specs.declared.Channel.{Channel}
 use Rattle.channel.proofs.Cases.{Sound, channel_says}
 use Rattle.channel.specs.declared.Step.{Step}
-use Rattle.channel.specs.declared.Judged.{Judged}
-use Rattle.channel.specs.declared.Judged.TheVariants.{Refusal, Move}
 use Rattle.channel.specs.Channel.{room_of, stepped_of, can_move, moved_of}
 use Rattle.channel.specs.Record.{channel_limit, largest_room, bad_setup, new_channel, good_channel, room_start}
 use Rattle.joiner.specs.declared.Joiner.{Joiner}
-use Rattle.joiner.specs.declared.looking.Looked.{Looked}
-use Rattle.joiner.specs.declared.looking.Looked.TheVariants.{Bad, Nobody, Somebody}
 use Rattle.joiner.specs.Setup.{place_of, distinct, every, channels_of, senders_of, channel_at, good_sizes, good, found_of}
 use Rattle.joiner.specs.Take.{not_set_up, sent_to, heading_by, judged_of, sender_by, refusal_by, judged_by}
 use Rattle.joiner.proofs.Places.{every-at}
@@ -59,27 +56,27 @@ good-sizes j b e =
     sizes_say j.count j.room b (and_left (good_sizes j.count j.room b) (every (good_channel j.room) (channels_of j) && distinct (senders_of j)) e)
 
 -- `judge`
-module _ {f : Looked} (R n : ℕ) (x : Heading) where
-  pub judged-bad : f ≡ Bad → Refusal bad_setup ≡ judged_by f R x n
+module _ {f : Result (Option (ℕ × Channel)) Refusal} (R n : ℕ) (x : Result BindingHeader Refusal) where
+  pub judged-bad : f ≡ (Err NoJoiner) → Err NoJoiner ≡ judged_by f R x n
   unfolding judged_by
   judged-bad e = rw e
 
-  pub judged-nobody : {m : ℕ} → m ≡ refusal_by x → f ≡ Nobody → Refusal m ≡ judged_by f R x n
+  pub judged-nobody : {m : ℕ} → m ≡ refusal_by x → f ≡ (Ok None) → Err m ≡ judged_by f R x n
   unfolding judged_by
   judged-nobody q e = rw (e, q)
 
-  pub judged-refused : (k : ℕ) (ch : Channel) (m : ℕ) → f ≡ Somebody k ch → x ≡ heading.Refused m → Refusal m ≡ judged_by f R x n
+  pub judged-refused : (k : ℕ) (ch : Channel) (m : ℕ) → f ≡ Ok (Some (k, ch)) → x ≡ Err m → Err m ≡ judged_by f R x n
   unfolding judged_by
   judged-refused k ch m e q = rw (e, q)
 
-  pub judged-somebody : {y : Judged} (k : ℕ) (ch : Channel) (h : BindingHeader) → f ≡ Somebody k ch → x ≡ heading.Piece h → y
+  pub judged-somebody : {y : Result (ℕ × Step) Refusal} (k : ℕ) (ch : Channel) (h : BindingHeader) → f ≡ Ok (Some (k, ch)) → x ≡ Ok h → y
       ≡ moved_of k R ch h n → y ≡ judged_by f R x n
   unfolding judged_by
   judged-somebody k ch h e q m = rw (e, q) m
 
 -- a datagram that is judged by what was found, as by the joiner itself
-module _ (j : Joiner) (b : ℕ) (d : List ℕ) {r : Heading} (er : r ≡ heading_in d) where
-  not-well : good j b ≡ false → Refusal bad_setup ≡ judged_of j b d
+module _ (j : Joiner) (b : ℕ) (d : List ℕ) {r : Result BindingHeader Refusal} (er : r ≡ heading_in d) where
+  not-well : good j b ≡ false → Err NoJoiner ≡ judged_of j b d
   unfolding judged_of
   not-well g = rw g
 
@@ -87,30 +84,30 @@ module _ (j : Joiner) (b : ℕ) (d : List ℕ) {r : Heading} (er : r ≡ heading
   unfolding judged_of
   by-header g = rw (g, er)
 
-  pub no-heading : {t : Bool} {n : ℕ} → t ≡ good j b → t ≡ true → r ≡ heading.Refused n → Refusal n ≡ judged_of j b d
+  pub no-heading : {t : Bool} {n : ℕ} → t ≡ good j b → t ≡ true → r ≡ Err n → Err n ≡ judged_of j b d
   unfolding heading_by
   no-heading e g m = sym (by-header (sym e ∙ g) ∙ ap (heading_by j d) m)
 
-  module _ (h : BindingHeader) {f : Looked} (m : r ≡ heading.Piece h) (e : f ≡ found_of j b h.sender) where
+  module _ (h : BindingHeader) {f : Result (Option (ℕ × Channel)) Refusal} (m : r ≡ Ok h) (e : f ≡ found_of j b h.sender) where
     by-sender : good j b ≡ true → judged_of j b d ≡ sent_to j d h
     unfolding heading_by
     by-sender g = by-header g ∙ ap (heading_by j d) m
 
-    pub to-nobody : f ≡ Nobody → Refusal not_set_up ≡ judged_of j b d
+    pub to-nobody : f ≡ (Ok None) → Err NotSetUp ≡ judged_of j b d
     unfolding sent_to
     to-nobody q = rw (
       by-sender (found-nobody j b h.sender e q).0,
       le-ltb (place_of (senders_of j) h.sender) j.count (found-nobody j b h.sender e q).1,
     )
 
-    pub to-somebody : {s : ℕ} {x : Step} (k : ℕ) (ch : Channel) → f ≡ Somebody k ch → s ≡ room_start j.room k → x
-        ≡ stepped_of (record { start = s; size = j.room }) ch h.part h.counter (length d - header_length) → Move k x ≡ judged_of j b d
+    pub to-somebody : {s : ℕ} {x : Step} (k : ℕ) (ch : Channel) → f ≡ Ok (Some (k, ch)) → s ≡ room_start j.room k → x
+        ≡ stepped_of (record { start = s; size = j.room }) ch h.part h.counter (length d - header_length) → Ok (k, x) ≡ judged_of j b d
     unfolding sent_to
     to-somebody k ch q es ex =
         let y : Borne j b h.sender k ch = found-somebody j b h.sender e k ch q in
         rw (by-sender y.well, ← y.place, lt-ltb k j.count y.known, piece_length d, ex, es, y.channel)
 
-    found-moves : (k : ℕ) (ch : Channel) → length j.channels ≡ channel_limit → f ≡ Somebody k ch → can_move k j.room ch (length d) ≡ true
+    found-moves : (k : ℕ) (ch : Channel) → length j.channels ≡ channel_limit → f ≡ Ok (Some (k, ch)) → can_move k j.room ch (length d) ≡ true
     found-moves k ch w q =
         let y : Borne j b h.sender k ch = found-somebody j b h.sender e k ch q in
         let g : Good j b = good_says j b w y.well in
@@ -127,23 +124,23 @@ module _ (j : Joiner) (b : ℕ) (d : List ℕ) {r : Heading} (er : r ≡ heading
           le-leb (length d) largest_datagram v.short,
         )
 
-pub judged-by : {f : Looked} {r : Heading} {s : ℕ} {x : Judged} (j : Joiner) (b : ℕ) (d : List ℕ) → length j.channels ≡ channel_limit → r
+pub judged-by : {f : Result (Option (ℕ × Channel)) Refusal} {r : Result BindingHeader Refusal} {s : ℕ} {x : Result (ℕ × Step) Refusal} (j : Joiner) (b : ℕ) (d : List ℕ) → length j.channels ≡ channel_limit → r
     ≡ heading_in d → s ≡ sender_by r → f ≡ found_of j b s → x ≡ judged_by f j.room r (length d) → x ≡ judged_of j b d
 unfolding judged_by moved_of heading_by
 judged-by {f} {r} {s} j b d w er es ef ex = ex ∙ go f refl r refl
   where
-    sought : (h : BindingHeader) → r ≡ heading.Piece h → f ≡ found_of j b h.sender
+    sought : (h : BindingHeader) → r ≡ Ok h → f ≡ found_of j b h.sender
     sought h p = ef ∙ ap (found_of j b) (es ∙ ap sender_by p)
 
-    refused : (n : ℕ) → r ≡ heading.Refused n → good j b ≡ true → Refusal n ≡ judged_of j b d
+    refused : (n : ℕ) → r ≡ Err n → good j b ≡ true → Err n ≡ judged_of j b d
     refused n p g = no-heading j b d er {t = good j b} refl g p
 
-    go : (g : Looked) → f ≡ g → (y : Heading) → r ≡ y → judged_by g j.room y (length d) ≡ judged_of j b d
-    go Bad q y p = not-well j b d er (sym (found-bad j b s ef q))
-    go Nobody q (heading.Refused n) p = refused n p (found-nobody j b s ef q).0
-    go Nobody q (heading.Piece h) p = to-nobody j b d er h p (sought h p) q
-    go (Somebody k ch) q (heading.Refused n) p = refused n p (found-somebody j b s ef k ch q).well
-    go (Somebody k ch) q (heading.Piece h) p =
+    go : (g : Result (Option (ℕ × Channel)) Refusal) → f ≡ g → (y : Result BindingHeader Refusal) → r ≡ y → judged_by g j.room y (length d) ≡ judged_of j b d
+    go (Err NoJoiner) q y p = not-well j b d er (sym (found-bad j b s ef q))
+    go (Ok None) q (Err n) p = refused n p (found-nobody j b s ef q).0
+    go (Ok None) q (Ok h) p = to-nobody j b d er h p (sought h p) q
+    go (Ok (Some (k, ch))) q (Err n) p = refused n p (found-somebody j b s ef k ch q).well
+    go (Ok (Some (k, ch))) q (Ok h) p =
         rw (found-moves j b d er h p (sought h p) k ch w q) (to-somebody j b d er h p (sought h p) k ch q refl refl)
 
 -- what it says that a datagram moves a channel
@@ -155,13 +152,13 @@ pub record Moved (j : Joiner) (b : ℕ) (d : List ℕ) (k : ℕ) (s : Step) : Ty
   pub step : s ≡ stepped_of (room_of j.room k) (channel_at j k) (part_carried d) (counter_in d) (length (piece_in d))
 
 module _ (j : Joiner) (b : ℕ) (d : List ℕ) (k : ℕ) (s : Step) where
-  clash : (n : ℕ) → Refusal n ≡ Move k s → ⊥
+  clash : (n : ℕ) → Err n ≡ Ok (k, s) → ⊥
   clash n e = let z : ◌≡◌ {A = ℕ} 0 1 = cc in omega arith
 
   sent : good j b ≡ true → Headed d (header_in d) → (t : Bool) → ltb (place_of (senders_of j) (sender_in d)) j.count ≡ t →
       cond t (Move (place_of (senders_of j) (sender_in d))
       (stepped_of (room_of j.room (place_of (senders_of j) (sender_in d))) (channel_at j (place_of (senders_of j) (sender_in d))) (part_carried d)
-      (counter_in d) (length (piece_in d)))) (Refusal not_set_up) ≡ Move k s →
+      (counter_in d) (length (piece_in d)))) (Err NotSetUp) ≡ Ok (k, s) →
       Moved j b d k s
   sent g h true e q =
       let ek : k ≡ place_of (senders_of j) (sender_in d) = cc in
@@ -170,14 +167,14 @@ module _ (j : Joiner) (b : ℕ) (d : List ℕ) (k : ℕ) (s : Step) where
       record { well = g; headed = h; channel = ek; known = omega (arith, ltb-true (place_of (senders_of j) (sender_in d)) j.count e); step = rw ek es }
   sent g h false e q = absurd (clash not_set_up q)
 
-  pub judged-moved : judged_of j b d ≡ Move k s → Moved j b d k s
+  pub judged-moved : judged_of j b d ≡ Ok (k, s) → Moved j b d k s
   unfolding judged_of heading_by sent_to
   judged-moved e = by (good j b) refl (heading_in d) refl e
     where
-      by : (g : Bool) → good j b ≡ g → (x : Heading) → heading_in d ≡ x → cond g (heading_by j d x) (Refusal bad_setup) ≡ Move k s → Moved j b d k s
+      by : (g : Bool) → good j b ≡ g → (x : Result BindingHeader Refusal) → heading_in d ≡ x → cond g (heading_by j d x) (Err NoJoiner) ≡ Ok (k, s) → Moved j b d k s
       by false g x h q = absurd (clash bad_setup q)
-      by true g (heading.Refused n) h q = absurd (clash n q)
-      by true g (heading.Piece y) h q =
+      by true g (Err n) h q = absurd (clash n q)
+      by true g (Ok y) h q =
           let w : Headed d y = heading_headed d y h in
           let f : y ≡ header_in d = w.fields in
           let v : Headed d (header_in d) = record { long = w.long; short = w.short; version = w.version; fields = refl } in

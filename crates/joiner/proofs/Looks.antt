@@ -1,6 +1,9 @@
 -- What the functions of the look show at their returns.
 -- Assumes nothing.
 use Prim.Native.Nat.{ℕ, ◌+◌, ◌≤◌, ◌<◌}
+use Rattle.std.specs.Prelude.{Some, None, Result, Ok, Err}
+use Rattle.refusal.specs.declared.Refusal.{Refusal}
+use Rattle.refusal.specs.declared.Refusal.TheVariants.{NoJoiner}
 use mathlib.Core.Path.{◌≡◌, refl, sym, ap, ◌∙◌}
 use mathlib.Core.Bool.{Bool, true, false, ◌&&◌, cond}
 use mathlib.Core.List.{List}
@@ -20,8 +23,6 @@ use Rattle.channel.specs.Record.{channel_limit, good_channel}
 use Rattle.channel.specs.declared.Channel.{Channel}
 use Rattle.joiner.specs.Setup.{place_of, distinct, sender_of, senders_of, channels_of, channel_at, every, good_sizes, good, found_of}
 use Rattle.joiner.specs.declared.Joiner.{Joiner}
-use Rattle.joiner.specs.declared.looking.Looked.{Looked}
-use Rattle.joiner.specs.declared.looking.Looked.TheVariants.{Bad, Nobody, Somebody}
 use Rattle.joiner.proofs.Places.{not_true_false, is_distinct}
 use Rattle.joiner.proofs.Lookups.{few_channels, senders-length, senders-at, found_here, found_nowhere, twice, never-twice}
 use Rattle.joiner.specs.JoinerWords.{record_at, joiner_words, seen_limit, record_in, joiner_in}
@@ -160,11 +161,11 @@ module _ (ws : List ℕ) (k : ℕ) where
     unfolding are_good
     good_one h = at-below (good_record ws) (get_or ws 0 0) k (and_left (good_records ws (get_or ws 0 0)) (distinct (senders_in ws)) e) (omega arith)
 
-    pub found-one : {ch : Channel} → k < n → ch ≡ record_in ws k → Somebody k ch ≡ found_at ws k
+    pub found-one : {ch : Channel} → k < n → ch ≡ record_in ws k → Ok (Some (k, ch)) ≡ found_at ws k
     unfolding found_at
     found-one h f = let l : k < get_or ws 0 0 = omega arith in rw (lt-ltb k (get_or ws 0 0) l, f)
 
-    pub found-no-one : n ≤ k → Nobody ≡ found_at ws k
+    pub found-no-one : n ≤ k → (Ok None) ≡ found_at ws k
     unfolding found_at
     found-no-one h = let l : get_or ws 0 0 ≤ k = omega arith in rw (le-ltb k (get_or ws 0 0) l)
 
@@ -190,7 +191,7 @@ unfolding good
 sizes_good j b e = and_left (good_sizes j.count j.room b) (every (good_channel j.room) (channels_of j) && distinct (senders_of j)) e
 
 module _ (ws : List ℕ) (b x : ℕ) where
-  bad : good (joiner_in ws) b ≡ false → Bad ≡ found_of (joiner_in ws) b x
+  bad : good (joiner_in ws) b ≡ false → (Err NoJoiner) ≡ found_of (joiner_in ws) b x
   unfolding found_of
   bad e = rw e
 
@@ -210,7 +211,7 @@ module _ (ws : List ℕ) (b x : ℕ) where
     pub not-sized : t ≡ false → false ≡ good (joiner_in ws) b
     not-sized f = sym (none-sized f)
 
-    pub bad-sizes : t ≡ false → Bad ≡ found_of (joiner_in ws) b x
+    pub bad-sizes : t ≡ false → (Err NoJoiner) ≡ found_of (joiner_in ws) b x
     bad-sizes f = bad (none-sized f)
 
     module _ (f : t ≡ true) (w : length ws ≡ joiner_words) where
@@ -223,16 +224,16 @@ module _ (ws : List ℕ) (b x : ℕ) where
       pub records-good : {u : Bool} → u ≡ are_good ws → u ≡ good (joiner_in ws) b
       records-good g = g ∙ sym well
 
-      pub bad-records : {u : Bool} → u ≡ are_good ws → u ≡ false → Bad ≡ found_of (joiner_in ws) b x
+      pub bad-records : {u : Bool} → u ≡ are_good ws → u ≡ false → (Err NoJoiner) ≡ found_of (joiner_in ws) b x
       bad-records g h = bad (well ∙ sym g ∙ h)
 
-      pub found_in : {u : Bool} {p : ℕ} {r : Looked} → u ≡ are_good ws → u ≡ true → p ≡ place_of (senders_in ws) x → r ≡ found_at ws p → r
+      pub found_in : {u : Bool} {p : ℕ} {r : Result (Option (ℕ × Channel)) Refusal} → u ≡ are_good ws → u ≡ true → p ≡ place_of (senders_in ws) x → r ≡ found_at ws p → r
           ≡ found_of (joiner_in ws) b x
       unfolding found_of found_at
       found_in {u} {p} {r} g h ep er =
           let j : joiner_in ws ≡ stored_in ws = stored_joiner ws (well-joiner ws b sized (sym g ∙ h)) in
           er ∙ ap (found_at ws) ep ∙ go (place_of (senders_in ws) x) (ltb (place_of (senders_in ws) x) (get_or ws 0 0)) refl ∙ rw (well ∙ sym g ∙ h, j)
         where
-          go : (k : ℕ) (t : Bool) → ltb k (get_or ws 0 0) ≡ t → found_at ws k ≡ cond (ltb k (get_or ws 0 0)) (Somebody k (channel_at (stored_in ws) k)) Nobody
+          go : (k : ℕ) (t : Bool) → ltb k (get_or ws 0 0) ≡ t → found_at ws k ≡ cond (ltb k (get_or ws 0 0)) (Ok (Some (k, channel_at (stored_in ws) k))) (Ok None)
           go k true q = rw (q, stored_at ws sized.few k (ltb-true k (get_or ws 0 0) q))
           go k false q = rw q

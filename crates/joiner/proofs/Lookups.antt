@@ -1,6 +1,9 @@
 -- What a look at a joiner shows: its records against the lists of `specs/`, its sizes, and what was found.
 -- Assumes nothing.
 use Prim.Native.Nat.{ℕ, ◌≤◌, ◌<◌}
+use Rattle.std.specs.Prelude.{Some, None, Result, Ok, Err}
+use Rattle.refusal.specs.declared.Refusal.{Refusal}
+use Rattle.refusal.specs.declared.Refusal.TheVariants.{NoJoiner}
 use mathlib.Core.Path.{◌≡◌, refl, sym, ap, ◌∙◌}
 use mathlib.Core.Bool.{Bool, true, false, ◌&&◌, cond}
 use native.Mathlib.Omega.{arith}
@@ -14,8 +17,6 @@ use Rattle.wire.proofs.Cond.{and_left, and_right}
 use Rattle.channel.specs.declared.Channel.{Channel}
 use Rattle.channel.specs.Record.{channel_limit, largest_room, room_start, new_channel}
 use Rattle.joiner.specs.declared.Joiner.{Joiner}
-use Rattle.joiner.specs.declared.looking.Looked.{Looked}
-use Rattle.joiner.specs.declared.looking.Looked.TheVariants.{Bad, Nobody, Somebody}
 use Rattle.joiner.specs.Setup.{smallest_room, place_of, distinct, sender_of, channels_of, senders_of, channel_at, good_sizes, good, found_of}
 use Rattle.joiner.proofs.Places.{not_true_false, place_found, place_none, place_first, at_place, distinct_says, is_distinct}
 
@@ -116,36 +117,36 @@ pub record Borne (j : Joiner) (b x k : ℕ) (ch : Channel) : Type 0 where
   pub known : k < j.count
   pub channel : ch ≡ channel_at j k
 
-module _ (j : Joiner) (b x : ℕ) {r : Looked} (e : r ≡ found_of j b x) where
-  is-bad : (t : Bool) → good j b ≡ t → r ≡ Bad → t ≡ false
+module _ (j : Joiner) (b x : ℕ) {r : Result (Option (ℕ × Channel)) Refusal} (e : r ≡ found_of j b x) where
+  is-bad : (t : Bool) → good j b ≡ t → r ≡ (Err NoJoiner) → t ≡ false
   unfolding found_of
   is-bad true g m = go (ltb (place_of (senders_of j) x) j.count) (sym m ∙ e ∙ rw g)
     where
-      go : (u : Bool) → Bad ≡ cond u (Somebody (place_of (senders_of j) x) (channel_at j (place_of (senders_of j) x))) Nobody → true ≡ false
+      go : (u : Bool) → (Err NoJoiner) ≡ cond u (Ok (Some (place_of (senders_of j) x, channel_at j (place_of (senders_of j) x)))) (Ok None) → true ≡ false
       go true q = let z : ◌≡◌ {A = ℕ} 0 1 = cc in absurd (omega arith)
       go false q = let z : ◌≡◌ {A = ℕ} 0 1 = cc in absurd (omega arith)
   is-bad false g m = refl
 
-  pub found-bad : r ≡ Bad → false ≡ good j b
+  pub found-bad : r ≡ (Err NoJoiner) → false ≡ good j b
   found-bad m = sym (is-bad (good j b) refl m)
 
-  pub found-nobody : r ≡ Nobody → (good j b ≡ true) × (j.count ≤ place_of (senders_of j) x)
+  pub found-nobody : r ≡ (Ok None) → (good j b ≡ true) × (j.count ≤ place_of (senders_of j) x)
   unfolding found_of
   found-nobody m = go (good j b) refl (ltb (place_of (senders_of j) x) j.count) refl (sym m ∙ e)
     where
-      go : (g : Bool) → good j b ≡ g → (u : Bool) → ltb (place_of (senders_of j) x) j.count ≡ u → Nobody
-          ≡ cond g (cond u (Somebody (place_of (senders_of j) x) (channel_at j (place_of (senders_of j) x))) Nobody) Bad → (good j b ≡ true)
+      go : (g : Bool) → good j b ≡ g → (u : Bool) → ltb (place_of (senders_of j) x) j.count ≡ u → (Ok None)
+          ≡ cond g (cond u (Ok (Some (place_of (senders_of j) x, channel_at j (place_of (senders_of j) x)))) (Ok None)) (Err NoJoiner) → (good j b ≡ true)
           × (j.count ≤ place_of (senders_of j) x)
       go true g false h q = (g, ltb-false (place_of (senders_of j) x) j.count h)
       go true g true h q = let z : ◌≡◌ {A = ℕ} 0 1 = cc in absurd (omega arith)
       go false g u h q = let z : ◌≡◌ {A = ℕ} 0 1 = cc in absurd (omega arith)
 
-  pub found-somebody : (k : ℕ) (ch : Channel) → r ≡ Somebody k ch → Borne j b x k ch
+  pub found-somebody : (k : ℕ) (ch : Channel) → r ≡ Ok (Some (k, ch)) → Borne j b x k ch
   unfolding found_of
   found-somebody k ch m = go (good j b) refl (ltb (place_of (senders_of j) x) j.count) refl (sym m ∙ e)
     where
-      go : (g : Bool) → good j b ≡ g → (u : Bool) → ltb (place_of (senders_of j) x) j.count ≡ u → Somebody k ch
-          ≡ cond g (cond u (Somebody (place_of (senders_of j) x) (channel_at j (place_of (senders_of j) x))) Nobody) Bad → Borne j b x k ch
+      go : (g : Bool) → good j b ≡ g → (u : Bool) → ltb (place_of (senders_of j) x) j.count ≡ u → Ok (Some (k, ch))
+          ≡ cond g (cond u (Ok (Some (place_of (senders_of j) x, channel_at j (place_of (senders_of j) x)))) (Ok None)) (Err NoJoiner) → Borne j b x k ch
       go true g true h q =
           let p : k ≡ place_of (senders_of j) x = cc in
           let f : ch ≡ channel_at j (place_of (senders_of j) x) = cc in

@@ -1,6 +1,10 @@
 -- A joiner in its words that a datagram moves: the step that was taken, and the record that it leaves.
 -- Assumes nothing.
 use Prim.Native.Nat.{ℕ, ◌≤◌, ◌<◌}
+use Rattle.std.specs.Prelude.{Result, Ok, Err}
+use Rattle.refusal.specs.declared.Refusal.{Refusal}
+use Rattle.refusal.specs.declared.Refusal.TheVariants.{NoJoiner}
+use Rattle.binding.specs.declared.BindingHeader.{BindingHeader}
 use mathlib.Core.Path.{◌≡◌, refl, sym, ap, ◌∙◌}
 use mathlib.Core.Bool.{Bool, true, false, cond}
 use mathlib.Core.List.{List, []}
@@ -13,20 +17,15 @@ use Rattle.wire.specs.Bytes.{written}
 use Rattle.wire.proofs.Cond.{and_left}
 use Rattle.binding.specs.Header.{heading_in, part_carried, counter_in, piece_in}
 use Rattle.binding.specs.declared.MessagePart.{MessagePart}
-use Rattle.binding.specs.declared.Heading.{Heading}
 use Rattle.channel.specs.Record.{channel_limit, new_channel}
 use Rattle.channel.specs.declared.Channel.{Channel}
 use Rattle.channel.specs.Channel.{room_of}
 use Rattle.channel.specs.Outcomes.{number_given, left_over_by}
 use Rattle.channel.specs.declared.Room.{Room}
 use Rattle.channel.specs.declared.Step.{Step}
-use Rattle.channel.specs.declared.Judged.{Judged}
-use Rattle.channel.specs.declared.Judged.TheVariants.{Move}
 use Rattle.channel.proofs.Cases.{Stepped, again, whole, begins, stray, long, goes_on, ends, step-cases}
 use Rattle.joiner.specs.Setup.{fresh_of, channel_at, found_of}
 use Rattle.joiner.specs.declared.Joiner.{Joiner}
-use Rattle.joiner.specs.declared.looking.Looked.{Looked}
-use Rattle.joiner.specs.declared.looking.Looked.TheVariants.{Bad}
 use Rattle.joiner.specs.Take.{judged_of, sender_by, judged_by, taken_by, changed}
 use Rattle.joiner.proofs.Judging.{Moved, judged-by, judged-moved, good-sizes}
 use Rattle.joiner.specs.JoinerWords.{record_at, are_records, channels_in, is_joiner, joiner_in, record_words}
@@ -85,22 +84,22 @@ channels_length ws = go (is_joiner ws) refl
     go false e = refl
 
 -- a room's size is the second word's, wherever it is asked for
-same_room : {f : Looked} (ws : List ℕ) (b y : ℕ) (r : Heading) (n : ℕ) → f ≡ found_of (joiner_in ws) b y → judged_by f (get_or ws 1 0) r n
+same_room : {f : Result (Option (ℕ × Channel)) Refusal} (ws : List ℕ) (b y : ℕ) (r : Result BindingHeader Refusal) (n : ℕ) → f ≡ found_of (joiner_in ws) b y → judged_by f (get_or ws 1 0) r n
     ≡ judged_by f (joiner_in ws).room r n
 unfolding found_of judged_by
 same_room {f} ws b y r n e = go (is_joiner ws) refl
   where
     go : (t : Bool) → is_joiner ws ≡ t → judged_by f (get_or ws 1 0) r n ≡ judged_by f (joiner_in ws).room r n
     go true q = rw (stored_joiner ws q)
-    go false q = let bad : f ≡ Bad = e ∙ rw (none_good ws b q) in rw bad
+    go false q = let bad : f ≡ (Err NoJoiner) = e ∙ rw (none_good ws b q) in rw bad
 
-pub judged_in : {f : Looked} {r : Heading} {y R : ℕ} {x : Judged} (ws : List ℕ) (b : ℕ) (d : List ℕ) → R ≡ get_or ws 1 0 → r ≡ heading_in d → y
+pub judged_in : {f : Result (Option (ℕ × Channel)) Refusal} {r : Result BindingHeader Refusal} {y R : ℕ} {x : Result (ℕ × Step) Refusal} (ws : List ℕ) (b : ℕ) (d : List ℕ) → R ≡ get_or ws 1 0 → r ≡ heading_in d → y
     ≡ sender_by r → f ≡ found_of (joiner_in ws) b y → x ≡ judged_by f R r (length d) → x ≡ judged_of (joiner_in ws) b d
 judged_in {f} {r} {y} {R} {x} ws b d eR er ey ef ex =
     judged-by (joiner_in ws) b d (channels_length ws) er ey ef (ex ∙ ap (λ (q : ℕ). judged_by f q r (length d)) eR ∙ same_room ws b y r (length d) ef)
 
 -- the record that a step leaves
-module _ (ws : List ℕ) (b : ℕ) (d : List ℕ) (k : ℕ) (s : Step) (e : judged_of (joiner_in ws) b d ≡ Move k s) where
+module _ (ws : List ℕ) (b : ℕ) (d : List ℕ) (k : ℕ) (s : Step) (e : judged_of (joiner_in ws) b d ≡ Ok (k, s)) where
   abbrev j : Joiner
   j = joiner_in ws
 
@@ -113,7 +112,7 @@ module _ (ws : List ℕ) (b : ℕ) (d : List ℕ) (k : ℕ) (s : Step) (e : judg
   known : k < channel_limit
   known = omega (arith, (good-sizes j b moves.well).few, moves.known)
 
-  pub words-moved : words_by ws (place_in j d) (taken_by j (Move k s)) ≡ written ws (record_at k) (record_words s.channel)
+  pub words-moved : words_by ws (place_in j d) (taken_by j (Ok (k, s))) ≡ written ws (record_at k) (record_words s.channel)
   unfolding taken_by
   words-moved =
       let new : List ℕ = with_record ws (place_in j d) (changed j k s.channel) in

@@ -2,6 +2,8 @@
 -- change. A refusal changes no record and no byte of the rooms; a datagram of channel k changes no other record.
 -- Assumes nothing.
 use Prim.Native.Nat.{ℕ, ◌≤◌, ◌<◌}
+use Rattle.std.specs.Prelude.{Result, Ok, Err}
+use Rattle.refusal.specs.declared.Refusal.{Refusal}
 use Rattle.std.specs.Prelude.{Option, Some, None}
 use mathlib.Core.Path.{◌≡◌, refl, sym, ap, ◌∙◌}
 use mathlib.Core.Bool.{Bool, true, false, ◌&&◌}
@@ -18,9 +20,6 @@ use Rattle.binding.specs.Header.{part_carried, counter_in, piece_in}
 use Rattle.binding.proofs.Headers.{counter_below}
 use Rattle.channel.specs.declared.Channel.{Channel}
 use Rattle.channel.specs.declared.Step.{Step}
-use Rattle.channel.specs.declared.Outcome.TheVariants.{Refused}
-use Rattle.channel.specs.declared.Judged.{Judged}
-use Rattle.channel.specs.declared.Judged.TheVariants.{Refusal, Move}
 use Rattle.channel.specs.Channel.{room_of}
 use Rattle.channel.specs.Record.{channel_limit, new_channel, good_channel, largest_room, room_start}
 use Rattle.channel.proofs.Cases.{channel_says, Stepped, step-cases, step-sender, step-taken, step-sound, sound_good}
@@ -119,60 +118,60 @@ module _ (j : Joiner) (rooms d : List ℕ) where
   unfolding rooms_after rooms_by
   rooms-length = go (judged_of j (length rooms) d)
     where
-      go : (x : Judged) → length (rooms_by rooms d x) ≡ length rooms
-      go (Refusal n) = refl
-      go (Move k s) = put_length rooms s.put d
+      go : (x : Result (ℕ × Step) Refusal) → length (rooms_by rooms d x) ≡ length rooms
+      go (Err n) = refl
+      go (Ok (k, s)) = put_length rooms s.put d
 
   -- set-up stays good
   pub take-standing : Standing j (length rooms) → Octets d → Standing (taken_of j rooms d).joiner (length (rooms_after j rooms d))
   unfolding taken_of taken_by
   take-standing t o = rw rooms-length (go (judged_of j (length rooms) d) refl)
     where
-      go : (x : Judged) → judged_of j (length rooms) d ≡ x → Standing (taken_by j x).joiner (length rooms)
-      go (Refusal n) e = t
-      go (Move k s) e = moved-standing j (length rooms) d k s (judged-moved j (length rooms) d k s e) t o
+      go : (x : Result (ℕ × Step) Refusal) → judged_of j (length rooms) d ≡ x → Standing (taken_by j x).joiner (length rooms)
+      go (Err n) e = t
+      go (Ok (k, s)) e = moved-standing j (length rooms) d k s (judged-moved j (length rooms) d k s e) t o
 
   -- the set-up itself never changes
   pub take_count : (taken_of j rooms d).joiner.count ≡ j.count
   unfolding taken_of taken_by
   take_count = go (judged_of j (length rooms) d)
     where
-      go : (x : Judged) → (taken_by j x).joiner.count ≡ j.count
-      go (Refusal n) = refl
-      go (Move k s) = refl
+      go : (x : Result (ℕ × Step) Refusal) → (taken_by j x).joiner.count ≡ j.count
+      go (Err n) = refl
+      go (Ok (k, s)) = refl
 
   pub take-room : (taken_of j rooms d).joiner.room ≡ j.room
   unfolding taken_of taken_by
   take-room = go (judged_of j (length rooms) d)
     where
-      go : (x : Judged) → (taken_by j x).joiner.room ≡ j.room
-      go (Refusal n) = refl
-      go (Move k s) = refl
+      go : (x : Result (ℕ × Step) Refusal) → (taken_by j x).joiner.room ≡ j.room
+      go (Err n) = refl
+      go (Ok (k, s)) = refl
 
   pub take-senders : senders_of (taken_of j rooms d).joiner ≡ senders_of j
   unfolding taken_of taken_by
   take-senders = go (judged_of j (length rooms) d) refl
     where
-      go : (x : Judged) → judged_of j (length rooms) d ≡ x → senders_of (taken_by j x).joiner ≡ senders_of j
-      go (Refusal n) e = refl
-      go (Move k s) e = moved-senders j (length rooms) d k s (judged-moved j (length rooms) d k s e)
+      go : (x : Result (ℕ × Step) Refusal) → judged_of j (length rooms) d ≡ x → senders_of (taken_by j x).joiner ≡ senders_of j
+      go (Err n) e = refl
+      go (Ok (k, s)) e = moved-senders j (length rooms) d k s (judged-moved j (length rooms) d k s e)
 
   -- a refusal changes no record and no byte
-  pub refused-here : (n : ℕ) → (taken_of j rooms d).outcome ≡ Refused n → judged_of j (length rooms) d ≡ Refusal n
+  pub refused-here : (n : ℕ) → (taken_of j rooms d).outcome ≡ Err n → judged_of j (length rooms) d ≡ Err n
   unfolding taken_of taken_by
   refused-here n q = go (judged_of j (length rooms) d) refl q
     where
-      go : (x : Judged) → judged_of j (length rooms) d ≡ x → (taken_by j x).outcome ≡ Refused n → judged_of j (length rooms) d ≡ Refusal n
-      go (Refusal m) e f = e ∙ ap Refusal (cc)
-      go (Move k s) e f =
+      go : (x : Result (ℕ × Step) Refusal) → judged_of j (length rooms) d ≡ x → (taken_by j x).outcome ≡ Err n → judged_of j (length rooms) d ≡ Err n
+      go (Err m) e f = e ∙ ap Err (cc)
+      go (Ok (k, s)) e f =
           let v : Moved j (length rooms) d k s = judged-moved j (length rooms) d k s e in
           absurd (step-taken (room_of j.room k) (channel_at j k) (counter_in d) (length (piece_in d)) n (moved-cases j (length rooms) d k s v) f)
 
-  pub refusal-keeps-joiner : (n : ℕ) → (taken_of j rooms d).outcome ≡ Refused n → (taken_of j rooms d).joiner ≡ j
+  pub refusal-keeps-joiner : (n : ℕ) → (taken_of j rooms d).outcome ≡ Err n → (taken_of j rooms d).joiner ≡ j
   unfolding taken_of taken_by
-  refusal-keeps-joiner n q = ap (λ (x : Judged). (taken_by j x).joiner) (refused-here n q)
+  refusal-keeps-joiner n q = ap (λ (x : Result (ℕ × Step) Refusal). (taken_by j x).joiner) (refused-here n q)
 
-  pub refusal-keeps-rooms : (n : ℕ) → (taken_of j rooms d).outcome ≡ Refused n → rooms_after j rooms d ≡ rooms
+  pub refusal-keeps-rooms : (n : ℕ) → (taken_of j rooms d).outcome ≡ Err n → rooms_after j rooms d ≡ rooms
   unfolding rooms_after rooms_by
   refusal-keeps-rooms n q = ap (rooms_by rooms d) (refused-here n q)
 
@@ -181,8 +180,8 @@ module _ (j : Joiner) (rooms d : List ℕ) where
   unfolding taken_of taken_by
   past-kept i h = go (judged_of j (length rooms) d) refl
     where
-      go : (x : Judged) → judged_of j (length rooms) d ≡ x → channel_at (taken_by j x).joiner i ≡ channel_at j i
-      go (Refusal n) e = refl
-      go (Move k s) e =
+      go : (x : Result (ℕ × Step) Refusal) → judged_of j (length rooms) d ≡ x → channel_at (taken_by j x).joiner i ≡ channel_at j i
+      go (Err n) e = refl
+      go (Ok (k, s)) e =
           let l : k < j.count = (judged-moved j (length rooms) d k s e).known in
           changed-there j k s.channel i (λ q. omega arith)

@@ -1,6 +1,10 @@
 -- What taking a datagram and handing back a message show at their returns.
 -- Assumes nothing.
 use Prim.Native.Nat.{ℕ, ◌+◌, ◌-◌, ◌*◌, ◌<◌}
+use Rattle.std.specs.Prelude.{Result, Ok, Err}
+use Rattle.refusal.specs.declared.Refusal.{Refusal}
+use Rattle.binding.specs.declared.BindingHeader.{BindingHeader}
+use Rattle.channel.specs.declared.Channel.{Channel}
 use Rattle.std.specs.Prelude.{Option, Some, None}
 use mathlib.Core.Path.{◌≡◌, refl, sym, ap, ◌∙◌}
 use mathlib.Core.Bool.{Bool, true, false}
@@ -15,29 +19,25 @@ use lib.Seq.{take_all}
 use Rattle.wire.specs.Bytes.{written, part}
 use Rattle.wire.proofs.Runs.{over_none, over_all, no_run}
 use Rattle.binding.specs.Header.{header_length, heading_in}
-use Rattle.binding.specs.declared.Heading.{Heading}
 use Rattle.channel.specs.declared.Step.{Step}
-use Rattle.channel.specs.declared.Judged.{Judged}
-use Rattle.channel.specs.declared.Judged.TheVariants.{Refusal, Move}
 use Rattle.channel.specs.declared.Slice.{Slice}
 use Rattle.channel.specs.declared.Slice.TheVariants.{Datagram, Rooms}
 use Rattle.channel.specs.declared.Outcome.{Outcome}
-use Rattle.channel.specs.declared.Outcome.TheVariants.{Refused, Repeated, Delivered, Held, Stray, TooLong}
+use Rattle.channel.specs.declared.Outcome.TheVariants.{Repeated, Delivered, Held, Stray, TooLong}
 use Rattle.channel.specs.Record.{channel_limit}
 use Rattle.joiner.specs.declared.Joiner.{Joiner}
-use Rattle.joiner.specs.declared.looking.Looked.{Looked}
 use Rattle.joiner.specs.Setup.{found_of}
 use Rattle.joiner.specs.Take.{sender_by, judged_by, judged_of, changed, taken_by, taken_of, put_by, rooms_by, rooms_after, message_of}
 use Rattle.joiner.specs.JoinerWords.{joiner_in, words_of}
 use Rattle.joiner.proofs.FoundBack.{looked}
 use Rattle.joiner.proofs.Judging.{Moved, judged-by, judged-moved, good-sizes}
 
-module _ {o : Outcome} {pl : Slice} (d rooms : List ℕ) where
-  pub in-datagram : {x : List ℕ} (m s l : ℕ) → o ≡ Delivered m pl → pl ≡ Datagram s l → x ≡ part d s l → x ≡ message_of o d rooms
+module _ {o : Result Outcome Refusal} {pl : Slice} (d rooms : List ℕ) where
+  pub in-datagram : {x : List ℕ} (m s l : ℕ) → o ≡ Ok (Delivered m pl) → pl ≡ Datagram s l → x ≡ part d s l → x ≡ message_of o d rooms
   unfolding message_of
   in-datagram m s l eo ep ex = rw (eo, ep) ex
 
-  pub in-rooms : {x : List ℕ} (m s l : ℕ) → o ≡ Delivered m pl → pl ≡ Rooms s l → x ≡ part rooms s l → x ≡ message_of o d rooms
+  pub in-rooms : {x : List ℕ} (m s l : ℕ) → o ≡ Ok (Delivered m pl) → pl ≡ Rooms s l → x ≡ part rooms s l → x ≡ message_of o d rooms
   unfolding message_of
   in-rooms m s l eo ep ex = rw (eo, ep) ex
 
@@ -61,25 +61,25 @@ put_none rooms d a e h = rw e (go (leb (a + length (drop header_length d)) (leng
     go false q = no_run rooms a (drop header_length d) refl q
 
 -- any outcome but a delivery
-pub not_delivered : (o : Outcome) (d rooms : List ℕ) → ((m : ℕ) (p : Slice) → o ≡ Delivered m p → ⊥) → [] ≡ message_of o d rooms
+pub not_delivered : (o : Result Outcome Refusal) (d rooms : List ℕ) → ((m : ℕ) (p : Slice) → o ≡ Ok (Delivered m p) → ⊥) → [] ≡ message_of o d rooms
 unfolding message_of
-not_delivered (Refused n) d rooms t = refl
-not_delivered Repeated d rooms t = refl
-not_delivered (Delivered m p) d rooms t = absurd (t m p refl)
-not_delivered (Held m n) d rooms t = refl
-not_delivered (Stray m) d rooms t = refl
-not_delivered (TooLong m) d rooms t = refl
+not_delivered (Err n) d rooms t = refl
+not_delivered (Ok Repeated) d rooms t = refl
+not_delivered (Ok (Delivered m p)) d rooms t = absurd (t m p refl)
+not_delivered (Ok (Held m n)) d rooms t = refl
+not_delivered (Ok (Stray m)) d rooms t = refl
+not_delivered (Ok (TooLong m)) d rooms t = refl
 
 -- `take`
 module _
-    {f : Looked} {r : Heading} {ws : List ℕ} {y : ℕ} {x : Judged} (j : Joiner) (rooms d : List ℕ) (w : length j.channels ≡ channel_limit)
+    {f : Result (Option (ℕ × Channel)) Refusal} {r : Result BindingHeader Refusal} {ws : List ℕ} {y : ℕ} {x : Result (ℕ × Step) Refusal} (j : Joiner) (rooms d : List ℕ) (w : length j.channels ≡ channel_limit)
     (er : r ≡ heading_in d) (ey : y ≡ sender_by r) (ew : ws ≡ words_of j) (ef : f ≡ found_of (joiner_in ws) (length rooms) y)
     (ex : x ≡ judged_by f j.room r (length d)) where
   judged : x ≡ judged_of j (length rooms) d
   judged = judged-by j (length rooms) d w er ey (looked j (length rooms) y w ew ef) ex
 
-  module _ (n : ℕ) (m : x ≡ Refusal n) where
-    refused-taken : record { outcome = Refused n; joiner = j } ≡ taken_of j rooms d
+  module _ (n : ℕ) (m : x ≡ Err n) where
+    refused-taken : record { outcome = Err n; joiner = j } ≡ taken_of j rooms d
     unfolding taken_of taken_by
     refused-taken = rw (sym judged ∙ m)
 
@@ -87,10 +87,10 @@ module _
     unfolding rooms_after rooms_by
     refused-rooms = rw (sym judged ∙ m)
 
-    pub refused : (record { outcome = Refused n; joiner = j } ≡ taken_of j rooms d) × (rooms ≡ rooms_after j rooms d)
+    pub refused : (record { outcome = Err n; joiner = j } ≡ taken_of j rooms d) × (rooms ≡ rooms_after j rooms d)
     refused = (refused-taken, refused-rooms)
 
-  module _ (k : ℕ) (s : Step) (m : x ≡ Move k s) where
+  module _ (k : ℕ) (s : Step) (m : x ≡ Ok (k, s)) where
     pub moved-known : k < channel_limit
     moved-known =
         let v : Moved j (length rooms) d k s = judged-moved j (length rooms) d k s (sym judged ∙ m) in

@@ -2,6 +2,8 @@
 -- back is the view's, and the views and rooms of the other channels do not move.
 -- Assumes nothing.
 use Prim.Native.Nat.{ℕ, ◌+◌, ◌-◌, ◌≤◌, ◌<◌}
+use Rattle.std.specs.Prelude.{Result, Ok, Err}
+use Rattle.refusal.specs.declared.Refusal.{Refusal}
 use mathlib.Core.Path.{◌≡◌, refl, sym, ap, ◌∙◌}
 use mathlib.Core.Logic.{◌⊎◌, inl, inr, ⊎_elim}
 use mathlib.Core.Bool.{Bool, true, false, cond}
@@ -19,8 +21,6 @@ use Rattle.binding.proofs.Headers.{piece_length}
 use Rattle.channel.specs.declared.Channel.{Channel}
 use Rattle.channel.specs.declared.Room.{Room}
 use Rattle.channel.specs.declared.Step.{Step}
-use Rattle.channel.specs.declared.Judged.{Judged}
-use Rattle.channel.specs.declared.Judged.TheVariants.{Refusal, Move}
 use Rattle.channel.specs.Channel.{room_of, missed_of, keeping, noted_of}
 use Rattle.channel.specs.Record.{room_start}
 use Rattle.channel.proofs.Cases.{channel_says, Stepped, again, whole, begins, stray, long, goes_on, ends}
@@ -154,7 +154,7 @@ module _ (j : Joiner) (rooms d : List ℕ) (s : Standing j (length rooms)) where
     abbrev view : View
     view = view_of j rooms k
 
-    moves : judged_of j (length rooms) d ≡ Move k (view_step room view d)
+    moves : judged_of j (length rooms) d ≡ Ok (k, view_step room view d)
     moves = addressed-moves j (length rooms) d s k a
 
     moved : Moved j (length rooms) d k (view_step room view d)
@@ -165,7 +165,7 @@ module _ (j : Joiner) (rooms d : List ℕ) (s : Standing j (length rooms)) where
 
     after : (taken_of j rooms d).joiner ≡ changed j k (view_step room view d).channel
     unfolding taken_of taken_by
-    after = ap (λ (x : Judged). (taken_by j x).joiner) moves
+    after = ap (λ (x : Result (ℕ × Step) Refusal). (taken_by j x).joiner) moves
 
     rooms-after : rooms_after j rooms d ≡ put_by rooms (view_step room view d).put d
     unfolding rooms_after rooms_by
@@ -173,7 +173,7 @@ module _ (j : Joiner) (rooms d : List ℕ) (s : Standing j (length rooms)) where
 
     pub own-outcome : (taken_of j rooms d).outcome ≡ (view_step room view d).outcome
     unfolding taken_of taken_by
-    own-outcome = ap (λ (x : Judged). (taken_by j x).outcome) moves
+    own-outcome = ap (λ (x : Result (ℕ × Step) Refusal). (taken_by j x).outcome) moves
 
     pub own_view : view_of (taken_of j rooms d).joiner (rooms_after j rooms d) k ≡ view_after room view d
     unfolding view_after
@@ -206,12 +206,12 @@ module _ (j : Joiner) (rooms d : List ℕ) (s : Standing j (length rooms)) where
 
   -- a foreign datagram moves no view and delivers nothing
   module _ (f : Foreign (senders_of j) d) where
-    refuses : judged_of j (length rooms) d ≡ Refusal (foreign-refused j (length rooms) d s f).0
+    refuses : judged_of j (length rooms) d ≡ Err (foreign-refused j (length rooms) d s f).0
     refuses = (foreign-refused j (length rooms) d s f).1
 
     pub foreign-joiner : (taken_of j rooms d).joiner ≡ j
     unfolding taken_of taken_by
-    foreign-joiner = ap (λ (x : Judged). (taken_by j x).joiner) refuses
+    foreign-joiner = ap (λ (x : Result (ℕ × Step) Refusal). (taken_by j x).joiner) refuses
 
     pub foreign-rooms : rooms_after j rooms d ≡ rooms
     unfolding rooms_after rooms_by
@@ -219,4 +219,4 @@ module _ (j : Joiner) (rooms d : List ℕ) (s : Standing j (length rooms)) where
 
     pub foreign-given : delivered_of j rooms d ≡ []
     unfolding delivered_of message_of taken_of taken_by
-    foreign-given = ap (λ (x : Judged). message_of (taken_by j x).outcome d (rooms_after j rooms d)) refuses
+    foreign-given = ap (λ (x : Result (ℕ × Step) Refusal). message_of (taken_by j x).outcome d (rooms_after j rooms d)) refuses

@@ -2,14 +2,15 @@
 -- over joiners.
 -- Assumes nothing.
 use Prim.Native.Nat.{ℕ, ◌<◌}
+use Rattle.std.specs.Prelude.{Result, Ok, Err}
+use Rattle.refusal.specs.declared.Refusal.{Refusal}
+use Rattle.channel.specs.declared.Step.{Step}
 use mathlib.Core.Path.{◌≡◌, refl, ap, ◌∙◌}
 use mathlib.Core.Bool.{true}
 use mathlib.Core.List.{List}
 use native.Mathlib.Omega.{arith}
 use lib.ListN.{length}
 use Rattle.channel.specs.Record.{good_channel}
-use Rattle.channel.specs.declared.Judged.{Judged}
-use Rattle.channel.specs.declared.Judged.TheVariants.{Refusal, Move}
 use Rattle.channel.proofs.Cases.{channel_says, step-sender}
 use Rattle.joiner.specs.Setup.{channel_at}
 use Rattle.joiner.specs.declared.Joiner.{Joiner}
@@ -24,10 +25,10 @@ pub taken_back : (ws rooms d : List ℕ) → length ws ≡ joiner_words → join
 unfolding take_words taken_of taken_by
 taken_back ws rooms d w = go (judged_of (joiner_in ws) (length rooms) d) refl
   where
-    go : (x : Judged) → judged_of (joiner_in ws) (length rooms) d ≡ x
+    go : (x : Result (ℕ × Step) Refusal) → judged_of (joiner_in ws) (length rooms) d ≡ x
         → joiner_in (words_by ws (place_in (joiner_in ws) d) (taken_by (joiner_in ws) x)) ≡ (taken_by (joiner_in ws) x).joiner
-    go (Refusal n) e = refl
-    go (Move k s) e =
+    go (Err n) e = refl
+    go (Ok (k, s)) e =
         let j : Joiner = joiner_in ws in
         let m : Moved j (length rooms) d k s = moves ws (length rooms) d k s e in
         let g : good_channel j.room (channel_at j k) ≡ true = (good_says j (length rooms) (channels_length ws) m.well).each k m.known in

@@ -1,5 +1,7 @@
 -- What set-up and take answer in lent words: a joiner's and an answer's, each of its own fixed count.
 use Rattle.std.specs.Prelude.{ℕ, List, [], ◌∷◌}
+use Rattle.std.specs.Prelude.{Result, Ok, Err}
+use Rattle.refusal.specs.declared.Refusal.{Refusal}
 use Rattle.wire.specs.Bytes.{written}
 use Rattle.binding.specs.Header.{sender_in}
 use Rattle.channel.specs.Outcomes.{number_given, left_over_by, kind_in, missed_in, bytes_in, slice_in, start_in}
@@ -7,24 +9,24 @@ use Rattle.channel.specs.declared.Outcome.{Outcome}
 use Rattle.joiner.specs.Setup.{setup_of, senders_of, place_of, channel_at}
 use Rattle.joiner.specs.Setup as setup
 use Rattle.joiner.specs.Take.{taken_of, rooms_after}
-use Rattle.joiner.specs.declared.setups.Verdict.{Verdict}
 use Rattle.joiner.specs.declared.Joiner.{Joiner}
 use Rattle.joiner.specs.declared.Taken.{Taken}
 use Rattle.joiner.specs.JoinerWords.{record_at, joiner_in, record_words, words_of}
 
 -- a joiner that was accepted, as words; where it was refused, the words that were there
-abbrev pub accepted_words : Verdict → Joiner → List ℕ → List ℕ
-accepted_words v j old = setup.left_over_by v old (words_of j)
+abbrev pub accepted_words : Result Joiner Refusal → List ℕ → List ℕ
+accepted_words (Err e) old = old
+accepted_words (Ok j) old = words_of j
 
 unfoldable pub setup_number : List ℕ → ℕ → ℕ → ℕ
-setup_number ids R b = setup.number_given (setup_of ids R b).answer
+setup_number ids R b = setup.number_given (setup_of ids R b)
 
 unfoldable pub setup_words : List ℕ → ℕ → ℕ → List ℕ → List ℕ
-setup_words ids R b ws = accepted_words (setup_of ids R b).answer (setup_of ids R b).joiner ws
+setup_words ids R b ws = accepted_words (setup_of ids R b) ws
 
 -- what an outcome is in words: which, missed, the bytes held or delivered, in which slice a delivered message lies (0 none, 1
 -- the datagram, 2 the rooms), and from which byte on; where it is a refusal, the words that were there
-abbrev pub outcome_words : Outcome → List ℕ → List ℕ
+abbrev pub outcome_words : Result Outcome Refusal → List ℕ → List ℕ
 outcome_words o old = left_over_by o old (kind_in o ∷ missed_in o ∷ bytes_in o ∷ slice_in o ∷ start_in o ∷ [])
 
 -- the words with channel k's record as it is in j

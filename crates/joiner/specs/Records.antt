@@ -1,12 +1,13 @@
 -- What the look at a joiner in lent words goes by: its records as the words have them.
 use Rattle.std.specs.Prelude.{ℕ, ◌+◌, ◌≤◌, ◌≡◌, Bool, ◌&&◌, cond, List, leb, ltb, length, get_or}
+use Rattle.std.specs.Prelude.{Some, None, Result, Ok}
+use Rattle.refusal.specs.declared.Refusal.{Refusal}
+use Rattle.channel.specs.declared.Channel.{Channel}
 use Rattle.wire.specs.All.{all_below}
 use Rattle.binding.specs.Header.{senders, counters}
 use Rattle.channel.specs.Record.{channel_limit}
 use Rattle.joiner.specs.Setup.{senders_of, distinct}
 use Rattle.joiner.specs.declared.Joiner.{Joiner}
-use Rattle.joiner.specs.declared.looking.Looked.{Looked}
-use Rattle.joiner.specs.declared.looking.Looked.TheVariants.{Nobody, Somebody}
 use Rattle.joiner.specs.JoinerWords.{record_at, joiner_words, seen_limit, record_in, channels_in}
 
 -- the words of a joiner, of no more channels than there can be
@@ -34,5 +35,5 @@ unfoldable pub are_good : List ℕ → Bool
 are_good ws = good_records ws (get_or ws 0 0) && distinct (senders_in ws)
 
 -- the record at a place, where there is one
-unfoldable pub found_at : List ℕ → ℕ → Looked
-found_at ws k = cond (ltb k (get_or ws 0 0)) (Somebody k (record_in ws k)) Nobody
+unfoldable pub found_at : List ℕ → ℕ → Option (ℕ × Channel)
+found_at ws k = cond (ltb k (get_or ws 0 0)) (Some (k, record_in ws k)) None

@@ -1,14 +1,13 @@
 -- A set-up and the joiner it makes: 01, number 20, for a set-up and for one handed in with a datagram.
 use Rattle.std.specs.Prelude.{ℕ, suc, ◌-◌, ◌≤◌, ◌<◌, ◌≡◌, Bool, true, ◌&&◌, cond, List, [], ◌∷◌, ◌++◌, map, leb, ltb, eqb, length, get_or, take, replicate}
+use Rattle.std.specs.Prelude.{Some, None, Result, Ok, Err}
+use Rattle.refusal.specs.declared.Refusal.{Refusal}
+use Rattle.refusal.specs.declared.Refusal.TheVariants.{NoJoiner}
 use Rattle.binding.specs.Header.{senders}
-use Rattle.channel.specs.Record.{channel_limit, bad_setup, largest_room, room_start, new_channel, good_channel}
+use Rattle.channel.specs.Record.{channel_limit, largest_room, room_start, new_channel, good_channel}
 use Rattle.channel.specs.declared.Channel.{Channel}
 use Rattle.joiner.specs.declared.Joiner.{Joiner}
-use Rattle.joiner.specs.declared.looking.Looked.{Looked}
-use Rattle.joiner.specs.declared.looking.Looked.TheVariants.{Bad, Nobody, Somebody}
-use Rattle.joiner.specs.declared.setups.Verdict.{Verdict}
-use Rattle.joiner.specs.declared.setups.Verdict.TheVariants.{Accepted, Refused}
-use Rattle.joiner.specs.declared.setups.NewJoiner.{NewJoiner}
+use Rattle.refusal.specs.Refusal.{number_of}
 
 -- 01, number 20: R is 24 to 65,560
 abbrev pub smallest_room : ℕ
@@ -54,32 +53,25 @@ good j buffer =
     good_sizes j.count j.room buffer && (every (good_channel j.room) (channels_of j) && distinct (senders_of j))
 
 -- the look for a sender ID: at the joiner first, then at whose it is
-unfoldable pub found_of : Joiner → ℕ → ℕ → Looked
+unfoldable pub found_of : Joiner → ℕ → ℕ → Result (Option (ℕ × Channel)) Refusal
 found_of j buffer x =
     let k = place_of (senders_of j) x in
-    cond (good j buffer) (cond (ltb k j.count) (Somebody k (channel_at j k)) Nobody) Bad
+    cond (good j buffer) (Ok (cond (ltb k j.count) (Some (k, channel_at j k)) None)) (Err NoJoiner)
 
 unfoldable pub fresh_of : List ℕ → ℕ → Joiner
 fresh_of ids R = record { channels = map new_channel ids ++ replicate (channel_limit - length ids) (new_channel 0); count = length ids; room = R }
 
--- a refusal yields its number, and beside it a joiner of no channels
-abbrev pub refused_setup : NewJoiner
-refused_setup = record { answer = Refused bad_setup; joiner = fresh_of [] 0 }
-
-unfoldable pub setup_of : List ℕ → ℕ → ℕ → NewJoiner
-setup_of ids R buffer =
-    cond (leb (length ids) channel_limit && good (fresh_of ids R) buffer)
-    (record { answer = Accepted; joiner = fresh_of ids R })
-    refused_setup
+unfoldable pub setup_of : List ℕ → ℕ → ℕ → Result Joiner Refusal
+setup_of ids R buffer = cond (leb (length ids) channel_limit && good (fresh_of ids R) buffer) (Ok (fresh_of ids R)) (Err NoJoiner)
 
 -- by cases: a set-up's number, which is 20, or 0 where it is accepted; and what a refusal leaves as it was
-abbrev pub number_given : Verdict → ℕ
-number_given Accepted = 0
-number_given (Refused n) = n
+abbrev pub number_given : Result Joiner Refusal → ℕ
+number_given (Ok j) = 0
+number_given (Err e) = number_of e
 
-abbrev pub left_over_by : {A : Type 0} → Verdict → A → A → A
-left_over_by Accepted was new = new
-left_over_by (Refused n) was new = was
+abbrev pub left_over_by : {A : Type 0} → Result Joiner Refusal → A → A → A
+left_over_by (Ok j) was new = new
+left_over_by (Err e) was new = was
 
 -- what is asked of a set-up, in 01's words
 pub record Acceptable (ids : List ℕ) (R buffer : ℕ) : Type 0 where

@@ -1,6 +1,8 @@
 -- One channel by itself: its record and the bytes that it holds. What a datagram does to a channel is said here without
 -- the rooms, the other channels and the number of the channel.
 use Rattle.std.specs.Prelude.{cond, ℕ, List, [], ◌++◌, eqb, length, take, drop}
+use Rattle.std.specs.Prelude.{Result, Ok, Err}
+use Rattle.refusal.specs.declared.Refusal.{Refusal}
 use Rattle.binding.specs.Header.{part_carried, counter_in, piece_in}
 use Rattle.binding.specs.declared.MessagePart.{MessagePart}
 use Rattle.binding.specs.declared.MessagePart.TheVariants.{Begin, Middle, End, Whole}
@@ -9,7 +11,7 @@ use Rattle.channel.specs.declared.Room.{Room}
 use Rattle.channel.specs.declared.Step.{Step}
 use Rattle.channel.specs.declared.Slice.TheVariants.{Datagram, Rooms}
 use Rattle.channel.specs.declared.Outcome.{Outcome}
-use Rattle.channel.specs.declared.Outcome.TheVariants.{Refused, Repeated, Delivered, Held, Stray, TooLong}
+use Rattle.channel.specs.declared.Outcome.TheVariants.{Repeated, Delivered, Held, Stray, TooLong}
 use Rattle.channel.specs.Channel.{missed_of, stepped_of}
 use Rattle.channel.specs.Record.{room_start}
 use Rattle.joiner.specs.declared.Joiner.{Joiner}
@@ -39,23 +41,23 @@ abbrev pub joined_in : View → List ℕ → List ℕ
 joined_in v d = leading v (part_carried d) (counter_in d) ++ piece_in d
 
 -- what is held after an outcome: nothing changes, the piece was joined, or nothing is held
-abbrev pub held_by : List ℕ → List ℕ → Outcome → List ℕ
-held_by old joined (Refused n) = old
-held_by old joined Repeated = old
-held_by old joined (Held m n) = joined
-held_by old joined (Delivered m p) = []
-held_by old joined (Stray m) = []
-held_by old joined (TooLong m) = []
+abbrev pub held_by : List ℕ → List ℕ → Result Outcome Refusal → List ℕ
+held_by old joined (Err n) = old
+held_by old joined (Ok Repeated) = old
+held_by old joined (Ok (Held m n)) = joined
+held_by old joined (Ok (Delivered m p)) = []
+held_by old joined (Ok (Stray m)) = []
+held_by old joined (Ok (TooLong m)) = []
 
 -- what is delivered: the piece itself, or what it was joined to
-abbrev pub given_by : List ℕ → List ℕ → Outcome → List ℕ
-given_by piece joined (Delivered m (Datagram p n)) = piece
-given_by piece joined (Delivered m (Rooms p n)) = joined
-given_by piece joined (Refused n) = []
-given_by piece joined Repeated = []
-given_by piece joined (Held m n) = []
-given_by piece joined (Stray m) = []
-given_by piece joined (TooLong m) = []
+abbrev pub given_by : List ℕ → List ℕ → Result Outcome Refusal → List ℕ
+given_by piece joined (Ok (Delivered m (Datagram p n))) = piece
+given_by piece joined (Ok (Delivered m (Rooms p n))) = joined
+given_by piece joined (Err n) = []
+given_by piece joined (Ok Repeated) = []
+given_by piece joined (Ok (Held m n)) = []
+given_by piece joined (Ok (Stray m)) = []
+given_by piece joined (Ok (TooLong m)) = []
 
 -- a datagram of the channel, whose room is this
 abbrev pub view_step : Room → View → List ℕ → Step

@@ -12,14 +12,11 @@ pub mod words;
 ghost use Rattle.std.specs.Prelude.{◌≡◌};
 ghost use Rattle.joiner.specs.Take.{sender_by, refusal_by, judged_by, taken_of, rooms_after, put_by, message_of};
 
-use crate::looking::Looked;
-use binding::{BindingHeader, Heading};
-use channel::{BAD_SETUP, CHANNELS, Channel, Judged, Outcome, Slice};
+use binding::BindingHeader;
+use channel::{CHANNELS, Channel, Outcome, Slice, Step};
 pub use looking::{JOINER_WORDS, SMALLEST_ROOM};
-pub use setups::{NewJoiner, Verdict, setup};
-
-// 01, Numbers given back. 20 is the set-up's; 21 and 22 are the binding header's.
-pub const NOT_SET_UP: u32 = 23;
+use refusal::Refusal;
+pub use setups::setup;
 
 // The first `count` records are the channels, in set-up order; the others are never looked at. Each channel's room is
 // `room` bytes long.
@@ -32,7 +29,7 @@ pub struct Joiner {
 
 #[derive(Drop)]
 pub struct Taken {
-    pub outcome: Outcome,
+    pub outcome: Result<Outcome, Refusal>,
     pub joiner: Joiner,
 }
 
@@ -45,11 +42,11 @@ pub fn take(joiner: Joiner, rooms: &mut [u8], datagram: &[u8]) -> Taken
     let words = in_words::words_of(joiner);
     let found = looking::look(&words, rooms.len(), sender_of(heading));
     match judge(found, joiner.room, heading, datagram.len()) {
-        Judged::Refusal(number) => Taken {
-            outcome: Outcome::Refused(number),
+        Err(refusal) => Taken {
+            outcome: Err(refusal),
             joiner,
         },
-        Judged::Move { at: moved, step } => {
+        Ok((moved, step)) => {
             let outcome = step.outcome;
             let place = step.put;
             let channel = step.channel;
@@ -57,20 +54,24 @@ pub fn take(joiner: Joiner, rooms: &mut [u8], datagram: &[u8]) -> Taken
             let mut after = joiner;
             after.channels[moved] = channel;
             Taken {
-                outcome,
+                outcome: Ok(outcome),
                 joiner: after,
             }
         }
     }
 }
 
-// The message that `outcome` delivered, as a part of the datagram or of the rooms; an empty part where it delivered none.
+// The message that `outcome` delivered, as a part of the datagram or of the rooms; an empty part where it delivered none, or whatever refused.
 // A part of the rooms is good until the next `take`.
-pub fn message<'a>(outcome: Outcome, datagram: &'a [u8], rooms: &'a [u8]) -> &'a [u8]
+pub fn message<'a, E: Copy>(
+    outcome: Result<Outcome, E>,
+    datagram: &'a [u8],
+    rooms: &'a [u8],
+) -> &'a [u8]
     ensures { result.now ≡ message_of outcome datagram.now rooms.now }
 {
     match outcome {
-        Outcome::Delivered { missed: _, slice } => match slice {
+        Ok(Outcome::Delivered { missed: _, slice }) => match slice {
             Slice::Datagram { start, length } => wire::part(datagram, start, length),
             Slice::Rooms { start, length } => wire::part(rooms, start, length),
         },
@@ -79,36 +80,39 @@ pub fn message<'a>(outcome: Outcome, datagram: &'a [u8], rooms: &'a [u8]) -> &'a
 }
 
 // The sender ID for which a joiner is looked at: any, where the header is refused.
-pub(crate) fn sender_of(heading: Heading) -> u16
+pub(crate) fn sender_of(heading: Result<BindingHeader, Refusal>) -> u16
     ensures { result ≡ sender_by heading }
 {
     match heading {
-        Heading::Refused(_) => 0,
-        Heading::Piece(header) => header.sender,
+        Err(_) => 0,
+        Ok(header) => header.sender,
     }
 }
 
 // What a datagram of `length` bytes comes to, before anything is written: the numbers in their order, then its channel's
 // step. `found` is what the look for its sender ID found in a joiner with rooms of `size` bytes.
-pub(crate) fn judge(found: Looked, size: u32, heading: Heading, length: usize) -> Judged
+pub(crate) fn judge(
+    found: Result<Option<(usize, Channel)>, Refusal>,
+    size: u32,
+    heading: Result<BindingHeader, Refusal>,
+    length: usize,
+) -> Result<(usize, Step), Refusal>
     ensures { result ≡ judged_by found size heading length }
 {
-    match found {
-        Looked::Bad => Judged::Refusal(BAD_SETUP),
-        Looked::Nobody => Judged::Refusal(refusal(heading)),
-        Looked::Somebody { at, channel } => match heading {
-            Heading::Refused(number) => Judged::Refusal(number),
-            Heading::Piece(header) => channel::moved(at, size, channel, header, length),
-        },
-    }
+    let Some((at, channel)) = found? else {
+        return Err(refusal(heading));
+    };
+    let header = heading?;
+    channel::moved(at, size, channel, header, length)
 }
 
-fn refusal(heading: Heading) -> u32
+// The header's own; else nobody bears its sender ID.
+fn refusal(heading: Result<BindingHeader, Refusal>) -> Refusal
     ensures { result ≡ refusal_by heading }
 {
     match heading {
-        Heading::Refused(number) => number,
-        Heading::Piece(_) => NOT_SET_UP,
+        Err(refusal) => refusal,
+        Ok(_) => Refusal::NotSetUp,
     }
 }
 

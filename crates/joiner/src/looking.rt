@@ -6,6 +6,7 @@ ghost use Rattle.joiner.specs.JoinerWords.{joiner_in};
 
 use crate::records;
 use channel::{CHANNELS, Channel, LARGEST_ROOM};
+use refusal::Refusal;
 
 // How small a channel's room can be.
 pub const SMALLEST_ROOM: u32 = 24;
@@ -18,27 +19,23 @@ pub const FIRST_RECORD: usize = 2;
 // How many words a joiner is.
 pub const JOINER_WORDS: usize = FIRST_RECORD + RECORD_WORDS * CHANNELS;
 
-// What the look at a joiner for a sender ID finds: it is not good, nobody bears the ID, or this channel.
-#[derive(Clone, Copy)]
-pub enum Looked {
-    Bad,
-    Nobody,
-    Somebody { at: usize, channel: Channel },
-}
-
-// Whether the joiner in the words is good for rooms of so many bytes, and which channel bears the sender ID.
-pub(crate) fn look(state: &[u32; JOINER_WORDS], rooms: usize, sender: u16) -> Looked
+// Whether the joiner in the words is good for rooms of so many bytes, and which channel bears the sender ID, if one does.
+pub(crate) fn look(
+    state: &[u32; JOINER_WORDS],
+    rooms: usize,
+    sender: u16,
+) -> Result<Option<(usize, Channel)>, Refusal>
     ensures { result ≡ found_of (joiner_in state.now) rooms sender }
 {
     let words: &[u32] = state;
     let count = words[0] as usize;
     if has_good_sizes(count, words[1], rooms) {
         if records::are_good(words) {
-            return records::found(words, records::find(words, sender as u32));
+            return Ok(records::found(words, records::find(words, sender as u32)));
         }
-        return Looked::Bad;
+        return Err(Refusal::NoJoiner);
     }
-    Looked::Bad
+    Err(Refusal::NoJoiner)
 }
 
 // The same verdict for a set-up, whose IDs need not rise.

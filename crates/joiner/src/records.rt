@@ -5,7 +5,7 @@ ghost use Rattle.joiner.specs.Setup.{place_of, distinct};
 ghost use Rattle.joiner.specs.JoinerWords.{record_in};
 ghost use Rattle.joiner.specs.Records.{Sized, good_record, good_records, senders_in, are_good, found_at};
 
-use crate::looking::{FIRST_RECORD, Looked, RECORD_WORDS};
+use crate::looking::{FIRST_RECORD, RECORD_WORDS};
 use binding::{COUNTERS, SENDERS};
 use channel::Channel;
 
@@ -119,16 +119,16 @@ pub(crate) fn find(state: &[u32], id: u32) -> usize
 }
 
 // The record at that place, where there is one.
-pub(crate) fn found(state: &[u32], at: usize) -> Looked
+pub(crate) fn found(state: &[u32], at: usize) -> Option<(usize, Channel)>
     requires sized { Sized state.now }
     requires state_value { are_good state.now ≡ true }
     ensures { result ≡ found_at state.now at }
 {
     if at < state[0] as usize {
         let channel = record_in(state, at);
-        return Looked::Somebody { at, channel };
+        return Some((at, channel));
     }
-    Looked::Nobody
+    None
 }
 
 fn record_in(state: &[u32], at: usize) -> Channel

@@ -1,39 +1,24 @@
 // A joiner's set-up: its channels made anew, and judged as those of any joiner are.
 ghost use Rattle.std.specs.Prelude.{◌≡◌, ◌≤◌, length};
 ghost use Rattle.channel.specs.Record.{channel_limit, new_channel};
-ghost use Rattle.joiner.specs.Setup.{good, fresh_of, refused_setup, setup_of};
+ghost use Rattle.joiner.specs.Setup.{good, fresh_of, setup_of};
 
 use crate::{Joiner, in_words, looking};
-use channel::{BAD_SETUP, CHANNELS, Channel};
-
-#[derive(Clone, Copy)]
-pub enum Verdict {
-    Accepted,
-    Refused(u32),
-}
-
-// An enum cannot hold an array, so the joiner stands beside the answer. Where the set-up was refused it has no channels.
-#[derive(Drop)]
-pub struct NewJoiner {
-    pub answer: Verdict,
-    pub joiner: Joiner,
-}
+use channel::{CHANNELS, Channel};
+use refusal::Refusal;
 
 // A fresh joiner for these sender IDs, over a buffer of `buffer` bytes with `room` bytes for each channel; or 20.
-pub fn setup(ids: &[u16], room: u32, buffer: usize) -> NewJoiner
+pub fn setup(ids: &[u16], room: u32, buffer: usize) -> Result<Joiner, Refusal>
     ensures { result ≡ setup_of ids.now room buffer }
 {
     if ids.len() <= CHANNELS {
         let joiner = fresh(ids, room);
         if is_good(joiner, buffer) {
-            return NewJoiner {
-                answer: Verdict::Accepted,
-                joiner,
-            };
+            return Ok(joiner);
         }
-        return refused_setup();
+        return Err(Refusal::NoJoiner);
     }
-    refused_setup()
+    Err(Refusal::NoJoiner)
 }
 
 fn is_good(joiner: Joiner, buffer: usize) -> bool
@@ -41,19 +26,6 @@ fn is_good(joiner: Joiner, buffer: usize) -> bool
 {
     let words = in_words::words_of(joiner);
     looking::is_good(&words, buffer)
-}
-
-fn refused_setup() -> NewJoiner
-    ensures { result ≡ refused_setup }
-{
-    NewJoiner {
-        answer: Verdict::Refused(BAD_SETUP),
-        joiner: Joiner {
-            channels: [new_channel(0); CHANNELS],
-            count: 0,
-            room: 0,
-        },
-    }
 }
 
 fn fresh(ids: &[u16], room: u32) -> Joiner

@@ -1,12 +1,11 @@
 // Joining with the joiner and the answers in lent words: set-up and take as the C interface has them.
-ghost use Rattle.std.specs.Prelude.{◌≡◌, [], ◌∷◌};
+ghost use Rattle.std.specs.Prelude.{◌≡◌, [], ◌∷◌, Ok};
 ghost use Rattle.joiner.specs.Calls.{setup_number, setup_words, outcome_words, take_number, take_words, take_rooms, take_answer};
 
 use crate::looking::JOINER_WORDS;
-use crate::setups::Verdict;
 use crate::{in_words, looking, setups};
 use binding::BindingHeader;
-use channel::{Judged, Outcome, Slice};
+use channel::{Outcome, Slice};
 
 // How many words an answer of `take` is.
 pub const ANSWER_WORDS: usize = 5;
@@ -32,12 +31,9 @@ pub fn setup(state: &mut [u32; JOINER_WORDS], ids: &[u16], room: u32, rooms: usi
     ensures value { result ≡ setup_number ids.now room rooms }
     ensures state_after { state.new ≡ setup_words ids.now room rooms state.old }
 {
-    let made = setups::setup(ids, room, rooms);
-    let answer = made.answer;
-    let joiner = made.joiner;
-    match answer {
-        Verdict::Refused(number) => number,
-        Verdict::Accepted => {
+    match setups::setup(ids, room, rooms) {
+        Err(refusal) => refusal.number(),
+        Ok(joiner) => {
             *state = in_words::words_of(joiner);
             0
         }
@@ -60,8 +56,8 @@ pub fn take(
     let size = state[1];
     let found = looking::look(state, rooms.len(), crate::sender_of(heading));
     match crate::judge(found, size, heading, datagram.len()) {
-        Judged::Refusal(number) => number,
-        Judged::Move { at, step } => {
+        Err(refusal) => refusal.number(),
+        Ok((at, step)) => {
             let outcome = step.outcome;
             let channel = step.channel;
             let put = step.put;
@@ -74,10 +70,9 @@ pub fn take(
 }
 
 fn put_outcome(answer: &mut [u64; ANSWER_WORDS], outcome: Outcome)
-    ensures { answer.new ≡ outcome_words outcome answer.old }
+    ensures { answer.new ≡ outcome_words (Ok outcome) answer.old }
 {
     match outcome {
-        Outcome::Refused(_) => {}
         Outcome::Repeated => put_words(answer, REPEATED, 0, 0, 0, 0),
         Outcome::Delivered { missed, slice } => match slice {
             Slice::Datagram { start, length } => put_words(

@@ -2,12 +2,12 @@
 -- `platform` answers it, whoever else speaks Issue 3; and no word of services changes.
 -- Assumes nothing.
 use Prim.Native.Nat.{ℕ}
+use Rattle.std.specs.Prelude.{Result, Ok, Err}
+use Rattle.refusal.specs.declared.Refusal.{Refusal}
 use mathlib.Core.Path.{◌≡◌, refl, sym, ap, ◌∙◌}
 use mathlib.Core.Bool.{Bool, true, false, cond}
 use mathlib.Core.List.{List}
 use Rattle.table.specs.declared.Sections.{Sections}
-use Rattle.table.specs.declared.Checked.{Checked}
-use Rattle.table.specs.declared.Checked.TheVariants as checked
 use Rattle.table.specs.Layout.{within}
 use Rattle.types.specs.Table.{checked}
 use Rattle.message.specs.declared.Reading.{Reading}
@@ -96,30 +96,30 @@ module _ (own : ℕ) (i ours t : List ℕ) (p : Standing) (ws m : List ℕ) (e :
   unfolding answer_if received_of received_by
   answer-before l room = go (checked t)
     where
-      go : (k : Checked) → answer_if k own i ours t p l ws m room ≡ from_received (received_by k own t p l m room)
-      go (checked.Refused n) = refl
-      go (checked.Table s) = outcome-before own i ours t s (index_of t s) p ws m e f l room
+      go : (k : Result Sections Refusal) → answer_if k own i ours t p l ws m room ≡ from_received (received_by k own t p l m room)
+      go (Err n) = refl
+      go (Ok s) = outcome-before own i ours t s (index_of t s) p ws m e f l room
 
   pub left-before : (st : Stamp) (c : ℕ) (out : List ℕ) → out_if (checked t) own st c i ours t p ws m out ≡ left_of own t p m out
   unfolding out_if left_of left_if
   left-before st c out = go (checked t)
     where
-      go : (k : Checked) → out_if k own st c i ours t p ws m out ≡ left_if k own t p m out
-      go (checked.Refused n) = refl
-      go (checked.Table s) = output-before own i ours t s (index_of t s) p ws m e f st c out
+      go : (k : Result Sections Refusal) → out_if k own st c i ours t p ws m out ≡ left_if k own t p m out
+      go (Err n) = refl
+      go (Ok s) = output-before own i ours t s (index_of t s) p ws m e f st c out
 
   pub pending-before : (l : List ℕ) → pending_if (checked t) own i t l m ≡ list_after own t l m
   unfolding pending_if list_after list_if
   pending-before l = go (checked t)
     where
-      go : (k : Checked) → pending_if k own i t l m ≡ list_if k own t l m
-      go (checked.Refused n) = refl
-      go (checked.Table s) = list-before own i ours t s (index_of t s) p ws m e f l
+      go : (k : Result Sections Refusal) → pending_if k own i t l m ≡ list_if k own t l m
+      go (Err n) = refl
+      go (Ok s) = list-before own i ours t s (index_of t s) p ws m e f l
 
   pub kept-before : (room : ℕ) → words_if (checked t) own i ours t p ws m room ≡ ws
   unfolding words_if
   kept-before room = go (checked t)
     where
-      go : (k : Checked) → words_if k own i ours t p ws m room ≡ ws
-      go (checked.Refused n) = refl
-      go (checked.Table s) = words-before own i ours t s (index_of t s) p ws m e f room
+      go : (k : Result Sections Refusal) → words_if k own i ours t p ws m room ≡ ws
+      go (Err n) = refl
+      go (Ok s) = words-before own i ours t s (index_of t s) p ws m e f room

@@ -1,9 +1,9 @@
 -- 02, request 8: the one call for one message on a table that was checked before, and on table bytes: 30 to 33 come first, and change
 -- nothing.
 use Rattle.std.specs.Prelude.{ℕ, cond, List}
+use Rattle.std.specs.Prelude.{Result, Ok, Err}
+use Rattle.refusal.specs.declared.Refusal.{Refusal}
 use Rattle.table.specs.declared.Sections.{Sections}
-use Rattle.table.specs.declared.Checked.{Checked}
-use Rattle.table.specs.declared.Checked.TheVariants as checked
 use Rattle.table.specs.Layout.{cut_short, within}
 use Rattle.types.specs.Table.{checked}
 use Rattle.message3.specs.declared.Stamp.{Stamp}
@@ -26,18 +26,18 @@ unfoldable pub sections_words : ℕ → List ℕ → List ℕ → List ℕ → S
 sections_words own i ours t s index p ws m room = cond (within t s) (any_words own i ours t s index p ws m room) ws
 
 -- on table bytes, by an index of its own
-unfoldable pub answer_if : Checked → ℕ → List ℕ → List ℕ → List ℕ → Standing → List ℕ → List ℕ → List ℕ → ℕ → AnyReceived
-answer_if (checked.Refused n) own i ours t p l ws m room = refused_any p n
-answer_if (checked.Table s) own i ours t p l ws m room = any_outcome own i ours t s (index_of t s) p l ws m room
+unfoldable pub answer_if : Result Sections Refusal → ℕ → List ℕ → List ℕ → List ℕ → Standing → List ℕ → List ℕ → List ℕ → ℕ → AnyReceived
+answer_if (Err n) own i ours t p l ws m room = refused_any p n
+answer_if (Ok s) own i ours t p l ws m room = any_outcome own i ours t s (index_of t s) p l ws m room
 
-unfoldable pub out_if : Checked → ℕ → Stamp → ℕ → List ℕ → List ℕ → List ℕ → Standing → List ℕ → List ℕ → List ℕ → List ℕ
-out_if (checked.Refused n) own st c i ours t p ws m out = out
-out_if (checked.Table s) own st c i ours t p ws m out = any_output own st c i ours t s (index_of t s) p ws m out
+unfoldable pub out_if : Result Sections Refusal → ℕ → Stamp → ℕ → List ℕ → List ℕ → List ℕ → Standing → List ℕ → List ℕ → List ℕ → List ℕ
+out_if (Err n) own st c i ours t p ws m out = out
+out_if (Ok s) own st c i ours t p ws m out = any_output own st c i ours t s (index_of t s) p ws m out
 
-unfoldable pub pending_if : Checked → ℕ → List ℕ → List ℕ → List ℕ → List ℕ → List ℕ
-pending_if (checked.Refused n) own i t l m = l
-pending_if (checked.Table s) own i t l m = any_list own i t s (index_of t s) l m
+unfoldable pub pending_if : Result Sections Refusal → ℕ → List ℕ → List ℕ → List ℕ → List ℕ → List ℕ
+pending_if (Err n) own i t l m = l
+pending_if (Ok s) own i t l m = any_list own i t s (index_of t s) l m
 
-unfoldable pub words_if : Checked → ℕ → List ℕ → List ℕ → List ℕ → Standing → List ℕ → List ℕ → ℕ → List ℕ
-words_if (checked.Refused n) own i ours t p ws m room = ws
-words_if (checked.Table s) own i ours t p ws m room = any_words own i ours t s (index_of t s) p ws m room
+unfoldable pub words_if : Result Sections Refusal → ℕ → List ℕ → List ℕ → List ℕ → Standing → List ℕ → List ℕ → ℕ → List ℕ
+words_if (Err n) own i ours t p ws m room = ws
+words_if (Ok s) own i ours t p ws m room = any_words own i ours t s (index_of t s) p ws m room

@@ -24,7 +24,7 @@ use message3::{Header3, Message3, Stamp};
 use platform::{Heard, Standing};
 pub use reactions::{Deed, Heard3, Reaction3};
 pub use reader::{form_of, payload, read};
-use table::{CUT_SHORT, Checked, Sections};
+use table::{CUT_SHORT, Sections};
 
 // Which issue a message is read by, its sender's, or the number that refuses one in the form of the issue that its sender does not speak.
 #[derive(Clone, Copy)]
@@ -219,8 +219,8 @@ pub fn receive(
         blocks.old message.now (length out.old) }
 {
     match types::check(table) {
-        Checked::Refused(number) => answers::refused(standing, number),
-        Checked::Table(s) => receive_indexed(
+        Err(refusal) => answers::refused(standing, refusal.number()),
+        Ok(s) => receive_indexed(
             own, stamp, composite, partners, ours, table, s, standing, list, blocks, message, out,
         ),
     }

@@ -1,6 +1,8 @@
 -- The calls by plans, at the case that the code has met; the laws of unpacking and packing are one.
 -- Assumes nothing.
 use Prim.Native.Nat.{ℕ}
+use Rattle.std.specs.Prelude.{Result}
+use Rattle.refusal.specs.declared.Refusal.{Refusal}
 use mathlib.Core.Path.{◌≡◌, ap, ◌∙◌}
 use mathlib.Core.Bool.{Bool, true, false}
 use mathlib.Core.List.{List}
@@ -9,7 +11,6 @@ use Rattle.wire.proofs.MetCases.{met, met_left}
 use Rattle.table.specs.declared.Sections.{Sections}
 use Rattle.walk.specs.Walk.{Codec, start, left, walk}
 use Rattle.walk.specs.Planned.{is_planned, plan_tree, type_by}
-use Rattle.plan.specs.declared.Length.{Length}
 use Rattle.plan.specs.Length.{number_given as lengthNumber}
 use Rattle.plan.specs.Layout.{length_in, laid_number, laid_out}
 use Rattle.payload.specs.declared.Answer.{Answer}
@@ -26,7 +27,7 @@ module _ {z : Sections} (t : List ℕ) (s : Sections) (es : z ≡ s) where
   same F e = e ∙ ap F es
 
   -- how many words the plans can take
-  module _ {r : Length} (e : r ≡ length_in t z) (v : Length) (f : r ≡ v) where
+  module _ {r : Result ℕ Refusal} (e : r ≡ length_in t z) (v : Result ℕ Refusal) (f : r ≡ v) where
     pub length-number : {x : ℕ} → x ≡ lengthNumber v → x ≡ lengthNumber (length_in t s)
     length-number g = met lengthNumber (length_in t s) v (same (length_in t) e) f g
 

@@ -1,6 +1,8 @@
 -- What checking a table and looking up an operation show at their returns.
 -- Assumes nothing.
 use Prim.Native.Nat.{ℕ, ◌-◌, ◌≤◌}
+use Rattle.std.specs.Prelude.{Result}
+use Rattle.refusal.specs.declared.Refusal.{Refusal}
 use Rattle.std.specs.Prelude.{Option, Some, None}
 use mathlib.Core.Path.{◌≡◌, sym, ap, ap₂, ◌∙◌}
 use mathlib.Core.Bool.{Bool, true, false}
@@ -11,7 +13,6 @@ use lib.Seq.{sets-eq}
 use Rattle.wire.proofs.Cond.{yes-if, no-if}
 use Rattle.wire.proofs.MetCases.{met}
 use Rattle.table.specs.declared.Sections.{Sections}
-use Rattle.table.specs.declared.Checked.{Checked}
 use Rattle.table.specs.Layout.{cut_short, within}
 use Rattle.table.specs.Words.{bounds_words, sections_in, index_in, words_of}
 use Rattle.operations.specs.declared.Operation.{Operation}
@@ -36,7 +37,7 @@ index_laid {x} t ws s ex el =
     back_by bounds_words x lay el ∙ ap (λ (y : List ℕ). take bounds_words y ++ lay (drop bounds_words y)) ex
 
 -- `check_table`
-pub met_sections : {x : List ℕ} {r : Checked} (t was : List ℕ) (v : Checked) → r ≡ checked t → r ≡ v → x ≡ sections_left t was v → x ≡ check_answer t was
+pub met_sections : {x : List ℕ} {r : Result Sections Refusal} (t was : List ℕ) (v : Result Sections Refusal) → r ≡ checked t → r ≡ v → x ≡ sections_left t was v → x ≡ check_answer t was
 met_sections t was v e f g = met (sections_left t was) (checked t) v e f g
 
 -- `find`

@@ -1,8 +1,9 @@
 -- 02, request 13: what laying plans out and the calls by plans give back and leave, over words that hold the sections. At a refusal what
 -- the caller lent for an answer stays as it was, but for the place that 40 to 43 give (`walked_left`).
 use Rattle.std.specs.Prelude.{ℕ, List, length}
+use Rattle.std.specs.Prelude.{Result}
+use Rattle.refusal.specs.declared.Refusal.{Refusal}
 use Rattle.table.specs.Words.{sections_in}
-use Rattle.plan.specs.declared.Length.{Length}
 use Rattle.plan.specs.Length as lengths
 use Rattle.plan.specs.Layout.{length_in, laid_number, laid_out}
 use Rattle.payload.specs.Calls.{number_given}
@@ -10,7 +11,7 @@ use Rattle.payload.specs.ByPlans.{unpacked_by, words_by, packed_by, bytes_by}
 use Rattle.nyrkovash.specs.PayloadCalls.{walked_left}
 
 -- how many words the plans can take: 30, or 0 and the number
-abbrev pub length_left : ℕ → Length → ℕ
+abbrev pub length_left : ℕ → Result ℕ Refusal → ℕ
 length_left was x = lengths.left_over_by x was (lengths.words_in x)
 
 abbrev pub plans_length_number : List ℕ → List ℕ → ℕ

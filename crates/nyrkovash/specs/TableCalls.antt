@@ -1,9 +1,9 @@
 -- What checking a table and looking up an operation answer, and what they leave in what is lent to them.
 use Rattle.std.specs.Prelude.{ℕ, cond, List, [], ◌∷◌, ◌++◌}
+use Rattle.std.specs.Prelude.{Result, Ok, Err}
+use Rattle.refusal.specs.declared.Refusal.{Refusal}
 use Rattle.std.specs.Prelude.{Option, Some, None}
 use Rattle.table.specs.declared.Sections.{Sections}
-use Rattle.table.specs.declared.Checked.{Checked}
-use Rattle.table.specs.declared.Checked.TheVariants.{Refused, Table}
 use Rattle.table.specs.Layout.{cut_short, within}
 use Rattle.table.specs.Checked.{number_given}
 use Rattle.operations.specs.declared.Operation.{Operation}
@@ -17,9 +17,9 @@ abbrev pub sections_words : List ℕ → List ℕ → Sections → List ℕ
 sections_words t was s = words_of s ++ indexed t s.operations.at s.operations.count (index_in was)
 
 -- at a refusal, 30 to 33, all words stay as they were
-abbrev pub sections_left : List ℕ → List ℕ → Checked → List ℕ
-sections_left t was (Refused n) = was
-sections_left t was (Table s) = sections_words t was s
+abbrev pub sections_left : List ℕ → List ℕ → Result Sections Refusal → List ℕ
+sections_left t was (Err n) = was
+sections_left t was (Ok s) = sections_words t was s
 
 abbrev pub check_number : List ℕ → ℕ
 check_number t = number_given (checked t)

@@ -6,7 +6,6 @@ ghost use Rattle.message.specs.Writing.{output_after};
 ghost use Rattle.nyrkovash.specs.PieceCalls.{pieces_number, pieces_given, cut_number, cut_given};
 ghost use Rattle.nyrkovash.specs.MessageCalls.{write_number, write_given};
 
-use binding::{Counted, Made};
 use message::{Own, Writing};
 
 // How many pieces a message of `total` bytes is cut into: 50, or 0 and the number.
@@ -16,8 +15,8 @@ pub extern "C" fn nyr_pieces(total: usize, size: usize, given: &mut usize) -> u3
     ensures given_after { given.new ≡ pieces_given total size given.old }
 {
     match binding::pieces(total, size) {
-        Counted::Refused(number) => number,
-        Counted::Pieces(count) => {
+        Err(refusal) => refusal.number(),
+        Ok(count) => {
             *given = count;
             0
         }
@@ -40,8 +39,8 @@ pub extern "C" fn nyr_cut(
     ensures written_after { written.new ≡ cut_given message.now size sender first piece out.old written.old }
 {
     match binding::cut(message, size, sender, first, piece, out) {
-        Made::Refused(number) => number,
-        Made::Datagram(length) => {
+        Err(refusal) => refusal.number(),
+        Ok(length) => {
             *written = length;
             0
         }

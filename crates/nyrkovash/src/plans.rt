@@ -6,7 +6,6 @@ ghost use Rattle.nyrkovash.specs.PlanCalls.{unpack_number_by, unpack_words_by, u
 
 use crate::payloads;
 use crate::payloads::WALKED_WORDS;
-use plan::Length;
 use table::SECTIONS_WORDS;
 
 // How many words the plans of a table can take: 30 for sections that do not lie in the table, or 0 and the number.
@@ -21,8 +20,8 @@ pub extern "C" fn nyr_plans_length(
 {
     let s = table::sections_in(sections);
     match plan::length_in(table, s) {
-        Length::Refused(number) => number,
-        Length::Words(count) => {
+        Err(refusal) => refusal.number(),
+        Ok(count) => {
             *words = count;
             0
         }

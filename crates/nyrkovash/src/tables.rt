@@ -6,8 +6,8 @@ ghost use Rattle.nyrkovash.specs.TableCalls.{sections_words, check_number, check
 
 use table::layout::{MEMBER_WIDTH, OPERATION_WIDTH, TYPE_WIDTH, VALUE_WIDTH};
 use table::{
-    BOUNDS_WORDS, Checked, MOST_MEMBERS, MOST_OPERATIONS, MOST_TYPES, MOST_VALUES, SECTIONS_WORDS,
-    Sections, WORD_LIMIT,
+    BOUNDS_WORDS, MOST_MEMBERS, MOST_OPERATIONS, MOST_TYPES, MOST_VALUES, SECTIONS_WORDS, Sections,
+    WORD_LIMIT,
 };
 
 // How many words an operation that was looked up is.
@@ -24,8 +24,8 @@ pub extern "C" fn nyr_check_table(table: &[u8], sections: &mut [u64; SECTIONS_WO
 {
     let words: &mut [u64] = sections;
     match types::check(table) {
-        Checked::Refused(number) => number,
-        Checked::Table(s) => {
+        Err(refusal) => refusal.number(),
+        Ok(s) => {
             put_sections(table, words, s);
             0
         }

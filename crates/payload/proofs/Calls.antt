@@ -1,6 +1,8 @@
 -- What the returns of the calls come to, handed table bytes and over any tree.
 -- Assumes nothing.
 use Prim.Native.Nat.{ℕ, ◌≤◌, ◌<◌}
+use Rattle.std.specs.Prelude.{Result, Ok, Err}
+use Rattle.refusal.specs.declared.Refusal.{Refusal}
 use mathlib.Core.Path.{◌≡◌, refl, sym, ap, ◌∙◌}
 use mathlib.Core.Bool.{Bool, true, false, cond}
 use mathlib.Core.List.{List, []}
@@ -9,8 +11,6 @@ use lib.Dec.{ltb, eqb}
 use lib.ListN.{length}
 use Rattle.wire.proofs.Cond.{yes-eq, no_eq, yes_lt, no_lt}
 use Rattle.table.specs.declared.Sections.{Sections}
-use Rattle.table.specs.declared.Checked.{Checked}
-use Rattle.table.specs.declared.Checked.TheVariants as check
 use Rattle.types.specs.Table.{checked}
 use Rattle.walk.specs.declared.Place.{Place}
 use Rattle.walk.specs.declared.Walked.{Walked}
@@ -89,12 +89,12 @@ tree_answered c n tr x y w a first is h =
     )
 
 -- the calls handed table bytes
-module _ (c : Codec) (n : ℕ) (t : List ℕ) (i : ℕ) (x : List ℕ) (r : Checked) (p : r ≡ checked t) where
-  pub bad-table : (k : ℕ) → r ≡ check.Refused k → (Refused k ≡ answered_if (checked t) c n t i (length x)) × (x ≡ left_if (checked t) c n t i x)
+module _ (c : Codec) (n : ℕ) (t : List ℕ) (i : ℕ) (x : List ℕ) (r : Result Sections Refusal) (p : r ≡ checked t) where
+  pub bad-table : (k : ℕ) → r ≡ Err k → (Refused k ≡ answered_if (checked t) c n t i (length x)) × (x ≡ left_if (checked t) c n t i x)
   unfolding answered_if left_if
   bad-table k h = rw (← p, h) (refl, refl)
 
-  pub good-table : (s : Sections) (a : Answer) (y : List ℕ) → r ≡ check.Table s → a ≡ answered_in c n t s i (length x) → y
+  pub good-table : (s : Sections) (a : Answer) (y : List ℕ) → r ≡ Ok s → a ≡ answered_in c n t s i (length x) → y
       ≡ left_over_in c n t s i x → (a ≡ answered_if (checked t) c n t i (length x)) × (y ≡ left_if (checked t) c n t i x)
   unfolding answered_if left_if
   good-table s a y h d e = rw (← p, h) (d, e)

@@ -2,9 +2,9 @@
 -- before the walk, 41 after it and 45 last; a call handed table bytes gives 30 to 33 for them before anything else. On sections
 -- (docs/DECISIONS.md, 20), 30 where they do not lie in the bytes, and 32 for an entry that the walk meets and that breaks a rule.
 use Rattle.std.specs.Prelude.{ℕ, cond, List, [], ltb, eqb, length}
+use Rattle.std.specs.Prelude.{Result, Ok, Err}
+use Rattle.refusal.specs.declared.Refusal.{Refusal}
 use Rattle.table.specs.declared.Sections.{Sections}
-use Rattle.table.specs.declared.Checked.{Checked}
-use Rattle.table.specs.declared.Checked.TheVariants as check
 use Rattle.table.specs.Layout.{cut_short, within}
 use Rattle.table.specs.Entries.{is_type}
 use Rattle.types.specs.Table.{rule_broken, checked}
@@ -70,13 +70,13 @@ unfoldable pub left_over_in : Codec → ℕ → List ℕ → Sections → ℕ �
 left_over_in c n t s i x = left_over_by (answered_in c n t s i (length x)) x (left (type_walk c t s i start x))
 
 -- the same, by what checking the table bytes answers
-unfoldable pub answered_if : Checked → Codec → ℕ → List ℕ → ℕ → ℕ → Answer
-answered_if (check.Refused k) c n t i room = Refused k
-answered_if (check.Table s) c n t i room = answered_in c n t s i room
+unfoldable pub answered_if : Result Sections Refusal → Codec → ℕ → List ℕ → ℕ → ℕ → Answer
+answered_if (Err k) c n t i room = Refused k
+answered_if (Ok s) c n t i room = answered_in c n t s i room
 
-unfoldable pub left_if : Checked → Codec → ℕ → List ℕ → ℕ → List ℕ → List ℕ
-left_if (check.Refused k) c n t i x = x
-left_if (check.Table s) c n t i x = left_over_in c n t s i x
+unfoldable pub left_if : Result Sections Refusal → Codec → ℕ → List ℕ → ℕ → List ℕ → List ℕ
+left_if (Err k) c n t i x = x
+left_if (Ok s) c n t i x = left_over_in c n t s i x
 
 -- the calls: a payload b unpacked into words, and words packed into bytes; on sections, and handed table bytes
 abbrev pub unpacked_in : List ℕ → Sections → ℕ → List ℕ → ℕ → Answer

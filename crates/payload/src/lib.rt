@@ -9,7 +9,7 @@ ghost use Rattle.walk.specs.declared.Place.{Place};
 ghost use Rattle.payload.specs.Calls.{stopped_at, went_to, answered, unpacked_in, words_in, unpacked, words_after, packed_in, bytes_in, packed, bytes_after};
 
 pub use by_plans::{pack_parts, pack_plan, unpack_parts, unpack_plan};
-use table::{Checked, Sections};
+use table::Sections;
 use walk::{Place, Walked};
 
 // 01, Numbers given back. 40 to 43 are the walk's, 30 to 33 the table's.
@@ -39,8 +39,8 @@ pub fn unpack(table: &[u8], number: u16, payload: &[u8], words: &mut [u64]) -> A
     ensures words_after { words.new ≡ words_after table.now number payload.now words.old }
 {
     match types::check(table) {
-        Checked::Refused(n) => Answer::Refused(n),
-        Checked::Table(s) => unpack_in(table, s, number, payload, words),
+        Err(refusal) => Answer::Refused(refusal.number()),
+        Ok(s) => unpack_in(table, s, number, payload, words),
     }
 }
 
@@ -64,8 +64,8 @@ pub fn pack(table: &[u8], number: u16, words: &[u64], out: &mut [u8]) -> Answer
     ensures out_after { out.new ≡ bytes_after table.now number words.now out.old }
 {
     match types::check(table) {
-        Checked::Refused(n) => Answer::Refused(n),
-        Checked::Table(s) => pack_in(table, s, number, words, out),
+        Err(refusal) => Answer::Refused(refusal.number()),
+        Ok(s) => pack_in(table, s, number, words, out),
     }
 }
 

@@ -1,6 +1,8 @@
 -- Laws of how many leaves the types have: what the returns come to, that nothing wraps, and what filling the room does.
 -- Assumes nothing.
 use Prim.Native.Nat.{ℕ, ◌+◌, ◌*◌, ◌≤◌, ◌<◌}
+use Rattle.std.specs.Prelude.{Ok}
+use Rattle.refusal.specs.Refusal.{refused}
 use mathlib.Core.Path.{◌≡◌, refl, sym, ap, subst, ◌∙◌}
 use mathlib.Core.Bool.{Bool, true, false}
 use mathlib.Core.List.{List, [], ◌∷◌, ◌++◌}
@@ -22,7 +24,6 @@ use Rattle.walk.specs.declared.Met.TheVariants.{Leaf, Members, Elements, Broken}
 use Rattle.walk.specs.Tree.{look}
 use Rattle.plan.specs.Leaves.{sum_below, capped, row_leaves, leaves_met, leaf_counts, leaves}
 use Rattle.plan.specs.Members.{listed, member_leaves, has_leaves}
-use Rattle.plan.specs.declared.Length.TheVariants.{Refused, Words}
 use Rattle.plan.specs.Layout.{plans_length, length_in}
 use Rattle.wire.proofs.Cond.{yes_le, no_le, yes-if, no-if, yes-eq, no_eq, and_left}
 use Rattle.wire.proofs.AllBelow.{next-below, stop-below}
@@ -159,10 +160,10 @@ module _ (t : List ℕ) (s : Sections) where
   few_types b e h =
       leb-true _ _ (and_left _ _ (and_left _ _ (and_left _ _ (and_left _ _ (sym e ∙ h)))))
 
-  pub length_is : (b : Bool) (n : ℕ) → b ≡ within t s → b ≡ true → n ≡ plans_length t s → Words n ≡ length_in t s
+  pub length_is : (b : Bool) (n : ℕ) → b ≡ within t s → b ≡ true → n ≡ plans_length t s → Ok n ≡ length_in t s
   unfolding length_in
   length_is b n e h q = rw (← e, h, q) refl
 
-  pub no_length : (b : Bool) → b ≡ within t s → b ≡ false → Refused 30 ≡ length_in t s
+  pub no_length : (b : Bool) → b ≡ within t s → b ≡ false → refused 30 ≡ length_in t s
   unfolding length_in
   no_length b e h = rw (← e, h) refl

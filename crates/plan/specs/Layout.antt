@@ -2,6 +2,9 @@
 -- (walk/specs/Planned, walk/specs/Runs). A type's runs are those of its members or of its element one behind another, where two
 -- equal ones that meet are one.
 use Rattle.std.specs.Prelude.{ℕ, zero, suc, ◌+◌, ◌*◌, ◌/◌, Bool, ◌&&◌, cond, List, [], ◌∷◌, ◌++◌, ltb, eqb, length, get_or}
+use Rattle.std.specs.Prelude.{Result, Ok, Err}
+use Rattle.refusal.specs.declared.Refusal.{Refusal}
+use Rattle.refusal.specs.declared.Refusal.TheVariants.{TableLength}
 use Rattle.wire.specs.Bytes.{over}
 use Rattle.table.specs.declared.Sections.{Sections}
 use Rattle.table.specs.declared.Entry.{Entry}
@@ -11,8 +14,6 @@ use Rattle.walk.specs.declared.Met.{Met}
 use Rattle.walk.specs.declared.Met.TheVariants.{Leaf, Members, Elements, Broken}
 use Rattle.walk.specs.Tree.{look}
 use Rattle.walk.specs.Runs.{code_in, many_in}
-use Rattle.plan.specs.declared.Length.{Length}
-use Rattle.plan.specs.declared.Length.TheVariants.{Refused, Words}
 use Rattle.plan.specs.Leaves.{sum_below, leaves}
 
 -- a run of one leaf, and that of a leaf's entry
@@ -89,8 +90,8 @@ plans_length t s = front_words s + sum_below (leaves t s) s.types.count
 abbrev pub too_short : ℕ
 too_short = 10
 
-unfoldable pub length_in : List ℕ → Sections → Length
-length_in t s = cond (within t s) (Words (plans_length t s)) (Refused cut_short)
+unfoldable pub length_in : List ℕ → Sections → Result ℕ Refusal
+length_in t s = cond (within t s) (Ok (plans_length t s)) (Err TableLength)
 
 unfoldable pub laid_number : List ℕ → Sections → ℕ → ℕ
 laid_number t s room = cond (within t s) (cond (ltb room (plans_length t s)) too_short 0) cut_short

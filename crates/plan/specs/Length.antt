@@ -1,17 +1,18 @@
 -- How many words the plans of a table can take, by cases: 01's number, the words, and what a refusal leaves as it was.
 use Rattle.std.specs.Prelude.{ℕ}
-use Rattle.plan.specs.declared.Length.{Length}
-use Rattle.plan.specs.declared.Length.TheVariants.{Refused, Words}
+use Rattle.std.specs.Prelude.{Result, Ok, Err}
+use Rattle.refusal.specs.declared.Refusal.{Refusal}
+use Rattle.refusal.specs.Refusal.{number_of}
 
 -- 0 where nothing is refused
-abbrev pub number_given : Length → ℕ
-number_given (Refused n) = n
-number_given (Words n) = 0
+abbrev pub number_given : Result ℕ Refusal → ℕ
+number_given (Err e) = number_of e
+number_given (Ok n) = 0
 
-abbrev pub words_in : Length → ℕ
-words_in (Refused n) = 0
-words_in (Words n) = n
+abbrev pub words_in : Result ℕ Refusal → ℕ
+words_in (Err n) = 0
+words_in (Ok n) = n
 
-abbrev pub left_over_by : {A : Type 0} → Length → A → A → A
-left_over_by (Refused n) was new = was
-left_over_by (Words n) was new = new
+abbrev pub left_over_by : {A : Type 0} → Result ℕ Refusal → A → A → A
+left_over_by (Err n) was new = was
+left_over_by (Ok n) was new = new

@@ -4,9 +4,11 @@ ghost use Rattle.wire.specs.Bytes.{over};
 ghost use Rattle.table.specs.Layout.{most_types, within};
 ghost use Rattle.plan.specs.Leaves.{sum_below, leaf_counts, leaves};
 ghost use Rattle.plan.specs.Layout.{index_word, plans, laid_number, laid_out};
+ghost use Rattle.refusal.specs.Refusal.{verdict_of};
 ghost use Rattle.plan.specs.Laying.{Before, most_runs, front_of};
 
-use crate::{TOO_SHORT, leaves, runs};
+use crate::{leaves, runs};
+use refusal::Refusal;
 use table::Sections;
 
 // The places of an index word's fields (`walk::plans`).
@@ -14,32 +16,32 @@ const HALF: u64 = 65536;
 
 const WORD: u64 = 4294967296;
 
-// Lays the plans of a table's types out in words, and answers 0; or a number, with the words as they were: 30 where the sections do
-// not lie in the table's bytes, and 10 where the words are fewer than `length_in` says.
-pub fn lay(table: &[u8], s: Sections, plans: &mut [u64]) -> u32
-    ensures value { result ≡ laid_number table.now s (length plans.old) }
+// Lays the plans of a table's types out in words; or refuses, with the words as they were: with 30 where the sections do not lie in the
+// table's bytes, and with 10 where the words are fewer than `length_in` says.
+pub fn lay(table: &[u8], s: Sections, plans: &mut [u64]) -> Result<(), Refusal>
+    ensures value { result ≡ verdict_of (laid_number table.now s (length plans.old)) }
     ensures plans_after { plans.new ≡ laid_out table.now s plans.old }
 {
     if table::within(table, s) {
         lay_within(table, s, plans)
     } else {
-        table::CUT_SHORT
+        Err(Refusal::TableLength)
     }
 }
 
-fn lay_within(table: &[u8], s: Sections, words: &mut [u64]) -> u32
+fn lay_within(table: &[u8], s: Sections, words: &mut [u64]) -> Result<(), Refusal>
     requires { (s.types.count ≤ most_types) × (within table.now s ≡ true) }
-    ensures value { result ≡ laid_number table.now s (length words.old) }
+    ensures value { result ≡ verdict_of (laid_number table.now s (length words.old)) }
     ensures words_after { words.new ≡ laid_out table.now s words.old }
 {
     let n = s.types.count as usize;
     let mut room = [0u16; 256];
     leaves::fill(table, s, &mut room, n);
     if words.len() < 1 + n + leaves::sum(&room[..n]) {
-        return TOO_SHORT;
+        return Err(Refusal::NoRoom);
     }
     lay_out(table, s, &room[..n], words);
-    0
+    Ok(())
 }
 
 // Behind the words for the index the runs, and then the index.

@@ -5,7 +5,7 @@ ghost use Rattle.plan.specs.Leaves.{sum_below, capped, row_leaves, leaves_met, l
 ghost use Rattle.plan.specs.Members.{listed, member_leaves};
 ghost use Rattle.plan.specs.Layout.{plans_length, length_in};
 
-use crate::Length;
+use refusal::Refusal;
 use table::{Sections, entries};
 use walk::Met;
 
@@ -13,13 +13,13 @@ use walk::Met;
 const MOST: u64 = 512;
 
 // How many words the plans of a table can take; 30 where the sections do not lie in its bytes.
-pub fn length_in(table: &[u8], s: Sections) -> Length
+pub fn length_in(table: &[u8], s: Sections) -> Result<usize, Refusal>
     ensures { result ≡ length_in table.now s }
 {
     if table::within(table, s) {
-        Length::Words(plans_length(table, s))
+        Ok(plans_length(table, s))
     } else {
-        Length::Refused(table::CUT_SHORT)
+        Err(Refusal::TableLength)
     }
 }
 

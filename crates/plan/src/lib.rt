@@ -7,13 +7,3 @@ mod runs;
 
 pub use front::lay;
 pub use leaves::length_in;
-
-// 01, Numbers given back: an output that is too short.
-pub const TOO_SHORT: u32 = 10;
-
-// How many words the plans can take, or the number of a refusal.
-#[derive(Clone, Copy)]
-pub enum Length {
-    Refused(u32),
-    Words(usize),
-}

@@ -1,6 +1,8 @@
 -- What the calls for one message come to at their returns.
 -- Assumes nothing.
 use Prim.Native.Nat.{ℕ, ◌+◌}
+use Rattle.std.specs.Prelude.{Result, Ok, Err}
+use Rattle.refusal.specs.declared.Refusal.{Refusal}
 use Rattle.std.specs.Prelude.{Option}
 use mathlib.Core.Path.{◌≡◌, refl, sym, ap, ◌∙◌}
 use mathlib.Core.Bool.{Bool, true, false, cond}
@@ -10,8 +12,6 @@ use lib.ListN.{length, take, drop}
 use Rattle.wire.specs.Bytes.{part}
 use Rattle.wire.proofs.Cond.{yes-if, no-if}
 use Rattle.table.specs.declared.Sections.{Sections}
-use Rattle.table.specs.declared.Checked.{Checked}
-use Rattle.table.specs.declared.Checked.TheVariants as checked
 use Rattle.table.specs.Layout.{cut_short, within}
 use Rattle.types.specs.Table.{checked}
 use Rattle.message.specs.declared.Header.{Header}
@@ -126,8 +126,8 @@ module _ (own : ℕ) (t : List ℕ) (s : Sections) (index : List ℕ) (p : Stand
     outside-list = sym (no-if (list_in own t s index l m) l (sym e ∙ no))
 
 -- on table bytes
-module _ (own : ℕ) (t : List ℕ) (p : Standing) (l m out : List ℕ) (k : Checked) (e : k ≡ checked t) where
-  module _ (n : ℕ) (z : k ≡ checked.Refused n) where
+module _ (own : ℕ) (t : List ℕ) (p : Standing) (l m out : List ℕ) (k : Result Sections Refusal) (e : k ≡ checked t) where
+  module _ (n : ℕ) (z : k ≡ Err n) where
     pub bad-table : (r : Received) → r ≡ refused p n → r ≡ received_of own t p l m (length out)
     unfolding received_of received_by
     bad-table r d = rw (← e, z) d
@@ -140,7 +140,7 @@ module _ (own : ℕ) (t : List ℕ) (p : Standing) (l m out : List ℕ) (k : Che
     unfolding list_after list_if
     bad-table-list = rw (← e, z) refl
 
-  module _ (s : Sections) (z : k ≡ checked.Table s) where
+  module _ (s : Sections) (z : k ≡ Ok s) where
     pub good-table : (r : Received) → r ≡ outcome_in own t s (index_of t s) p l m (length out) → r ≡ received_of own t p l m (length out)
     unfolding received_of received_by
     good-table r d = rw (← e, z) d

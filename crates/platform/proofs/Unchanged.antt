@@ -2,6 +2,8 @@
 -- the output's start, the rest of it as it was.
 -- Assumes nothing.
 use Prim.Native.Nat.{ℕ, ◌+◌, ◌-◌, ◌≤◌}
+use Rattle.std.specs.Prelude.{Result, Ok, Err}
+use Rattle.refusal.specs.declared.Refusal.{Refusal}
 use Rattle.std.specs.Prelude.{Option}
 use mathlib.Core.Path.{◌≡◌, refl, sym, ap, ◌∙◌}
 use mathlib.Core.Bool.{Bool, true, false, cond}
@@ -15,8 +17,6 @@ use Rattle.wire.specs.Bytes.{over, part}
 use Rattle.wire.proofs.Runs.{part_in, part_over}
 use Rattle.table.specs.declared.Sections.{Sections}
 use Rattle.pending.specs.Answers.{is_response, cancelled}
-use Rattle.table.specs.declared.Checked.{Checked}
-use Rattle.table.specs.declared.Checked.TheVariants as checked
 use Rattle.table.specs.Layout.{cut_short, within}
 use Rattle.types.specs.Table.{checked}
 use Rattle.message.specs.declared.Header.{Header}
@@ -95,10 +95,10 @@ module _ (own : ℕ) (p : Standing) (n : ℕ) (out l : List ℕ) where
   unfolding received_of left_of list_after received_by left_if list_if
   refusal-changes-nothing t m e = go (checked t) e
     where
-      go : (c : Checked) → (received_by c own t p l m (length out)).answer ≡ Refused n
+      go : (c : Result Sections Refusal) → (received_by c own t p l m (length out)).answer ≡ Refused n
           → Stays (received_by c own t p l m (length out)) (left_if c own t p m out) (list_if c own t l m)
-      go (checked.Refused k) q = record { standing = refl; output = refl; list = refl }
-      go (checked.Table s) q = outcome-unchanged t s (operation_in t s (index_of t s) (read_of own m)) (read_of own m) q
+      go (Err k) q = record { standing = refl; output = refl; list = refl }
+      go (Ok s) q = outcome-unchanged t s (operation_in t s (index_of t s) (read_of own m)) (read_of own m) q
 
   -- the call on sections
   pub sections-refusal-changes-nothing : (t : List ℕ) (s : Sections) (index m : List ℕ) → (sections_outcome own t s index p l m (length out)).answer

@@ -2,6 +2,8 @@
 -- stand gives what the call on its bytes gives.
 -- Assumes nothing.
 use Prim.Native.Nat.{ℕ, ◌≤◌, ◌<◌}
+use Rattle.std.specs.Prelude.{Result, Ok}
+use Rattle.refusal.specs.declared.Refusal.{Refusal}
 use Rattle.std.specs.Prelude.{Option}
 use mathlib.Core.Path.{◌≡◌, refl, sym, ap, ◌∙◌}
 use mathlib.Core.List.{List}
@@ -11,8 +13,6 @@ use Rattle.wire.proofs.Cond.{yes-if}
 use Rattle.operations.specs.Search.{indexed, sought_in, operation_of}
 use Rattle.operations.proofs.WhereIDsRise.{laid-first}
 use Rattle.table.specs.declared.Sections.{Sections}
-use Rattle.table.specs.declared.Checked.{Checked}
-use Rattle.table.specs.declared.Checked.TheVariants as checked
 use Rattle.table.specs.Layout.{cut_short}
 use Rattle.types.specs.Table.{checked}
 use Rattle.types.proofs.Accepted.{Accepted, accepted, is_within, ids-rise}
@@ -28,7 +28,7 @@ use Rattle.platform.specs.Reaction.{operation_for, operation_in}
 use Rattle.platform.specs.Receiving.{refused, outcome_of, output_of, list_of, outcome_in, output_in, list_in, index_of}
 use Rattle.platform.specs.Receiving.{received_by, received_of, left_if, left_of, list_if, list_after, sections_outcome, sections_output, sections_list}
 
-module _ (t : List ℕ) (s : Sections) (e : checked t ≡ checked.Table s) where
+module _ (t : List ℕ) (s : Sections) (e : checked t ≡ Ok s) where
   a : Accepted t s
   a = accepted t s e
 
@@ -81,18 +81,18 @@ module _ (t : List ℕ) (s : Sections) (e : checked t ≡ checked.Table s) where
       same_outcome n =
           yes-if {A = Received} (outcome_in own t s (laid words room) p l m n) (refused p cut_short) (is_within t s a)
           ∙ ap (λ (f : Option (ℕ × ℕ)). outcome_of own t s f p l (read_of own m) n) (same_operation (read_of own m))
-          ∙ ap (λ (x : Checked). received_by x own t p l m n) (sym e)
+          ∙ ap (λ (x : Result Sections Refusal). received_by x own t p l m n) (sym e)
 
       pub same-output : (out : List ℕ) → sections_output own t s (laid words room) p m out ≡ left_of own t p m out
       unfolding left_of left_if sections_output a
       same-output out =
           yes-if (output_in own t s (laid words room) p m out) out (is_within t s a)
           ∙ ap (λ (f : Option (ℕ × ℕ)). output_of own t s f p (read_of own m) out) (same_operation (read_of own m))
-          ∙ ap (λ (x : Checked). left_if x own t p m out) (sym e)
+          ∙ ap (λ (x : Result Sections Refusal). left_if x own t p m out) (sym e)
 
       pub same-list : sections_list own t s (laid words room) l m ≡ list_after own t l m
       unfolding list_after list_if sections_list a
       same-list =
           yes-if (list_in own t s (laid words room) l m) l (is_within t s a)
           ∙ ap (λ (f : Option (ℕ × ℕ)). list_of t f l (read_of own m)) (same_operation (read_of own m))
-          ∙ ap (λ (x : Checked). list_if x own t l m) (sym e)
+          ∙ ap (λ (x : Result Sections Refusal). list_if x own t l m) (sym e)

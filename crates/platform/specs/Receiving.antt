@@ -1,14 +1,14 @@
 -- 01, "Platform states and replies"; 02, 1: what the one call for one message answers, the states and the own number after it, the
 -- output, and the list of the requests that are pending.
 use Rattle.std.specs.Prelude.{ℕ, Bool, false, cond, List, ltb, eqb, length, replicate}
+use Rattle.std.specs.Prelude.{Result, Ok, Err}
+use Rattle.refusal.specs.declared.Refusal.{Refusal}
 use Rattle.std.specs.Prelude.{Option, Some, None}
 use Rattle.wire.specs.Bytes.{over}
 use Rattle.table.specs.declared.Sections.{Sections}
 use Rattle.operations.specs.Entries.{sent_kind, kind_at}
 use Rattle.operations.specs.Search.{indexed}
 use Rattle.pending.specs.Answers.{is_response, responded}
-use Rattle.table.specs.declared.Checked.{Checked}
-use Rattle.table.specs.declared.Checked.TheVariants as checked
 use Rattle.table.specs.Layout.{cut_short, within}
 use Rattle.types.specs.Table.{checked}
 use Rattle.message.specs.declared.Header.{Header}
@@ -105,23 +105,23 @@ list_in own t s index l m = list_of t (operation_in t s index (read_of own m)) l
 abbrev pub index_of : List ℕ → Sections → List ℕ
 index_of t s = indexed t s.operations.at s.operations.count (replicate 1024 0)
 
-unfoldable pub received_by : Checked → ℕ → List ℕ → Standing → List ℕ → List ℕ → ℕ → Received
-received_by (checked.Refused n) own t p l m room = refused p n
-received_by (checked.Table s) own t p l m room = outcome_in own t s (index_of t s) p l m room
+unfoldable pub received_by : Result Sections Refusal → ℕ → List ℕ → Standing → List ℕ → List ℕ → ℕ → Received
+received_by (Err n) own t p l m room = refused p n
+received_by (Ok s) own t p l m room = outcome_in own t s (index_of t s) p l m room
 
 unfoldable pub received_of : ℕ → List ℕ → Standing → List ℕ → List ℕ → ℕ → Received
 received_of own t p l m room = received_by (checked t) own t p l m room
 
-unfoldable pub left_if : Checked → ℕ → List ℕ → Standing → List ℕ → List ℕ → List ℕ
-left_if (checked.Refused n) own t p m out = out
-left_if (checked.Table s) own t p m out = output_in own t s (index_of t s) p m out
+unfoldable pub left_if : Result Sections Refusal → ℕ → List ℕ → Standing → List ℕ → List ℕ → List ℕ
+left_if (Err n) own t p m out = out
+left_if (Ok s) own t p m out = output_in own t s (index_of t s) p m out
 
 unfoldable pub left_of : ℕ → List ℕ → Standing → List ℕ → List ℕ → List ℕ
 left_of own t p m out = left_if (checked t) own t p m out
 
-unfoldable pub list_if : Checked → ℕ → List ℕ → List ℕ → List ℕ → List ℕ
-list_if (checked.Refused n) own t l m = l
-list_if (checked.Table s) own t l m = list_in own t s (index_of t s) l m
+unfoldable pub list_if : Result Sections Refusal → ℕ → List ℕ → List ℕ → List ℕ → List ℕ
+list_if (Err n) own t l m = l
+list_if (Ok s) own t l m = list_in own t s (index_of t s) l m
 
 unfoldable pub list_after : ℕ → List ℕ → List ℕ → List ℕ → List ℕ
 list_after own t l m = list_if (checked t) own t l m

@@ -20,7 +20,7 @@ use message::{Header, Own, Reading};
 pub use reacting::noted;
 pub use reactions::{Heard, Owed, REPLY_LENGTH, Reaction, Reply, Standing};
 pub use replies::ALL_DATA;
-use table::{CUT_SHORT, Checked, Sections};
+use table::{CUT_SHORT, Sections};
 
 #[derive(Clone, Copy)]
 pub enum Noting {
@@ -73,8 +73,8 @@ pub fn receive(
     ensures list { list.new ≡ list_after own.platform table.now list.old message.now }
 {
     match types::check(table) {
-        Checked::Refused(number) => refused(standing, number),
-        Checked::Table(s) => receive_indexed(own, table, s, standing, list, message, out),
+        Err(refusal) => refused(standing, refusal.number()),
+        Ok(s) => receive_indexed(own, table, s, standing, list, message, out),
     }
 }
 

@@ -1,21 +1,19 @@
 -- What an answer leaves of what was lent for it: a refusal all of it, case by case of what is answered. ExportsKeep cites it of each
 -- exported call. Assumes nothing.
 use Prim.Native.Nat.{ℕ}
+use Rattle.std.specs.Prelude.{Result, Ok, Err}
+use Rattle.refusal.specs.declared.Refusal.{Refusal}
 use mathlib.Core.Path.{◌≡◌, refl, ◌∙◌}
 use mathlib.Core.Bool.{Bool, true, false, cond}
 use mathlib.Core.List.{List}
 use native.Mathlib.Omega.{arith}
 use Rattle.binding.specs.Counted.{number_given as countNumber}
 use Rattle.binding.specs.Made.{number_given as cut_number}
-use Rattle.binding.specs.declared.cutter.Counted.{Counted}
-use Rattle.binding.specs.declared.cutter.Counted.TheVariants as counted
-use Rattle.binding.specs.declared.cutter.Made.{Made}
-use Rattle.binding.specs.declared.cutter.Made.TheVariants as made
 use Rattle.joiner.specs.declared.Joiner.{Joiner}
 use Rattle.joiner.specs.declared.setups.Verdict.{Verdict}
 use Rattle.joiner.specs.declared.setups.Verdict.TheVariants as set_up
 use Rattle.channel.specs.declared.Outcome.{Outcome}
-use Rattle.channel.specs.declared.Outcome.TheVariants.{Refused, Repeated, Delivered, Held, Stray, TooLong}
+use Rattle.channel.specs.declared.Outcome.TheVariants.{Repeated, Delivered, Held, Stray, TooLong}
 use Rattle.channel.specs.Outcomes.{left_over_by, number_given as outcomeNumber}
 use Rattle.joiner.specs.Setup.{setup_of, number_given as verdictNumber}
 use Rattle.joiner.specs.Take.{taken_of}
@@ -34,15 +32,11 @@ use Rattle.mixed.specs.declared.AnyReading.TheVariants as mixed
 use Rattle.table.specs.declared.Sections.{Sections}
 use Rattle.table.specs.Layout.{cut_short}
 use Rattle.table.specs.Checked.{number_given as check_number}
-use Rattle.table.specs.declared.Checked.{Checked}
-use Rattle.table.specs.declared.Checked.TheVariants as check
 use Rattle.payload.specs.declared.Answer.{Answer}
 use Rattle.payload.specs.declared.Answer.TheVariants as answer
 use Rattle.payload.specs.Calls as payload
 use Rattle.payload.specs.ByPlans.{answered_by}
 use Rattle.walk.specs.Walk.{Codec}
-use Rattle.plan.specs.declared.Length.{Length}
-use Rattle.plan.specs.declared.Length.TheVariants as plan
 use Rattle.plan.specs.Length.{number_given as lengthNumber}
 use Rattle.platform.specs.declared.Noting.{Noting}
 use Rattle.platform.specs.declared.Noting.TheVariants as noting
@@ -61,13 +55,13 @@ use Rattle.promises.proofs.Numbered.{Numbered, by-numbered}
 use Rattle.promises.proofs.Demand1.{demand_1}
 
 -- what was lent for an answer
-pub count_keeps : (was : ℕ) (x : Counted) → Keeps (countNumber x) was (count_left was x)
-count_keeps was (counted.Refused n) k = refl
-count_keeps was (counted.Pieces n) k = absurd (k refl)
+pub count_keeps : (was : ℕ) (x : Result ℕ Refusal) → Keeps (countNumber x) was (count_left was x)
+count_keeps was (Err n) k = refl
+count_keeps was (Ok n) k = absurd (k refl)
 
-pub made_keeps : (was : ℕ) (x : Made) → Keeps (cut_number x) was (made_left was x)
-made_keeps was (made.Refused n) k = refl
-made_keeps was (made.Datagram n) k = absurd (k refl)
+pub made_keeps : (was : ℕ) (x : Result ℕ Refusal) → Keeps (cut_number x) was (made_left was x)
+made_keeps was (Err n) k = refl
+made_keeps was (Ok n) k = absurd (k refl)
 
 pub read_keeps : (was : List ℕ) (x : Reading) → Keeps (number_read x) was (read_left was x)
 read_keeps was (reading.Refused n) k = refl
@@ -82,9 +76,9 @@ any_keeps was (mixed.Refused n) k = refl
 any_keeps was (mixed.Six h m s l) k = absurd (k refl)
 any_keeps was (mixed.Three h m s l) k = absurd (k refl)
 
-pub check_keeps : (t was : List ℕ) (x : Checked) → Keeps (check_number x) was (sections_left t was x)
-check_keeps t was (check.Refused n) k = refl
-check_keeps t was (check.Table s) k = absurd (k refl)
+pub check_keeps : (t was : List ℕ) (x : Result Sections Refusal) → Keeps (check_number x) was (sections_left t was x)
+check_keeps t was (Err n) k = refl
+check_keeps t was (Ok s) k = absurd (k refl)
 
 walked_keeps : (was : List ℕ) (x : Answer) → Numbered x → WordsKept (payload.number_given x) was (walked_left was x)
 walked_keeps was (answer.Refused n) h = record { given = λ k. refl; spot = λ o. (refl, refl); all = λ o k. refl }
@@ -98,9 +92,9 @@ found_keeps true was x k = absurd (k refl)
 found_keeps false was x k = refl
 
 -- plans
-pub length_keeps : (was : ℕ) (x : Length) → Keeps (lengthNumber x) was (length_left was x)
-length_keeps was (plan.Refused n) k = refl
-length_keeps was (plan.Words n) k = absurd (k refl)
+pub length_keeps : (was : ℕ) (x : Result ℕ Refusal) → Keeps (lengthNumber x) was (length_left was x)
+length_keeps was (Err n) k = refl
+length_keeps was (Ok n) k = absurd (k refl)
 
 -- joining
 accepted_keeps : (was : List ℕ) (x : Verdict) (j : Joiner) → Keeps (verdictNumber x) was (accepted_words x j was)
@@ -111,21 +105,21 @@ pub setup_keeps : (ids : List ℕ) (R b : ℕ) (ws : List ℕ) → Keeps (setup_
 unfolding setup_number setup_words
 setup_keeps ids R b ws = accepted_keeps ws (setup_of ids R b).answer (setup_of ids R b).joiner
 
-outcome_keeps : (was : List ℕ) (o : Outcome) → Keeps (outcomeNumber o) was (outcome_words o was)
-outcome_keeps was (Refused n) k = refl
-outcome_keeps was Repeated k = absurd (k refl)
-outcome_keeps was (Delivered m p) k = absurd (k refl)
-outcome_keeps was (Held m n) k = absurd (k refl)
-outcome_keeps was (Stray m) k = absurd (k refl)
-outcome_keeps was (TooLong m) k = absurd (k refl)
+outcome_keeps : (was : List ℕ) (o : Result Outcome Refusal) → Keeps (outcomeNumber o) was (outcome_words o was)
+outcome_keeps was (Err n) k = refl
+outcome_keeps was (Ok Repeated) k = absurd (k refl)
+outcome_keeps was (Ok (Delivered m p)) k = absurd (k refl)
+outcome_keeps was (Ok (Held m n)) k = absurd (k refl)
+outcome_keeps was (Ok (Stray m)) k = absurd (k refl)
+outcome_keeps was (Ok (TooLong m)) k = absurd (k refl)
 
-record_keeps : (was new : List ℕ) (o : Outcome) → Keeps (outcomeNumber o) was (left_over_by o was new)
-record_keeps was new (Refused n) k = refl
-record_keeps was new Repeated k = absurd (k refl)
-record_keeps was new (Delivered m p) k = absurd (k refl)
-record_keeps was new (Held m n) k = absurd (k refl)
-record_keeps was new (Stray m) k = absurd (k refl)
-record_keeps was new (TooLong m) k = absurd (k refl)
+record_keeps : (was new : List ℕ) (o : Result Outcome Refusal) → Keeps (outcomeNumber o) was (left_over_by o was new)
+record_keeps was new (Err n) k = refl
+record_keeps was new (Ok Repeated) k = absurd (k refl)
+record_keeps was new (Ok (Delivered m p)) k = absurd (k refl)
+record_keeps was new (Ok (Held m n)) k = absurd (k refl)
+record_keeps was new (Ok (Stray m)) k = absurd (k refl)
+record_keeps was new (Ok (TooLong m)) k = absurd (k refl)
 
 module _ (ws rooms d : List ℕ) where
   pub state-keeps : Keeps (take_number ws rooms d) ws (take_words ws rooms d)

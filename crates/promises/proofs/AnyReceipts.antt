@@ -2,6 +2,7 @@
 -- asks for no list.
 -- Assumes nothing.
 use Prim.Native.Nat.{ℕ}
+use Rattle.std.specs.Prelude.{Ok}
 use mathlib.Core.Path.{◌≡◌, refl, sym, ap, ◌∙◌}
 use mathlib.Core.Bool.{Bool, true, false, true≢false}
 use mathlib.Core.List.{List}
@@ -10,7 +11,6 @@ use borrow.Author.Tests.{eqb-true}
 use lib.ListN.{length, replicate}
 use Rattle.wire.proofs.Cond.{no-if}
 use Rattle.table.specs.declared.Sections.{Sections}
-use Rattle.table.specs.declared.Checked.TheVariants.{Table}
 use Rattle.types.specs.Table.{checked}
 use Rattle.operations.specs.Search.{sought_in}
 use Rattle.message.specs.declared.Header.{Header}
@@ -50,7 +50,7 @@ not_read : (n len : ℕ) (h : AnyHeader) → reading.Refused n ≡ read_as h len
 not_read n len (of_six_header h) e = let z : ◌≡◌ {A = ℕ} 0 6 = ap issue_in e in omega arith
 not_read n len (of_three_header h) e = let z : ◌≡◌ {A = ℕ} 0 3 = ap issue_in e in omega arith
 
-module _ (x : ToReceive) (s : Sections) (e : checked x.table ≡ Table s) where
+module _ (x : ToReceive) (s : Sections) (e : checked x.table ≡ Ok s) where
   abbrev answersAny : AnyReading → Bool
   answersAny (reading.Refused n) = false
   answersAny (reading.Six h k start len) = false
@@ -142,7 +142,7 @@ module _ (x : ToReceive) (s : Sections) (e : checked x.table ≡ Table s) where
       go (reading.Six h k start len) q = of-six h k start len q (receipt x.own x.table s e x.bytes)
       go (reading.Three h k start len) q = of_three h k start len q (answersAny (reading.Three h k start len)) refl
 
-pub list_stays_so : (x : ToReceive) (s : Sections) (p : Standing) (l k : List ℕ) → checked x.table ≡ Table s
+pub list_stays_so : (x : ToReceive) (s : Sections) (p : Standing) (l k : List ℕ) → checked x.table ≡ Ok s
     → ((h : AnyHeader) (i len : ℕ) → ¬ (ComesAs x s h 2 i len))
     → (our_any_receiving.list x p l ≡ l) × (our_any_receiving.outcome x p l ≡ our_any_receiving.outcome x p k)
 list_stays_so x s p l k e none = go (receipt-of x s e)

@@ -2,6 +2,8 @@
 -- ones make no difference.
 -- Assumes nothing.
 use Prim.Native.Nat.{ℕ, ◌<◌}
+use Rattle.std.specs.Prelude.{Result, Ok, Err}
+use Rattle.refusal.specs.declared.Refusal.{Refusal}
 use mathlib.Core.Path.{◌≡◌, refl, sym, ap, ap₂, ◌∙◌, subst}
 use mathlib.Core.Bool.{Bool, true, false, ◌&&◌, true≢false}
 use mathlib.Core.List.{List, [], ◌∷◌, ◌++◌}
@@ -15,7 +17,7 @@ use Rattle.wire.specs.Bytes.{Octets}
 use Rattle.binding.specs.Header.{the_version, smallest_datagram, largest_datagram, version_in, sender_in}
 use Rattle.channel.specs.declared.Room.{Room}
 use Rattle.channel.specs.declared.Outcome.{Outcome}
-use Rattle.channel.specs.declared.Outcome.TheVariants.{Refused, Repeated, Delivered, Held, Stray, TooLong}
+use Rattle.channel.specs.declared.Outcome.TheVariants.{Repeated, Delivered, Held, Stray, TooLong}
 use Rattle.channel.specs.Channel.{room_of}
 use Rattle.joiner.specs.declared.Joiner.{Joiner}
 use Rattle.joiner.specs.Setup.{senders_of}
@@ -53,27 +55,27 @@ addressed_is ids k d a =
     )
 
 -- the same by the view alone
-abbrev pub given : Outcome → List ℕ → List (List ℕ)
-given (Delivered m p) g = g ∷ []
-given (Refused n) g = []
-given Repeated g = []
-given (Held m n) g = []
-given (Stray m) g = []
-given (TooLong m) g = []
+abbrev pub given : Result Outcome Refusal → List ℕ → List (List ℕ)
+given (Ok (Delivered m p)) g = g ∷ []
+given (Err n) g = []
+given (Ok Repeated) g = []
+given (Ok (Held m n)) g = []
+given (Ok (Stray m)) g = []
+given (Ok (TooLong m)) g = []
 
-handed_given : (o : Outcome) (d rooms : List ℕ) → handed_back o d rooms ≡ given o (message_of o d rooms)
-handed_given (Delivered m p) d rooms = refl
-handed_given (Refused n) d rooms = refl
-handed_given Repeated d rooms = refl
-handed_given (Held m n) d rooms = refl
-handed_given (Stray m) d rooms = refl
-handed_given (TooLong m) d rooms = refl
+handed_given : (o : Result Outcome Refusal) (d rooms : List ℕ) → handed_back o d rooms ≡ given o (message_of o d rooms)
+handed_given (Ok (Delivered m p)) d rooms = refl
+handed_given (Err n) d rooms = refl
+handed_given (Ok Repeated) d rooms = refl
+handed_given (Ok (Held m n)) d rooms = refl
+handed_given (Ok (Stray m)) d rooms = refl
+handed_given (Ok (TooLong m)) d rooms = refl
 
 abbrev pub view_delivers : Room → View → List Datagram → List (List ℕ)
 view_delivers room v [] = []
 view_delivers room v (d ∷ ds) = given (view_step room v d).outcome (view_given room v d) ++ view_delivers room (view_after room v d) ds
 
-abbrev pub view_outcomes : Room → View → List Datagram → List Outcome
+abbrev pub view_outcomes : Room → View → List Datagram → List (Result Outcome Refusal)
 view_outcomes room v [] = []
 view_outcomes room v (d ∷ ds) = (view_step room v d).outcome ∷ view_outcomes room (view_after room v d) ds
 

@@ -1,6 +1,7 @@
 -- What is sent, on a table that `check` accepts; a request asked, served and answered.
 -- Assumes nothing.
 use Prim.Native.Nat.{ℕ, ◌+◌, ◌%◌, ◌^◌, ◌≤◌, ◌<◌}
+use Rattle.std.specs.Prelude.{Ok}
 use Rattle.std.specs.Prelude.{Option, Some, None}
 use mathlib.Core.Path.{◌≡◌, refl, sym, ap, subst, ◌∙◌}
 use mathlib.Core.Bool.{true}
@@ -11,7 +12,6 @@ use lib.Seq.{take_at}
 use Rattle.wire.specs.Bytes.{over, part}
 use Rattle.wire.proofs.Cond.{yes-if, no-if, no-ne}
 use Rattle.table.specs.declared.Sections.{Sections}
-use Rattle.table.specs.declared.Checked.TheVariants.{Table}
 use Rattle.types.specs.Table.{checked}
 use Rattle.operations.specs.Entries.{op_place}
 use Rattle.message.specs.declared.Message.TheVariants as message
@@ -45,7 +45,7 @@ use Rattle.promises.proofs.RequestReceipts.{by-list, output-stays, list-by, as-o
 use Rattle.promises.proofs.NewRequest.{is-awaited, no_longer}
 
 -- on a table
-module _ (t : List ℕ) (s : Sections) (words : List ℕ) (e : checked t ≡ Table s) (room : s.operations.count ≤ length words) where
+module _ (t : List ℕ) (s : Sections) (words : List ℕ) (e : checked t ≡ Ok s) (room : s.operations.count ≤ length words) where
   -- 62 by the table's entries
   by_entries : (from id : ℕ) (l payload : List ℕ) (space : ℕ) (x : Sending)
       → Answers (not_sent from) (sent_as from l payload) (send_checks l (kind_in t s words id) payload space) x
@@ -148,7 +148,7 @@ module _ (a b from id : ℕ) (t : List ℕ) (s : Sections) (words l payload out 
       ap (λ (r : List ℕ). awaited_of (cancelled r n) n) waiting-is
       ∙ no_longer l c.whole there.0 n id b there.1 c.id_fits number.not_zero number.not_taken
 
-  hears : (u : List ℕ) (r : Sections) (j : ℕ) (q : Standing) (list outB : List ℕ) → checked u ≡ Table r → HasKind u r id 3 j
+  hears : (u : List ℕ) (r : Sections) (j : ℕ) (q : Standing) (list outB : List ℕ) → checked u ≡ Ok r → HasKind u r id 3 j
       → HeardAt b u q list (asked a b from id t s words l payload out) outB (header_for a 1 id n payload) j payload
   hears u r j q list outB e k =
       subst (λ (m : List ℕ). HeardAt b u q list m outB (header_for a 1 id n payload) j payload) (sym asked_is)
@@ -162,7 +162,7 @@ module _ (a b from id : ℕ) (t : List ℕ) (s : Sections) (words l payload out 
       x : Crosses a b id n payload
       x = crosses a b id n payload c.one c.two c.id_fits number_fits c.size
 
-  answers : (u : List ℕ) (r : Sections) (j : ℕ) (p : Standing) (response outB outA : List ℕ) → checked u ≡ Table r → HasKind u r id 2 j
+  answers : (u : List ℕ) (r : Sections) (j : ℕ) (p : Standing) (response outB outA : List ℕ) → checked u ≡ Ok r → HasKind u r id 2 j
       → length response < 2 ^ 32 → 20 + length response ≤ length outB
       → DeliveredAt a u p (waiting a b from id t s words l payload out) (reply a b from id t s words l payload out response outB) outA
       (header_for b 1 id n response) j response

@@ -2,6 +2,7 @@
 -- entry that bears it, and one entry only does.
 -- Assumes nothing.
 use Prim.Native.Nat.{ℕ, ◌≤◌}
+use Rattle.std.specs.Prelude.{Ok}
 use Rattle.std.specs.Prelude.{Some, None}
 use mathlib.Core.Path.{◌≡◌, sym, ◌∙◌}
 use mathlib.Core.List.{List}
@@ -9,7 +10,6 @@ use native.Mathlib.Omega.{arith}
 use lib.ListN.{length, replicate, length-replicate}
 use Rattle.operations.specs.Search.{sought_in}
 use Rattle.table.specs.declared.Sections.{Sections}
-use Rattle.table.specs.declared.Checked.TheVariants.{Table}
 use Rattle.types.specs.Table.{checked}
 use Rattle.types.proofs.Accepted.{accepted}
 use Rattle.platform.specs.Receiving.{index_of}
@@ -22,7 +22,7 @@ use Rattle.promises.proofs.Lookups.{lookups}
 same_number : {i j p q : ℕ} → Some (i, p) ≡ Some (j, q) → i ≡ j
 same_number e = cc
 
-module _ (t : List ℕ) (s : Sections) (e : checked t ≡ Table s) where
+module _ (t : List ℕ) (s : Sections) (e : checked t ≡ Ok s) where
   room : s.operations.count ≤ length (replicate {A = ℕ} 1024 0)
   room =
       let few : s.operations.count ≤ 1024 = (accepted t s e).lie.operations.few in

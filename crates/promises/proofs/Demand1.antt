@@ -1,20 +1,18 @@
 -- Demand 1.
 -- Assumes nothing.
 use Prim.Native.Nat.{ℕ}
+use Rattle.std.specs.Prelude.{Result, Ok, Err}
+use Rattle.refusal.specs.declared.Refusal.{Refusal}
 use mathlib.Core.Path.{◌≡◌, refl, ap}
 use mathlib.Core.List.{List, [], ◌∷◌}
 use lib.ListN.{length}
 use Rattle.wire.specs.Bytes.{over}
 use Rattle.table.specs.declared.Sections.{Sections}
-use Rattle.table.specs.declared.Checked.{Checked}
-use Rattle.table.specs.declared.Checked.TheVariants as check
 use Rattle.types.specs.Table.{checked}
 use Rattle.message.specs.Writing.{message_bytes, write_of, number_given as write_number}
 use Rattle.message.specs.Writing as writes
 use Rattle.message.specs.declared.Writing.{Writing}
 use Rattle.message.specs.declared.Writing.TheVariants as writing
-use Rattle.binding.specs.declared.cutter.Made.{Made}
-use Rattle.binding.specs.declared.cutter.Made.TheVariants as made
 use Rattle.binding.specs.Cutting.{made_of, datagram_of}
 use Rattle.binding.specs.Made.{number_given as cut_number}
 use Rattle.binding.specs.Made as makes
@@ -61,17 +59,17 @@ pub write_keeps : (x : Writing) (out new : List ℕ) → Keeps (write_number x) 
 write_keeps (writing.Refused n) out new k = refl
 write_keeps (writing.Written n) out new k = absurd (k refl)
 
-cut_keeps : (x : Made) (out new : List ℕ) → Keeps (cut_number x) out (makes.left_over_by x out new)
-cut_keeps (made.Refused n) out new k = refl
-cut_keeps (made.Datagram n) out new k = absurd (k refl)
+cut_keeps : (x : Result ℕ Refusal) (out new : List ℕ) → Keeps (cut_number x) out (makes.left_over_by x out new)
+cut_keeps (Err n) out new k = refl
+cut_keeps (Ok n) out new k = absurd (k refl)
 
-taken_refused : (x : Outcome) → ¬ (take_number x ≡ 0) → x ≡ outcome.Refused (take_number x)
-taken_refused (outcome.Refused n) k = refl
-taken_refused outcome.Repeated k = absurd (k refl)
-taken_refused (outcome.Delivered m p) k = absurd (k refl)
-taken_refused (outcome.Held m n) k = absurd (k refl)
-taken_refused (outcome.Stray m) k = absurd (k refl)
-taken_refused (outcome.TooLong m) k = absurd (k refl)
+taken_refused : (x : Result Outcome Refusal) → ¬ (take_number x ≡ 0) → x ≡ Err (take_number x)
+taken_refused (Err n) k = refl
+taken_refused (Ok outcome.Repeated) k = absurd (k refl)
+taken_refused (Ok (outcome.Delivered m p)) k = absurd (k refl)
+taken_refused (Ok (outcome.Held m n)) k = absurd (k refl)
+taken_refused (Ok (outcome.Stray m)) k = absurd (k refl)
+taken_refused (Ok (outcome.TooLong m)) k = absurd (k refl)
 
 left_keeps : (a : Answer) (x y : List ℕ) → Keeps (number_given a) x (left_over_by a x y)
 unfolding left_over_by
@@ -83,10 +81,10 @@ in_keeps : (c : Codec) (n : ℕ) (t : List ℕ) (s : Sections) (i : ℕ) (x : Li
 unfolding left_over_in
 in_keeps c n t s i x = left_keeps (answered_in c n t s i (length x)) x (left (type_walk c t s i start x))
 
-if_keeps : (r : Checked) (c : Codec) (n : ℕ) (t : List ℕ) (i : ℕ) (x : List ℕ) → Keeps (number_given (answered_if r c n t i (length x))) x (left_if r c n t i x)
+if_keeps : (r : Result Sections Refusal) (c : Codec) (n : ℕ) (t : List ℕ) (i : ℕ) (x : List ℕ) → Keeps (number_given (answered_if r c n t i (length x))) x (left_if r c n t i x)
 unfolding answered_if left_if
-if_keeps (check.Refused m) c n t i x k = refl
-if_keeps (check.Table s) c n t i x k = in_keeps c n t s i x k
+if_keeps (Err m) c n t i x k = refl
+if_keeps (Ok s) c n t i x k = in_keeps c n t s i x k
 
 noting_refused : (x : Noting) → ¬ (receive_number x ≡ 0) → x ≡ noting.Refused (receive_number x)
 noting_refused (noting.Refused n) k = refl

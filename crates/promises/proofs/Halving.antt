@@ -1,13 +1,13 @@
 -- How many looks a search by halving takes, what a forged index can lead to, and what `nyr_find` tells of a table that was checked.
 -- Assumes nothing.
 use Prim.Native.Nat.{ℕ}
+use Rattle.std.specs.Prelude.{Ok}
 use Rattle.std.specs.Prelude.{Option, Some, None}
 use mathlib.Core.Path.{◌≡◌, refl, ap, ap₂, ◌∙◌}
 use mathlib.Core.Bool.{true}
 use mathlib.Core.List.{List}
 use Rattle.wire.proofs.Cond.{yes-if}
 use Rattle.table.specs.declared.Sections.{Sections}
-use Rattle.table.specs.declared.Checked.TheVariants.{Table}
 use Rattle.table.specs.Layout.{cut_short, within}
 use Rattle.table.specs.Words.{sections_in, index_in}
 use Rattle.types.specs.Table.{checked}
@@ -29,7 +29,7 @@ unfolding operation_at kind_at response_at
 entry_told t s i = refl
 
 -- a call on the words that the check left, by its contract
-module _ (t : List ℕ) (s : Sections) (words ss : List ℕ) (id : ℕ) (e : checked t ≡ Table s) (c : CheckLeft t s words ss) where
+module _ (t : List ℕ) (s : Sections) (words ss : List ℕ) (id : ℕ) (e : checked t ≡ Ok s) (c : CheckLeft t s words ss) where
   its_sections : sections_in ss ≡ s
   its_sections = sections_back t s ss (laid t s words) e c.0
 

@@ -1,6 +1,7 @@
 -- 02, 1: what is tested of a message with a kind 2 ID is what 02 says of it, on a table that `check` accepts.
 -- Assumes nothing.
 use Prim.Native.Nat.{ℕ, ◌<◌}
+use Rattle.std.specs.Prelude.{Ok}
 use Rattle.std.specs.Prelude.{Option, Some, None}
 use mathlib.Core.Path.{◌≡◌, refl, sym, ap, ap₂, subst, ◌∙◌}
 use mathlib.Core.Bool.{Bool, false}
@@ -13,7 +14,6 @@ use Rattle.pending.specs.Answers.{awaited_of, is_response}
 use Rattle.pending.specs.PlainMap.{asks}
 use Rattle.pending.proofs.AsMap.{response-by}
 use Rattle.table.specs.declared.Sections.{Sections}
-use Rattle.table.specs.declared.Checked.TheVariants.{Table}
 use Rattle.types.specs.Table.{checked}
 use Rattle.message.specs.declared.Header.{Header}
 use Rattle.message.specs.declared.Message.{Message}
@@ -74,7 +74,7 @@ found_decides t s index h message.Operation =
     decides_same (sent_decides t (sought_in t index s.operations.count h.id)) (λ k. (refl, k)) (λ p. p.1)
 
 -- by the index of a table that is accepted
-module _ (t : List ℕ) (s : Sections) (e : checked t ≡ Table s) (id : ℕ) where
+module _ (t : List ℕ) (s : Sections) (e : checked t ≡ Ok s) (id : ℕ) where
   is-kind-2 : FindsKind2 t s (index_of t s) id → IsKind2 t s id
   unfolding kind_at
   is-kind-2 (i, q, f, k) =
@@ -85,7 +85,7 @@ module _ (t : List ℕ) (s : Sections) (e : checked t ≡ Table s) (id : ℕ) wh
   unfolding kind_at
   finds-it (i, h, k) = (i, operation_place t s i, looked t s e id ∙ there t s e id i h, k)
 
-pub answer_decides : (t : List ℕ) (s : Sections) → checked t ≡ Table s → (h : Header) (kind : Message)
+pub answer_decides : (t : List ℕ) (s : Sections) → checked t ≡ Ok s → (h : Header) (kind : Message)
     → Decides (is_answer t (operation_for t s (index_of t s) h kind) kind) ((kind ≡ message.Operation) × IsKind2 t s h.id)
 answer_decides t s e h kind =
     decides_same (found_decides t s (index_of t s) h kind) (λ p. (p.0, is-kind-2 t s e h.id p.1)) (λ p. (p.0, finds-it t s e h.id p.1))

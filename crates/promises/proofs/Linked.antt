@@ -1,6 +1,8 @@
 -- Demand 3 for the linked calls: what the contracts allow is a run over joiners.
 -- Assumes nothing.
 use Prim.Native.Nat.{ℕ, ◌-◌, ◌<◌}
+use Rattle.std.specs.Prelude.{Result}
+use Rattle.refusal.specs.declared.Refusal.{Refusal}
 use mathlib.Core.Path.{◌≡◌, refl, sym, ap, ap₂, ◌∙◌}
 use mathlib.Core.Bool.{cond}
 use mathlib.Core.List.{List, [], ◌∷◌, ◌++◌, map}
@@ -76,7 +78,7 @@ as_joiners was out ids k [] ws rooms w = refl
 as_joiners was out ids k (d ∷ ds) ws rooms w =
     let here : cond (is_of ids k d) (handed_back ((linked was out).take ws rooms d).outcome d (take_rooms ws rooms d)) []
     ≡ cond (is_of ids k d) (handed_back (taken_of (joiner_in ws) rooms d).outcome d (take_rooms ws rooms d)) [] =
-    ap (λ (o : Outcome). cond (is_of ids k d) (handed_back o d (take_rooms ws rooms d)) []) (outcome-is ws rooms d out) in
+    ap (λ (o : Result Outcome Refusal). cond (is_of ids k d) (handed_back o d (take_rooms ws rooms d)) []) (outcome-is ws rooms d out) in
     let rest = as_joiners was out ids k ds (take_words ws rooms d) (take_rooms ws rooms d) (words_stay ws rooms d ∙ w) in
     ap₂ ◌++◌ here (rest ∙ ap (λ (i : Joiner). delivered_on ids k i (take_rooms ws rooms d) ds) (taken_back ws rooms d w))
 
@@ -143,7 +145,7 @@ module _ (ids : List ℕ) (R k : ℕ) (known : k < length ids) where
       record {
         delivered = ap₂ ◌++◌ (ap (λ (x : List (List ℕ)). cond (is_of ids k d) x []) (its-message p))
             (i.delivered ∙ ap₂ (λ (x : Joiner) (y : List ℕ). delivered_on ids k x y ds) j e);
-        outcomes = ap₂ ◌++◌ (ap (λ (x : Outcome). cond (is_of ids k d) (x ∷ []) []) (its-outcome p))
+        outcomes = ap₂ ◌++◌ (ap (λ (x : Result Outcome Refusal). cond (is_of ids k d) (x ∷ []) []) (its-outcome p))
             (i.outcomes ∙ ap₂ (λ (x : Joiner) (y : List ℕ). outcomes_on ids k x y ds) j e);
         left = i.left ∙ ap₂ (λ (x : Joiner) (y : List ℕ). lying_by (left_on k x y ds)) j e;
       }

@@ -1,6 +1,8 @@
 -- What the linked calls cut is what is taken: the datagrams of `cut_up`, each at the start of its output.
 -- Assumes nothing.
 use Prim.Native.Nat.{ℕ, zero, suc, ◌+◌, ◌≤◌, ◌<◌}
+use Rattle.std.specs.Prelude.{Result, Ok}
+use Rattle.refusal.specs.declared.Refusal.{Refusal}
 use mathlib.Core.Path.{◌≡◌, refl, sym, ap, ap₂, ◌∙◌, subst}
 use mathlib.Core.List.{List, [], ◌∷◌}
 use native.Mathlib.Omega.{arith}
@@ -12,9 +14,6 @@ use Rattle.binding.specs.Header.{senders, counters}
 use Rattle.binding.specs.Cutting.{piece_count, datagram_of, counted_of, made_of, cut_into}
 use Rattle.binding.specs.Counted as counting
 use Rattle.binding.specs.Made as cutting
-use Rattle.binding.specs.declared.cutter.Counted.TheVariants.{Pieces}
-use Rattle.binding.specs.declared.cutter.Made.{Made}
-use Rattle.binding.specs.declared.cutter.Made.TheVariants as made
 use Rattle.binding.proofs.Cutting.{Cuttable, can-cut, datagram-most, makes-made}
 use Rattle.joiner.specs.declared.Joiner.{Joiner}
 use Rattle.nyrkovash.specs.PieceCalls.{pieces_number, pieces_given, count_left, cut_number, cut_given, made_left}
@@ -29,7 +28,7 @@ use Rattle.promises.proofs.Linked.{answered, start, ran}
 
 -- how many pieces
 module _ {m s was n count : ℕ} (w : Cuttable m s) (p : Counts (record { total = m; size = s; given = was }) n count) where
-  counted : counted_of m s ≡ Pieces (piece_count m s)
+  counted : counted_of m s ≡ Ok (piece_count m s)
   counted = rw (can-cut m s w)
 
   count-number : n ≡ 0
@@ -49,7 +48,7 @@ module _ (msg : List ℕ) (s id first : ℕ) (w : Cuttable (length msg) s) (rang
     abbrev d : Datagram
     d = datagram_of msg s id first i
 
-    makes : made_of msg s id first i (length out) ≡ made.Datagram (length d)
+    makes : made_of msg s id first i (length out) ≡ Ok (length d)
     makes =
         makes-made msg s id first i (length out) (length d)
         (record { cut = w; sends = range; counts = c; piece = h; fits = omega (arith, datagram-most msg s id first i); size = refl })
@@ -64,7 +63,7 @@ module _ (msg : List ℕ) (s id first : ℕ) (w : Cuttable (length msg) s) (rang
     cut_out =
         ap (λ (y : CutLeft). y.out) (sym p.1.1.1.1.1) ∙ p.1.1.1.0.1.0
         ∙ ap (λ (y : CutLent). cut_into y.message y.size y.sender y.first y.piece y.out) p.1.1.1.1.0
-        ∙ ap (λ (x : Made). cutting.left_over_by x out (written_over out 0 d)) makes
+        ∙ ap (λ (x : Result ℕ Refusal). cutting.left_over_by x out (written_over out 0 d)) makes
 
     cut_written : l.written ≡ length d
     cut_written =

@@ -1,6 +1,8 @@
 -- What is linked packs and unpacks as demand 2 asks.
 -- Assumes nothing.
 use Prim.Native.Nat.{ℕ, ◌≤◌, ◌<◌}
+use Rattle.std.specs.Prelude.{Result, Ok, Err}
+use Rattle.refusal.specs.declared.Refusal.{Refusal}
 use mathlib.Core.Path.{◌≡◌, refl, sym, ap, ap₂, subst, ◌∙◌}
 use mathlib.Core.Bool.{Bool, true, false, cond, ◌&&◌}
 use mathlib.Core.List.{List, [], ◌++◌}
@@ -10,8 +12,6 @@ use lib.Dec.{eqb, leb}
 use lib.ListN.{length, take, get_or}
 use Rattle.wire.specs.Bytes.{Octets, over}
 use Rattle.table.specs.declared.Sections.{Sections}
-use Rattle.table.specs.declared.Checked.{Checked}
-use Rattle.table.specs.declared.Checked.TheVariants as check
 use Rattle.table.specs.Layout.{within}
 use Rattle.table.specs.Checked.{number_given as check_number}
 use Rattle.table.specs.Entries.{is_type}
@@ -82,7 +82,7 @@ narrow t s c = (
   },
 )
 
-pub sections_back : (t : List ℕ) (s : Sections) (ss index : List ℕ) → checked t ≡ check.Table s → ss ≡ words_of s ++ index → sections_in ss ≡ s
+pub sections_back : (t : List ℕ) (s : Sections) (ss index : List ℕ) → checked t ≡ Ok s → ss ≡ words_of s ++ index → sections_in ss ≡ s
 sections_back t s ss index e f =
     let n = narrow t s (accepted t s e).lie in
     ap sections_in f ∙ read_back s index n.0 n.1 n.2 n.3
@@ -93,11 +93,11 @@ module _ {n : ℕ} {walked : List ℕ} {b : Answer} (a : Answer) (was : List ℕ
   pub as-told : given_back n walked ≡ a
   as-told = ap₂ given_back (e ∙ ap number_given same) (f ∙ ap (walked_left was) same) ∙ told a was sound
 
-check_zero : (was : List ℕ) (x : Checked) → TableNumbered x → check_number x ≡ 0 → (s : Sections) × (x ≡ check.Table s)
-check_zero was (check.Refused n) h e = absurd (omega arith)
-check_zero was (check.Table s) h e = (s, refl)
+check_zero : (was : List ℕ) (x : Result Sections Refusal) → TableNumbered x → check_number x ≡ 0 → (s : Sections) × (x ≡ Ok s)
+check_zero was (Err n) h e = absurd (omega arith)
+check_zero was (Ok s) h e = (s, refl)
 
-module _ (t : List ℕ) (s : Sections) (ss index : List ℕ) (i : ℕ) (e : checked t ≡ check.Table s) (f : ss ≡ words_of s ++ index) where
+module _ (t : List ℕ) (s : Sections) (ss index : List ℕ) (i : ℕ) (e : checked t ≡ Ok s) (f : ss ≡ words_of s ++ index) where
   pack-same : (ws out : List ℕ) → packed_in t (sections_in ss) i ws (length out) ≡ packed t i ws (length out)
   pack-same ws out =
       ap (λ (x : Sections). packed_in t x i ws (length out)) (sections_back t s ss index e f) ∙ sym (same_answer t s e (writer ws) (length ws) i (length out))
@@ -123,9 +123,9 @@ gave_known c n t i room k e = go (checked t) refl e
     known s true false f h = let z : ◌≡◌ {A = ℕ} 0 1 = cc in absurd (omega arith)
     known s false b f h = let z : ◌≡◌ {A = ℕ} 0 1 = cc in absurd (omega arith)
 
-    go : (x : Checked) → checked t ≡ x → answered_if x c n t i room ≡ Gave k → (s : Sections) × Known t s i
-    go (check.Refused r) f h = let z : ◌≡◌ {A = ℕ} 0 1 = cc in absurd (omega arith)
-    go (check.Table s) f h = (s, record { accepted = f; known = known s (within t s) (is_type s i) refl h })
+    go : (x : Result Sections Refusal) → checked t ≡ x → answered_if x c n t i room ≡ Gave k → (s : Sections) × Known t s i
+    go (Err r) f h = let z : ◌≡◌ {A = ℕ} 0 1 = cc in absurd (omega arith)
+    go (Ok s) f h = (s, record { accepted = f; known = known s (within t s) (is_type s i) refl h })
 
 -- a call that packed, and one that unpacked, by number and words
 just_packs : (t : List ℕ) (s : Sections) (i : ℕ) (ws bs out : List ℕ) (n : ℕ) (walked left : List ℕ) → PacksAs t i ws out n walked left

@@ -1,6 +1,8 @@
 -- What is linked cuts messages, and joins what it cut, as demand 2 asks.
 -- Assumes nothing.
 use Prim.Native.Nat.{ℕ, suc}
+use Rattle.std.specs.Prelude.{Ok}
+use Rattle.refusal.specs.Refusal.{refused}
 use mathlib.Core.Path.{◌≡◌, refl, sym, ap, ap₂, ◌∙◌}
 use mathlib.Core.Bool.{Bool, true, false, cond, ◌&&◌}
 use mathlib.Core.List.{List, [], ◌∷◌}
@@ -12,8 +14,6 @@ use Rattle.binding.specs.Header.{senders, counters}
 use Rattle.binding.specs.Cutting.{can_cut, piece_count, datagram_of, counted_of, made_of, cut_into}
 use Rattle.binding.specs.Counted.{number_given as countNumber}
 use Rattle.binding.specs.Made.{number_given as cut_number}
-use Rattle.binding.specs.declared.cutter.Counted.TheVariants.{Pieces}
-use Rattle.binding.specs.declared.cutter.Made.TheVariants as made
 use Rattle.binding.proofs.Cutting.{can-cut, pieces-made, made-front, made-rest}
 use Rattle.nyrkovash.specs.PieceCalls.{count_left, made_left}
 use Rattle.promises.specs.Traffic.{Datagram, delivered_on, fresh}
@@ -25,7 +25,7 @@ use Rattle.promises.proofs.CutAndJoined.{cut_and_joined}
 -- a piece that was cut
 module _ (msg : List ℕ) (s sender first i : ℕ) (out : List ℕ) where
   made-zero : cut_number (made_of msg s sender first i (length out)) ≡ 0
-      → made_of msg s sender first i (length out) ≡ made.Datagram (length (datagram_of msg s sender first i))
+      → made_of msg s sender first i (length out) ≡ Ok (length (datagram_of msg s sender first i))
   made-zero e =
       go (can_cut (length msg) s && (ltb sender senders && ltb first counters)) (ltb i (piece_count (length msg) s))
       (leb (length (datagram_of msg s sender first i)) (length out)) e
@@ -34,8 +34,8 @@ module _ (msg : List ℕ) (s sender first i : ℕ) (out : List ℕ) where
       l = length (datagram_of msg s sender first i)
 
       go : (a b c : Bool) →
-          cut_number (cond a (cond b (cond c (made.Datagram l) (made.Refused 52)) (made.Refused 51)) (made.Refused 50)) ≡ 0
-          → cond a (cond b (cond c (made.Datagram l) (made.Refused 52)) (made.Refused 51)) (made.Refused 50) ≡ made.Datagram l
+          cut_number (cond a (cond b (cond c (Ok l) (refused 52)) (refused 51)) (refused 50)) ≡ 0
+          → cond a (cond b (cond c (Ok l) (refused 52)) (refused 51)) (refused 50) ≡ Ok l
       go true true true z = refl
       go true true false z = absurd (omega arith)
       go true false c z = absurd (omega arith)
@@ -65,17 +65,17 @@ module _ (msg : List ℕ) (s sender first : ℕ) (g : CanBeCut msg s sender firs
   cuts : can_cut (length msg) s ≡ true
   cuts = can-cut (length msg) s (record { some = g.some; most = g.most; size = g.size; piece = g.largest })
 
-  counts : counted_of (length msg) s ≡ Pieces N
+  counts : counted_of (length msg) s ≡ Ok N
   counts = rw cuts
 
   cuts-each : (count : ℕ) → count ≡ N → CutsEach msg s sender first count
   cuts-each count c k a n e p em es ek ef l room =
       let out = a.1.1.1.1.1.0.now in
       let i : ℕ = a.1.1.1.1.0 in
-      let m : made_of msg s sender first i (length out) ≡ made.Datagram (length (datagram_of msg s sender first i)) =
+      let m : made_of msg s sender first i (length out) ≡ Ok (length (datagram_of msg s sender first i)) =
       pieces-made msg s sender first i (length out) N counts g.sender_fits g.counter_fits (omega arith) room in
       let m' : made_of a.0.now a.1.0 a.1.1.0 a.1.1.1.0 i (length out)
-      ≡ made.Datagram (length (datagram_of msg s sender first i)) = rw (em, es, ek, ef) m in (
+      ≡ Ok (length (datagram_of msg s sender first i)) = rw (em, es, ek, ef) m in (
         p.0 ∙ ap cut_number m',
         ap₂ (λ (x : ℕ) (b : List ℕ). drop x b) (p.1.1 ∙ ap (made_left a.1.1.1.1.1.1.0.now) m') p.1.0
             ∙ made-rest a.0.now a.1.0 a.1.1.0 a.1.1.1.0 i out m'
@@ -103,7 +103,7 @@ module _ (msg : List ℕ) (s sender first : ℕ) (g : CanBeCut msg s sender firs
 
 pub cut_then_joined : CutThenJoined
 cut_then_joined msg s sender first g k a n e p em es =
-    let c : counted_of a.0 a.1.0 ≡ Pieces (piece_count (length msg) s) = rw (em, es) (counts msg s sender first g) in
+    let c : counted_of a.0 a.1.0 ≡ Ok (piece_count (length msg) s) = rw (em, es) (counts msg s sender first g) in
     let given : e.1.1.0.now ≡ piece_count (length msg) s = p.1 ∙ ap (count_left a.1.1.0.now) c in (
       p.0 ∙ ap countNumber c,
       cuts-each msg s sender first g e.1.1.0.now given,

@@ -1,6 +1,8 @@
 -- What is linked goes by plans as on sections: by plans that were laid out, the one outcome of a call is the same.
 -- Assumes nothing.
 use Prim.Native.Nat.{ℕ}
+use Rattle.std.specs.Prelude.{Ok}
+use Rattle.refusal.specs.Refusal.{refused}
 use mathlib.Core.Path.{◌≡◌, refl, sym, ap, subst, ◌∙◌}
 use mathlib.Core.Logic.{◌↔◌}
 use mathlib.Core.Bool.{Bool, true, false, cond}
@@ -10,13 +12,11 @@ use lib.Dec.{ltb}
 use lib.ListN.{length, get_or, replicate, length-replicate}
 use Rattle.wire.proofs.Cond.{clash}
 use Rattle.table.specs.declared.Sections.{Sections}
-use Rattle.table.specs.declared.Checked.TheVariants.{Table}
 use Rattle.table.specs.Layout.{within}
 use Rattle.table.specs.Words.{sections_in, words_of}
 use Rattle.types.specs.Table.{checked}
 use Rattle.unpack.specs.Reading.{reader}
 use Rattle.pack.specs.Writing.{writer}
-use Rattle.plan.specs.declared.Length.TheVariants.{Refused, Words}
 use Rattle.plan.specs.Length.{number_given as lengthNumber}
 use Rattle.plan.specs.Layout.{plans_length, length_in, laid_number, laid_out}
 use Rattle.payload.specs.Calls.{words_in}
@@ -50,13 +50,13 @@ module _ (t ss : List ℕ) where
       outcome (λ (y : LoadLent ℕ). lengthNumber (length_in y.table (sections_in y.sections)))
       (λ y. length_left y.answer (length_in y.table (sections_in y.sections))) (load_lent t ss was) m p.0 p.1 x.1.1.1.1.0 x.1.1.1.1.1
 
-  measured : (was m : ℕ) → Measures (load_lent t ss was) 0 m → length_in t s ≡ Words m
+  measured : (was m : ℕ) → Measures (load_lent t ss was) 0 m → length_in t s ≡ Ok m
   unfolding length_in
   measured was m x = let p = measures was 0 m x in go (within t s) p.0 p.1
     where
-      go : (b : Bool) → 0 ≡ lengthNumber (cond b (Words (plans_length t s)) (Refused 30)) → m ≡ length_left was (cond b (Words (plans_length t s)) (Refused 30))
-          → cond b (Words (plans_length t s)) (Refused 30) ≡ Words m
-      go true e f = ap Words (sym f)
+      go : (b : Bool) → 0 ≡ lengthNumber (cond b (Ok (plans_length t s)) (refused 30)) → m ≡ length_left was (cond b (Ok (plans_length t s)) (refused 30))
+          → cond b (Ok (plans_length t s)) (refused 30) ≡ Ok m
+      go true e f = ap Ok (sym f)
       go false e f = absurd (omega (arith, e))
 
   laid : (was m : ℕ) → Measures (load_lent t ss was) 0 m → (ws : List ℕ) (n : ℕ) (left : List ℕ) → Lays (load_lent t ss ws) n left → LaidIn m ws n left
@@ -80,7 +80,7 @@ module _ (t ss : List ℕ) where
   unfolding length_in
   length-numbers = go (within t s)
     where
-      go : (b : Bool) → lengthNumber (cond b (Words (plans_length t s)) (Refused 30)) ≡ cond b 0 30
+      go : (b : Bool) → lengthNumber (cond b (Ok (plans_length t s)) (refused 30)) ≡ cond b 0 30
       go true = refl
       go false = refl
 
@@ -110,7 +110,7 @@ some l w =
     let t = l.table in
     let s = sections_in l.sections in
     let ws : List ℕ = replicate (plans_length t s) 0 in
-    let h : length_in t s ≡ Words (plans_length t s) = rw w refl in
+    let h : length_in t s ≡ Ok (plans_length t s) = rw w refl in
     let z = (the_plans.lays_out t s).enough (plans_length t s) ws h (omega (arith, length-replicate {A = ℕ} (plans_length t s) 0)) in (
       laid_out t s ws,
       (
@@ -150,7 +150,7 @@ module _ (l : WalkLent) (ps : List ℕ) (x : LaidFor l ps) where
     )
 
     -- on a table that the check accepts
-    module _ (s : Sections) (index : List ℕ) (h : checked l.table ≡ Table s) (f : l.sections ≡ words_of s ++ index) where
+    module _ (s : Sections) (index : List ℕ) (h : checked l.table ≡ Ok s) (f : l.sections ≡ words_of s ++ index) where
       unpack_checked : UnpacksBy (l with-plans ps) n r → UnpacksAs l.table l.number l.input l.output n r.walked r.output
       unpack_checked y =
           let e = unpack-is.0 ((walks-by reader (l with-plans ps) n r).0 y) in

@@ -1,6 +1,7 @@
 -- What is linked notes and replies as the platform does.
 -- Assumes nothing.
 use Prim.Native.Nat.{ℕ, ◌-◌, ◌≤◌, ◌<◌}
+use Rattle.std.specs.Prelude.{Ok}
 use Rattle.std.specs.Prelude.{Option, Some, None}
 use mathlib.Core.Path.{◌≡◌, refl, sym, ap, ap₂, ◌∙◌}
 use mathlib.Core.Bool.{Bool, true, false, cond}
@@ -13,7 +14,6 @@ use lib.Pow.{pow_pos}
 use lib.ListN.{length, get_or, drop}
 use Rattle.wire.proofs.Cond.{no_lt}
 use Rattle.table.specs.declared.Sections.{Sections}
-use Rattle.table.specs.declared.Checked.TheVariants.{Table}
 use Rattle.types.specs.Table.{checked}
 use Rattle.table.specs.Words.{sections_in, index_in}
 use Rattle.message.specs.declared.Header.{Header}
@@ -188,7 +188,7 @@ module _ (own : ℕ) (ws t : List ℕ) (s : Sections) (m out : List ℕ) (h : He
         }
 
 -- on the words that the check left for a table that it accepts
-module _ (own : ℕ) (ws t : List ℕ) (s : Sections) (words ss m : List ℕ) (e : checked t ≡ Table s) (f : CheckLeft t s words ss) where
+module _ (own : ℕ) (ws t : List ℕ) (s : Sections) (words ss m : List ℕ) (e : checked t ≡ Ok s) (f : CheckLeft t s words ss) where
   abbrev at : Standing
   at = standing_in ws
 

@@ -1,6 +1,7 @@
 -- What a linked call for one message of Issue 3 says, by what the platform's call notes and writes.
 -- Assumes nothing.
 use Prim.Native.Nat.{ℕ, ◌-◌, ◌^◌, ◌≤◌}
+use Rattle.std.specs.Prelude.{Ok}
 use Rattle.std.specs.Prelude.{Option, Some, None}
 use mathlib.Core.Path.{◌≡◌, refl, ap, ap₂, ◌∙◌}
 use mathlib.Core.Bool.{true, false}
@@ -9,7 +10,6 @@ use native.Mathlib.Nat.{mod-lt}
 use lib.Pow.{pow_pos}
 use lib.ListN.{length, get_or, drop, take-append-drop}
 use Rattle.table.specs.declared.Sections.{Sections}
-use Rattle.table.specs.declared.Checked.TheVariants.{Table}
 use Rattle.table.specs.Words.{sections_in, index_in}
 use Rattle.types.specs.Table.{checked}
 use Rattle.message.specs.declared.Status.TheVariants.{Down, Up}
@@ -167,7 +167,7 @@ module _ (own : ℕ) (st i ours ws sv t m out : List ℕ) (s : Sections) (h : He
         all_asked k e y l = too_many c s h (rw e at y) l
 
 -- on the words that the check left for a table that it accepts
-module _ (own : ℕ) (st i ours ws sv t ss m out : List ℕ) (s : Sections) (words : List ℕ) (e : checked t ≡ Table s) (f : CheckLeft t s words ss) where
+module _ (own : ℕ) (st i ours ws sv t ss m out : List ℕ) (s : Sections) (words : List ℕ) (e : checked t ≡ Ok s) (f : CheckLeft t s words ss) where
   abbrev d : MixedCall
   d = call_of own st i ours ws sv t m out
 

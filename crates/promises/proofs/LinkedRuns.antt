@@ -1,6 +1,9 @@
 -- A run over a joiner's words is a run over joiners; what a program in C reads out of an answer is what `take` answers by value.
 -- Assumes nothing.
 use Prim.Native.Nat.{ℕ, ◌+◌, ◌*◌, ◌≤◌, ◌<◌}
+use Rattle.std.specs.Prelude.{Result, Ok, Err}
+use Rattle.refusal.specs.Refusal.{refused}
+use Rattle.refusal.specs.declared.Refusal.{Refusal}
 use mathlib.Core.Path.{◌≡◌, refl, sym, ap, ◌∙◌}
 use mathlib.Core.Bool.{Bool, true, false, cond, not, ◌&&◌}
 use mathlib.Core.List.{List, []}
@@ -13,7 +16,6 @@ use Rattle.wire.proofs.AllBelow.{at-below}
 use Rattle.wire.proofs.Runs.{length_written}
 use Rattle.binding.specs.Header.{the_version, smallest_datagram, largest_datagram, version_in, heading_in, piece_in}
 use Rattle.binding.specs.declared.BindingHeader.{BindingHeader}
-use Rattle.binding.specs.declared.Heading.TheVariants as heading
 use Rattle.channel.specs.Record.{channel_limit}
 use Rattle.channel.specs.Outcomes.{number_given, left_over_by}
 use Rattle.channel.specs.Channel.{room_of, stepped_of}
@@ -22,9 +24,7 @@ use Rattle.channel.specs.declared.Room.{Room}
 use Rattle.channel.specs.declared.Step.{Step}
 use Rattle.channel.specs.declared.Slice.TheVariants as slice
 use Rattle.channel.specs.declared.Outcome.{Outcome}
-use Rattle.channel.specs.declared.Outcome.TheVariants.{Refused, Repeated, Delivered, Held, Stray, TooLong}
-use Rattle.channel.specs.declared.Judged.{Judged}
-use Rattle.channel.specs.declared.Judged.TheVariants.{Refusal, Move}
+use Rattle.channel.specs.declared.Outcome.TheVariants.{Repeated, Delivered, Held, Stray, TooLong}
 use Rattle.channel.proofs.Cases.{Stepped, again, whole, begins, stray, long, goes_on, ends, step-cases}
 use Rattle.joiner.specs.Setup.{place_of, senders_of, channel_at, good}
 use Rattle.joiner.specs.declared.Joiner.{Joiner}
@@ -42,13 +42,13 @@ use Rattle.promises.specs.Linked.{message_in, outcome_from, ChannelLent, lying_i
 use Rattle.promises.proofs.Apart.{Underway}
 
 -- a refusal has a number
-abbrev pub numbered : Outcome → Bool
-numbered (Refused n) = not (eqb n 0)
-numbered Repeated = true
-numbered (Delivered m p) = true
-numbered (Held m n) = true
-numbered (Stray m) = true
-numbered (TooLong m) = true
+abbrev pub numbered : Result Outcome Refusal → Bool
+numbered (Err n) = not (eqb n 0)
+numbered (Ok Repeated) = true
+numbered (Ok (Delivered m p)) = true
+numbered (Ok (Held m n)) = true
+numbered (Ok (Stray m)) = true
+numbered (Ok (TooLong m)) = true
 
 step_numbered : {room : Room} {ch : Channel} {c n : ℕ} {p : _} {s : Step} → Stepped room ch c n p s → numbered s.outcome ≡ true
 step_numbered (again r) = refl
@@ -60,7 +60,7 @@ step_numbered (goes_on r z f) = refl
 step_numbered (ends r z f) = refl
 
 module _ (j : Joiner) (d : Datagram) where
-  abbrev ok : Judged → Type 0
+  abbrev ok : Result (ℕ × Step) Refusal → Type 0
   ok x = numbered (taken_by j x).outcome ≡ true
 
   sent-numbered : (h : BindingHeader) → ok (sent_to j d h)
@@ -70,17 +70,17 @@ module _ (j : Joiner) (d : Datagram) where
       k : ℕ
       k = place_of (senders_of j) h.sender
 
-      go : (t : Bool) → ok (cond t (Move k (stepped_of (room_of j.room k) (channel_at j k) h.part h.counter (length (piece_in d)))) (Refusal 23))
+      go : (t : Bool) → ok (cond t (Ok (k, stepped_of (room_of j.room k) (channel_at j k) h.part h.counter (length (piece_in d)))) (refused 23))
       go true = step_numbered (step-cases (room_of j.room k) (channel_at j k) h.counter (length (piece_in d)) h.part)
       go false = refl
 
-  heading-numbered : (t v : Bool) (h : BindingHeader) → ok (heading_by j d (cond t (cond v (heading.Piece h) (heading.Refused 22)) (heading.Refused 21)))
+  heading-numbered : (t v : Bool) (h : BindingHeader) → ok (heading_by j d (cond t (cond v (Ok h) (refused 22)) (refused 21)))
   unfolding heading_by taken_by
   heading-numbered true true h = sent-numbered h
   heading-numbered true false h = refl
   heading-numbered false v h = refl
 
-  judged-numbered : (t : Bool) → ok (cond t (heading_by j d (heading_in d)) (Refusal 20))
+  judged-numbered : (t : Bool) → ok (cond t (heading_by j d (heading_in d)) (refused 20))
   unfolding taken_by
   judged-numbered true = heading-numbered (leb smallest_datagram (length d) && leb (length d) largest_datagram) (eqb (version_in d) the_version) _
   judged-numbered false = refl
@@ -97,14 +97,14 @@ refused_back x y n e = go (eqb n 0) e
     go false q = refl
     go true q = let z : ◌≡◌ {A = ℕ} 0 1 = cc in absurd (omega arith)
 
-outcome_back : (o : Outcome) (out : List ℕ) → numbered o ≡ true → outcome_from (number_given o) (outcome_words o out) ≡ o
-outcome_back (Refused n) out e = refused_back _ (Refused n) n e
-outcome_back Repeated out e = refl
-outcome_back (Delivered m (slice.Datagram p n)) out e = refl
-outcome_back (Delivered m (slice.Rooms p n)) out e = refl
-outcome_back (Held m n) out e = refl
-outcome_back (Stray m) out e = refl
-outcome_back (TooLong m) out e = refl
+outcome_back : (o : Result Outcome Refusal) (out : List ℕ) → numbered o ≡ true → outcome_from (number_given o) (outcome_words o out) ≡ o
+outcome_back (Err n) out e = refused_back _ (Err n) n e
+outcome_back (Ok Repeated) out e = refl
+outcome_back (Ok (Delivered m (slice.Datagram p n))) out e = refl
+outcome_back (Ok (Delivered m (slice.Rooms p n))) out e = refl
+outcome_back (Ok (Held m n)) out e = refl
+outcome_back (Ok (Stray m)) out e = refl
+outcome_back (Ok (TooLong m)) out e = refl
 
 no_message : {B : Type 0} (s : Bool) (x : List B) (n : ℕ) → not (eqb n 0) ≡ true → cond (eqb n 0 && s) x [] ≡ []
 no_message s x n e = go (eqb n 0) e
@@ -113,15 +113,15 @@ no_message s x n e = go (eqb n 0) e
     go false q = refl
     go true q = let z : ◌≡◌ {A = ℕ} 0 1 = cc in absurd (omega arith)
 
-message_back : (o : Outcome) (out d rooms : List ℕ) → numbered o ≡ true → message_in (number_given o) (outcome_words o out) d rooms ≡ handed_back o d rooms
+message_back : (o : Result Outcome Refusal) (out d rooms : List ℕ) → numbered o ≡ true → message_in (number_given o) (outcome_words o out) d rooms ≡ handed_back o d rooms
 unfolding message_of
-message_back (Refused n) out d rooms e = no_message _ _ n e
-message_back Repeated out d rooms e = refl
-message_back (Delivered m (slice.Datagram p n)) out d rooms e = refl
-message_back (Delivered m (slice.Rooms p n)) out d rooms e = refl
-message_back (Held m n) out d rooms e = refl
-message_back (Stray m) out d rooms e = refl
-message_back (TooLong m) out d rooms e = refl
+message_back (Err n) out d rooms e = no_message _ _ n e
+message_back (Ok Repeated) out d rooms e = refl
+message_back (Ok (Delivered m (slice.Datagram p n))) out d rooms e = refl
+message_back (Ok (Delivered m (slice.Rooms p n))) out d rooms e = refl
+message_back (Ok (Held m n)) out d rooms e = refl
+message_back (Ok (Stray m)) out d rooms e = refl
+message_back (Ok (TooLong m)) out d rooms e = refl
 
 -- so of a datagram taken
 module _ (ws rooms : List ℕ) (d : Datagram) (out : List ℕ) where
@@ -138,13 +138,13 @@ module _ (ws rooms : List ℕ) (d : Datagram) (out : List ℕ) where
   message-is = message_back t.outcome out d (rooms_after (joiner_in ws) rooms d) (taken_numbered (joiner_in ws) rooms d)
 
 -- the joiner stays one of 130 words
-unless_length : (o : Outcome) (old new : List ℕ) → length new ≡ length old → length (left_over_by o old new) ≡ length old
-unless_length (Refused n) old new e = refl
-unless_length Repeated old new e = e
-unless_length (Delivered m p) old new e = e
-unless_length (Held m n) old new e = e
-unless_length (Stray m) old new e = e
-unless_length (TooLong m) old new e = e
+unless_length : (o : Result Outcome Refusal) (old new : List ℕ) → length new ≡ length old → length (left_over_by o old new) ≡ length old
+unless_length (Err n) old new e = refl
+unless_length (Ok Repeated) old new e = e
+unless_length (Ok (Delivered m p)) old new e = e
+unless_length (Ok (Held m n)) old new e = e
+unless_length (Ok (Stray m)) old new e = e
+unless_length (Ok (TooLong m)) old new e = e
 
 pub words_stay : (ws rooms : List ℕ) (d : Datagram) → length (take_words ws rooms d) ≡ length ws
 unfolding take_words

@@ -1,6 +1,7 @@
 -- What is linked writes a request in its target's issue.
 -- Assumes nothing.
 use Prim.Native.Nat.{ℕ, ◌+◌, ◌%◌, ◌^◌}
+use Rattle.std.specs.Prelude.{Ok}
 use Rattle.std.specs.Prelude.{Option, Some, None}
 use mathlib.Core.Path.{◌≡◌, refl, sym, ap, ap₂, subst, ◌∙◌}
 use mathlib.Core.Bool.{Bool, true, false, cond}
@@ -10,7 +11,6 @@ use lib.ListN.{length, take, drop}
 use Rattle.wire.proofs.Cond.{yes-if}
 use Rattle.wire.specs.Bytes.{over}
 use Rattle.table.specs.declared.Sections.{Sections}
-use Rattle.table.specs.declared.Checked.TheVariants.{Table}
 use Rattle.table.specs.Layout.{within}
 use Rattle.table.specs.Words.{sections_in, index_in}
 use Rattle.types.specs.Table.{checked}
@@ -154,7 +154,7 @@ module _ (l : SendMixedLent) (n : ℕ) (r : SendLeft) (s : SendsMixed l n r) (th
           this {c = 30 when (¬ (LieIn x.table (sections_in x.sections)))} ((lie_decides x.table (sections_in x.sections)).no_is e)
 
   -- on a table that the check accepts
-  module _ (ss : Sections) (words : List ℕ) (e : checked x.table ≡ Table ss) (f : CheckLeft x.table ss words x.sections) where
+  module _ (ss : Sections) (words : List ℕ) (e : checked x.table ≡ Ok ss) (f : CheckLeft x.table ss words x.sections) where
     back : sections_in x.sections ≡ ss
     back = sections_back x.table ss x.sections (laid x.table ss words) e f.0
 

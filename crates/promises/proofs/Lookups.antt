@@ -1,6 +1,7 @@
 -- On a table that `check` accepts the IDs rise, so that what is found is the operation of that ID.
 -- Assumes nothing.
 use Prim.Native.Nat.{ℕ, ◌+◌, ◌*◌, ◌^◌, ◌≤◌, ◌<◌}
+use Rattle.std.specs.Prelude.{Ok}
 use Rattle.std.specs.Prelude.{Option, Some, None}
 use mathlib.Core.Path.{◌≡◌, refl, sym, ap, ap₂, subst, ◌∙◌}
 use mathlib.Core.Bool.{Bool, true, false}
@@ -13,7 +14,6 @@ use lib.ListN.{length, get_or}
 use Rattle.wire.specs.Bytes.{number}
 use Rattle.wire.proofs.Rising.{rising-apart}
 use Rattle.table.specs.declared.Sections.{Sections}
-use Rattle.table.specs.declared.Checked.TheVariants.{Table}
 use Rattle.types.specs.Table.{checked}
 use Rattle.types.proofs.Accepted.{Accepted, accepted, ids-rise}
 use Rattle.operations.specs.Entries.{op_place, kind_at, response_at, operation_at, id_at}
@@ -73,7 +73,7 @@ module _ (t : List ℕ) (s : Sections) (rise : ids_rise t s.operations.at s.oper
       go false p true r = absurd (omega (arith, q, apart j i (ltb-true j i r) hi))
       go false p false r = omega (arith, ltb-false i j p, ltb-false j i r)
 
-module _ (t : List ℕ) (s : Sections) (words : List ℕ) (id : ℕ) (e : checked t ≡ Table s) (room : s.operations.count ≤ length words) where
+module _ (t : List ℕ) (s : Sections) (words : List ℕ) (id : ℕ) (e : checked t ≡ Ok s) (room : s.operations.count ≤ length words) where
   table_is : Accepted t s
   table_is = accepted t s e
 

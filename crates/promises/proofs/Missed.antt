@@ -1,6 +1,8 @@
 -- Every outcome carries missed, by step 2's formula.
 -- Assumes nothing.
 use Prim.Native.Nat.{ℕ, zero, suc, ◌+◌, ◌-◌, ◌%◌}
+use Rattle.std.specs.Prelude.{Result, Ok, Err}
+use Rattle.refusal.specs.declared.Refusal.{Refusal}
 use mathlib.Core.Path.{◌≡◌, refl, sym, ap, subst, ◌∙◌}
 use mathlib.Core.Bool.{true, false, not, true≢false}
 use mathlib.Core.List.{List, [], ◌∷◌, ◌++◌}
@@ -14,10 +16,8 @@ use Rattle.binding.specs.declared.MessagePart.{MessagePart}
 use Rattle.channel.specs.declared.Channel.{Channel}
 use Rattle.channel.specs.declared.Room.{Room}
 use Rattle.channel.specs.declared.Step.{Step}
-use Rattle.channel.specs.declared.Judged.{Judged}
-use Rattle.channel.specs.declared.Judged.TheVariants.{Refusal, Move}
 use Rattle.channel.specs.declared.Outcome.{Outcome}
-use Rattle.channel.specs.declared.Outcome.TheVariants.{Refused, Repeated, Delivered, Held, Stray, TooLong}
+use Rattle.channel.specs.declared.Outcome.TheVariants.{Repeated, Delivered, Held, Stray, TooLong}
 use Rattle.channel.specs.Channel.{room_of, repeated, missed_of, keeping, noted_of, begun_of, followed_of, placed_of, stepped_of}
 use Rattle.channel.specs.Outcomes.{number_given, kind_in, name_of, missed_in, bytes_in}
 use Rattle.channel.proofs.Cases.{Stepped, again, whole, begins, stray, long, goes_on, ends, step-cases}
@@ -70,26 +70,26 @@ carried : CarriesMissed ours
 unfolding taken_of taken_by
 carried j rooms d z = go (judged_of j (length rooms) d) refl
   where
-    go : (x : Judged) → judged_of j (length rooms) d ≡ x → Missing (its_record j d) (counter_in d) (missed_in (taken_of j rooms d).outcome)
-    go (Refusal n) e =
-        let o : (taken_of j rooms d).outcome ≡ Refused n = ap (λ (x : Judged). (taken_by j x).outcome) e in
+    go : (x : Result (ℕ × Step) Refusal) → judged_of j (length rooms) d ≡ x → Missing (its_record j d) (counter_in d) (missed_in (taken_of j rooms d).outcome)
+    go (Err n) e =
+        let o : (taken_of j rooms d).outcome ≡ Err n = ap (λ (x : Result (ℕ × Step) Refusal). (taken_by j x).outcome) e in
         absurd (not_zero n (sym (ap numbered o) ∙ taken_numbered j rooms d) (sym (ap number_given o) ∙ z))
-    go (Move k s) e =
-        let o : (taken_of j rooms d).outcome ≡ s.outcome = ap (λ (x : Judged). (taken_by j x).outcome) e in
+    go (Ok (k, s)) e =
+        let o : (taken_of j rooms d).outcome ≡ s.outcome = ap (λ (x : Result (ℕ × Step) Refusal). (taken_by j x).outcome) e in
         let m : Moved j (length rooms) d k s = judged-moved j (length rooms) d k s e in
         let t : Stepped (room_of j.room k) (channel_at j k) (counter_in d) (length (piece_in d)) (part_carried d) s =
         rw m.step (step-cases (room_of j.room k) (channel_at j k) (counter_in d) (length (piece_in d)) (part_carried d)) in
         subst (λ (i : ℕ). Missing (channel_at j i) (counter_in d) (missed_in (taken_of j rooms d).outcome)) m.channel
-        (subst (λ (x : Outcome). Missing (channel_at j k) (counter_in d) (missed_in x)) (sym o) (missing t))
+        (subst (λ (x : Result Outcome Refusal). Missing (channel_at j k) (counter_in d) (missed_in x)) (sym o) (missing t))
 
 -- in an answer's words
-word : (o : Outcome) (out : List ℕ) → numbered o ≡ true → number_given o ≡ 0 → get_or (outcome_words o out) 1 0 ≡ missed_in o
-word (Refused n) out h z = absurd (not_zero n h z)
-word Repeated out h z = refl
-word (Delivered m p) out h z = refl
-word (Held m n) out h z = refl
-word (Stray m) out h z = refl
-word (TooLong m) out h z = refl
+word : (o : Result Outcome Refusal) (out : List ℕ) → numbered o ≡ true → number_given o ≡ 0 → get_or (outcome_words o out) 1 0 ≡ missed_in o
+word (Err n) out h z = absurd (not_zero n h z)
+word (Ok Repeated) out h z = refl
+word (Ok (Delivered m p)) out h z = refl
+word (Ok (Held m n)) out h z = refl
+word (Ok (Stray m)) out h z = refl
+word (Ok (TooLong m)) out h z = refl
 
 in_words : (ws rooms d out : List ℕ) → take_number ws rooms d ≡ 0 → Missing (its_record (joiner_in ws) d) (counter_in d) (get_or (take_answer ws rooms d out) 1 0)
 unfolding take_number take_answer
@@ -98,15 +98,15 @@ in_words ws rooms d out z =
     subst (Missing (its_record j d) (counter_in d)) (sym (word (ours j rooms d) out (taken_numbered j rooms d) z)) (carried j rooms d z)
 
 -- in a line
-line : (n : ℕ) (o : Outcome) → ¬ (kind_in o ≡ 0) →
+line : (n : ℕ) (o : Result Outcome Refusal) → ¬ (kind_in o ≡ 0) →
     line_of n o ≡ decimal n ++ (32 ∷ (name_of o ++ (32 ∷ (decimal (missed_in o) ++ (32 ∷ (decimal (bytes_in o) ++ (10 ∷ [])))))))
 unfolding line_of
-line n (Refused k) h = absurd (h refl)
-line n Repeated h = refl
-line n (Delivered m p) h = refl
-line n (Held m b) h = refl
-line n (Stray m) h = refl
-line n (TooLong m) h = refl
+line n (Err k) h = absurd (h refl)
+line n (Ok Repeated) h = refl
+line n (Ok (Delivered m p)) h = refl
+line n (Ok (Held m b)) h = refl
+line n (Ok (Stray m)) h = refl
+line n (Ok (TooLong m)) h = refl
 
 -- a whole message of one byte on a fresh channel: none was missed
 abbrev rooms : List ℕ

@@ -1,6 +1,7 @@
 -- A request asked in the issue that the other speaks, heard there, and answered.
 -- Assumes nothing.
 use Prim.Native.Nat.{ℕ, ◌+◌, ◌^◌, ◌≤◌, ◌<◌}
+use Rattle.std.specs.Prelude.{Ok}
 use Rattle.std.specs.Prelude.{Option, Some, None}
 use mathlib.Core.Path.{◌≡◌, refl, sym, ap, subst, ◌∙◌}
 use mathlib.Core.Bool.{Bool, true, false, cond}
@@ -12,7 +13,6 @@ use Rattle.wire.specs.Bytes.{over, part}
 use Rattle.wire.proofs.Cond.{no-ne}
 use Rattle.wire.proofs.Runs.{part_in}
 use Rattle.table.specs.declared.Sections.{Sections}
-use Rattle.table.specs.declared.Checked.TheVariants.{Table}
 use Rattle.types.specs.Table.{checked}
 use Rattle.operations.specs.Entries.{op_place, kind_at}
 use Rattle.message.specs.declared.Message.TheVariants as message
@@ -171,7 +171,7 @@ module _ (x : ToSend) (c : CanAskAny x) where
 
   -- the request arrives
   hears : (y : ToReceive) (r : Sections) (j : ℕ) → y.own ≡ x.target → y.bytes ≡ asked_bytes x
-      → is_three y.partners x.own ≡ is_three x.partners x.target → checked y.table ≡ Table r → HasKind y.table r x.id 3 j
+      → is_three y.partners x.own ≡ is_three x.partners x.target → checked y.table ≡ Ok r → HasKind y.table r x.id 3 j
       → ComesAs y r (header_in (issue_in x) x.own x.id n x.payload) 3 j (length x.payload)
   hears y r j a b f e k =
       record {
@@ -188,7 +188,7 @@ module _ (x : ToSend) (c : CanAskAny x) where
   -- and the response
   module _ (issue : Issue) (y : ToReceive) (r : Sections) (j : ℕ) (response outB : List ℕ) (a : y.own ≡ x.own)
       (b : y.bytes ≡ reply_in issue x.target x.id n response outB) (f : is_three y.partners x.target ≡ in_three issue)
-      (fits : StampFits issue) (e : checked y.table ≡ Table r) (k : HasKind y.table r x.id 2 j) (size : length response < 2 ^ 32)
+      (fits : StampFits issue) (e : checked y.table ≡ Ok r) (k : HasKind y.table r x.id 2 j) (size : length response < 2 ^ 32)
       (room : head_of issue + length response ≤ length outB) where
     comes : ComesAs y r (header_in issue x.target x.id n response) 2 j (length response)
     comes =

@@ -2,13 +2,13 @@
 -- changes; or the sections that its operations are looked up in lie in the table's bytes.
 -- Assumes nothing.
 use Prim.Native.Nat.{ℕ}
+use Rattle.std.specs.Prelude.{Result, Ok, Err}
+use Rattle.refusal.specs.declared.Refusal.{Refusal}
 use mathlib.Core.Path.{◌≡◌, refl, sym, ap, ◌∙◌}
 use mathlib.Core.Bool.{Bool, true, false}
 use mathlib.Core.List.{List}
 use native.Mathlib.Omega.{arith}
 use Rattle.table.specs.declared.Sections.{Sections}
-use Rattle.table.specs.declared.Checked.{Checked}
-use Rattle.table.specs.declared.Checked.TheVariants as check
 use Rattle.table.specs.Layout.{within}
 use Rattle.types.specs.Table.{checked}
 use Rattle.types.proofs.Accepted.{accepted, is_within}
@@ -47,27 +47,27 @@ pub data Way (g : TableGiven) : Type 0 where
   refused : (n : ℕ) → Refuses g n → Way g
   goes : (t : List ℕ) (s : Sections) (index : List ℕ) → Goes g t s index → Way g
 
-on_bytes : (t : List ℕ) (x : Checked) → checked t ≡ x → TableNumbered x → Way (bytes t)
+on_bytes : (t : List ℕ) (x : Result Sections Refusal) → checked t ≡ x → TableNumbered x → Way (bytes t)
 unfolding answer_if out_if pending_if words_if
-on_bytes t (check.Refused n) e h =
+on_bytes t (Err n) e h =
     refused n (record {
-      bad = λ (f : checked t ≡ check.Table (sections_in t)).
-          let q : check.Refused n ≡ check.Table (sections_in t) = sym e ∙ f in
+      bad = λ (f : checked t ≡ Ok (sections_in t)).
+          let q : Err n ≡ Ok (sections_in t) = sym e ∙ f in
           let z : ◌≡◌ {A = ℕ} 0 1 = cc in
           omega arith;
       number = λ z. omega (arith, h.0);
-      answer = λ own i ours p l ws m room. ap (λ (x : Checked). answer_if x own i ours t p l ws m room) e;
-      output = λ own st c i ours p ws m out. ap (λ (x : Checked). out_if x own st c i ours t p ws m out) e;
-      list = λ own i l m. ap (λ (x : Checked). pending_if x own i t l m) e;
-      services = λ own i ours p ws m room. ap (λ (x : Checked). words_if x own i ours t p ws m room) e;
+      answer = λ own i ours p l ws m room. ap (λ (x : Result Sections Refusal). answer_if x own i ours t p l ws m room) e;
+      output = λ own st c i ours p ws m out. ap (λ (x : Result Sections Refusal). out_if x own st c i ours t p ws m out) e;
+      list = λ own i l m. ap (λ (x : Result Sections Refusal). pending_if x own i t l m) e;
+      services = λ own i ours p ws m room. ap (λ (x : Result Sections Refusal). words_if x own i ours t p ws m room) e;
     })
-on_bytes t (check.Table s) e h =
+on_bytes t (Ok s) e h =
     goes t s (index_of t s) (record {
       inside = is_within t s (accepted t s e);
-      answer = λ own i ours p l ws m room. ap (λ (x : Checked). answer_if x own i ours t p l ws m room) e;
-      output = λ own st c i ours p ws m out. ap (λ (x : Checked). out_if x own st c i ours t p ws m out) e;
-      list = λ own i l m. ap (λ (x : Checked). pending_if x own i t l m) e;
-      services = λ own i ours p ws m room. ap (λ (x : Checked). words_if x own i ours t p ws m room) e;
+      answer = λ own i ours p l ws m room. ap (λ (x : Result Sections Refusal). answer_if x own i ours t p l ws m room) e;
+      output = λ own st c i ours p ws m out. ap (λ (x : Result Sections Refusal). out_if x own st c i ours t p ws m out) e;
+      list = λ own i l m. ap (λ (x : Result Sections Refusal). pending_if x own i t l m) e;
+      services = λ own i ours p ws m room. ap (λ (x : Result Sections Refusal). words_if x own i ours t p ws m room) e;
     })
 
 on_sections : (t : List ℕ) (s : Sections) (index : List ℕ) (b : Bool) → within t s ≡ b → Way (sections t s index)

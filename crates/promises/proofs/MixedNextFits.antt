@@ -1,6 +1,7 @@
 -- The next own number stays one of 32 bits over a call for one message among partners of both issues.
 -- Assumes nothing.
 use Prim.Native.Nat.{ℕ, ◌^◌, ◌<◌}
+use Rattle.std.specs.Prelude.{Ok}
 use Rattle.std.specs.Prelude.{Option}
 use mathlib.Core.Path.{◌≡◌, refl, sym, ap, subst, ◌∙◌}
 use mathlib.Core.Bool.{Bool, true, false, cond}
@@ -10,7 +11,6 @@ use lib.Dec.{eqb}
 use lib.ListN.{length}
 use Rattle.wire.specs.Bytes.{part}
 use Rattle.table.specs.declared.Sections.{Sections}
-use Rattle.table.specs.declared.Checked.TheVariants.{Table}
 use Rattle.types.specs.Table.{checked}
 use Rattle.message.specs.declared.Status.{Status}
 use Rattle.message.specs.declared.Status.TheVariants.{Down, Up}
@@ -89,7 +89,7 @@ settled_small i ours p h x payload ws room fits new =
     go : (k short n : ℕ) → Small (settledAs k p h x short n).standing
     go k short n = by (eqb short 0) (eqb k 0) k short n
 
-module _ (x : ToReceive) (s : Sections) (e : checked x.table ≡ Table s) (p : Standing) (l : List ℕ) (fits : Small p) where
+module _ (x : ToReceive) (s : Sections) (e : checked x.table ≡ Ok s) (p : Standing) (l : List ℕ) (fits : Small p) where
   abbrev outcomeOn : AnyReading → AnyReceived
   outcomeOn a = any_outcome_of x.own x.partners x.ours x.table s (index x s e) p l x.services x.bytes (length x.out) a
 

@@ -1,6 +1,8 @@
 -- On an accepted table the index is no matter: the operation of each ID is the same.
 -- Assumes nothing.
 use Prim.Native.Nat.{ℕ, ◌≤◌}
+use Rattle.std.specs.Prelude.{Result, Ok}
+use Rattle.refusal.specs.declared.Refusal.{Refusal}
 use Rattle.std.specs.Prelude.{Option}
 use mathlib.Core.Path.{◌≡◌, refl, sym, ap, ◌∙◌}
 use mathlib.Core.Bool.{true, cond}
@@ -9,8 +11,6 @@ use lib.ListN.{length}
 use Rattle.wire.specs.Bytes.{part}
 use Rattle.wire.proofs.Cond.{yes-if}
 use Rattle.table.specs.declared.Sections.{Sections}
-use Rattle.table.specs.declared.Checked.{Checked}
-use Rattle.table.specs.declared.Checked.TheVariants.{Table}
 use Rattle.table.specs.Layout.{cut_short, within}
 use Rattle.operations.specs.Search.{sought_in}
 use Rattle.types.specs.Table.{checked}
@@ -40,7 +40,7 @@ use Rattle.promises.specs.MixedOnSections.{AsOnBytes3, MixedOnSections}
 use Rattle.promises.proofs.ByID.{looked}
 use Rattle.promises.proofs.Lookups.{lookups}
 
-module _ (c : MixedCall) (s : Sections) (words : List ℕ) (e : checked c.table ≡ Table s) (room : s.operations.count ≤ length words) where
+module _ (c : MixedCall) (s : Sections) (words : List ℕ) (e : checked c.table ≡ Ok s) (room : s.operations.count ≤ length words) where
   abbrev t : List ℕ
   t = c.table
 
@@ -131,18 +131,18 @@ module _ (c : MixedCall) (s : Sections) (words : List ℕ) (e : checked c.table 
       record {
         answer =
             yes-if {A = AnyReceived} _ (refused_any c.standing cut_short) in_table ∙ outcome-same (any_of c.partners c.own c.message)
-            ∙ ap (λ (x : Checked). answer_if x c.own c.partners c.ours t c.standing c.pending c.services c.message (length c.output))
+            ∙ ap (λ (x : Result Sections Refusal). answer_if x c.own c.partners c.ours t c.standing c.pending c.services c.message (length c.output))
             (sym e);
         output =
             yes-if _ c.output in_table ∙ output-same (any_of c.partners c.own c.message)
-            ∙ ap (λ (x : Checked). out_if x c.own c.stamp c.composite c.partners c.ours t c.standing c.services c.message c.output)
+            ∙ ap (λ (x : Result Sections Refusal). out_if x c.own c.stamp c.composite c.partners c.ours t c.standing c.services c.message c.output)
             (sym e);
         list =
             yes-if _ c.pending in_table ∙ list_same (any_of c.partners c.own c.message)
-            ∙ ap (λ (x : Checked). pending_if x c.own c.partners t c.pending c.message) (sym e);
+            ∙ ap (λ (x : Result Sections Refusal). pending_if x c.own c.partners t c.pending c.message) (sym e);
         services =
             yes-if _ c.services in_table ∙ words_same (any_of c.partners c.own c.message)
-            ∙ ap (λ (x : Checked). words_if x c.own c.partners c.ours t c.standing c.services c.message (length c.output)) (sym e);
+            ∙ ap (λ (x : Result Sections Refusal). words_if x c.own c.partners c.ours t c.standing c.services c.message (length c.output)) (sym e);
       }
 
 pub mixed_on_sections : MixedOnSections

@@ -2,6 +2,8 @@
 -- message has.
 -- Assumes nothing.
 use Prim.Native.Nat.{ℕ, ◌+◌, ◌<◌, ◌≤◌}
+use Rattle.std.specs.Prelude.{Result, Ok, Err}
+use Rattle.refusal.specs.declared.Refusal.{Refusal}
 use Rattle.std.specs.Prelude.{Option}
 use mathlib.Core.Path.{◌≡◌, refl, sym, ap, subst, ◌∙◌}
 use mathlib.Core.Bool.{Bool, true, false, not, cond}
@@ -16,8 +18,6 @@ use Rattle.wire.specs.All.{all_below}
 use Rattle.wire.proofs.AllBelow.{at-below, all-below}
 use Rattle.wire.proofs.Cond.{clash, and_right, and_true}
 use Rattle.table.specs.declared.Sections.{Sections}
-use Rattle.table.specs.declared.Checked.{Checked}
-use Rattle.table.specs.declared.Checked.TheVariants as check
 use Rattle.table.specs.Layout.{cut_short, within}
 use Rattle.types.specs.Table.{checked}
 use Rattle.operations.specs.Search.{sought_in}
@@ -115,7 +115,7 @@ by_index : (t : List ℕ) (s : Sections) (index : List ℕ) (id : ℕ) → Decid
 unfolding is_answer operation_for
 by_index t s index id = decides_same (found_decides t s index (headed id) message.Operation) (λ q. q.1) (λ q. (refl, q))
 
-by_table : (t : List ℕ) → checked t ≡ check.Table (sections_in t) → (id : ℕ)
+by_table : (t : List ℕ) → checked t ≡ Ok (sections_in t) → (id : ℕ)
     → Decides (is_sent t (sought_in t (index_of t (sections_in t)) (sections_in t).operations.count id)) (IsKind2 t (sections_in t) id)
 unfolding is_answer operation_for
 by_table t e id = decides_same (answer_decides t (sections_in t) e (headed id) message.Operation) (λ q. q.1) (λ q. (refl, q))
@@ -124,7 +124,7 @@ module _ (own : ℕ) (i ours : List ℕ) (p : Standing) (l ws m : List ℕ) (roo
   on_bytes : (t : List ℕ) → Gives (mixed_checks (bytes t) own i ours p l ws m room Full) (number_given (answer_on (bytes t) own i ours p l ws m room).answer)
   unfolding answer_if
   on_bytes t =
-      then check.Refused (check.Table (sections_in t)) (λ n. n) 0 (λ (x : Checked). number_given (answer_if x own i ours t p l ws m room).answer)
+      then Err (Ok (sections_in t)) (λ n. n) 0 (λ (x : Result Sections Refusal). number_given (answer_if x own i ours t p l ws m room).answer)
       (λ n. refl) (table_in_order t)
       (λ e. message-in-order own i ours t (sections_in t) (index_of t (sections_in t)) p l ws m room (found_on (bytes t)) (looked t (sections_in t) e)
       (Kind2On (bytes t))

@@ -2,6 +2,8 @@
 -- another, and for every other message.
 -- Assumes nothing.
 use Prim.Native.Nat.{ℕ, zero, suc, ◌-◌, ◌≤◌}
+use Rattle.std.specs.Prelude.{Result, Ok}
+use Rattle.refusal.specs.declared.Refusal.{Refusal}
 use Rattle.std.specs.Prelude.{Option, Some}
 use mathlib.Core.Path.{◌≡◌, refl, sym, ap, ◌∙◌}
 use mathlib.Core.Bool.{Bool, true, false, cond}
@@ -15,8 +17,6 @@ use Rattle.wire.specs.Bytes.{part}
 use Rattle.wire.proofs.Cond.{yes-if, no-if}
 use Rattle.wire.proofs.Runs.{part_in}
 use Rattle.table.specs.declared.Sections.{Sections}
-use Rattle.table.specs.declared.Checked.{Checked}
-use Rattle.table.specs.declared.Checked.TheVariants.{Table}
 use Rattle.types.specs.Table.{checked}
 use Rattle.operations.specs.Entries.{op_place}
 use Rattle.message.specs.declared.Header.{Header}
@@ -88,7 +88,7 @@ abbrev pub judged_as : List ℕ → Standing → AnyHeader → ℕ → ℕ → A
 judged_as l p h i len =
     cond (is_response l (number_of h) (id_of h) (sender_of h)) (record { standing = p; answer = response_as h i len }) (refused_any p 61)
 
-module _ (x : ToReceive) (s : Sections) (e : checked x.table ≡ Table s) where
+module _ (x : ToReceive) (s : Sections) (e : checked x.table ≡ Ok s) where
   abbrev pub index : List ℕ
   index = index_of x.table s
 
@@ -97,26 +97,26 @@ module _ (x : ToReceive) (s : Sections) (e : checked x.table ≡ Table s) where
       (any_of x.partners x.own x.bytes)
   unfolding answer_if
   outcome-by p l =
-      ap (λ (c : Checked). answer_if c x.own x.partners x.ours x.table p l x.services x.bytes (length x.out)) e
+      ap (λ (c : Result Sections Refusal). answer_if c x.own x.partners x.ours x.table p l x.services x.bytes (length x.out)) e
 
   pub output-by : (p : Standing) (l : List ℕ) → our_any_receiving.output x p l
       ≡ any_output_of x.own x.stamp x.composite x.partners x.ours x.table s index p x.services x.bytes x.out
       (any_of x.partners x.own x.bytes)
   unfolding out_if
   output-by p l =
-      ap (λ (c : Checked). out_if c x.own x.stamp x.composite x.partners x.ours x.table p x.services x.bytes x.out) e
+      ap (λ (c : Result Sections Refusal). out_if c x.own x.stamp x.composite x.partners x.ours x.table p x.services x.bytes x.out) e
 
   pub list-is : (p : Standing) (l : List ℕ) → our_any_receiving.list x p l
       ≡ any_list_of x.own x.table s index l x.bytes (any_of x.partners x.own x.bytes)
   unfolding pending_if
-  list-is p l = ap (λ (c : Checked). pending_if c x.own x.partners x.table l x.bytes) e
+  list-is p l = ap (λ (c : Result Sections Refusal). pending_if c x.own x.partners x.table l x.bytes) e
 
   pub kept_by : (p : Standing) (l : List ℕ) → our_any_receiving.kept x p l
       ≡ any_words_of x.own x.partners x.ours x.table s index p x.services x.bytes (length x.out)
       (any_of x.partners x.own x.bytes)
   unfolding words_if
   kept_by p l =
-      ap (λ (c : Checked). words_if c x.own x.partners x.ours x.table p x.services x.bytes (length x.out)) e
+      ap (λ (c : Result Sections Refusal). words_if c x.own x.partners x.ours x.table p x.services x.bytes (length x.out)) e
 
   -- of Issue 6: as the call of before
   module _ (h : Header) (k : Message) (start len : ℕ) (r : any_of x.partners x.own x.bytes ≡ reading.Six h k start len) where

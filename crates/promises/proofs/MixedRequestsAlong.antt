@@ -1,6 +1,7 @@
 -- One call, mixed ones among them, on a list that is like a map: the map can show what the list shows, and the list stays like it.
 -- Assumes nothing.
 use Prim.Native.Nat.{ℕ, zero, suc, ◌+◌, ◌%◌, ◌^◌, ◌≤◌, ◌<◌}
+use Rattle.std.specs.Prelude.{Ok}
 use mathlib.Core.Path.{◌≡◌, refl, sym, ap, ap₂, subst, ◌∙◌}
 use mathlib.Core.Bool.{Bool, true, false, true≢false}
 use mathlib.Core.List.{List, [], ◌++◌}
@@ -9,7 +10,6 @@ use lib.ListN.{length, drop}
 use Rattle.wire.proofs.Cond.{yes-if, no-if}
 use Rattle.wire.specs.Bytes.{over}
 use Rattle.table.specs.declared.Sections.{Sections}
-use Rattle.table.specs.declared.Checked.TheVariants.{Table}
 use Rattle.types.specs.Table.{checked}
 use Rattle.message3.specs.declared.Stamp.{Stamp}
 use Rattle.pending.specs.Places.{free_place, entered_at}
@@ -69,7 +69,7 @@ long_so (Three t) payload = refl
 
 module _ (own : ℕ) (p : Standing) (l : List ℕ) (m : Map) (same : LikeMap l m) where
   -- a request is sent in an issue, or refused
-  module _ (fits : p.next < 2 ^ 32) (t : List ℕ) (s : Sections) (words : List ℕ) (id target : ℕ) (payload out : List ℕ) (e : checked t ≡ Table s)
+  module _ (fits : p.next < 2 ^ 32) (t : List ℕ) (s : Sections) (words : List ℕ) (id target : ℕ) (payload out : List ℕ) (e : checked t ≡ Ok s)
       (room : s.operations.count ≤ length words) (small : id < 2 ^ 32) (issue : Issue) where
     abbrev n : ℕ
     n = next_free l p.next
@@ -125,7 +125,7 @@ module _ (own : ℕ) (p : Standing) (l : List ℕ) (m : Map) (same : LikeMap l m
             }
 
   -- a message arrives
-  module _ (stamp : Stamp) (composite : ℕ) (partners ours t : List ℕ) (s : Sections) (services bytes out : List ℕ) (e : checked t ≡ Table s) where
+  module _ (stamp : Stamp) (composite : ℕ) (partners ours t : List ℕ) (s : Sections) (services bytes out : List ℕ) (e : checked t ≡ Ok s) where
     abbrev x : ToReceive
     x = arriving own stamp composite partners ours t services bytes out
 

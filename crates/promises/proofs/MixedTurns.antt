@@ -1,11 +1,11 @@
 -- What a mixed call does with the list of pending requests is a turn of request 1's, or nothing.
 -- Assumes nothing.
 use Prim.Native.Nat.{ℕ}
+use Rattle.std.specs.Prelude.{Ok}
 use mathlib.Core.Path.{◌≡◌, refl, sym, subst}
 use mathlib.Core.Bool.{Bool, true, false, cond}
 use mathlib.Core.List.{List}
 use Rattle.table.specs.declared.Sections.{Sections}
-use Rattle.table.specs.declared.Checked.TheVariants.{Table}
 use Rattle.types.specs.Table.{checked}
 use Rattle.pending.specs.Answers.{is_response}
 use Rattle.pending.specs.Turns.{whether}
@@ -21,7 +21,7 @@ answered_by : (p : Standing) (h : AnyHeader) (i len : ℕ) (b : Bool)
 answered_by p h i len true = delivered
 answered_by p h i len false = not-awaited
 
-receives : (x : ToReceive) (s : Sections) (p : Standing) (l : List ℕ) → checked x.table ≡ Table s → ReceiveTurn x p l
+receives : (x : ToReceive) (s : Sections) (p : Standing) (l : List ℕ) → checked x.table ≡ Ok s → ReceiveTurn x p l
 receives x s p l e = go (receipt-of x s e)
   where
     go : AnyReceipt x s → ReceiveTurn x p l

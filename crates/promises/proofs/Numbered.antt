@@ -2,6 +2,9 @@
 -- 0, which is what a call gives back where nothing is refused. So a number tells what an answer is.
 -- Assumes nothing.
 use Prim.{Unit}
+use Rattle.std.specs.Prelude.{Result, Ok, Err}
+use Rattle.refusal.specs.Refusal.{refused}
+use Rattle.refusal.specs.declared.Refusal.{Refusal}
 use Prim.Native.Nat.{ℕ, zero, suc, ◌≤◌}
 use mathlib.Core.Path.{◌≡◌, refl}
 use mathlib.Core.Bool.{Bool, true, false, cond, ◌&&◌}
@@ -11,8 +14,6 @@ use borrow.Author.Tests.{eqb-true, eqb-false}
 use lib.Dec.{leb, ltb, eqb}
 use Rattle.wire.specs.Bytes.{written}
 use Rattle.table.specs.declared.Sections.{Sections}
-use Rattle.table.specs.declared.Checked.{Checked}
-use Rattle.table.specs.declared.Checked.TheVariants as check
 use Rattle.table.specs.Layout.{within}
 use Rattle.table.specs.Entries.{is_type}
 use Rattle.table.specs.Leaf.{allowed}
@@ -30,15 +31,15 @@ use Rattle.promises.specs.TableOrder.{table_checks}
 use Rattle.promises.proofs.TableOrder.{table_in_order}
 
 -- a table's refusal
-abbrev pub TableNumbered : Checked → Type 0
-TableNumbered (check.Refused n) = (30 ≤ n) × (n ≤ 33)
-TableNumbered (check.Table s) = Unit {0}
+abbrev pub TableNumbered : Result Sections Refusal → Type 0
+TableNumbered (Err n) = (30 ≤ n) × (n ≤ 33)
+TableNumbered (Ok s) = Unit {0}
 
 abbrev AllNumbered : List Check → Type 0
 AllNumbered [] = Unit {0}
 AllNumbered (c ∷ cs) = ((30 ≤ c.refusal) × (c.refusal ≤ 33)) × AllNumbered cs
 
-by_checks : {s : Sections} {cs : List Check} {x : Checked} → AllNumbered cs → Answers check.Refused (check.Table s) cs x → TableNumbered x
+by_checks : {s : Sections} {cs : List Check} {x : Result Sections Refusal} → AllNumbered cs → Answers refused (Ok s) cs x → TableNumbered x
 by_checks a none = tt
 by_checks a (this h) = a.0
 by_checks a (next h r) = by_checks a.1 r
@@ -138,6 +139,6 @@ module _ (c : Codec) (n : ℕ) (t : List ℕ) where
   unfolding answered_if
   bytes-numbered i room = go (checked t) (table_numbered t)
     where
-      go : (x : Checked) → TableNumbered x → Numbered (answered_if x c n t i room)
-      go (check.Refused k) h = (omega (arith, h.0), below (omega (arith, h.1)))
-      go (check.Table s) h = in-numbered s i room
+      go : (x : Result Sections Refusal) → TableNumbered x → Numbered (answered_if x c n t i room)
+      go (Err k) h = (omega (arith, h.0), below (omega (arith, h.1)))
+      go (Ok s) h = in-numbered s i room

@@ -1,13 +1,13 @@
 -- The plain map shows one thing only of each call, and so over any calls.
 -- Assumes nothing.
 use Prim.Native.Nat.{ℕ, ◌+◌}
+use Rattle.std.specs.Prelude.{Ok}
 use Rattle.std.specs.Prelude.{Option, Some}
 use mathlib.Core.Path.{◌≡◌, refl, sym, ap, ap₂, subst, ◌∙◌}
 use mathlib.Core.Bool.{cond}
 use mathlib.Core.List.{List, [], ◌∷◌}
 use lib.Dec.{eqb}
 use Rattle.table.specs.declared.Sections.{Sections}
-use Rattle.table.specs.declared.Checked.TheVariants.{Table}
 use Rattle.types.specs.Table.{checked}
 use Rattle.message.specs.declared.Header.{Header}
 use Rattle.message.specs.declared.Message.TheVariants as message
@@ -61,7 +61,7 @@ module _ (own : ℕ) (p : Standing) (m w : Map) (same : SameMap m w) where
   same-deleted n = (one_told m w (give_up n) _ _ _ _ same Gives-up Gives-up).1
 
   -- a message under an ID of kind 2 is read in one way, and its ID has one entry
-  module _ (t : List ℕ) (s : Sections) (bytes : List ℕ) (e : checked t ≡ Table s) (h k : Header) (i j len size : ℕ)
+  module _ (t : List ℕ) (s : Sections) (bytes : List ℕ) (e : checked t ≡ Ok s) (h k : Header) (i j len size : ℕ)
       (r : Responds own t s bytes h i len) (q : Responds own t s bytes k j size) where
     both : reading.Read h message.Operation 20 len ≡ reading.Read k message.Operation 20 size
     both = sym r.read ∙ q.read

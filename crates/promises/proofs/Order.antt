@@ -1,6 +1,9 @@
 -- The order of checks for messages, datagrams and cutting.
 -- Assumes nothing.
 use Prim.Native.Nat.{ℕ, suc, ◌+◌, ◌-◌, ◌≤◌, ◌<◌}
+use Rattle.std.specs.Prelude.{Result, Ok, Err}
+use Rattle.refusal.specs.Refusal.{refused}
+use Rattle.refusal.specs.declared.Refusal.{Refusal}
 use mathlib.Core.Path.{◌≡◌, refl}
 use mathlib.Core.Bool.{Bool, true, false, not, cond, ◌&&◌}
 use mathlib.Core.Logic.{◌⊎◌, inl, inr, ⊎_elim}
@@ -23,10 +26,6 @@ use Rattle.message.specs.Reading.{reading_out, read_of}
 use Rattle.message.specs.Reading as reads
 use Rattle.message.specs.Writing.{write_of}
 use Rattle.message.specs.Writing as writes
-use Rattle.binding.specs.declared.Heading.TheVariants as heading
-use Rattle.binding.specs.declared.cutter.Counted.TheVariants as counted
-use Rattle.binding.specs.declared.cutter.Made.{Made}
-use Rattle.binding.specs.declared.cutter.Made.TheVariants as made
 use Rattle.binding.specs.Header.{senders, counters, version_in as version_of, header_in, heading_in}
 use Rattle.binding.specs.Cutting.{can_cut, can_head, piece_count, datagram_of, counted_of, made_of}
 use Rattle.binding.proofs.Cutting.{Cuttable, cuttable, can-cut}
@@ -117,10 +116,10 @@ inside lo hi x = flip_decides (leb lo x && leb x hi) (and_decides (leb lo x) (le
 pub version_decides : (d : List ℕ) → Decides (not (eqb (version_of d) 0)) (¬ (version_of d ≡ 0))
 version_decides d = not_decides (eqb (version_of d) 0) (eq_decides (version_of d) 0)
 
-pub header_in_order : (d : List ℕ) → Answers heading.Refused (heading.Piece (header_in d)) (header_checks d) (heading_in d)
+pub header_in_order : (d : List ℕ) → Answers refused (Ok (header_in d)) (header_checks d) (heading_in d)
 header_in_order d =
-    unless heading.Refused (heading.Piece (header_in d)) (leb 5 (length d) && leb (length d) 65507) 21 (inside 5 65507 (length d))
-    (unless heading.Refused (heading.Piece (header_in d)) (eqb (version_of d) 0) 22 (version_decides d) none)
+    unless Err (Ok (header_in d)) (leb 5 (length d) && leb (length d) 65507) 21 (inside 5 65507 (length d))
+    (unless Err (Ok (header_in d)) (eqb (version_of d) 0) 22 (version_decides d) none)
 
 -- not below, and not up to
 pub below_decides : (m n : ℕ) → Decides (not (ltb m n)) (n ≤ m)
@@ -164,16 +163,16 @@ both_decide true b d f = record { yes_is = λ e. inr (f.yes_is e); no_is = λ e.
 both_decide false b d f = record { yes_is = λ e. inl (d.yes_is refl); no_is = λ e. let z : ◌≡◌ {A = ℕ} 0 1 = cc in absurd (omega arith) }
 
 pub pieces_in_order : (m s : ℕ)
-    → Answers counted.Refused (counted.Pieces (piece_count m s)) (50 when (Outside 1 65560 m ⊎ Outside 1 65503 s) ∷ []) (counted_of m s)
-pieces_in_order m s = unless counted.Refused (counted.Pieces (piece_count m s)) (can_cut m s) 50 (cut_decides m s) none
+    → Answers refused (Ok (piece_count m s)) (50 when (Outside 1 65560 m ⊎ Outside 1 65503 s) ∷ []) (counted_of m s)
+pieces_in_order m s = unless Err (Ok (piece_count m s)) (can_cut m s) 50 (cut_decides m s) none
 
 pub cut_in_order : (msg : List ℕ) (s sender counter i room : ℕ)
-    → Answers made.Refused (made.Datagram (length (datagram_of msg s sender counter i))) (cut_checks msg s sender counter i room)
+    → Answers refused (Ok (length (datagram_of msg s sender counter i))) (cut_checks msg s sender counter i room)
     (made_of msg s sender counter i room)
 cut_in_order msg s sender counter i room =
     let n : ℕ = length (datagram_of msg s sender counter i) in
-    let good : Made = made.Datagram n in
-    unless made.Refused good (can_cut (length msg) s && can_head sender counter) 50
+    let good : Result ℕ Refusal = Ok n in
+    unless Err good (can_cut (length msg) s && can_head sender counter) 50
     (both_decide (can_cut (length msg) s) (can_head sender counter) (cut_decides (length msg) s) (head_decides sender counter))
-    (unless made.Refused good (ltb i (piece_count (length msg) s)) 51 (below_decides i (piece_count (length msg) s))
-    (unless made.Refused good (leb n room) 52 (above_decides n room) none))
+    (unless Err good (ltb i (piece_count (length msg) s)) 51 (below_decides i (piece_count (length msg) s))
+    (unless Err good (leb n room) 52 (above_decides n room) none))

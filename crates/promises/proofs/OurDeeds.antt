@@ -1,6 +1,8 @@
 -- With our deeds the frame of the wrong calls (specs/WrongMixed) is our call: number and words, on every input.
 -- Assumes nothing.
 use Prim.Native.Nat.{ℕ}
+use Rattle.std.specs.Prelude.{Result, Ok, Err}
+use Rattle.refusal.specs.declared.Refusal.{Refusal}
 use Rattle.std.specs.Prelude.{Option}
 use mathlib.Core.Path.{◌≡◌, refl, sym, ◌∙◌}
 use mathlib.Core.Bool.{Bool, true, false, cond}
@@ -10,8 +12,6 @@ use borrow.Author.Tests.{eqb-true, ne_eqb}
 use lib.Dec.{eqb}
 use Rattle.wire.specs.Bytes.{part}
 use Rattle.table.specs.declared.Sections.{Sections}
-use Rattle.table.specs.declared.Checked.{Checked}
-use Rattle.table.specs.declared.Checked.TheVariants as check
 use Rattle.table.specs.Layout.{within}
 use Rattle.types.specs.Table.{checked}
 use Rattle.message.specs.declared.Status.TheVariants.{Down, Up}
@@ -194,12 +194,12 @@ module _ (own : ℕ) (i ours : List ℕ) (p : Standing) (l ws m : List ℕ) (roo
   Same g = ((call_by our_deeds).number g own i ours p l ws m room ≡ our_call.number g own i ours p l ws m room)
       × ((call_by our_deeds).after g own i ours p ws m room ≡ our_call.after g own i ours p ws m room)
 
-  on_bytes : (t : List ℕ) (x : Checked) → checked t ≡ x → TableNumbered x → Same (bytes t)
+  on_bytes : (t : List ℕ) (x : Result Sections Refusal) → checked t ≡ x → TableNumbered x → Same (bytes t)
   unfolding answer_if words_if
-  on_bytes t (check.Refused n) e h =
+  on_bytes t (Err n) e h =
       let z : eqb n 0 ≡ false = ne_eqb n 0 (λ q. omega (arith, h.0, q)) in
       (rw (e, z) refl, rw (e, z) refl)
-  on_bytes t (check.Table s) e h = (
+  on_bytes t (Ok s) e h = (
     rw e (read_number own i ours t s (index_of t s) p l ws m room (any_of i own m)),
     rw e (read-words own i ours t s (index_of t s) p l ws m room (any_of i own m)),
   )

@@ -1,6 +1,8 @@
 -- The order of checks for payloads.
 -- Assumes nothing.
 use Prim.Native.Nat.{ℕ, zero, suc, ◌+◌, ◌<◌}
+use Rattle.std.specs.Prelude.{Result, Ok, Err}
+use Rattle.refusal.specs.declared.Refusal.{Refusal}
 use mathlib.Core.Path.{◌≡◌, refl, sym, ap, subst, ◌∙◌}
 use mathlib.Core.Bool.{Bool, true, false, not, cond, ◌&&◌}
 use mathlib.Core.List.{List, [], ◌∷◌, ◌++◌, append_assoc}
@@ -10,8 +12,6 @@ use lib.ListN.{length}
 use Rattle.wire.specs.Bytes.{written}
 use Rattle.table.specs.declared.Section.{Section}
 use Rattle.table.specs.declared.Sections.{Sections}
-use Rattle.table.specs.declared.Checked.{Checked}
-use Rattle.table.specs.declared.Checked.TheVariants as check
 use Rattle.table.specs.Layout.{section_end, lies_in, within}
 use Rattle.table.specs.Entries.{is_type}
 use Rattle.table.specs.Leaf.{allowed}
@@ -205,8 +205,8 @@ bytes_in_order : (c : Codec) → Counts c → c.leaves start ≡ 0 → (n : ℕ)
     → AnswersBehind (refusing Refused (table_checks t)) c n t (sections_in t) i room (answered_if (checked t) c n t i room)
 unfolding answered_if answered_in
 bytes_in_order c one z n t i room =
-    then-as check.Refused (check.Table (sections_in t)) Refused (λ r. r) (all c one z n t (sections_in t) i room)
-    (λ (x : Checked). answered_if x c n t i room) (λ k. refl) (table_in_order t)
+    then-as Err (Ok (sections_in t)) Refused (λ r. r) (all c one z n t (sections_in t) i room)
+    (λ (x : Result Sections Refusal). answered_if x c n t i room) (λ k. refl) (table_in_order t)
     (λ e. rw (is_within t (sections_in t) (accepted t (sections_in t) e)) (known-in-order c one z n t (sections_in t) i room))
 
 -- reading, a leaf is a word, and writing, a word is a leaf

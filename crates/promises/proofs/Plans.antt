@@ -1,6 +1,8 @@
 -- What a caller is promised of plans: by those that were laid out a call goes as the walk.
 -- Assumes nothing.
 use Prim.Native.Nat.{ℕ, zero, suc, ◌+◌, ◌-◌, ◌*◌, ◌≤◌, ◌<◌}
+use Rattle.std.specs.Prelude.{Ok}
+use Rattle.refusal.specs.Refusal.{refused}
 use mathlib.Core.Path.{◌≡◌, refl, sym, ap, ap₂, ◌∙◌}
 use mathlib.Core.Bool.{Bool, true, false, ◌&&◌, cond}
 use mathlib.Core.List.{List, [], ◌++◌}
@@ -22,7 +24,6 @@ use Rattle.walk.specs.Walk.{Step, on, stop, Codec, start, answer, left, walk}
 use Rattle.walk.specs.Planned.{is_planned, plan_tree, type_by}
 use Rattle.walk.proofs.Walks.{Holds}
 use Rattle.walk.proofs.Turns.{Within, keeps}
-use Rattle.plan.specs.declared.Length.TheVariants as words
 use Rattle.plan.specs.Leaves.{sum_below, is_flat, leaf_count, has_plan, leaves}
 use Rattle.plan.specs.Layout.{plans, plans_length, length_in, laid_number, laid_out}
 use Rattle.plan.proofs.FlatTypes.{leaves-most}
@@ -109,23 +110,23 @@ which =
 
 -- what is laid out, and where
 module _ (t : List ℕ) (s : Sections) where
-  said : (n : ℕ) → length_in t s ≡ words.Words n → (within t s ≡ true) × (plans_length t s ≡ n)
+  said : (n : ℕ) → length_in t s ≡ Ok n → (within t s ≡ true) × (plans_length t s ≡ n)
   unfolding length_in
   said n e = go (within t s) refl
     where
       go : (b : Bool) → within t s ≡ b → (within t s ≡ true) × (plans_length t s ≡ n)
-      go true w = (w, let f : words.Words (plans_length t s) ≡ words.Words n = rw w at e in cc)
-      go false w = let f : words.Refused 30 ≡ words.Words n = rw w at e in let z : ◌≡◌ {A = ℕ} 0 1 = cc in absurd (omega arith)
+      go true w = (w, let f : Ok (plans_length t s) ≡ Ok n = rw w at e in cc)
+      go false w = let f : refused 30 ≡ Ok n = rw w at e in let z : ◌≡◌ {A = ℕ} 0 1 = cc in absurd (omega arith)
 
   stays : (ws : List ℕ) → ¬ (laid_number t s (length ws) ≡ 0) → laid_out t s ws ≡ ws
   unfolding laid_out
   stays ws k = no_eq (over ws 0 (plans t s)) ws (laid_number t s (length ws)) 0 k
 
-  enough : (n : ℕ) (ws : List ℕ) → length_in t s ≡ words.Words n → n ≤ length ws → laid_number t s (length ws) ≡ 0
+  enough : (n : ℕ) (ws : List ℕ) → length_in t s ≡ Ok n → n ≤ length ws → laid_number t s (length ws) ≡ 0
   unfolding laid_number
   enough n ws e l = let d = said n e in rw d.0 (no_lt 10 0 (length ws) (plans_length t s) (omega (arith, d.1)))
 
-  too_short : (n : ℕ) (ws : List ℕ) → length_in t s ≡ words.Words n → length ws < n → (laid_number t s (length ws) ≡ 10) × (laid_out t s ws ≡ ws)
+  too_short : (n : ℕ) (ws : List ℕ) → length_in t s ≡ Ok n → length ws < n → (laid_number t s (length ws) ≡ 10) × (laid_out t s ws ≡ ws)
   unfolding laid_number
   too_short n ws e l =
       let d = said n e in
@@ -133,7 +134,7 @@ module _ (t : List ℕ) (s : Sections) where
       (f, stays ws (λ z. omega (arith, f, z)))
 
   outside : (ws : List ℕ) → within t s ≡ false
-      → (length_in t s ≡ words.Refused 30) × (laid_number t s (length ws) ≡ 30) × (laid_out t s ws ≡ ws)
+      → (length_in t s ≡ refused 30) × (laid_number t s (length ws) ≡ 30) × (laid_out t s ws ≡ ws)
   unfolding length_in laid_number
   outside ws w = let f : laid_number t s (length ws) ≡ 30 = rw w refl in (rw w refl, f, stays ws (λ z. omega (arith, f, z)))
 
@@ -152,7 +153,7 @@ module _ (t : List ℕ) (s : Sections) where
       let o : Bool = lies_in 8 1024 (length t) s.operations in
       leb-true s.types.count 256 (and_left c e (and_left (c && e) m (and_left ((c && e) && m) v (and_left (((c && e) && m) && v) o w))))
 
-  most : (n : ℕ) → length_in t s ≡ words.Words n → n ≤ 131329
+  most : (n : ℕ) → length_in t s ≡ Ok n → n ≤ 131329
   unfolding plans_length
   most n e = let d = said n e in omega (arith, d.1, few_types d.0, sum-most s.types.count)
 
@@ -163,7 +164,7 @@ module _ (t : List ℕ) (s : Sections) where
       go zero e = words_long t s ws e
       go (suc k) e = ap length (stays ws (λ z. omega (arith, e, z)))
 
-  behind : (n : ℕ) (ws : List ℕ) (k : ℕ) → length_in t s ≡ words.Words n → n ≤ k → get_or (laid_out t s ws) k 0 ≡ get_or ws k 0
+  behind : (n : ℕ) (ws : List ℕ) (k : ℕ) → length_in t s ≡ Ok n → n ≤ k → get_or (laid_out t s ws) k 0 ≡ get_or ws k 0
   behind n ws k e l = go (laid_number t s (length ws)) refl
     where
       go : (j : ℕ) → laid_number t s (length ws) ≡ j → get_or (laid_out t s ws) k 0 ≡ get_or ws k 0

@@ -1,6 +1,8 @@
 -- Demand 1 for one call for one message: its number is that of the first of its checks that applies.
 -- Assumes nothing.
 use Prim.Native.Nat.{ℕ, ◌*◌, ◌^◌, ◌<◌}
+use Rattle.std.specs.Prelude.{Result, Ok, Err}
+use Rattle.refusal.specs.declared.Refusal.{Refusal}
 use Rattle.std.specs.Prelude.{Option}
 use mathlib.Core.Path.{◌≡◌, refl, sym, ap, subst, ◌∙◌}
 use mathlib.Core.Bool.{Bool, true, false, cond}
@@ -13,8 +15,6 @@ use Rattle.wire.specs.Bytes.{Octets, number}
 use Rattle.pending.specs.Answers.{is_response}
 use Rattle.table.specs.declared.Sections.{Sections}
 use Rattle.table.specs.Layout.{within}
-use Rattle.table.specs.declared.Checked.{Checked}
-use Rattle.table.specs.declared.Checked.TheVariants as check
 use Rattle.types.specs.Table.{checked}
 use Rattle.message.specs.declared.Header.{Header}
 use Rattle.message.specs.declared.Message.TheVariants as message
@@ -144,7 +144,7 @@ module _ (own : ℕ) (t : List ℕ) (p : Standing) (l m : List ℕ) (room : ℕ)
   abbrev K : Type 0
   K = IsKind2 t s (id_in m)
 
-  module _ (e : checked t ≡ check.Table s) (f : read_of own m ≡ reading_out m) where
+  module _ (e : checked t ≡ Ok s) (f : read_of own m ≡ reading_out m) where
     decided : Decides (is_answer t (operation_for t s (index_of t s) (header_in m) (its_message m)) (its_message m)) ((its_message m ≡ message.Operation) × K)
     decided = answer_decides t s e (header_in m) (its_message m)
 
@@ -174,9 +174,9 @@ module _ (own : ℕ) (t : List ℕ) (p : Standing) (l m : List ℕ) (room : ℕ)
         (λ a. ap (λ (x : List OwedReply). reply_length * length x) (no-reply (decided.yes_is a)))
         (λ a. its_length own t s p l m [] (header_in m) (its_message m) (receives a))
 
-  message-in-order : checked t ≡ check.Table s
+  message-in-order : checked t ≡ Ok s
       → Answers (λ (n : ℕ). n) 0 (read_checks own m ++ (61 when NotAwaited K l m ∷ 10 when (room < reply_length * length replies) ∷ []))
-      (receive_number (received_by (check.Table s) own t p l m room).answer)
+      (receive_number (received_by (Ok s) own t p l m room).answer)
   unfolding received_by outcome_of operation_in
   message-in-order e =
       then reading.Refused (reading_out m) (λ n. n) 0
@@ -186,7 +186,7 @@ module _ (own : ℕ) (t : List ℕ) (p : Standing) (l m : List ℕ) (room : ℕ)
   received-in-order : Answers (λ (n : ℕ). n) 0 (receive_checks own t p l m room) (receive_number (received_of own t p l m room).answer)
   unfolding received_of received_by
   received-in-order =
-      then check.Refused (check.Table s) (λ n. n) 0 (λ (x : Checked). receive_number (received_by x own t p l m room).answer)
+      then Err (Ok s) (λ n. n) 0 (λ (x : Result Sections Refusal). receive_number (received_by x own t p l m room).answer)
       (λ n. refl) (table_in_order t) message-in-order
 
 pub receive_in_order : ReceiveInOrder

@@ -1,6 +1,8 @@
 -- What a call for one message notes and writes: the replies that are owed, as their receiver reads them.
 -- Assumes nothing.
 use Prim.Native.Nat.{ℕ, ◌+◌, ◌-◌, ◌*◌, ◌^◌, ◌≤◌, ◌<◌}
+use Rattle.std.specs.Prelude.{Result}
+use Rattle.refusal.specs.declared.Refusal.{Refusal}
 use Rattle.std.specs.Prelude.{Option}
 use mathlib.Core.Path.{◌≡◌, refl, sym, ap, subst, ◌∙◌}
 use mathlib.Core.Bool.{Bool, true, false, cond}
@@ -14,7 +16,6 @@ use Rattle.wire.proofs.Numbers.{number_lt, octets_drop}
 use Rattle.wire.proofs.Runs.{length_over, part_in}
 use Rattle.wire.proofs.Cond.{yes_lt, no_lt, no-if}
 use Rattle.table.specs.declared.Sections.{Sections}
-use Rattle.table.specs.declared.Checked.{Checked}
 use Rattle.message.specs.declared.Header.{Header}
 use Rattle.message.specs.declared.Message.{Message}
 use Rattle.message.specs.declared.Message.TheVariants as message
@@ -111,21 +112,21 @@ module _ (own : ℕ) (t : List ℕ) (s : Sections) (p : Standing) (l m out : Lis
   pub received_is : (room : ℕ) → received_of own t p l m room ≡ answered p h the room
   unfolding received_of received_by outcome_of operation_in
   received_is room =
-      ap (λ (x : Checked). received_by x own t p l m room) c.table
+      ap (λ (x : Result Sections Refusal). received_by x own t p l m room) c.table
       ∙ ap (λ (x : Reading). outcome_of own t s (operation_in t s (index_of t s) x) p l x room) c.read
       ∙ no-if {A = Received} (response_to l itsOperation p h c.start c.len) (answered p h the room) not_answer
 
   left_is : left_of own t p m out ≡ laid_out own the out
   unfolding left_of left_if output_of operation_in
   left_is =
-      ap (λ (x : Checked). left_if x own t p m out) c.table
+      ap (λ (x : Result Sections Refusal). left_if x own t p m out) c.table
       ∙ ap (λ (x : Reading). output_of own t s (operation_in t s (index_of t s) x) p x out) c.read
       ∙ no-if out (laid_out own the out) not_answer
 
   list-is : list_after own t l m ≡ l
   unfolding list_after list_if list_of operation_in
   list-is =
-      ap (λ (x : Checked). list_if x own t l m) c.table
+      ap (λ (x : Result Sections Refusal). list_if x own t l m) c.table
       ∙ ap (λ (x : Reading). list_of t (operation_in t s (index_of t s) x) l x) c.read
       ∙ no-if (list_answered l h) l not_answer
 

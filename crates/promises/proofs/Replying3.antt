@@ -1,6 +1,8 @@
 -- What a call for one message of Issue 3 notes and writes: the replies that are owed, as their receiver reads them.
 -- Assumes nothing.
 use Prim.Native.Nat.{ℕ, ◌+◌, ◌^◌, ◌≤◌, ◌<◌}
+use Rattle.std.specs.Prelude.{Result}
+use Rattle.refusal.specs.declared.Refusal.{Refusal}
 use Rattle.std.specs.Prelude.{Option}
 use mathlib.Core.Path.{◌≡◌, sym, ap, ap₂, subst, ◌∙◌}
 use mathlib.Core.Bool.{false}
@@ -12,7 +14,6 @@ use lib.Seq.{take_at, drop_at}
 use Rattle.wire.specs.Bytes.{over, part}
 use Rattle.wire.proofs.Cond.{no-if}
 use Rattle.table.specs.declared.Sections.{Sections}
-use Rattle.table.specs.declared.Checked.{Checked}
 use Rattle.message3.specs.declared.Header3.{Header3}
 use Rattle.message3.specs.declared.Message3.{Message3}
 use Rattle.message3.specs.declared.Message3.TheVariants as message3
@@ -60,7 +61,7 @@ module _ (c : MixedCall) (s : Sections) (h : Header3) (kind : Message3) (r : Rec
   unfolding answer_if any_outcome_of
   outcome-is =
       let i = index_of c.table s in
-      ap (λ (x : Checked). answer_if x c.own c.partners c.ours c.table c.standing c.pending c.services c.message (length c.output))
+      ap (λ (x : Result Sections Refusal). answer_if x c.own c.partners c.ours c.table c.standing c.pending c.services c.message (length c.output))
       r.table
       ∙ ap (any_outcome_of c.own c.partners c.ours c.table s i c.standing c.pending c.services c.message (length c.output)) r.read
       ∙ no-if {A = AnyReceived} (response_to3 c.pending itsOperation c.standing h r.start r.len) _ no_answer
@@ -69,7 +70,7 @@ module _ (c : MixedCall) (s : Sections) (h : Header3) (kind : Message3) (r : Rec
   unfolding out_if any_output_of
   output-is =
       let i = index_of c.table s in
-      ap (λ (x : Checked). out_if x c.own c.stamp c.composite c.partners c.ours c.table c.standing c.services c.message c.output)
+      ap (λ (x : Result Sections Refusal). out_if x c.own c.stamp c.composite c.partners c.ours c.table c.standing c.services c.message c.output)
       r.table
       ∙ ap (any_output_of c.own c.stamp c.composite c.partners c.ours c.table s i c.standing c.services c.message c.output)
       r.read
@@ -79,7 +80,7 @@ module _ (c : MixedCall) (s : Sections) (h : Header3) (kind : Message3) (r : Rec
   unfolding pending_if any_list_of
   list-is =
       let i = index_of c.table s in
-      ap (λ (x : Checked). pending_if x c.own c.partners c.table c.pending c.message) r.table
+      ap (λ (x : Result Sections Refusal). pending_if x c.own c.partners c.table c.pending c.message) r.table
       ∙ ap (any_list_of c.own c.table s i c.pending c.message) r.read
       ∙ no-if (list_answered3 c.pending h) c.pending no_answer
 
@@ -87,7 +88,7 @@ module _ (c : MixedCall) (s : Sections) (h : Header3) (kind : Message3) (r : Rec
   unfolding words_if any_words_of
   words_are =
       let i = index_of c.table s in
-      ap (λ (x : Checked). words_if x c.own c.partners c.ours c.table c.standing c.services c.message (length c.output)) r.table
+      ap (λ (x : Result Sections Refusal). words_if x c.own c.partners c.ours c.table c.standing c.services c.message (length c.output)) r.table
       ∙ ap (any_words_of c.own c.partners c.ours c.table s i c.standing c.services c.message (length c.output)) r.read
       ∙ no-if c.services _ no_answer
 

@@ -1,6 +1,7 @@
 -- What is reported of a message of each kind.
 -- Assumes nothing.
 use Prim.Native.Nat.{ℕ, ◌-◌, ◌≤◌, ◌<◌}
+use Rattle.std.specs.Prelude.{Ok}
 use Rattle.std.specs.Prelude.{Option, Some, None}
 use mathlib.Core.Path.{◌≡◌, refl, sym, ap, ap₂, subst, ◌∙◌}
 use mathlib.Core.Bool.{Bool, true, false, not}
@@ -17,7 +18,6 @@ use Rattle.wire.proofs.AllBelow.{at-below}
 use Rattle.operations.specs.Entries.{kind_at}
 use Rattle.operations.specs.Rules.{not_data, has_data}
 use Rattle.table.specs.declared.Sections.{Sections}
-use Rattle.table.specs.declared.Checked.TheVariants.{Table}
 use Rattle.types.specs.Table.{checked}
 use Rattle.message.specs.declared.Header.{Header}
 use Rattle.message.specs.declared.Status.TheVariants.{Down, Up}
@@ -72,7 +72,7 @@ module _ (t : List ℕ) (s : Sections) where
       = some_below no s.operations.count (not-true (all_below no s.operations.count) e) in
       (r.0, r.1, data_is r.0 (not-false (is_data t (operation_place t s r.0)) (sym (no_is r.0) ∙ r.2)))
 
-  module _ (accepted : checked t ≡ Table s) where
+  module _ (accepted : checked t ≡ Ok s) where
     -- the entry of an ID is versioned data, or is not
     one-data : (id i q : ℕ) → operation_with t s id ≡ Some (i, q) → is_data t q ≡ true → IsVersioned t s i
     one-data id i q f d = data_is i (ap (is_data t) (sym (bears t s accepted id i q f).1) ∙ d)

@@ -1,6 +1,7 @@
 -- What is reported of a message of Issue 3 of each kind.
 -- Assumes nothing.
 use Prim.Native.Nat.{ℕ, ◌-◌, ◌≤◌}
+use Rattle.std.specs.Prelude.{Ok}
 use Rattle.std.specs.Prelude.{Option, Some, None}
 use mathlib.Core.Path.{◌≡◌, refl, sym, ap, ap₂, subst, ◌∙◌}
 use mathlib.Core.Bool.{Bool, true, false, cond}
@@ -13,7 +14,6 @@ use lib.Seq.{take_all}
 use Rattle.wire.specs.Bytes.{part}
 use Rattle.wire.proofs.Runs.{part_in}
 use Rattle.table.specs.declared.Sections.{Sections}
-use Rattle.table.specs.declared.Checked.TheVariants.{Table}
 use Rattle.types.specs.Table.{checked}
 use Rattle.message.specs.declared.Status.TheVariants.{Down, Up}
 use Rattle.message.specs.declared.Message.TheVariants as message
@@ -72,7 +72,7 @@ module _ (c : MixedCall) (s : Sections) (index : List ℕ) (h : Header3) (start 
       go true = refl
       go false = refl
 
-module _ (c : MixedCall) (s : Sections) (accepted : checked c.table ≡ Table s) (h : Header3) (start len : ℕ) (long : 24 ≤ length c.message)
+module _ (c : MixedCall) (s : Sections) (accepted : checked c.table ≡ Ok s) (h : Header3) (start len : ℕ) (long : 24 ≤ length c.message)
     (at : start ≡ 24) (rest : len ≡ length c.message - 24) where
   abbrev its : Message3 → Heard3
   its kind = (X3 c s (index_of c.table s) h start len kind).heard

@@ -1,6 +1,8 @@
 -- What receiving comes to, on a table that `check` accepts: for a message of domain 1 under an ID of kind 2, and for every other.
 -- Assumes nothing.
 use Prim.Native.Nat.{ℕ, zero, suc, ◌^◌, ◌≤◌, ◌<◌}
+use Rattle.std.specs.Prelude.{Result, Ok}
+use Rattle.refusal.specs.declared.Refusal.{Refusal}
 use Rattle.std.specs.Prelude.{Option, Some, None}
 use mathlib.Core.Path.{◌≡◌, refl, sym, ap, ap₂, subst, ◌∙◌}
 use mathlib.Core.Bool.{Bool, true, false, cond}
@@ -12,8 +14,6 @@ use lib.ListN.{length, replicate, length-replicate}
 use Rattle.wire.proofs.Cond.{yes-if, no-if, no_lt}
 use Rattle.wire.specs.Bytes.{number}
 use Rattle.table.specs.declared.Sections.{Sections}
-use Rattle.table.specs.declared.Checked.{Checked}
-use Rattle.table.specs.declared.Checked.TheVariants.{Table}
 use Rattle.types.specs.Table.{checked}
 use Rattle.types.proofs.Accepted.{accepted}
 use Rattle.operations.specs.Entries.{op_place}
@@ -131,7 +131,7 @@ module _ (own : ℕ) (t : List ℕ) (s : Sections) (f : Option (ℕ × ℕ)) (p 
       go true false = fits
       go false b = fit (ltb room (owed_length (reaction_to own t s f p h m start len).owed))
 
-module _ (own : ℕ) (t : List ℕ) (s : Sections) (e : checked t ≡ Table s) (bytes : List ℕ) where
+module _ (own : ℕ) (t : List ℕ) (s : Sections) (e : checked t ≡ Ok s) (bytes : List ℕ) where
   abbrev pub found : Option (ℕ × ℕ)
   found = operation_in t s (index_of t s) (read_of own bytes)
 
@@ -145,15 +145,15 @@ module _ (own : ℕ) (t : List ℕ) (s : Sections) (e : checked t ≡ Table s) (
 
   pub in-outcome : (p : Standing) (l : List ℕ) (room : ℕ) → received_of own t p l bytes room ≡ outcome_of own t s found p l (read_of own bytes) room
   unfolding received_of received_by
-  in-outcome p l room = ap (λ (c : Checked). received_by c own t p l bytes room) e
+  in-outcome p l room = ap (λ (c : Result Sections Refusal). received_by c own t p l bytes room) e
 
   pub in-output : (p : Standing) (out : List ℕ) → left_of own t p bytes out ≡ output_of own t s found p (read_of own bytes) out
   unfolding left_of left_if
-  in-output p out = ap (λ (c : Checked). left_if c own t p bytes out) e
+  in-output p out = ap (λ (c : Result Sections Refusal). left_if c own t p bytes out) e
 
   pub in_list : (l : List ℕ) → list_after own t l bytes ≡ list_of t found l (read_of own bytes)
   unfolding list_after list_if
-  in_list l = ap (λ (c : Checked). list_if c own t l bytes) e
+  in_list l = ap (λ (c : Result Sections Refusal). list_if c own t l bytes) e
 
   -- a message of domain 1 under an ID of this kind
   module _ (h : Header) (kind i len : ℕ) (read : read_of own bytes ≡ reading.Read h message.Operation 20 len)

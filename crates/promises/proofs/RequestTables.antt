@@ -1,13 +1,13 @@
 -- On a table that `check` accepts the operation that is found for an ID is the entry that bears it, and its kind that entry's.
 -- Assumes nothing.
 use Prim.Native.Nat.{ℕ, ◌≤◌, ◌<◌}
+use Rattle.std.specs.Prelude.{Ok}
 use Rattle.std.specs.Prelude.{Option, Some, None}
 use mathlib.Core.Path.{◌≡◌, refl, sym, ap, ap₂, subst, ◌∙◌}
 use mathlib.Core.List.{List}
 use native.Mathlib.Omega.{arith}
 use lib.ListN.{length}
 use Rattle.table.specs.declared.Sections.{Sections}
-use Rattle.table.specs.declared.Checked.TheVariants.{Table}
 use Rattle.types.specs.Table.{checked}
 use Rattle.types.proofs.Accepted.{accepted, ids-rise}
 use Rattle.operations.specs.Entries.{op_place, kind_at, id_at}
@@ -16,7 +16,7 @@ use Rattle.operations.proofs.WhereIDsRise.{Bears, scanned, same_id}
 use Rattle.platform.proofs.Unique.{is-sought}
 use Rattle.promises.specs.RequestCalls.{HasKind, kind_found, kind_in}
 
-module _ (t : List ℕ) (s : Sections) (e : checked t ≡ Table s) where
+module _ (t : List ℕ) (s : Sections) (e : checked t ≡ Ok s) where
   abbrev places : ℕ → ℕ
   places = op_place t s.operations.at
 

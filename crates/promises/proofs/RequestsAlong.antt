@@ -1,6 +1,7 @@
 -- One call on a list that is like a map: the map can show what the list shows, and the list stays like it.
 -- Assumes nothing.
 use Prim.Native.Nat.{ℕ, zero, suc, ◌+◌, ◌%◌, ◌^◌, ◌≤◌, ◌<◌}
+use Rattle.std.specs.Prelude.{Ok}
 use Rattle.std.specs.Prelude.{Option, Some, None}
 use mathlib.Core.Path.{◌≡◌, refl, sym, ap, ap₂, subst, ◌∙◌}
 use mathlib.Core.Bool.{Bool, true, false, true≢false}
@@ -12,7 +13,6 @@ use lib.ListN.{length, drop}
 use Rattle.wire.proofs.Cond.{both, yes-if, no-if}
 use Rattle.wire.specs.Bytes.{over}
 use Rattle.table.specs.declared.Sections.{Sections}
-use Rattle.table.specs.declared.Checked.TheVariants.{Table}
 use Rattle.types.specs.Table.{checked}
 use Rattle.operations.specs.Entries.{op_place}
 use Rattle.message.specs.declared.Header.{Header}
@@ -61,7 +61,7 @@ module _ (own : ℕ) (p : Standing) (l : List ℕ) (m : Map) (same : LikeMap l m
   asked-same x id sender = response-by l x id sender ∙ ap (λ (a : Option (ℕ × ℕ)). asks a id sender) (same.looked x)
 
   -- a request is sent, or refused
-  module _ (fits : p.next < 2 ^ 32) (t : List ℕ) (s : Sections) (words : List ℕ) (id target : ℕ) (payload out : List ℕ) (e : checked t ≡ Table s)
+  module _ (fits : p.next < 2 ^ 32) (t : List ℕ) (s : Sections) (words : List ℕ) (id target : ℕ) (payload out : List ℕ) (e : checked t ≡ Ok s)
       (room : s.operations.count ≤ length words) (small : id < 2 ^ 32) where
     abbrev kind : ℕ
     kind = kind_in t s words id
@@ -114,7 +114,7 @@ module _ (own : ℕ) (p : Standing) (l : List ℕ) (m : Map) (same : LikeMap l m
         go zero q a = sent-along q a
 
   -- a message arrives
-  module _ (t : List ℕ) (s : Sections) (bytes out : List ℕ) (e : checked t ≡ Table s) where
+  module _ (t : List ℕ) (s : Sections) (bytes out : List ℕ) (e : checked t ≡ Ok s) where
     responds-along : (h : Header) (i len : ℕ) → Responds own t s bytes h i len → AlongCall own p l m (receive t s bytes out)
     unfolding response_to
     responds-along h i len r = go (is_response l h.sequence h.id h.platform) refl

@@ -1,6 +1,8 @@
 -- A domain 1 message with a kind 2 ID is the response, or is refused; one with a kind 3 ID is heard.
 -- Assumes nothing.
 use Prim.Native.Nat.{ℕ, ◌-◌, ◌≤◌}
+use Rattle.std.specs.Prelude.{Result}
+use Rattle.refusal.specs.declared.Refusal.{Refusal}
 use Rattle.std.specs.Prelude.{Option, Some, None}
 use mathlib.Core.Path.{◌≡◌, refl, sym, ap, ap₂, subst, ◌∙◌}
 use mathlib.Core.Bool.{Bool, true, false}
@@ -14,7 +16,6 @@ use Rattle.pending.specs.Answers.{cancelled, is_response}
 use Rattle.pending.specs.PlainMap.{Once}
 use Rattle.pending.proofs.Once.{gone}
 use Rattle.table.specs.declared.Sections.{Sections}
-use Rattle.table.specs.declared.Checked.{Checked}
 use Rattle.message.specs.declared.Header.{Header}
 use Rattle.message.specs.declared.Message.TheVariants as message
 use Rattle.message.specs.declared.Reading.{Reading}
@@ -50,7 +51,7 @@ module _ (own : ℕ) (t : List ℕ) (s : Sections) (p : Standing) (l m out : Lis
   came : received_of own t p l m (length out) ≡ outcome_of own t s its p l read (length out)
   unfolding received_of received_by operation_in
   came =
-      ap (λ (x : Checked). received_by x own t p l m (length out)) c.table
+      ap (λ (x : Result Sections Refusal). received_by x own t p l m (length out)) c.table
       ∙ ap (λ (x : Reading). outcome_of own t s (operation_in t s (index_of t s) x) p l x (length out)) c.read
       ∙ ap (λ (f : Option (ℕ × ℕ)). outcome_of own t s f p l read (length out)) found
 
@@ -69,7 +70,7 @@ module _ (own : ℕ) (t : List ℕ) (s : Sections) (p : Standing) (l m out : Lis
     output-stays : left_of own t p m out ≡ out
     unfolding left_of left_if output_of operation_in
     output-stays =
-        ap (λ (x : Checked). left_if x own t p m out) c.table
+        ap (λ (x : Result Sections Refusal). left_if x own t p m out) c.table
         ∙ ap (λ (x : Reading). output_of own t s (operation_in t s (index_of t s) x) p x out) c.read
         ∙ ap (λ (f : Option (ℕ × ℕ)). output_of own t s f p read out) found
         ∙ yes-if out _ is-answer
@@ -77,7 +78,7 @@ module _ (own : ℕ) (t : List ℕ) (s : Sections) (p : Standing) (l m out : Lis
     list-after : list_after own t l m ≡ list_answered l h
     unfolding list_after list_if list_of operation_in
     list-after =
-        ap (λ (x : Checked). list_if x own t l m) c.table
+        ap (λ (x : Result Sections Refusal). list_if x own t l m) c.table
         ∙ ap (λ (x : Reading). list_of t (operation_in t s (index_of t s) x) l x) c.read
         ∙ ap (λ (f : Option (ℕ × ℕ)). list_of t f l read) found
         ∙ yes-if (list_answered l h) l is-answer

@@ -1,13 +1,13 @@
 -- A request on a list that is like a map, in either issue: the map's checks decide as the list's do, and the list stays like the map.
 -- Assumes nothing.
 use Prim.Native.Nat.{ℕ, zero, suc, ◌+◌, ◌^◌, ◌≤◌, ◌<◌}
+use Rattle.std.specs.Prelude.{Ok}
 use Rattle.std.specs.Prelude.{Option, Some, None}
 use mathlib.Core.Path.{◌≡◌, refl, sym, subst}
 use mathlib.Core.List.{List}
 use native.Mathlib.Omega.{arith}
 use lib.ListN.{length}
 use Rattle.table.specs.declared.Sections.{Sections}
-use Rattle.table.specs.declared.Checked.TheVariants.{Table}
 use Rattle.types.specs.Table.{checked}
 use Rattle.pending.specs.Places.{number_at, free_place, entered_at}
 use Rattle.pending.specs.Free.{is_pending, next_free, IsNextFree}
@@ -57,7 +57,7 @@ module _ (l : List ℕ) (m : Map) (same : LikeMap l m) (from : ℕ) where
   pub free_on : from < 2 ^ 32 → IsNextFree (taken m) from (next_free l from)
   free_on fits = next_by (is_pending l) (taken m) from (next_free l from) (same_taken l m same) (next-is-free l from fits)
 
-  module _ (t : List ℕ) (s : Sections) (e : checked t ≡ Table s) (words : List ℕ) (room : s.operations.count ≤ length words) (id : ℕ)
+  module _ (t : List ℕ) (s : Sections) (e : checked t ≡ Ok s) (words : List ℕ) (room : s.operations.count ≤ length words) (id : ℕ)
       (payload : List ℕ) (space : ℕ) where
     abbrev kind : ℕ
     kind = kind_in t s words id

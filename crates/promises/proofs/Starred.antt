@@ -1,13 +1,12 @@
 -- The starred cases, computed; cutting by its laws.
 -- Assumes nothing.
 use Prim.Native.Nat.{ℕ, ◌+◌, ◌-◌, ◌*◌, ◌≤◌, ◌<◌, min}
+use Rattle.std.specs.Prelude.{Ok}
 use mathlib.Core.Path.{◌≡◌, refl, sym, ap, subst, ◌∙◌}
 use mathlib.Core.List.{List, [], ◌∷◌}
 use native.Mathlib.Omega.{arith}
 use lib.ListN.{length, take}
 use Rattle.binding.specs.declared.MessagePart.TheVariants.{Begin, End, Whole}
-use Rattle.binding.specs.declared.Heading.TheVariants.{Piece}
-use Rattle.binding.specs.declared.cutter.Made.TheVariants.{Datagram}
 use Rattle.binding.specs.Header.{heading_in, piece_in}
 use Rattle.binding.specs.Cutting.{piece_count, piece_at, part_of_piece, counter_of, header_of_piece, datagram_of, made_of, cut_into}
 use Rattle.binding.proofs.Cutting.{Cuttable, piece_length, datagram-heading, datagram-piece, makes-made, made-front}
@@ -54,13 +53,13 @@ module _ (msg : List ℕ) (m s sender first i n : ℕ) (e : length msg ≡ m) (w
 
   cut_as : (out : List ℕ) → 4 + n ≤ length out → CutAs msg s sender first i it out
   cut_as out r =
-      let q : made_of msg s sender first i (length out) ≡ Datagram (4 + n) = makes-made msg s sender first i (length out) (4 + n)
+      let q : made_of msg s sender first i (length out) ≡ Ok (4 + n) = makes-made msg s sender first i (length out) (4 + n)
       (record { cut = cuttable-is; sends = hs; counts = hf; piece = there-is; fits = omega (arith, long, r); size = sym long }) in
       let front : take (4 + n) (cut_into msg s sender first i out) ≡ datagram_of msg s sender first i = made-front msg s sender first i out q in
       record {
         made = q;
         header =
-            ap heading_in front ∙ datagram-heading msg s sender first i cuttable-is hs there-is ∙ ap (λ (k : ℕ). Piece (header_of_piece k s sender first i)) e;
+            ap heading_in front ∙ datagram-heading msg s sender first i cuttable-is hs there-is ∙ ap (λ (k : ℕ). Ok (header_of_piece k s sender first i)) e;
         piece = ap piece_in front ∙ datagram-piece msg s sender first i;
       }
 

@@ -2,6 +2,8 @@
 -- directions.
 -- Assumes nothing.
 use Prim.Native.Nat.{ℕ, suc, ◌+◌, ◌≤◌, ◌<◌}
+use Rattle.std.specs.Prelude.{Result, Ok, Err}
+use Rattle.refusal.specs.declared.Refusal.{Refusal}
 use mathlib.Core.Path.{◌≡◌, refl, sym, ap, subst, ◌∙◌}
 use mathlib.Core.Bool.{Bool, true, false, cond}
 use mathlib.Core.Logic.{inl, inr, ⊎_elim}
@@ -12,8 +14,6 @@ use lib.Dec.{ltb, eqb}
 use lib.ListN.{length, take, length-take}
 use Rattle.wire.proofs.Cond.{no_lt, no_eq}
 use Rattle.table.specs.declared.Sections.{Sections}
-use Rattle.table.specs.declared.Checked.{Checked}
-use Rattle.table.specs.declared.Checked.TheVariants as check
 use Rattle.table.specs.Layout.{within}
 use Rattle.types.specs.Table.{checked}
 use Rattle.types.proofs.Accepted.{accepted, is_within}
@@ -32,7 +32,7 @@ use Rattle.promises.proofs.CutShort.{Along, Own, late, Further, ItemIn, went-the
 -- a call that stopped has walked
 pub record Walks (t : List ℕ) (i : ℕ) : Type 0 where
   pub sections : Sections
-  pub is_table : checked t ≡ check.Table sections
+  pub is_table : checked t ≡ Ok sections
   pub is-type : i < sections.types.count
 
 module _ (t : List ℕ) (i : ℕ) where
@@ -40,15 +40,15 @@ module _ (t : List ℕ) (i : ℕ) where
   unfolding answered_if answered_in
   in_table c n room k p h = go (checked t) refl
     where
-      in-sections : (s : Sections) → checked t ≡ check.Table s → (a b : Bool) → within t s ≡ a → ltb i s.types.count ≡ b
+      in-sections : (s : Sections) → checked t ≡ Ok s → (a b : Bool) → within t s ≡ a → ltb i s.types.count ≡ b
           → Walks t i
       in-sections s e true true f g = record { sections = s; is_table = e; is-type = ltb-true i s.types.count g }
       in-sections s e true false f g = let j = rw (e, f, g) at h in absurd (let z : ◌≡◌ {A = ℕ} 0 1 = cc in omega arith)
       in-sections s e false b f g = let j = rw (e, f) at h in absurd (let z : ◌≡◌ {A = ℕ} 0 1 = cc in omega arith)
 
-      go : (r : Checked) → checked t ≡ r → Walks t i
-      go (check.Refused m) e = let j = rw e at h in absurd (let z : ◌≡◌ {A = ℕ} 0 1 = cc in omega arith)
-      go (check.Table s) e = in-sections s e (within t s) (ltb i s.types.count) refl refl
+      go : (r : Result Sections Refusal) → checked t ≡ r → Walks t i
+      go (Err m) e = let j = rw e at h in absurd (let z : ◌≡◌ {A = ℕ} 0 1 = cc in omega arith)
+      go (Ok s) e = in-sections s e (within t s) (ltb i s.types.count) refl refl
 
   by-walk : (u : Walks t i) (c : Codec) (n room : ℕ)
       → answered_if (checked t) c n t i room ≡ answered c.leaves n room (answer (walk c (tree t u.sections i) start []))

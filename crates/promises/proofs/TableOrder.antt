@@ -1,6 +1,9 @@
 -- The order of checks for a type table.
 -- Assumes nothing.
 use Prim.Native.Nat.{ℕ, zero, suc, ◌+◌, ◌*◌, ◌≤◌, ◌<◌}
+use Rattle.std.specs.Prelude.{Result, Ok, Err}
+use Rattle.refusal.specs.Refusal.{refused}
+use Rattle.refusal.specs.declared.Refusal.{Refusal}
 use mathlib.Core.Path.{◌≡◌, refl, sym, ap, subst, ◌∙◌}
 use mathlib.Core.Bool.{Bool, true, false, not, cond, ◌&&◌, ◌||◌}
 use mathlib.Core.Logic.{◌⊎◌, inl, inr, ⊎_elim}
@@ -11,8 +14,6 @@ use lib.Dec.{eqb, ltb}
 use lib.ListN.{length}
 use Rattle.table.specs.declared.Section.{Section}
 use Rattle.table.specs.declared.Sections.{Sections}
-use Rattle.table.specs.declared.Checked.{Checked}
-use Rattle.table.specs.declared.Checked.TheVariants.{Refused, Table}
 use Rattle.wire.specs.All.{all_below}
 use Rattle.table.specs.Layout.{type_width, member_width, value_width, operation_width, most_types, most_members, most_values}
 use Rattle.table.specs.Layout.{most_operations, section_end, operations_end, counted, section_at, after, ended, after_values, after_members}
@@ -44,30 +45,30 @@ outside_decides lo hi x = decides_same (or_decides (ltb x lo) (ltb hi x) (lt_dec
     back (above l) = inr l
 
 -- a section, and what comes after it
-module _ (width least most : ℕ) (t : List ℕ) (p : ℕ) (go_on : Section → Checked) where
+module _ (width least most : ℕ) (t : List ℕ) (p : ℕ) (go_on : Section → Result Sections Refusal) where
   section-shape : after (section_at width least most t p) go_on
-      ≡ cond (ltb (length t) (p + 2)) (Refused 30)
-      (cond (ltb (counted t p).count least || ltb most (counted t p).count) (Refused 31)
-      (cond (ltb (length t) (section_end width (counted t p))) (Refused 30) (go_on (counted t p))))
+      ≡ cond (ltb (length t) (p + 2)) (refused 30)
+      (cond (ltb (counted t p).count least || ltb most (counted t p).count) (refused 31)
+      (cond (ltb (length t) (section_end width (counted t p))) (refused 30) (go_on (counted t p))))
   unfolding section_at after
   section-shape = go (ltb (length t) (p + 2)) refl (ltb (counted t p).count least || ltb most (counted t p).count) refl
       (ltb (length t) (section_end width (counted t p))) refl
     where
       go : (a : Bool) → ltb (length t) (p + 2) ≡ a → (b : Bool) → (ltb (counted t p).count least || ltb most (counted t p).count) ≡ b
           → (c : Bool) → ltb (length t) (section_end width (counted t p)) ≡ c → after (section_at width least most t p) go_on
-          ≡ cond a (Refused 30) (cond b (Refused 31) (cond c (Refused 30) (go_on (counted t p))))
+          ≡ cond a (refused 30) (cond b (refused 31) (cond c (refused 30) (go_on (counted t p))))
       go true ea b eb c ec = rw ea
       go false ea true eb c ec = rw (ea, eb)
       go false ea false eb true ec = rw (ea, eb, ec)
       go false ea false eb false ec = rw (ea, eb, ec)
 
-  section-in-order : (good : Checked) (rest : List Check) → Answers Refused good rest (go_on (counted t p))
-      → Answers Refused good (section_checks width least most t p ++ rest) (after (section_at width least most t p) go_on)
+  section-in-order : (good : Result Sections Refusal) (rest : List Check) → Answers refused good rest (go_on (counted t p))
+      → Answers refused good (section_checks width least most t p ++ rest) (after (section_at width least most t p) go_on)
   section-in-order good rest a =
-      subst (Answers Refused good (section_checks width least most t p ++ rest)) (sym section-shape)
-      (by Refused good (ltb (length t) (p + 2)) 30 (lt_decides (length t) (p + 2))
-      (by Refused good (ltb (counted t p).count least || ltb most (counted t p).count) 31 (outside_decides least most (counted t p).count)
-      (by Refused good (ltb (length t) (section_end width (counted t p))) 30 (lt_decides (length t) (section_end width (counted t p))) a)))
+      subst (Answers refused good (section_checks width least most t p ++ rest)) (sym section-shape)
+      (by Err good (ltb (length t) (p + 2)) 30 (lt_decides (length t) (p + 2))
+      (by Err good (ltb (counted t p).count least || ltb most (counted t p).count) 31 (outside_decides least most (counted t p).count)
+      (by Err good (ltb (length t) (section_end width (counted t p))) 30 (lt_decides (length t) (section_end width (counted t p))) a)))
 
 module _ (t : List ℕ) (s : Sections) where
   abbrev operation-ok : ℕ → Bool
@@ -112,9 +113,9 @@ module _ (t : List ℕ) (s : Sections) where
       }
       go true ea = record { yes_is = λ q. let z : ◌≡◌ {A = ℕ} 0 1 = cc in absurd (omega arith); no_is = λ q. kept ea }
 
-  judged-in-order : Answers Refused (Table s) (32 when BreaksARule t s ∷ 33 when IsTooLarge t s ∷ []) (judged t s)
+  judged-in-order : Answers refused (Ok s) (32 when BreaksARule t s ∷ 33 when IsTooLarge t s ∷ []) (judged t s)
   unfolding judged
-  judged-in-order = unless Refused (Table s) (entries_ok t s) 32 entries-decide (unless Refused (Table s) (sizes_ok t s) 33 sizes-decide none)
+  judged-in-order = unless Err (Ok s) (entries_ok t s) 32 entries-decide (unless Err (Ok s) (sizes_ok t s) 33 sizes-decide none)
 
 -- the operations: an entry is cut short just where the last one ends past the bytes
 module _ (t : List ℕ) (s : Sections) where
@@ -162,8 +163,8 @@ module _ (t : List ℕ) (s : Sections) where
 
   -- what is answered behind their count
   ended-in-order : s.operations.at ≤ length t
-      → Answers Refused (Table s) (30 when IsCutShort t s ∷ 30 when (table_end t s < length t) ∷ [])
-      (cond (ltb (length t) (section_end operation_width s.operations)) (Refused 30) (ended t s))
+      → Answers refused (Ok s) (30 when IsCutShort t s ∷ 30 when (table_end t s < length t) ∷ [])
+      (cond (ltb (length t) (section_end operation_width s.operations)) (refused 30) (ended t s))
   unfolding ended
   ended-in-order a =
       go (ltb (length t) (section_end operation_width s.operations)) refl (eqb (operations_end t s) (length t)) refl (ltb (length t) (operations_end t s)) refl
@@ -173,8 +174,8 @@ module _ (t : List ℕ) (s : Sections) where
 
       go : (b : Bool) → ltb (length t) (section_end operation_width s.operations) ≡ b → (c : Bool) → eqb (operations_end t s) (length t) ≡ c
           → (d : Bool) → ltb (length t) (operations_end t s) ≡ d
-          → Answers Refused (Table s) (30 when IsCutShort t s ∷ 30 when (table_end t s < length t) ∷ [])
-          (cond b (Refused 30) (cond c (Table s) (Refused 30)))
+          → Answers refused (Ok s) (30 when IsCutShort t s ∷ 30 when (table_end t s < length t) ∷ [])
+          (cond b (refused 30) (cond c (Ok s) (refused 30)))
       go true eb c ec d ed =
           this (cut (omega (arith, ltb-true (length t) (section_end operation_width s.operations) eb, least s.operations.count)))
       go false eb true ec d ed =
@@ -195,16 +196,16 @@ operation_checks t p s =
 
 operations_in_order : (t : List ℕ) (p : ℕ) (types members values : Section)
     → let s : Sections = record { types = types; members = members; values = values; operations = counted t p } in
-    Answers Refused (Table s) (operation_checks t p s)
+    Answers refused (Ok s) (operation_checks t p s)
     (after (section_at operation_width 0 most_operations t p)
     (λ (o : Section). ended t (record { types = types; members = members; values = values; operations = o })))
 operations_in_order t p types members values =
-    subst (Answers Refused (Table s) (operation_checks t p s)) (sym (section-shape operation_width 0 most_operations t p end)) (go (ltb (length t) (p + 2)) refl)
+    subst (Answers refused (Ok s) (operation_checks t p s)) (sym (section-shape operation_width 0 most_operations t p end)) (go (ltb (length t) (p + 2)) refl)
   where
     s : Sections
     s = record { types = types; members = members; values = values; operations = counted t p }
 
-    end : Section → Checked
+    end : Section → Result Sections Refusal
     end o = ended t (record { types = types; members = members; values = values; operations = o })
 
     too_many : Decides (ltb (counted t p).count 0 || ltb most_operations (counted t p).count) (1024 < (counted t p).count)
@@ -215,15 +216,15 @@ operations_in_order t p types members values =
         there (below l) = absurd (omega arith)
         there (above l) = l
 
-    go : (b : Bool) → ltb (length t) (p + 2) ≡ b → Answers Refused (Table s) (operation_checks t p s)
-        (cond b (Refused 30)
-        (cond (ltb (counted t p).count 0 || ltb most_operations (counted t p).count) (Refused 31)
-        (cond (ltb (length t) (section_end operation_width (counted t p))) (Refused 30) (end (counted t p)))))
+    go : (b : Bool) → ltb (length t) (p + 2) ≡ b → Answers refused (Ok s) (operation_checks t p s)
+        (cond b (refused 30)
+        (cond (ltb (counted t p).count 0 || ltb most_operations (counted t p).count) (refused 31)
+        (cond (ltb (length t) (section_end operation_width (counted t p))) (refused 30) (end (counted t p)))))
     go true e = this (ltb-true (length t) (p + 2) e)
     go false e =
         let l : p + 2 ≤ length t = ltb-false (length t) (p + 2) e in
         next (λ (h : length t < p + 2). omega arith)
-        (by Refused (Table s) (ltb (counted t p).count 0 || ltb most_operations (counted t p).count) 31 too_many (ended-in-order t s l))
+        (by Err (Ok s) (ltb (counted t p).count 0 || ltb most_operations (counted t p).count) 31 too_many (ended-in-order t s l))
 
 -- the sections, before what is in them is looked at
 abbrev layout_checks : List ℕ → List Check
@@ -233,10 +234,10 @@ layout_checks t =
     ++ (section_checks value_width 0 most_values t (section_end member_width (sections_in t).members)
     ++ operation_checks t (section_end value_width (sections_in t).values) (sections_in t)))
 
-sections_in_order : (t : List ℕ) → Answers Refused (Table (sections_in t)) (layout_checks t) (sections_of t)
+sections_in_order : (t : List ℕ) → Answers refused (Ok (sections_in t)) (layout_checks t) (sections_of t)
 unfolding sections_of after_types after_members after_values
 sections_in_order t =
-    let good : Checked = Table (sections_in t) in
+    let good : Result Sections Refusal = Ok (sections_in t) in
     let s : Sections = sections_in t in
     section-in-order type_width 1 most_types t 0 (after_types t) good _
     (section-in-order member_width 0 most_members t (section_end type_width s.types) (after_members t s.types) good _
@@ -246,4 +247,4 @@ sections_in_order t =
 pub table_in_order : TableInOrder
 unfolding checked judging table_checks
 table_in_order t =
-    then Refused (Table (sections_in t)) Refused (Table (sections_in t)) (judging t) (λ n. refl) (sections_in_order t) (λ e. judged-in-order t (sections_in t))
+    then Err (Ok (sections_in t)) Err (Ok (sections_in t)) (judging t) (λ n. refl) (sections_in_order t) (λ e. judged-in-order t (sections_in t))

@@ -1,12 +1,12 @@
 -- Replies to Issue 3, worked out in bytes: computed.
 -- Assumes nothing.
 use Prim.Native.Nat.{ℕ}
+use Rattle.std.specs.Prelude.{Ok}
 use mathlib.Core.Path.{◌≡◌, refl, sym, ap}
 use native.Mathlib.Omega.{arith}
 use lib.ListN.{take, replicate}
 use Rattle.wire.specs.All.{all_below, above}
 use Rattle.table.specs.declared.Sections.{Sections}
-use Rattle.table.specs.declared.Checked.TheVariants.{Table}
 use Rattle.table.specs.Layout.{section_at, after, ended, after_values, after_members, after_types, sections_of}
 use Rattle.table.specs.Entries.{type_at}
 use Rattle.table.specs.Leaf.{base, bytes_of, width}
@@ -46,7 +46,7 @@ bare_sections =
       operations = record { at = 16; count = 0 };
     }
 
-pub bare_is_table : checked bare_table ≡ Table bare_sections
+pub bare_is_table : checked bare_table ≡ Ok bare_sections
 unfolding all_below above section_at after ended after_values after_members after_types sections_of type_at base bytes_of width fields_ok pointed_ok type_ok
     op_place rules.operations_ok sum_of size_of sizes largest fits_in_size entries_ok sizes_ok judged judging checked
 bare_is_table = refl
@@ -61,7 +61,7 @@ unfolding all_below above section_at after ended after_values after_members afte
     any_words_of answer_if out_if words_if with_own
 told = refl
 
-hears : (s : Sections) → checked bare_table ≡ Table s → Hears our_receiving3 (at_one ours2122 (fresh_standing 1) asks_for_all_of1 44) at_two s asks_header
+hears : (s : Sections) → checked bare_table ≡ Ok s → Hears our_receiving3 (at_one ours2122 (fresh_standing 1) asks_for_all_of1 44) at_two s asks_header
 unfolding all_below word_of with_word bit_of stands_up with_own count_below word_for pair_has_place pair_told pairs_told has_place all_have_places status_fits note_refusal
     bit_in is_three with_three three_set listed three_form any_of
 hears s e =

@@ -1,13 +1,13 @@
 -- Wrong checks: each differs from ours on a small table, computed.
 -- Assumes nothing.
 use Prim.Native.Nat.{ℕ, ◌≤◌}
+use Rattle.std.specs.Prelude.{Result, Ok, Err}
+use Rattle.refusal.specs.declared.Refusal.{Refusal}
 use mathlib.Core.Path.{◌≡◌, refl, sym, ap, ◌∙◌}
 use mathlib.Core.Bool.{Bool, false, cond}
 use mathlib.Core.List.{List, [], ◌∷◌}
 use native.Mathlib.Omega.{arith}
 use Rattle.table.specs.declared.Sections.{Sections}
-use Rattle.table.specs.declared.Checked.{Checked}
-use Rattle.table.specs.declared.Checked.TheVariants.{Refused, Table}
 use Rattle.wire.specs.All.{all_below}
 use Rattle.table.specs.Layout.{section_at, after, ended, after_values, after_members, after_types, sections_of}
 use Rattle.table.specs.Entries.{type_at}
@@ -22,22 +22,22 @@ use Rattle.promises.proofs.Numbers.{numbers}
 use Rattle.promises.proofs.TableOrder.{table_in_order}
 use Rattle.promises.proofs.Demand1.{demand_1}
 
-only_ours : (C : List ℕ → Checked) → TableInOrderBy C → (t : List ℕ) → C t ≡ checked t
-only_ours C f t = demand_1.one_answer Refused (Table (sections_in t)) (table_checks t) (C t) (checked t) (f t) (table_in_order t)
+only_ours : (C : List ℕ → Result Sections Refusal) → TableInOrderBy C → (t : List ℕ) → C t ≡ checked t
+only_ours C f t = demand_1.one_answer Err (Ok (sections_in t)) (table_checks t) (C t) (checked t) (f t) (table_in_order t)
 
-abbrev refusal : Checked → ℕ
-refusal (Refused n) = n
-refusal (Table s) = 0
+abbrev refusal : Result Sections Refusal → ℕ
+refusal (Err n) = n
+refusal (Ok s) = 0
 
 -- 01's table, and the one with operations of four kinds, are accepted
 accepted : refusal (checked whole_table) ≡ 0
 accepted = ap refusal numbers.0.accepted
 
 -- a table that is accepted, and does not pass the further test
-stricter_differs : (n : ℕ) (ok : List ℕ → Sections → Bool) (t : List ℕ) (s : Sections) → checked t ≡ Table s → ok t s ≡ false → 1 ≤ n
+stricter_differs : (n : ℕ) (ok : List ℕ → Sections → Bool) (t : List ℕ) (s : Sections) → checked t ≡ Ok s → ok t s ≡ false → 1 ≤ n
     → TableInOrderBy (stricter n ok) → ⊥
 stricter_differs n ok t s a e l f =
-    let here : stricter n ok t ≡ Refused n = ap (only_where n ok t) a ∙ ap (λ (b : Bool). cond b (Table s) (Refused n)) e in
+    let here : stricter n ok t ≡ Err n = ap (only_where n ok t) a ∙ ap (λ (b : Bool). cond b (Ok s) (Err n)) e in
     let both : n ≡ 0 = ap refusal (sym here ∙ only_ours (stricter n ok) f t ∙ a) in
     omega arith
 

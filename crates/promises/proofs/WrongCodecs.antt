@@ -1,13 +1,13 @@
 -- No wrong packing meets demand 2: the uint16 258, whose bytes are 01 02.
 -- Assumes nothing.
 use Prim.Native.Nat.{ℕ, ◌≤◌, ◌<◌}
+use Rattle.std.specs.Prelude.{Ok}
 use mathlib.Core.Path.{◌≡◌, refl, sym, ap, ◌∙◌}
 use mathlib.Core.List.{List, [], ◌∷◌}
 use native.Mathlib.Omega.{arith}
 use borrow.Author.Tests.{ltb-true}
 use lib.ListN.{get_or}
 use Rattle.table.specs.declared.Sections.{Sections}
-use Rattle.table.specs.declared.Checked.TheVariants.{Table}
 use Rattle.wire.specs.All.{all_below, above}
 use Rattle.table.specs.Layout.{section_at, after, ended, after_values, after_members, after_types, sections_of, lies_in, within}
 use Rattle.table.specs.Entries.{type_at, member_at, value_at}
@@ -45,7 +45,7 @@ sections =
       operations = record { at = 64; count = 0 };
     }
 
-accepted : checked table ≡ Table sections
+accepted : checked table ≡ Ok sections
 unfolding all_below above section_at after ended after_values after_members after_types sections_of lies_in within type_at member_at
     value_at op_place base bytes_of in_signed finite is_value width allowed fields_ok member_ok members_ok pointed_ok type_ok
     operations_ok size_of sizes largest fits_in_size entries_ok sizes_ok judged judging checked

@@ -1,6 +1,11 @@
 -- No wrong joiner meets demand 3: a small traffic for each, computed.
 -- Assumes nothing.
 use Prim.Native.Nat.{ℕ, zero, suc, ◌+◌, ◌-◌, ◌%◌, ◌≤◌, ◌<◌}
+use Rattle.std.specs.Prelude.{Result, Ok, Err}
+use Rattle.refusal.specs.declared.Refusal.{Refusal}
+use Rattle.refusal.specs.declared.Refusal.TheVariants.{NoJoiner}
+use Rattle.binding.specs.declared.BindingHeader.{BindingHeader}
+use Rattle.channel.specs.declared.Step.{Step}
 use mathlib.Core.Path.{◌≡◌, refl, sym, ap, ap₂, ◌∙◌}
 use mathlib.Core.Bool.{Bool, true, false, cond, ◌&&◌, true≢false}
 use mathlib.Core.List.{List, [], ◌∷◌, ◌++◌}
@@ -10,15 +15,11 @@ use borrow.Author.Tests.{le-leb}
 use lib.ListN.{length, take, replicate}
 use Rattle.binding.specs.Header.{counters, heading_in}
 use Rattle.binding.specs.declared.MessagePart.TheVariants.{End, Whole}
-use Rattle.binding.specs.declared.Heading.{Heading}
-use Rattle.binding.specs.declared.Heading.TheVariants as heading
 use Rattle.channel.specs.Record.{bad_setup}
 use Rattle.channel.specs.Channel.{missed_of, keeping, noted_of, begun_of, followed_of, placed_of, stepped_of}
-use Rattle.channel.specs.declared.Judged.{Judged}
-use Rattle.channel.specs.declared.Judged.TheVariants.{Refusal}
 use Rattle.channel.specs.declared.Slice.{Slice}
 use Rattle.channel.specs.declared.Outcome.{Outcome}
-use Rattle.channel.specs.declared.Outcome.TheVariants.{Refused, Repeated, Delivered, Held, Stray, TooLong}
+use Rattle.channel.specs.declared.Outcome.TheVariants.{Repeated, Delivered, Held, Stray, TooLong}
 use Rattle.joiner.specs.Setup.{good_sizes, good, fresh_of, setup_of}
 use Rattle.joiner.specs.declared.Joiner.{Joiner}
 use Rattle.joiner.specs.Take.{sent_to, heading_by, judged_of, taken_by, taken_of, put_by, rooms_by, rooms_after, message_of}
@@ -32,24 +33,24 @@ use Rattle.promises.specs.WrongJoiners.{stray_forgotten, shared_room, first_chan
 use Rattle.promises.proofs.SmallTraffic.{all_octets, Small, delivered_of, total, kept, one, lost, twice, from, wraps, small_wraps, two, small_two}
 use Rattle.promises.proofs.SmallTraffic.{both_ids, senders, mix, granted_mix, first_byte}
 
-our_step : (j : Joiner) (d : List ℕ) (x : Heading) → heading_with stepped_of j d x ≡ heading_by j d x
+our_step : (j : Joiner) (d : List ℕ) (x : Result BindingHeader Refusal) → heading_with stepped_of j d x ≡ heading_by j d x
 unfolding sent_to heading_by
-our_step j d (heading.Refused n) = refl
-our_step j d (heading.Piece h) = refl
+our_step j d (Err n) = refl
+our_step j d (Ok h) = refl
 
 with_our_step : (j : Joiner) (rooms : List ℕ) (d : Datagram) → (stepping stepped_of).take j rooms d ≡ our_joining.take j rooms d
 unfolding judged_of taken_of rooms_after
-with_our_step j rooms d = ap (λ (x : Judged). took_by j rooms d (cond (good j (length rooms)) x (Refusal bad_setup))) (our_step j d (heading_in d))
+with_our_step j rooms d = ap (λ (x : Result (ℕ × Step) Refusal). took_by j rooms d (cond (good j (length rooms)) x (Err NoJoiner))) (our_step j d (heading_in d))
 
 -- a joiner that never delivers
 module _ (J : Joining) (n : NeverDelivers J) where
-  nothing_back : (o : Outcome) (d rooms : List ℕ) → ((m : ℕ) (p : Slice) → o ≡ Delivered m p → ⊥) → handed_back o d rooms ≡ []
-  nothing_back (Delivered m p) d rooms h = absurd (h m p refl)
-  nothing_back (Refused n) d rooms h = refl
-  nothing_back Repeated d rooms h = refl
-  nothing_back (Held m n) d rooms h = refl
-  nothing_back (Stray m) d rooms h = refl
-  nothing_back (TooLong m) d rooms h = refl
+  nothing_back : (o : Result Outcome Refusal) (d rooms : List ℕ) → ((m : ℕ) (p : Slice) → o ≡ Ok (Delivered m p) → ⊥) → handed_back o d rooms ≡ []
+  nothing_back (Ok (Delivered m p)) d rooms h = absurd (h m p refl)
+  nothing_back (Err n) d rooms h = refl
+  nothing_back (Ok Repeated) d rooms h = refl
+  nothing_back (Ok (Held m n)) d rooms h = refl
+  nothing_back (Ok (Stray m)) d rooms h = refl
+  nothing_back (Ok (TooLong m)) d rooms h = refl
 
   either : (t : Bool) {xs : List (List ℕ)} → xs ≡ [] → cond t xs [] ≡ []
   either true e = e
@@ -67,16 +68,16 @@ module _ (J : Joining) (n : NeverDelivers J) where
       absurd (omega (arith, e))
 
 -- one answer to every datagram: a message of two pieces is delivered never or twice
-not_delivered : (o : Outcome) → delivers o ≡ false → NeverDelivers (always o)
+not_delivered : (o : Result Outcome Refusal) → delivers o ≡ false → NeverDelivers (always o)
 not_delivered o e s rooms d m p q = true≢false (sym (ap delivers q) ∙ e)
 
-pub constant : (o : Outcome) → Demand3For (always o) → ⊥
-constant (Delivered m p) d = let e : ◌≡◌ {A = ℕ} 2 1 = ap length (kept (always (Delivered m p)) wraps small_wraps d) in absurd (omega (arith, e))
-constant (Refused n) d = silent (always (Refused n)) (not_delivered (Refused n) refl) d
-constant Repeated d = silent (always Repeated) (not_delivered Repeated refl) d
-constant (Held m n) d = silent (always (Held m n)) (not_delivered (Held m n) refl) d
-constant (Stray m) d = silent (always (Stray m)) (not_delivered (Stray m) refl) d
-constant (TooLong m) d = silent (always (TooLong m)) (not_delivered (TooLong m) refl) d
+pub constant : (o : Result Outcome Refusal) → Demand3For (always o) → ⊥
+constant (Ok (Delivered m p)) d = let e : ◌≡◌ {A = ℕ} 2 1 = ap length (kept (always (Ok (Delivered m p))) wraps small_wraps d) in absurd (omega (arith, e))
+constant (Err n) d = silent (always (Err n)) (not_delivered (Err n) refl) d
+constant (Ok Repeated) d = silent (always (Ok Repeated)) (not_delivered (Ok Repeated) refl) d
+constant (Ok (Held m n)) d = silent (always (Ok (Held m n))) (not_delivered (Ok (Held m n)) refl) d
+constant (Ok (Stray m)) d = silent (always (Ok (Stray m))) (not_delivered (Ok (Stray m)) refl) d
+constant (Ok (TooLong m)) d = silent (always (Ok (TooLong m))) (not_delivered (Ok (TooLong m)) refl) d
 
 pub greater_than : Demand3For (stepping (testing not_above)) → ⊥
 unfolding missed_of keeping noted_of begun_of followed_of placed_of stepped_of good_sizes good fresh_of setup_of sent_to heading_by judged_of

@@ -1,6 +1,7 @@
 -- Wrong lists: a run of each, computed, shows something else than ours does, which is what the map shows.
 -- Assumes nothing.
 use Prim.Native.Nat.{ℕ}
+use Rattle.std.specs.Prelude.{Ok}
 use mathlib.Core.Path.{◌≡◌, refl, sym, ap, ◌∙◌}
 use mathlib.Core.Bool.{cond}
 use mathlib.Core.List.{List, [], ◌∷◌, ◌++◌}
@@ -8,7 +9,6 @@ use native.Mathlib.Omega.{arith}
 use lib.ListN.{replicate}
 use Rattle.wire.specs.All.{all_below, above}
 use Rattle.table.specs.declared.Sections.{Sections}
-use Rattle.table.specs.declared.Checked.TheVariants.{Table}
 use Rattle.table.specs.Layout.{section_at, after, ended, after_values, after_members, after_types, sections_of}
 use Rattle.table.specs.Entries.{type_at}
 use Rattle.table.specs.Leaf.{base, bytes_of, is_value, width}
@@ -61,13 +61,13 @@ with n =
       operations = record { at = 16; count = n };
     }
 
-pub one_good : checked one ≡ Table (with 1)
+pub one_good : checked one ≡ Ok (with 1)
 unfolding all_below above section_at after ended after_values after_members after_types sections_of type_at base bytes_of is_value width fields_ok
     pointed_ok type_ok size_of sizes largest fits_in_size entries_ok sizes_ok judged judging checked width_of kind_at op_width op_place response_at operation_at
     id_at operationFields operation_ok operations_ok
 one_good = refl
 
-two_good : checked two ≡ Table (with 2)
+two_good : checked two ≡ Ok (with 2)
 unfolding all_below above section_at after ended after_values after_members after_types sections_of type_at base bytes_of is_value width fields_ok
     pointed_ok type_ok size_of sizes largest fits_in_size entries_ok sizes_ok judged judging checked width_of kind_at op_width op_place response_at operation_at
     id_at operationFields operation_ok operations_ok

@@ -1,12 +1,12 @@
 -- Platforms that report something else: one operation of a small table, computed.
 -- Assumes nothing.
 use Prim.Native.Nat.{ℕ, zero, suc, ◌*◌, ◌≤◌}
+use Rattle.std.specs.Prelude.{Ok}
 use mathlib.Core.Path.{◌≡◌, refl, sym, ap, subst, ◌∙◌}
 use mathlib.Core.List.{List, [], ◌∷◌}
 use native.Mathlib.Omega.{arith}
 use lib.ListN.{length}
 use Rattle.table.specs.declared.Sections.{Sections}
-use Rattle.table.specs.declared.Checked.TheVariants.{Table}
 use Rattle.wire.specs.All.{all_below, above}
 use Rattle.table.specs.Layout.{section_at, after, ended, after_values, after_members, after_types, sections_of}
 use Rattle.table.specs.Entries.{type_at, member_at, value_at}
@@ -59,7 +59,7 @@ h = record { domain = 1; platform = 3; id = id; payload_size = 2; sequence = 0x0
 abbrev p : Standing
 p = fresh_standing 1
 
-pub is_table : checked t ≡ Table s
+pub is_table : checked t ≡ Ok s
 unfolding all_below above section_at after ended after_values after_members after_types sections_of type_at member_at value_at id_at operation_at
     width_of kind_at op_width op_place response_at base bytes_of width fields_ok member_ok members_ok pointed_ok type_ok rules.fields_ok rules.operation_ok
     rules.operations_ok sum_of size_of sizes largest fits_in_size

@@ -1,6 +1,8 @@
 -- Platforms that take another message for the response, or the same one twice, or none: one message on a small table, computed.
 -- Assumes nothing.
 use Prim.Native.Nat.{ℕ}
+use Rattle.std.specs.Prelude.{Result, Ok, Err}
+use Rattle.refusal.specs.declared.Refusal.{Refusal}
 use Rattle.std.specs.Prelude.{Option, Some}
 use mathlib.Core.Path.{◌≡◌, refl, sym, ap, ◌∙◌}
 use mathlib.Core.Bool.{Bool, true, false, cond}
@@ -14,8 +16,6 @@ use Rattle.pending.specs.Places.{bearing, entered}
 use Rattle.pending.specs.Answers.{cancelled}
 use Rattle.pending.specs.PlainMap.{fresh_list}
 use Rattle.table.specs.declared.Sections.{Sections}
-use Rattle.table.specs.declared.Checked.{Checked}
-use Rattle.table.specs.declared.Checked.TheVariants as checked
 use Rattle.table.specs.Layout.{section_at, after, ended, after_values, after_members, after_types, sections_of}
 use Rattle.table.specs.Entries.{type_at}
 use Rattle.table.specs.Leaf.{base, bytes_of, width}
@@ -60,9 +60,9 @@ module _ (own : ℕ) (t : List ℕ) (p : Standing) (l m : List ℕ) (room : ℕ)
       by_read s f (reading.Read h k start len) =
           by-test (is_answer t f k) (response_to l f p h start len) (answered p h (reaction_to own t s f p h k start len) room)
 
-      go : (c : Checked) → outcome_for rightly c t p l (read_of own m) (received_by c own t p l m room) ≡ received_by c own t p l m room
-      go (checked.Refused n) = refl
-      go (checked.Table s) = by_read s (operation_in t s (index_of t s) (read_of own m)) (read_of own m)
+      go : (c : Result Sections Refusal) → outcome_for rightly c t p l (read_of own m) (received_by c own t p l m room) ≡ received_by c own t p l m room
+      go (Err n) = refl
+      go (Ok s) = by_read s (operation_in t s (index_of t s) (read_of own m)) (read_of own m)
 
   ours_list : (matching rightly).list own t p l m room ≡ list_after own t l m
   unfolding list_after platform.list_if list_of
@@ -72,9 +72,9 @@ module _ (own : ℕ) (t : List ℕ) (p : Standing) (l m : List ℕ) (room : ℕ)
       by_read f (reading.Refused n) = refl
       by_read f (reading.Read h k start len) = refl
 
-      go : (c : Checked) → list_for rightly c t l (read_of own m) ≡ platform.list_if c own t l m
-      go (checked.Refused n) = refl
-      go (checked.Table s) = by_read (operation_in t s (index_of t s) (read_of own m)) (read_of own m)
+      go : (c : Result Sections Refusal) → list_for rightly c t l (read_of own m) ≡ platform.list_if c own t l m
+      go (Err n) = refl
+      go (Ok s) = by_read (operation_in t s (index_of t s) (read_of own m)) (read_of own m)
 
 -- one type, and two operations: event 7 with no type, and 0x0A0B0C0D, which the message `operation` bears and whose requests we send
 abbrev pub t : List ℕ
@@ -97,7 +97,7 @@ h = record { domain = 1; platform = 3; id = 0x0A0B0C0D; payload_size = 2; sequen
 abbrev p : Standing
 p = fresh_standing 1
 
-pub is_table : checked t ≡ checked.Table s
+pub is_table : checked t ≡ Ok s
 unfolding all_below above section_at after ended after_values after_members after_types sections_of type_at width_of kind_at op_width op_place response_at
     operation_at id_at base bytes_of width fields_ok pointed_ok type_ok rules.fields_ok rules.operation_ok rules.operations_ok size_of sizes largest fits_in_size
     entries_ok sizes_ok judged judging checked
@@ -140,14 +140,14 @@ module _ (M : Matching) (l : List ℕ) where
   answers : (matching M).outcome 1 t p l operation 0 ≡ cond (M.is_it l h) (delivered (Some (1, 24)) p h 20 2) (refused p 61)
   unfolding is_answer is_sent kind_at comes
   answers =
-      ap (λ (c : Checked). outcome_for M c t p l (read_of 1 operation) ours) is_table
+      ap (λ (c : Result Sections Refusal). outcome_for M c t p l (read_of 1 operation) ours) is_table
       ∙ ap (λ (x : Reading). outcome_by M t (operation_in t s (index_of t s) x) p l x ours) comes.read
       ∙ ap (λ (f : Option (ℕ × ℕ)). outcome_by M t f p l (reading.Read h message.Operation 20 2) ours) its-operation
 
   leaves : (matching M).list 1 t p l operation 0 ≡ cond (M.is_it l h) (M.freed l h.sequence) l
   unfolding is_answer is_sent kind_at comes
   leaves =
-      ap (λ (c : Checked). list_for M c t l (read_of 1 operation)) is_table
+      ap (λ (c : Result Sections Refusal). list_for M c t l (read_of 1 operation)) is_table
       ∙ ap (λ (x : Reading). list_by M t (operation_in t s (index_of t s) x) l x) comes.read
       ∙ ap (λ (f : Option (ℕ × ℕ)). list_by M t f l (reading.Read h message.Operation 20 2)) its-operation
 

@@ -1,10 +1,10 @@
 -- 02, request 1: what is sent, on a table that `check` accepts; and a request that one platform asks and another serves, with its
 -- response. The theorems are in proofs/AskedAndAnswered.antt.
 use Rattle.std.specs.Prelude.{ℕ, ◌+◌, ◌^◌, ◌≤◌, ◌<◌, ◌≡◌, List, [], ◌∷◌, length, take}
+use Rattle.std.specs.Prelude.{Ok}
 use Rattle.std.specs.Prelude.{None}
 use Rattle.wire.specs.Bytes.{part}
 use Rattle.table.specs.declared.Sections.{Sections}
-use Rattle.table.specs.declared.Checked.TheVariants.{Table}
 use Rattle.types.specs.Table.{checked}
 use Rattle.message.specs.declared.Header.{Header}
 use Rattle.message.specs.Writing.{header_for, output_after}
@@ -48,7 +48,7 @@ pub record CanAsk (a b next id : ℕ) (t : List ℕ) (s : Sections) (words l pay
   pub two : ¬ (a ≡ b)
   pub next_fits : next < 2 ^ 32
   pub id_fits : id < 2 ^ 32
-  pub table : checked t ≡ Table s
+  pub table : checked t ≡ Ok s
   pub index : s.operations.count ≤ length words
   pub entry : ℕ
   pub sent : HasKind t s id 2 entry
@@ -91,15 +91,15 @@ module _ (a b next id : ℕ) (t : List ℕ) (s : Sections) (words l payload out 
   pub record AskedAndAnswered : Type 0 where
     pub sends : (sent_of next l (kind_in t s words id) id payload (length out)).answer ≡ Under (next_free l next) (20 + length payload)
     -- "A message with a kind 3 ID goes to its component as in 01"
-    pub hears : (u : List ℕ) (r : Sections) (j : ℕ) (q : Standing) (list outB : List ℕ) → checked u ≡ Table r → HasKind u r id 3 j
+    pub hears : (u : List ℕ) (r : Sections) (j : ℕ) (q : Standing) (list outB : List ℕ) → checked u ≡ Ok r → HasKind u r id 3 j
         → HeardAt b u q list asked outB (header_for a 1 id (next_free l next) payload) j payload
     -- "A domain 1 message with that ID, number and sender is the response: it is delivered once and its place is free again"; platform a
     -- may have another table by then
-    pub answers : (u : List ℕ) (r : Sections) (j : ℕ) (p : Standing) (response outB outA : List ℕ) → checked u ≡ Table r → HasKind u r id 2 j
+    pub answers : (u : List ℕ) (r : Sections) (j : ℕ) (p : Standing) (response outB outA : List ℕ) → checked u ≡ Ok r → HasKind u r id 2 j
         → length response < 2 ^ 32 → 20 + length response ≤ length outB
         → DeliveredAt a u p waiting (reply response outB) outA (header_for b 1 id (next_free l next) response) j response
 
 pub record AsksAndAnswers : Type 1 where
-  pub on_table : (t : List ℕ) (s : Sections) (words : List ℕ) → checked t ≡ Table s → s.operations.count ≤ length words → SentOnTable t s words
+  pub on_table : (t : List ℕ) (s : Sections) (words : List ℕ) → checked t ≡ Ok s → s.operations.count ≤ length words → SentOnTable t s words
   pub asked_and_answered : (a b next id : ℕ) (t : List ℕ) (s : Sections) (words l payload out : List ℕ)
       → CanAsk a b next id t s words l payload out → AskedAndAnswered a b next id t s words l payload out

@@ -2,9 +2,9 @@
 -- its pieces is so at the outermost values, so that a demand of fewer has no proof here. The theorem is in proofs/AtLimits.antt; for
 -- demand 3 specs/InNumbers says it.
 use Rattle.std.specs.Prelude.{ℕ, suc, ◌<◌, ◌≡◌, false, List, ◌++◌, length}
+use Rattle.std.specs.Prelude.{Ok}
 use Rattle.wire.specs.Bytes.{Octets}
 use Rattle.table.specs.declared.Sections.{Sections}
-use Rattle.table.specs.declared.Checked.TheVariants.{Table}
 use Rattle.types.specs.Table.{checked}
 use Rattle.message.specs.declared.Header.{Header}
 use Rattle.message.specs.declared.Message.{Message}
@@ -12,7 +12,6 @@ use Rattle.message.specs.declared.Message.TheVariants as message
 use Rattle.message.specs.declared.Reading.TheVariants.{Read}
 use Rattle.message.specs.Reading.{read_of}
 use Rattle.binding.specs.declared.MessagePart.{MessagePart}
-use Rattle.binding.specs.declared.Heading.TheVariants.{Piece}
 use Rattle.binding.specs.Header.{header_of, header_bytes, heading_in}
 use Rattle.joiner.specs.declared.setups.Verdict.TheVariants.{Accepted}
 use Rattle.joiner.specs.Setup.{setup_of}
@@ -34,7 +33,7 @@ pub record AtLimits : Type 1 where
   pub addressed : FromAnother 255 0 0xFFFFFFFF 0xFFFFFFFF
   pub starts : (p q : Standing) → p.next ≡ 0xFFFFFFFF → q.next ≡ 0xFFFFFFFF → Starts 255 254 p q 0xFFFFFFFF
   pub receives : (t : List ℕ) (s : Sections) (p : Standing) (m : List ℕ) (h : Header) (kind : Message) (start len : ℕ) →
-      p.next ≡ 0xFFFFFFFF → Octets m → checked t ≡ Table s → read_of 255 m ≡ Read h kind start len →
+      p.next ≡ 0xFFFFFFFF → Octets m → checked t ≡ Ok s → read_of 255 m ≡ Read h kind start len →
       (kind ≡ message.Operation → ¬ (IsKind2 t s h.id)) → Receives 255 t s p m h kind
   pub receive_in_order : ReceiveInOrder → (t : List ℕ) (p : Standing) (l m : List ℕ) (room : ℕ) → p.next ≡ 0xFFFFFFFF → Octets m →
       Gives (receive_checks 255 t p l m room) (number_given (received_of 255 t p l m room).answer)
@@ -44,13 +43,13 @@ pub record AtLimits : Type 1 where
   pub counted : StatesAre → (s : States) → Words s → how_many_up 255 s ≡ count_below (stands_up 255 s) 256
   -- sender 4,095, counter 65,535 and a piece of 1 and of 65,503 bytes
   pub header : HeaderThenRead → (part : MessagePart) (piece : List ℕ) → length piece ≡ 65503 →
-      heading_in (header_bytes (header_of part 4095 65535) ++ piece) ≡ Piece (header_of part 4095 65535)
+      heading_in (header_bytes (header_of part 4095 65535) ++ piece) ≡ Ok (header_of part 4095 65535)
   pub shortest_piece : HeaderThenRead → (part : MessagePart) (piece : List ℕ) → length piece ≡ 1 →
-      heading_in (header_bytes (header_of part 0 0) ++ piece) ≡ Piece (header_of part 0 0)
+      heading_in (header_bytes (header_of part 0 0) ++ piece) ≡ Ok (header_of part 0 0)
   -- a message of 65,560 bytes cut at 65,503; and one of a byte, cut at 1
   pub cut : (ids rooms : List ℕ) (k : ℕ) (msg : List ℕ) → (setup_of ids 65560 (length rooms)).answer ≡ Accepted → k < length ids →
       length msg ≡ 65560 → Octets msg → Cut ids 65560 rooms k msg 65503 65535
   pub cut_small : (ids rooms : List ℕ) (k : ℕ) (msg : List ℕ) → (setup_of ids 24 (length rooms)).answer ≡ Accepted → k < length ids →
       length msg ≡ 1 → Octets msg → Cut ids 24 rooms k msg 1 0
   -- the last type of a table
-  pub known : (t : List ℕ) (s : Sections) (i : ℕ) → checked t ≡ Table s → s.types.count ≡ suc i → Known t s i
+  pub known : (t : List ℕ) (s : Sections) (i : ℕ) → checked t ≡ Ok s → s.types.count ≡ suc i → Known t s i

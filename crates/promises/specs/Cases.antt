@@ -1,11 +1,10 @@
 -- What a case of 01's "Values at the edges" says, or one that 02 adds, over the definitions that the contracts of `unpack`, `pack`,
 -- `cut`, `setup`, `take` and `message` cite.
 use Prim.{Unit}
+use Rattle.std.specs.Prelude.{Result, Ok}
+use Rattle.refusal.specs.declared.Refusal.{Refusal}
 use Rattle.std.specs.Prelude.{ℕ, suc, ◌+◌, ◌*◌, ◌≤◌, ◌<◌, ◌≡◌, List, [], ◌∷◌, ◌++◌, length, replicate, take, drop}
 use Rattle.binding.specs.declared.MessagePart.{MessagePart}
-use Rattle.binding.specs.declared.Heading.TheVariants.{Piece}
-use Rattle.binding.specs.declared.cutter.Counted.TheVariants.{Pieces}
-use Rattle.binding.specs.declared.cutter.Made.TheVariants as made
 use Rattle.binding.specs.Header.{header_of, header_bytes, heading_in, piece_in}
 use Rattle.binding.specs.Cutting.{counted_of, made_of, cut_into}
 use Rattle.channel.specs.declared.Outcome.{Outcome}
@@ -79,14 +78,14 @@ pub data Case : Type 0 where
   -- a message of m bytes at piece size s gives these pieces, whose counters start at the third number
   cuts : ℕ → ℕ → ℕ → List CutPiece → Case
   -- in a room of R bytes, from fresh, the datagrams have these outcomes, and these messages are delivered
-  joins : ℕ → List Arrival → List Outcome → List (List ℕ) → Case
+  joins : ℕ → List Arrival → List (Result Outcome Refusal) → List (List ℕ) → Case
 
 -- piece i, cut into any output that is long enough: the call answers the datagram's length; its header reads back as this mark,
 -- sender and counter; and behind it stand the message's bytes from i times s on
 pub record CutAs (msg : List ℕ) (s sender first i : ℕ) (c : CutPiece) (out : List ℕ) : Type 0 where
-  pub made : made_of msg s sender first i (length out) ≡ made.Datagram (4 + c.bytes)
+  pub made : made_of msg s sender first i (length out) ≡ Ok (4 + c.bytes)
   pub header : heading_in (take (4 + c.bytes) (cut_into msg s sender first i out))
-      ≡ Piece (record { part = c.mark; sender = sender; counter = c.counter })
+      ≡ Ok (record { part = c.mark; sender = sender; counter = c.counter })
   pub piece : piece_in (take (4 + c.bytes) (cut_into msg s sender first i out)) ≡ take s (drop (i * s) msg)
 
 -- the pieces from piece i on
@@ -97,7 +96,7 @@ AreCut msg s sender first i (c ∷ cs) =
 
 -- every message of m bytes of every sender: so many pieces are counted, and these are cut
 pub record CutsInto (m s first : ℕ) (ps : List CutPiece) : Type 0 where
-  pub counted : counted_of m s ≡ Pieces (length ps)
+  pub counted : counted_of m s ≡ Ok (length ps)
   pub cut : (msg : List ℕ) → length msg ≡ m → (sender : ℕ) → sender < 4096 → AreCut msg s sender first 0 ps
 
 -- the datagrams of one sender, and one channel with its room
@@ -136,7 +135,7 @@ refused_with n o = record { answer = Stopped n o; left = lent 8 }
 
 -- what taking the datagrams comes to
 pub record Joined : Type 0 where
-  pub outcomes : List Outcome
+  pub outcomes : List (Result Outcome Refusal)
   pub delivered : List (List ℕ)
 
 abbrev pub joining : ℕ → List Arrival → Joined

@@ -2,15 +2,13 @@
 -- every input, so that without a line it says something else of the inputs for which that line is the first that applies; here is one
 -- for each, which breaks that rule alone, and the number that it gets, or the whole refusal. The theorem is in proofs/EachNumber.antt.
 use Prim.{Unit}
+use Rattle.refusal.specs.Refusal.{refused}
 use Rattle.std.specs.Prelude.{ℕ, ◌+◌, ◌*◌, ◌^◌, ◌≡◌, true, List, [], ◌∷◌, ◌++◌, length, replicate}
 use Rattle.wire.specs.Bytes.{bytes}
 use Rattle.message.specs.declared.Reading.TheVariants as reading
 use Rattle.message.specs.declared.Writing.TheVariants as writing
 use Rattle.message.specs.Reading.{read_of}
 use Rattle.message.specs.Writing.{write_of}
-use Rattle.binding.specs.declared.Heading.TheVariants as heading
-use Rattle.binding.specs.declared.cutter.Counted.TheVariants as counted
-use Rattle.binding.specs.declared.cutter.Made.TheVariants as made
 use Rattle.binding.specs.Header.{heading_in}
 use Rattle.binding.specs.Cutting.{counted_of, made_of}
 use Rattle.channel.specs.declared.Outcome.TheVariants as outcome
@@ -19,7 +17,6 @@ use Rattle.joiner.specs.declared.setups.Verdict.TheVariants as verdict
 use Rattle.joiner.specs.Setup.{fresh_of, setup_of}
 use Rattle.joiner.specs.Take.{changed, taken_of}
 use Rattle.table.specs.declared.Sections.{Sections}
-use Rattle.table.specs.declared.Checked.TheVariants as check
 use Rattle.types.specs.Table.{checked}
 use Rattle.platform.specs.Receiving.{fresh_standing, received_of, sections_outcome}
 use Rattle.platform.specs.Noting.{number_given}
@@ -110,8 +107,8 @@ pub record EachNumber : Type 0 where
   pub write_9 : write_of 0 1 (bytes 2 2) 24 ≡ writing.Refused 9
   pub write_10 : write_of 0 2 [] 19 ≡ writing.Refused 10
   -- a datagram's header; and one that is too long
-  pub header : Each heading.Refused heading_in (21 for replicate 4 0 ∷ 22 for (0x40 ∷ 5 ∷ 0 ∷ 0 ∷ 1 ∷ []) ∷ [])
-  pub header_long : (d : List ℕ) → length d ≡ 65508 → heading_in d ≡ heading.Refused 21
+  pub header : Each refused heading_in (21 for replicate 4 0 ∷ 22 for (0x40 ∷ 5 ∷ 0 ∷ 0 ∷ 1 ∷ []) ∷ [])
+  pub header_long : (d : List ℕ) → length d ≡ 65508 → heading_in d ≡ refused 21
   -- a set-up: each line of what 20 asks
   pub setup : Each verdict.Refused (λ (x : List ℕ × ℕ × ℕ). (setup_of x.0 x.1 x.2).answer)
       (20 for ([], 24, 0)
@@ -123,7 +120,7 @@ pub record EachNumber : Type 0 where
       ∷ 20 for (5 ∷ 6 ∷ 5 ∷ [], 24, 72)
       ∷ [])
   -- a datagram taken: a joiner, its rooms and the datagram; each line of what 20 asks of a joiner
-  pub take : Each outcome.Refused (λ (x : Joiner × ℕ × List ℕ). (taken_of x.0 (replicate x.1 0) x.2).outcome)
+  pub take : Each refused (λ (x : Joiner × ℕ × List ℕ). (taken_of x.0 (replicate x.1 0) x.2).outcome)
       (20 for (fresh_of [] 24, 0, datagram)
       ∷ 20 for (fresh_of too_many 24, 792, datagram)
       ∷ 20 for (joiner_of 23 5 0 0, 23, datagram)
@@ -136,14 +133,14 @@ pub record EachNumber : Type 0 where
       ∷ 22 for (joiner_of 24 5 0 0, 24, 0x40 ∷ 5 ∷ 0 ∷ 0 ∷ 1 ∷ [])
       ∷ 23 for (joiner_of 24 5 0 0, 24, 0x30 ∷ 6 ∷ 0 ∷ 0 ∷ 1 ∷ [])
       ∷ [])
-  pub take_wide : (rooms : List ℕ) → length rooms ≡ 65561 → (taken_of (joiner_of 65561 5 0 0) rooms datagram).outcome ≡ outcome.Refused 20
+  pub take_wide : (rooms : List ℕ) → length rooms ≡ 65561 → (taken_of (joiner_of 65561 5 0 0) rooms datagram).outcome ≡ refused 20
   -- cutting: sizes of message and piece; sender and counter; piece and room
-  pub pieces : Each counted.Refused (λ (x : ℕ × ℕ). counted_of x.0 x.1)
+  pub pieces : Each refused (λ (x : ℕ × ℕ). counted_of x.0 x.1)
       (50 for (0, 1) ∷ 50 for (65561, 1) ∷ 50 for (1, 0) ∷ 50 for (1, 65504) ∷ [])
-  pub cut : Each made.Refused (λ (x : ℕ × ℕ × ℕ × ℕ). made_of (9 ∷ []) 1 x.0 x.1 x.2 x.3)
+  pub cut : Each refused (λ (x : ℕ × ℕ × ℕ × ℕ). made_of (9 ∷ []) 1 x.0 x.1 x.2 x.3)
       (50 for (4096, 0, 0, 5) ∷ 50 for (0, 65536, 0, 5) ∷ 51 for (0, 0, 1, 5) ∷ 52 for (0, 0, 0, 4) ∷ [])
   -- a table: each section's count cut off, outside its limit, and its entries cut off; bytes after the end; a rule; a size
-  pub table_checks : Each check.Refused checked
+  pub table_checks : Each refused checked
       (30 for (0 ∷ [])
       ∷ 31 for (0 ∷ 0 ∷ [])
       ∷ 31 for (1 ∷ 1 ∷ [])

@@ -3,10 +3,10 @@
 -- what an index that nobody laid can lead to, and what `nyr_find` tells of a table that was checked; what it comes to over the definitions
 -- is specs/Lookups. That no other outcome is allowed is specs/UniqueOperations and UniqueCalls. The theorem is in proofs/Halving.antt.
 use Rattle.std.specs.Prelude.{ℕ, ◌+◌, ◌*◌, ◌^◌, ◌≤◌, ◌<◌, ◌≡◌, cond, ◌||◌, List, [], ◌∷◌, eqb, length, replicate}
+use Rattle.std.specs.Prelude.{Ok}
 use Rattle.std.specs.Prelude.{Some, None}
 use Rattle.wire.specs.Bytes.{number}
 use Rattle.table.specs.declared.Sections.{Sections}
-use Rattle.table.specs.declared.Checked.TheVariants.{Table}
 use Rattle.types.specs.Table.{checked}
 use Rattle.operations.specs.Search.{halved, sought_in}
 use Rattle.nyrkovash.proofs.nyr_find.Reads.{Post as nyr-find}
@@ -43,8 +43,8 @@ pub record Halving : Type 0 where
   pub on_accepted : Lookups
   -- and as it is linked, with the words that `nyr_check_table` left: every operation by its ID, and none where no entry bears it
   pub finds : (s : Sections) (words : List ℕ) (i : ℕ) → Whenever nyr-find (λ k a n e.
-      checked a.0.now ≡ Table s → CheckLeft a.0.now s words a.1.0.now →
+      checked a.0.now ≡ Ok s → CheckLeft a.0.now s words a.1.0.now →
       i < s.operations.count → id_of a.0.now s i ≡ a.1.1.0 → (n ≡ 0) × (e.1.1.1.0.now ≡ told_of a.0.now s i))
   pub finds_none : (s : Sections) (words : List ℕ) → Whenever nyr-find (λ k a n e.
-      checked a.0.now ≡ Table s → CheckLeft a.0.now s words a.1.0.now →
+      checked a.0.now ≡ Ok s → CheckLeft a.0.now s words a.1.0.now →
       ((i : ℕ) → i < s.operations.count → ¬ (id_of a.0.now s i ≡ a.1.1.0)) → (n ≡ 0) × (e.1.1.1.0.now ≡ 0 ∷ 0 ∷ 0 ∷ 0 ∷ []))

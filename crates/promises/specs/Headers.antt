@@ -2,6 +2,7 @@
 -- what is read gives the same bytes when it is written again. The layouts themselves are Tables 2 to 4 and 9 of 000
 -- (message/specs/Header and Platform, binding/specs/Header).
 use Rattle.std.specs.Prelude.{ℕ, ◌+◌, ◌^◌, ◌≤◌, ◌<◌, ◌≡◌, List, [], ◌++◌, length, take}
+use Rattle.std.specs.Prelude.{Ok}
 use Rattle.wire.specs.Bytes.{Octets, number, bytes, over}
 use Rattle.message.specs.declared.Header.{Header}
 use Rattle.message.specs.declared.Status.{Status}
@@ -13,7 +14,6 @@ use Rattle.message.specs.Platform.{status_value, message_of}
 use Rattle.message.specs.Reading.{read_of, payload_of}
 use Rattle.message.specs.Writing.{header_for, write_of, output_after}
 use Rattle.binding.specs.declared.BindingHeader.{BindingHeader}
-use Rattle.binding.specs.declared.Heading.TheVariants.{Piece}
 use Rattle.binding.specs.Header.{heading_in, piece_in, header_bytes}
 
 -- at this platform the bytes read as a message with this header, of this kind and with this payload
@@ -62,7 +62,7 @@ pub record EachMessage : Type 0 where
 abbrev pub HeaderThenRead : Type 0
 HeaderThenRead =
     (h : BindingHeader) (piece : List ℕ) → h.sender < 4096 → h.counter < 65536 → 1 ≤ length piece → length piece ≤ 65503
-    → (heading_in (header_bytes h ++ piece) ≡ Piece h) × (piece_in (header_bytes h ++ piece) ≡ piece)
+    → (heading_in (header_bytes h ++ piece) ≡ Ok h) × (piece_in (header_bytes h ++ piece) ≡ piece)
 
 abbrev pub HeaderReadThenWritten : Type 0
-HeaderReadThenWritten = (d : List ℕ) (h : BindingHeader) → Octets d → heading_in d ≡ Piece h → header_bytes h ++ piece_in d ≡ d
+HeaderReadThenWritten = (d : List ℕ) (h : BindingHeader) → Octets d → heading_in d ≡ Ok h → header_bytes h ++ piece_in d ≡ d

@@ -1,11 +1,13 @@
 -- Demand 3 for the calls that a program in C links: a run of `nyr_take` from `nyr_setup`, over their very contracts, whatever
 -- these allow. The theorems are in proofs/Linked.antt.
 use Rattle.std.specs.Prelude.{ℕ, ◌+◌, ◌*◌, ◌<◌, ◌≡◌, cond, ◌&&◌, List, [], ◌∷◌, ◌++◌, eqb, length, get_or}
+use Rattle.std.specs.Prelude.{Result, Ok, Err}
+use Rattle.refusal.specs.declared.Refusal.{Refusal}
 use Rattle.wire.specs.Bytes.{part}
 use Rattle.channel.specs.declared.Slice.{Slice}
 use Rattle.channel.specs.declared.Slice.TheVariants as slice
 use Rattle.channel.specs.declared.Outcome.{Outcome}
-use Rattle.channel.specs.declared.Outcome.TheVariants.{Refused, Repeated, Delivered, Held, Stray, TooLong}
+use Rattle.channel.specs.declared.Outcome.TheVariants.{Repeated, Delivered, Held, Stray, TooLong}
 use Rattle.joiner.specs.Calls.{setup_words, take_number, take_words, take_rooms, take_answer}
 use Rattle.joiner.specs.View.{bytes_at}
 use Rattle.nyrkovash.proofs.nyr_setup.Reads.{Post as nyr-setup}
@@ -108,17 +110,17 @@ Delivers = DeliversFor nyr
 abbrev pub slice_from : List ℕ → Slice
 slice_from w = cond (eqb (get_or w 3 0) 1) (slice.Datagram (get_or w 4 0) (get_or w 2 0)) (slice.Rooms (get_or w 4 0) (get_or w 2 0))
 
-abbrev pub outcome_from : ℕ → List ℕ → Outcome
+abbrev pub outcome_from : ℕ → List ℕ → Result Outcome Refusal
 outcome_from n w =
     let which = get_or w 0 0 in
     let missed = get_or w 1 0 in
     cond (eqb n 0)
-    (cond (eqb which 1) Repeated
-    (cond (eqb which 2) (Delivered missed (slice_from w))
-    (cond (eqb which 3) (Held missed (get_or w 2 0)) (cond (eqb which 4) (Stray missed) (TooLong missed)))))
-    (Refused n)
+    (cond (eqb which 1) (Ok Repeated)
+    (cond (eqb which 2) (Ok (Delivered missed (slice_from w)))
+    (cond (eqb which 3) (Ok (Held missed (get_or w 2 0))) (cond (eqb which 4) (Ok (Stray missed)) (Ok (TooLong missed))))))
+    (Err n)
 
-abbrev pub outcomes_in : List ℕ → ℕ → List Call → List Outcome
+abbrev pub outcomes_in : List ℕ → ℕ → List Call → List (Result Outcome Refusal)
 outcomes_in ids k [] = []
 outcomes_in ids k (c ∷ cs) = cond (is_of ids k c.datagram) (outcome_from c.number c.left.answer ∷ []) [] ++ outcomes_in ids k cs
 

@@ -2,9 +2,9 @@
 -- is the codec that meets the demand of specs/Payloads, so that every wrong codec refuted there is refuted for it, and that answers in
 -- the order of specs/PayloadOrder. The theorem is in proofs/LinkedPayloads.antt.
 use Rattle.std.specs.Prelude.{ℕ, ◌≤◌, ◌≡◌, cond, ◌&&◌, List, ◌++◌, eqb, leb, length, take, get_or}
+use Rattle.std.specs.Prelude.{Ok}
 use Rattle.wire.specs.Bytes.{Octets, over}
 use Rattle.table.specs.declared.Sections.{Sections}
-use Rattle.table.specs.declared.Checked.TheVariants.{Table}
 use Rattle.table.specs.Words.{sections_in, index_in, words_of}
 use Rattle.types.specs.Table.{checked}
 use Rattle.payload.specs.declared.Answer.{Answer}
@@ -88,14 +88,14 @@ pub record LinkedPayloads : Type 0 where
   -- a table that may be used is one for which the check answers 0, and no other; the sections are left in their words, and behind them
   -- the index of the operations
   pub check : (s : Sections) → Whenever nyr-check-table (λ k a n e.
-      checked a.0.now ≡ Table s → (n ≡ 0) × (e.1.0.now ≡ words_of s ++ laid a.0.now s (index_in a.1.0.now)))
-  pub checks_only : Whenever nyr-check-table (λ k a n e. n ≡ 0 → (s : Sections) × (checked a.0.now ≡ Table s))
+      checked a.0.now ≡ Ok s → (n ≡ 0) × (e.1.0.now ≡ words_of s ++ laid a.0.now s (index_in a.1.0.now)))
+  pub checks_only : Whenever nyr-check-table (λ k a n e. n ≡ 0 → (s : Sections) × (checked a.0.now ≡ Ok s))
   -- with those words, and whatever stands behind them, the calls on sections are the same codec
   pub pack-in : (s : Sections) (index : List ℕ) → Whenever nyr-pack-in (λ k a n e.
-      checked a.0.now ≡ Table s → a.1.0.now ≡ words_of s ++ index →
+      checked a.0.now ≡ Ok s → a.1.0.now ≡ words_of s ++ index →
       PacksAs a.0.now a.1.1.0 a.1.1.1.0.now a.1.1.1.1.0.now n e.1.1.1.1.1.0.now e.1.1.1.1.0.now)
   pub unpack-in : (s : Sections) (index : List ℕ) → Whenever nyr-unpack-in (λ k a n e.
-      checked a.0.now ≡ Table s → a.1.0.now ≡ words_of s ++ index →
+      checked a.0.now ≡ Ok s → a.1.0.now ≡ words_of s ++ index →
       UnpacksAs a.0.now a.1.1.0 a.1.1.1.0.now a.1.1.1.1.0.now n e.1.1.1.1.1.0.now e.1.1.1.1.0.now)
   -- on any sections, which no check need have given, the calls are ours on those
   pub pack_any : Whenever nyr-pack-in (λ k a n e.

@@ -2,10 +2,10 @@
 -- very contracts, on any table bytes and any sections, which no check need have given. Refusals keep what was lent by
 -- specs/ExportsKeep, and answers are unique by specs/UniqueCalls. The theorem is in proofs/LinkedPlans.antt.
 use Prim.{Unit}
+use Rattle.std.specs.Prelude.{Ok}
 use Rattle.std.specs.Prelude.{ℕ, ◌≤◌, ◌<◌, ◌≡◌, ◌↔◌, true, false, List, [], ◌∷◌, ◌++◌, length, get_or}
 use Rattle.std.specs.Borrow.{Bor, MutBor}
 use Rattle.table.specs.declared.Sections.{Sections}
-use Rattle.table.specs.declared.Checked.TheVariants.{Table}
 use Rattle.table.specs.Layout.{within}
 use Rattle.table.specs.Words.{sections_in, words_of}
 use Rattle.types.specs.Table.{checked}
@@ -128,10 +128,10 @@ pub record LinkedPlans : Type 0 where
   pub pack : (l : WalkLent) (ps : List ℕ) → LaidFor l ps → (n : ℕ) (r : WalkLeft) → PacksBy (l with-plans ps) n r ↔ PacksIn l n r
   -- so with the words that a check left they are the codec that meets demand 2 (specs/LinkedPayloads)
   pub unpack_checked : (l : WalkLent) (ps : List ℕ) → LaidFor l ps
-      → (s : Sections) (index : List ℕ) → checked l.table ≡ Table s → l.sections ≡ words_of s ++ index
+      → (s : Sections) (index : List ℕ) → checked l.table ≡ Ok s → l.sections ≡ words_of s ++ index
       → (n : ℕ) (r : WalkLeft) → UnpacksBy (l with-plans ps) n r → UnpacksAs l.table l.number l.input l.output n r.walked r.output
   pub pack_checked : (l : WalkLent) (ps : List ℕ) → LaidFor l ps
-      → (s : Sections) (index : List ℕ) → checked l.table ≡ Table s → l.sections ≡ words_of s ++ index
+      → (s : Sections) (index : List ℕ) → checked l.table ≡ Ok s → l.sections ≡ words_of s ++ index
       → (n : ℕ) (r : WalkLeft) → PacksBy (l with-plans ps) n r → PacksAs l.table l.number l.input l.output n r.walked r.output
   -- the words that `nyr_plans_length` says are enough, and 131,329 are for any table
   pub long : (t ss : List ℕ) (was m : ℕ) → Measures (load_lent t ss was) 0 m → m ≤ 131329

@@ -2,10 +2,10 @@
 -- owed replies at the output's start, the platform's words, and in eight words what was heard. Messages with a kind 2 ID are in
 -- specs/LinkedResponses. The theorems are in proofs/LinkedReplies.antt.
 use Rattle.std.specs.Prelude.{ℕ, ◌-◌, ◌*◌, ◌≤◌, ◌<◌, ◌≡◌, Bool, cond, List, [], ◌∷◌, ◌++◌, eqb, ltb, length, get_or, take, drop, replicate}
+use Rattle.std.specs.Prelude.{Ok}
 use Rattle.std.specs.Prelude.{Option, Some, None}
 use Rattle.wire.specs.Bytes.{Octets}
 use Rattle.table.specs.declared.Sections.{Sections}
-use Rattle.table.specs.declared.Checked.TheVariants.{Table}
 use Rattle.table.specs.Words.{words_of}
 use Rattle.types.specs.Table.{checked}
 use Rattle.message.specs.declared.Header.{Header}
@@ -56,7 +56,7 @@ heard_for t s m h n message.Operation =
 pub record Comes (own : ℕ) (t : List ℕ) (s : Sections) (m : List ℕ) (h : Header) (kind : Message) : Type 0 where
   pub platform : own < 256
   pub bytes : Octets m
-  pub table : checked t ≡ Table s
+  pub table : checked t ≡ Ok s
   pub start : ℕ
   pub len : ℕ
   pub read : read_of own m ≡ Read h kind start len
@@ -108,6 +108,6 @@ pub record LinkedReplies : Type 0 where
       e.1.0.now e.1.1.1.1.1.0.now e.1.1.1.1.1.1.0.now)
   -- whatever the message, the call on those words gives back and leaves what the call on table bytes does
   pub alike : (s : Sections) (words : List ℕ) → Whenever nyr-receive-in (λ k a n e.
-      checked a.1.1.0.now ≡ Table s → CheckLeft a.1.1.0.now s words a.1.1.1.0.now →
+      checked a.1.1.0.now ≡ Ok s → CheckLeft a.1.1.0.now s words a.1.1.1.0.now →
       AsOnBytes a.0 a.1.0.now a.1.1.0.now a.1.1.1.1.0.now a.1.1.1.1.1.0.now a.1.1.1.1.1.1.0.now n
       e.1.0.now e.1.1.1.1.1.0.now e.1.1.1.1.1.1.0.now)

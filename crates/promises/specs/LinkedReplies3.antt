@@ -2,9 +2,9 @@
 -- message of Issue 3 at the output's start, the platform's words, and in twelve words what was heard; and our services, told to a partner
 -- that asks for all of them, asked there one by one. The theorems are in proofs/LinkedReplies3.antt.
 use Rattle.std.specs.Prelude.{ℕ, ◌+◌, ◌-◌, ◌*◌, ◌/◌, ◌^◌, ◌≤◌, ◌<◌, ◌≡◌, true, false, cond, List, [], ◌∷◌, eqb, length, get_or, take, drop}
+use Rattle.std.specs.Prelude.{Ok}
 use Rattle.wire.specs.Bytes.{Octets}
 use Rattle.table.specs.declared.Sections.{Sections}
-use Rattle.table.specs.declared.Checked.TheVariants.{Table}
 use Rattle.types.specs.Table.{checked}
 use Rattle.message.specs.Platform.{status_value}
 use Rattle.message3.specs.declared.Header3.{Header3}
@@ -84,7 +84,7 @@ pub record Comes3 (c : MixedCall) (s : Sections) (h : Header3) (kind : Message3)
   pub nanoseconds : c.stamp.nanoseconds < 2 ^ 32
   pub composite : c.composite < 2 ^ 32
   pub bytes : Octets c.message
-  pub table : checked c.table ≡ Table s
+  pub table : checked c.table ≡ Ok s
   pub start : ℕ
   pub len : ℕ
   pub read : any_of c.partners c.own c.message ≡ reading.Three h kind start len
@@ -131,7 +131,7 @@ pub record HearsIt (c d : MixedCall) (s : Sections) (h : Header3) (left : List �
   pub composite : d.composite < 2 ^ 32
   pub bytes : Octets d.message
   pub its_sections : Sections
-  pub its_table : checked d.table ≡ Table its_sections
+  pub its_table : checked d.table ≡ Ok its_sections
   pub set_up : is_three d.partners c.own ≡ true
   pub there : IsThere d c.own
   pub kempt : KemptBlock (block_at d c.own d.services)
@@ -178,7 +178,7 @@ pub record LinkedReplies3 : Type 0 where
       e.1.1.1.1.0.now e.1.1.1.1.1.0.now e.1.1.1.1.1.1.1.1.1.0.now e.1.1.1.1.1.1.1.1.1.1.0.now)
   -- whatever the message, of either issue, the call on those words gives back and leaves what the call on table bytes does
   pub alike : (s : Sections) (words : List ℕ) → Whenever nyr-receive-mixed-in (λ k a n e.
-      checked a.1.1.1.1.1.1.0.now ≡ Table s → CheckLeft a.1.1.1.1.1.1.0.now s words a.1.1.1.1.1.1.1.0.now →
+      checked a.1.1.1.1.1.1.0.now ≡ Ok s → CheckLeft a.1.1.1.1.1.1.0.now s words a.1.1.1.1.1.1.1.0.now →
       AsOnTable a.0 a.1.0.now a.1.1.0.now a.1.1.1.0.now a.1.1.1.1.0.now a.1.1.1.1.1.0.now
       a.1.1.1.1.1.1.0.now a.1.1.1.1.1.1.1.1.0.now a.1.1.1.1.1.1.1.1.1.0.now
       a.1.1.1.1.1.1.1.1.1.1.0.now n

@@ -2,8 +2,8 @@
 -- very contracts, in the papers' numbers. A refusal keeps what was lent by specs/ExportsKeep, and answers are unique by specs/UniqueCalls.
 -- The theorem is in proofs/LinkedSending.antt.
 use Rattle.std.specs.Prelude.{ℕ, ◌+◌, ◌%◌, ◌^◌, ◌≤◌, ◌<◌, ◌≡◌, true, false, List, [], ◌∷◌, ◌++◌, length, get_or, take, drop}
+use Rattle.std.specs.Prelude.{Ok}
 use Rattle.table.specs.declared.Sections.{Sections}
-use Rattle.table.specs.declared.Checked.TheVariants.{Table}
 use Rattle.table.specs.Words.{sections_in}
 use Rattle.types.specs.Table.{checked}
 use Rattle.partners.specs.Threes.{is_three}
@@ -160,7 +160,7 @@ pub record LinkedSending : Type 1 where
   -- "a fixed order of checks"
   pub order : (l : SendMixedLent) (n : ℕ) (r : SendLeft) → SendsMixed l n r → TargetIsThree l → Gives (any_sections_checks l.lent) n
   pub table_order : (s : Sections) (words : List ℕ) (l : SendMixedLent) (n : ℕ) (r : SendLeft) → SendsMixed l n r → TargetIsThree l
-      → checked l.lent.table ≡ Table s → CheckLeft l.lent.table s words l.lent.sections → Gives (checked_table_checks s l.lent) n
+      → checked l.lent.table ≡ Ok s → CheckLeft l.lent.table s words l.lent.sections → Gives (checked_table_checks s l.lent) n
   -- what is sent
   pub sends : (l : SendMixedLent) (n : ℕ) (r : SendLeft) → SendsMixed l n r → TargetIsThree l → SendFits l → n ≡ 0
       → Asked3 l r

@@ -1,9 +1,9 @@
 -- 02, 4, "Nothing that callers were told changes": on a table that `check` accepts, an operation looked up by halving, over the index that
 -- is laid for the table, is the one of that ID, whatever its kind, and none where there is none. The theorem is in proofs/Lookups.antt.
 use Rattle.std.specs.Prelude.{ℕ, ◌+◌, ◌*◌, ◌^◌, ◌≤◌, ◌<◌, ◌≡◌, ◌⊎◌, ◌↔◌, List, length, get_or}
+use Rattle.std.specs.Prelude.{Ok}
 use Rattle.std.specs.Prelude.{Option, Some, None}
 use Rattle.table.specs.declared.Sections.{Sections}
-use Rattle.table.specs.declared.Checked.TheVariants.{Table}
 use Rattle.types.specs.Table.{checked}
 use Rattle.operations.specs.declared.Operation.{Operation}
 use Rattle.operations.specs.Entries.{operation_at}
@@ -43,7 +43,7 @@ pub record LooksUp (t : List ℕ) (s : Sections) (words : List ℕ) (id : ℕ) :
 
 -- 1,024 words have room for the index of any table
 pub record Lookups : Type 0 where
-  pub enough : (t : List ℕ) (s : Sections) → checked t ≡ Table s → s.operations.count ≤ 1024
+  pub enough : (t : List ℕ) (s : Sections) → checked t ≡ Ok s → s.operations.count ≤ 1024
   pub index : (t : List ℕ) (s : Sections) (words : List ℕ) → s.operations.count ≤ length words → IndexIs t s words
-  pub looks_up : (t : List ℕ) (s : Sections) (words : List ℕ) (id : ℕ) → checked t ≡ Table s → s.operations.count ≤ length words
+  pub looks_up : (t : List ℕ) (s : Sections) (words : List ℕ) (id : ℕ) → checked t ≡ Ok s → s.operations.count ≤ length words
       → LooksUp t s words id

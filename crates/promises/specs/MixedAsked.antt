@@ -1,10 +1,10 @@
 -- 02, requests 1 and 8: a request that one platform asks in the issue that the other speaks, which the other hears and answers. The theorem is
 -- in proofs/MixedAsked.antt.
 use Prim.{Unit}
+use Rattle.std.specs.Prelude.{Ok}
 use Rattle.std.specs.Prelude.{ℕ, ◌+◌, ◌^◌, ◌≤◌, ◌<◌, ◌≡◌, Bool, true, false, List, length, take}
 use Rattle.wire.specs.Bytes.{part}
 use Rattle.table.specs.declared.Sections.{Sections}
-use Rattle.table.specs.declared.Checked.TheVariants.{Table}
 use Rattle.types.specs.Table.{checked}
 use Rattle.message.specs.Writing.{header_for, output_after}
 use Rattle.message3.specs.Writing.{output_after3}
@@ -82,23 +82,23 @@ pub record AskedInIssue (x : ToSend) : Type 0 where
   pub sends : (our_asking.answers x).answer ≡ Under (its_number x) (head_of (issue_in x) + length x.payload)
   -- the other has it in the issue that it was asked in: it hears the operation of kind 3, and its list stays
   pub hears : (y : ToReceive) (r : Sections) (j : ℕ) (q : Standing) (l : List ℕ) → y.own ≡ x.target → y.bytes ≡ asked_bytes x
-      → is_three y.partners x.own ≡ is_three x.partners x.target → checked y.table ≡ Table r → HasKind y.table r x.id 3 j
+      → is_three y.partners x.own ≡ is_three x.partners x.target → checked y.table ≡ Ok r → HasKind y.table r x.id 3 j
       → our_any_receiving.outcome y q l
       ≡ record { standing = q; answer = operation_as (header_in (issue_in x) x.own x.id (its_number x) x.payload) j (length x.payload) }
   pub unlisted : (y : ToReceive) (r : Sections) (j : ℕ) (q : Standing) (l : List ℕ) → y.own ≡ x.target → y.bytes ≡ asked_bytes x
-      → is_three y.partners x.own ≡ is_three x.partners x.target → checked y.table ≡ Table r → HasKind y.table r x.id 3 j
+      → is_three y.partners x.own ≡ is_three x.partners x.target → checked y.table ≡ Ok r → HasKind y.table r x.id 3 j
       → our_any_receiving.list y q l ≡ l
   pub handed : part (asked_bytes x) (head_of (issue_in x)) (length x.payload) ≡ x.payload
   -- the answer comes in an issue that the asker has the other in: it is the response, and a second copy is 61; the asker may have another
   -- table, and another set-up, by then
   pub answers : (issue : Issue) (y : ToReceive) (r : Sections) (j : ℕ) (p : Standing) (response outB : List ℕ) → y.own ≡ x.own
       → y.bytes ≡ reply_in issue x.target x.id (its_number x) response outB → is_three y.partners x.target ≡ in_three issue
-      → StampFits issue → checked y.table ≡ Table r → HasKind y.table r x.id 2 j → length response < 2 ^ 32
+      → StampFits issue → checked y.table ≡ Ok r → HasKind y.table r x.id 2 j → length response < 2 ^ 32
       → head_of issue + length response ≤ length outB
       → DeliversAny our_any_receiving y p (waiting_for x) (header_in issue x.target x.id (its_number x) response) j
   pub again : (issue : Issue) (y : ToReceive) (r : Sections) (j : ℕ) (p q : Standing) (response outB : List ℕ) → y.own ≡ x.own
       → y.bytes ≡ reply_in issue x.target x.id (its_number x) response outB → is_three y.partners x.target ≡ in_three issue
-      → StampFits issue → checked y.table ≡ Table r → HasKind y.table r x.id 2 j → length response < 2 ^ 32
+      → StampFits issue → checked y.table ≡ Ok r → HasKind y.table r x.id 2 j → length response < 2 ^ 32
       → head_of issue + length response ≤ length outB
       → RefusesAny our_any_receiving y q (our_any_receiving.list y p (waiting_for x))
   pub returned : (issue : Issue) (response outB : List ℕ) → length response < 2 ^ 32 → head_of issue + length response ≤ length outB

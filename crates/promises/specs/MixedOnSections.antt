@@ -2,8 +2,8 @@
 -- left what it gives on the table's bytes, whatever the message. So what is promised of the one holds of the other. Ruled out: an operation of
 -- Issue 3 looked up in another way where a program has checked its table before. The theorem is in proofs/MixedOnSections.antt.
 use Rattle.std.specs.Prelude.{ℕ, ◌≤◌, ◌≡◌, List, length}
+use Rattle.std.specs.Prelude.{Ok}
 use Rattle.table.specs.declared.Sections.{Sections}
-use Rattle.table.specs.declared.Checked.TheVariants.{Table}
 use Rattle.types.specs.Table.{checked}
 use Rattle.mixed.specs.Tables.{sections_answer, sections_out, sections_pending, sections_words}
 use Rattle.promises.specs.Lookups.{laid}
@@ -22,4 +22,4 @@ pub record AsOnBytes3 (c : MixedCall) (s : Sections) (words : List ℕ) : Type 0
 
 abbrev pub MixedOnSections : Type 0
 MixedOnSections =
-    (c : MixedCall) (s : Sections) (words : List ℕ) → checked c.table ≡ Table s → s.operations.count ≤ length words → AsOnBytes3 c s words
+    (c : MixedCall) (s : Sections) (words : List ℕ) → checked c.table ≡ Ok s → s.operations.count ≤ length words → AsOnBytes3 c s words

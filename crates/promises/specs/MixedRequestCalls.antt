@@ -2,9 +2,9 @@
 -- the contracts cite. Each call has a table of its own, any that `check` accepts, and each mixed one a set-up, timestamp, composite, services
 -- of ours and words of services of its own. What is promised of any run of them is in specs/MixedRequestRuns.
 use Prim.{Unit}
+use Rattle.std.specs.Prelude.{Ok}
 use Rattle.std.specs.Prelude.{ℕ, ◌^◌, ◌≤◌, ◌<◌, ◌≡◌, List, [], ◌∷◌, length}
 use Rattle.table.specs.declared.Sections.{Sections}
-use Rattle.table.specs.declared.Checked.TheVariants.{Table}
 use Rattle.types.specs.Table.{checked}
 use Rattle.message3.specs.declared.Stamp.{Stamp}
 use Rattle.platform.specs.declared.reactions.Standing.{Standing}
@@ -23,8 +23,8 @@ pub data AnyCall : Type 0 where
 abbrev pub FairAny : AnyCall → Type 0
 FairAny (plain c) = Fair c
 FairAny (send_any stamp partners t s words id target payload out) =
-    (checked t ≡ Table s) × ((s.operations.count ≤ length words) × ((id < 2 ^ 32) × (target < 2 ^ 32)))
-FairAny (receive_any stamp composite partners ours t s services message out) = checked t ≡ Table s
+    (checked t ≡ Ok s) × ((s.operations.count ≤ length words) × ((id < 2 ^ 32) × (target < 2 ^ 32)))
+FairAny (receive_any stamp composite partners ours t s services message out) = checked t ≡ Ok s
 
 abbrev pub AllFairAny : List AnyCall → Type 0
 AllFairAny [] = Unit {0}

@@ -2,10 +2,10 @@
 -- in: it is the response to a request that is pending, or is refused with 61. It is said of any program that receives, so that wrong ones can be
 -- shown not to meet it (WrongMixedResponses). The theorem is in proofs/MixedResponses.antt.
 use Rattle.std.specs.Prelude.{ℕ, ◌-◌, ◌≡◌, List, length, drop}
+use Rattle.std.specs.Prelude.{Ok}
 use Rattle.std.specs.Prelude.{Some}
 use Rattle.wire.specs.Bytes.{part}
 use Rattle.table.specs.declared.Sections.{Sections}
-use Rattle.table.specs.declared.Checked.TheVariants.{Table}
 use Rattle.types.specs.Table.{checked}
 use Rattle.message.specs.declared.Header.{Header}
 use Rattle.message.specs.declared.Message.TheVariants as message
@@ -95,7 +95,7 @@ operation_as (of_three_header h) i len = Three h (heard3.Common (heard.Operation
 
 -- a domain 1 message with this header, read in its sender's issue, and entry i of the table bears its ID and this kind
 pub record ComesAs (x : ToReceive) (s : Sections) (h : AnyHeader) (kind i len : ℕ) : Type 0 where
-  pub is_table : checked x.table ≡ Table s
+  pub is_table : checked x.table ≡ Ok s
   pub read : any_of x.partners x.own x.bytes ≡ read_as h len
   pub has : HasKind x.table s (id_of h) kind i
 
@@ -134,7 +134,7 @@ pub record RespondsAny (X : AnyReceiving) : Type 0 where
   pub served : (x : ToReceive) (s : Sections) (p : Standing) (l : List ℕ) (h : AnyHeader) (i len : ℕ) → ComesAs x s h 3 i len
       → (X.outcome x p l).answer ≡ operation_as h i (length x.bytes - start_of h)
   -- every other message leaves the list, and its answer asks for none
-  pub stays : (x : ToReceive) (s : Sections) (p : Standing) (l k : List ℕ) → checked x.table ≡ Table s
+  pub stays : (x : ToReceive) (s : Sections) (p : Standing) (l k : List ℕ) → checked x.table ≡ Ok s
       → ((h : AnyHeader) (i len : ℕ) → ¬ (ComesAs x s h 2 i len)) → (X.list x p l ≡ l) × (X.outcome x p l ≡ X.outcome x p k)
 
 abbrev pub MixedResponses : Type 0

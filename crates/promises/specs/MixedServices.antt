@@ -2,8 +2,8 @@
 -- of them, for every platform and every service; 63 exactly. The theorem is in proofs/MixedServices.antt; calls that keep something else are
 -- in specs/WrongMixed. What is lent is 256 words for each that speaks Issue 3, in the order of their numbers.
 use Rattle.std.specs.Prelude.{ℕ, ◌+◌, ◌*◌, ◌≤◌, ◌<◌, ◌≡◌, true, cond, List, eqb, leb, length, take, drop, replicate}
+use Rattle.std.specs.Prelude.{Ok}
 use Rattle.wire.specs.Bytes.{Octets, number}
-use Rattle.table.specs.declared.Checked.TheVariants.{Table}
 use Rattle.types.specs.Table.{checked}
 use Rattle.services.specs.declared.Availability.{Availability}
 use Rattle.services.specs.declared.Availability.TheVariants.{Unheard, Unavailable, Available}
@@ -50,7 +50,7 @@ DownOf own i p m j = ThreeForm i m × (GoesDown own p m × (number 0 m 3 ≡ j))
 
 -- a table that is not refused
 abbrev pub GoodTable : TableGiven → Type 0
-GoodTable (bytes t) = checked t ≡ Table (sections_in t)
+GoodTable (bytes t) = checked t ≡ Ok (sections_in t)
 GoodTable (sections t s index) = LieIn t s
 
 pub record KeepsServices (X : KeepingCall) : Type 0 where

@@ -2,8 +2,8 @@
 -- answers as a plain map does" is said of any such turns (`Requests.as_map`, `.map_runs`, `.kempt`), and of any calls in specs/MixedRequestRuns. The
 -- theorem is in proofs/MixedTurns.antt.
 use Rattle.std.specs.Prelude.{ℕ, ◌≡◌, true, false, List}
+use Rattle.std.specs.Prelude.{Ok}
 use Rattle.table.specs.declared.Sections.{Sections}
-use Rattle.table.specs.declared.Checked.TheVariants.{Table}
 use Rattle.types.specs.Table.{checked}
 use Rattle.pending.specs.Turns.{Told, whether, request, arrival, list_after, list_tells}
 use Rattle.requests.specs.Sending.{left_over_by}
@@ -28,4 +28,4 @@ pub data ReceiveTurn (x : ToReceive) (p : Standing) (l : List ℕ) : Type 0 wher
 pub record MixedTurns : Type 0 where
   -- a mixed send: the request's turn where it is sent, nothing where it is refused
   pub sends : (x : ToSend) → our_asking.lists x ≡ left_over_by (our_asking.answers x).answer x.list (list_after x.list (request x.next x.id x.target))
-  pub receives : (x : ToReceive) (s : Sections) (p : Standing) (l : List ℕ) → checked x.table ≡ Table s → ReceiveTurn x p l
+  pub receives : (x : ToReceive) (s : Sections) (p : Standing) (l : List ℕ) → checked x.table ≡ Ok s → ReceiveTurn x p l

@@ -1,10 +1,11 @@
 -- Whole messages and tables of the papers, byte for byte: 01's own type table, one with 02, 1's operations of both widths, a
 -- PLATFORM_STATUS and an operation by 000, Table 2, each field in its place. The theorem is in proofs/Numbers.antt.
 use Rattle.std.specs.Prelude.{ℕ, ◌≤◌, ◌≡◌, List, [], ◌∷◌, ◌++◌, length, take, drop}
+use Rattle.std.specs.Prelude.{Ok}
+use Rattle.refusal.specs.Refusal.{refused}
 use Rattle.std.specs.Prelude.{Some, None}
 use Rattle.operations.specs.Entries.{operation_at}
 use Rattle.operations.specs.Search.{indexed, sought_in}
-use Rattle.table.specs.declared.Checked.TheVariants.{Refused, Table}
 use Rattle.types.specs.Table.{checked}
 use Rattle.message.specs.declared.Status.TheVariants.{Up}
 use Rattle.message.specs.declared.Message.TheVariants as message
@@ -30,7 +31,7 @@ whole_table =
 pub record TableIs : Type 0 where
   pub long : length whole_table ≡ 28
   pub accepted : checked whole_table
-      ≡ Table
+      ≡ Ok
       (record {
         types = record { at = 2; count = 2 };
         members = record { at = 20; count = 2 };
@@ -65,15 +66,15 @@ four_words = 0x0000000500000010 ∷ 0x0000000600000018 ∷ 0x0000010000000022 �
 pub record FourKindsAre : Type 0 where
   pub long : length four_kinds ≡ 52
   pub accepted : checked four_kinds
-      ≡ Table
+      ≡ Ok
       (record {
         types = record { at = 2; count = 1 };
         members = record { at = 12; count = 0 };
         values = record { at = 14; count = 0 };
         operations = record { at = 16; count = 4 };
       })
-  pub byte_less : checked (take 51 four_kinds) ≡ Refused 30
-  pub byte_more : checked (four_kinds ++ (0x00 ∷ [])) ≡ Refused 30
+  pub byte_less : checked (take 51 four_kinds) ≡ refused 30
+  pub byte_more : checked (four_kinds ++ (0x00 ∷ [])) ≡ refused 30
   pub event : operation_at four_kinds 16 ≡ record { id = 5; kind = 0; carries = 0xFFFF; responds = 0xFFFF }
   pub sent : operation_at four_kinds 24 ≡ record { id = 6; kind = 2; carries = 0; responds = 0xFFFF }
   pub data_kept : operation_at four_kinds 34 ≡ record { id = 256; kind = 1; carries = 0; responds = 0xFFFF }

@@ -1,15 +1,14 @@
 -- Demand 1, "a fixed order of checks": 01, "Numbers given back", in 01's words, for messages (1 to 10), datagrams (20 to 23) and
 -- cutting (50 to 52). The theorems are in proofs/Order.antt.
 use Rattle.std.specs.Prelude.{ℕ, ◌+◌, ◌-◌, ◌*◌, ◌^◌, ◌≤◌, ◌<◌, ◌≡◌, cond, ◌⊎◌, List, [], ◌∷◌, ◌++◌, eqb, length, get_or}
+use Rattle.std.specs.Prelude.{Ok, Err}
+use Rattle.refusal.specs.Refusal.{refused}
 use Rattle.wire.specs.Bytes.{number}
 use Rattle.message.specs.declared.Reading.TheVariants as reading
 use Rattle.message.specs.declared.Writing.TheVariants as writing
 use Rattle.message.specs.Header.{mark_in, version_in, domain_in, sender_in, id_in, payload_size_in, payload_in}
 use Rattle.message.specs.Reading.{reading_out, read_of, number_given as number_read}
 use Rattle.message.specs.Writing.{write_of, number_given as write_number}
-use Rattle.binding.specs.declared.Heading.TheVariants as heading
-use Rattle.binding.specs.declared.cutter.Counted.TheVariants as counted
-use Rattle.binding.specs.declared.cutter.Made.TheVariants as made
 use Rattle.binding.specs.Header.{part_carried, counter_in, piece_in, header_in, heading_in, sender_in as datagramSender, version_in as datagramVersion}
 use Rattle.binding.specs.Header.{number_given as headerNumber}
 use Rattle.binding.specs.Counted.{number_given as pieces_number}
@@ -97,7 +96,7 @@ abbrev pub moved : Joiner → List ℕ → Taken
 moved j d = record { outcome = (its_step j d).outcome; joiner = changed j (its_channel j d) (its_step j d).channel }
 
 abbrev pub kept_with : Joiner → ℕ → Taken
-kept_with j n = record { outcome = outcome.Refused n; joiner = j }
+kept_with j n = record { outcome = Err n; joiner = j }
 
 -- what 20 asks of a set-up: 1 to 32 channels, a room of 24 to 65,560 bytes, a buffer of channels times that, IDs that differ
 pub record CanSetUp (ids : List ℕ) (R buffer : ℕ) : Type 0 where
@@ -130,12 +129,12 @@ pub record InOrder : Type 1 where
   pub read : (own : ℕ) (s : List ℕ) → Answers reading.Refused (reading_out s) (read_checks own s) (read_of own s)
   pub write : (domain id : ℕ) (payload : List ℕ) (room : ℕ) →
       Answers writing.Refused (writing.Written (20 + length payload)) (write_checks domain id payload room) (write_of domain id payload room)
-  pub header : (d : List ℕ) → Answers heading.Refused (heading.Piece (header_in d)) (header_checks d) (heading_in d)
+  pub header : (d : List ℕ) → Answers refused (Ok (header_in d)) (header_checks d) (heading_in d)
   pub setup : (ids : List ℕ) (R buffer : ℕ) →
       Answers not_set_up (fresh ids R) (20 when (¬ (CanSetUp ids R buffer)) ∷ []) (setup_of ids R buffer)
   pub take : (j : Joiner) (rooms d : List ℕ) → length j.channels ≡ 32 →
       Answers (kept_with j) (moved j d) (take_checks j (length rooms) d) (taken_of j rooms d)
   pub pieces : (m s : ℕ) →
-      Answers counted.Refused (counted.Pieces (piece_count m s)) (50 when (Outside 1 65560 m ⊎ Outside 1 65503 s) ∷ []) (counted_of m s)
+      Answers refused (Ok (piece_count m s)) (50 when (Outside 1 65560 m ⊎ Outside 1 65503 s) ∷ []) (counted_of m s)
   pub cut : (msg : List ℕ) (s sender first i room : ℕ) →
-      Answers made.Refused (made.Datagram (length (datagram_of msg s sender first i))) (cut_checks msg s sender first i room) (made_of msg s sender first i room)
+      Answers refused (Ok (length (datagram_of msg s sender first i))) (cut_checks msg s sender first i room) (made_of msg s sender first i room)

@@ -2,9 +2,9 @@
 -- always goes out as 1." Which words are a value of a type, and what its bytes are, is said apart from any reading and writing
 -- in values/specs/Values: `Value` (words and bytes), `Spoken` (a true boolean may be any byte but 0), `BooleansAsOne`.
 use Rattle.std.specs.Prelude.{ℕ, ◌≤◌, ◌<◌, ◌≡◌, List, length, take}
+use Rattle.std.specs.Prelude.{Ok}
 use Rattle.wire.specs.Bytes.{Octets, over}
 use Rattle.table.specs.declared.Sections.{Sections}
-use Rattle.table.specs.declared.Checked.TheVariants.{Table}
 use Rattle.types.specs.Table.{checked}
 use Rattle.payload.specs.declared.Answer.{Answer}
 use Rattle.payload.specs.declared.Answer.TheVariants.{Gave}
@@ -13,7 +13,7 @@ use Rattle.payload.specs.Calls.{unpacked_in, words_in, packed_in, bytes_in, unpa
 
 -- a type table that `check` accepts, and the number of a type in it
 pub record Known (t : List ℕ) (s : Sections) (i : ℕ) : Type 0 where
-  pub accepted : checked t ≡ Table s
+  pub accepted : checked t ≡ Ok s
   pub known : i < s.types.count
 
 -- packing and unpacking, ours or any other: what is answered for table bytes, a type's number, the input and the room of the output,

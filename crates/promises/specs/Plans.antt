@@ -2,12 +2,13 @@
 -- payloads are unpacked and packed by any words; over the definitions that these calls' contracts cite, on any table bytes and any
 -- sections, which no check need have given. The theorem is in proofs/Plans.antt; tables worked out are specs/WorkedPlans.
 use Rattle.std.specs.Prelude.{ℕ, ◌≤◌, ◌<◌, ◌≡◌, Bool, true, false, ◌&&◌, List, [], length, get_or}
+use Rattle.std.specs.Prelude.{Ok}
+use Rattle.refusal.specs.Refusal.{refused}
 use Rattle.table.specs.declared.Sections.{Sections}
 use Rattle.table.specs.Layout.{within}
 use Rattle.table.specs.Entries.{is_type}
 use Rattle.walk.specs.Tree.{Tree, leaf, row, array, broken, tree}
 use Rattle.walk.specs.Planned.{is_planned}
-use Rattle.plan.specs.declared.Length.TheVariants.{Refused, Words}
 use Rattle.plan.specs.Leaves.{has_plan}
 use Rattle.plan.specs.Layout.{length_in, laid_number, laid_out}
 use Rattle.payload.specs.declared.Answer.TheVariants as answer
@@ -41,18 +42,18 @@ pub record WhichHaveOne : Type 0 where
 -- word less that is; plans of sections that do not lie in the bytes; words behind the plans changed
 pub record LaysOut (t : List ℕ) (s : Sections) : Type 0 where
   -- so many words are enough, and fewer are 10 and stay as they are
-  pub enough : (n : ℕ) (ws : List ℕ) → length_in t s ≡ Words n → n ≤ length ws → laid_number t s (length ws) ≡ 0
-  pub too_short : (n : ℕ) (ws : List ℕ) → length_in t s ≡ Words n → length ws < n
+  pub enough : (n : ℕ) (ws : List ℕ) → length_in t s ≡ Ok n → n ≤ length ws → laid_number t s (length ws) ≡ 0
+  pub too_short : (n : ℕ) (ws : List ℕ) → length_in t s ≡ Ok n → length ws < n
       → (laid_number t s (length ws) ≡ 10) × (laid_out t s ws ≡ ws)
   -- sections outside the bytes are 30
-  pub outside : (ws : List ℕ) → within t s ≡ false → (length_in t s ≡ Refused 30) × (laid_number t s (length ws) ≡ 30) × (laid_out t s ws ≡ ws)
+  pub outside : (ws : List ℕ) → within t s ≡ false → (length_in t s ≡ refused 30) × (laid_number t s (length ws) ≡ 30) × (laid_out t s ws ≡ ws)
   -- and any refusal leaves them
   pub stays : (ws : List ℕ) → ¬ (laid_number t s (length ws) ≡ 0) → laid_out t s ws ≡ ws
   -- 131,329 words have room for the plans of any table: the count, 256 types, and 512 leaves of each
-  pub most : (n : ℕ) → length_in t s ≡ Words n → n ≤ 131329
+  pub most : (n : ℕ) → length_in t s ≡ Ok n → n ≤ 131329
   -- no word behind as many changes
   pub as_long : (ws : List ℕ) → length (laid_out t s ws) ≡ length ws
-  pub behind : (n : ℕ) (ws : List ℕ) (k : ℕ) → length_in t s ≡ Words n → n ≤ k → get_or (laid_out t s ws) k 0 ≡ get_or ws k 0
+  pub behind : (n : ℕ) (ws : List ℕ) (k : ℕ) → length_in t s ≡ Ok n → n ≤ k → get_or (laid_out t s ws) k 0 ≡ get_or ws k 0
 
 -- any words as plans, those of another table and forged ones too. Wrong programs that this rules out: a write outside of what is lent;
 -- a count above the room; a refusal that leaves words; a type without a plan that goes by the walk before 30 and 44

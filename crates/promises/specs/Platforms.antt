@@ -2,10 +2,10 @@
 -- message notes what it says and writes the owed replies, each of which its receiver reads as what is meant; and two platforms
 -- fall silent. The theorems are in proofs/Platforms.antt.
 use Rattle.std.specs.Prelude.{ℕ, ◌+◌, ◌*◌, ◌%◌, ◌^◌, ◌≤◌, ◌<◌, ◌≡◌, Bool, true, false, cond, ◌||◌, List, [], ◌∷◌, eqb, leb, length, take, drop}
+use Rattle.std.specs.Prelude.{Ok}
 use Rattle.std.specs.Prelude.{Option, Some, None}
 use Rattle.wire.specs.Bytes.{Octets}
 use Rattle.table.specs.declared.Sections.{Sections}
-use Rattle.table.specs.declared.Checked.TheVariants.{Table}
 use Rattle.operations.specs.Search.{operation_of}
 use Rattle.types.specs.Table.{checked}
 use Rattle.message.specs.declared.Header.{Header}
@@ -111,7 +111,7 @@ pub record Receives (own : ℕ) (t : List ℕ) (s : Sections) (p : Standing) (m 
   pub platform : own < 256
   pub next : p.next < 2 ^ 32
   pub bytes : Octets m
-  pub table : checked t ≡ Table s
+  pub table : checked t ≡ Ok s
   pub start : ℕ
   pub len : ℕ
   pub read : read_of own m ≡ Read h kind start len

@@ -4,10 +4,10 @@
 -- request answered with an own number; a service that is not ours unanswered; a composite change acknowledged; UP to UP answered; a reply
 -- with Issue 6's header. The theorem is in proofs/Replies3.antt.
 use Prim.{Unit}
+use Rattle.std.specs.Prelude.{Ok}
 use Rattle.std.specs.Prelude.{ℕ, ◌+◌, ◌^◌, ◌≤◌, ◌<◌, ◌≡◌, Bool, true, false, List, length, take, drop}
 use Rattle.wire.specs.Bytes.{Octets}
 use Rattle.table.specs.declared.Sections.{Sections}
-use Rattle.table.specs.declared.Checked.TheVariants.{Table}
 use Rattle.types.specs.Table.{checked}
 use Rattle.message.specs.declared.Status.TheVariants.{Down, Up}
 use Rattle.message3.specs.declared.Header3.{Header3}
@@ -65,7 +65,7 @@ pub record Widths (c : MixedCall) : Type 0 where
 pub record Receives3 (c : MixedCall) (s : Sections) (h : Header3) (kind : Message3) : Type 0 where
   pub widths : Widths c
   pub bytes : Octets c.message
-  pub table : checked c.table ≡ Table s
+  pub table : checked c.table ≡ Ok s
   pub start : ℕ
   pub len : ℕ
   pub read : any_of c.partners c.own c.message ≡ reading.Three h kind start len

@@ -1,10 +1,10 @@
 -- 02, request 1: the calls on a platform's requests, over the very definitions that the contracts cite. Each call has a table of its own,
 -- any that `check` accepts. What is promised of any run of them is in specs/RequestRuns, and of two platforms in specs/AskedAndAnswered.
 use Prim.{Unit}
+use Rattle.std.specs.Prelude.{Ok}
 use Rattle.std.specs.Prelude.{Option, Some, None}
 use Rattle.std.specs.Prelude.{ℕ, ◌^◌, ◌≤◌, ◌<◌, ◌≡◌, Bool, List, [], ◌∷◌, length}
 use Rattle.table.specs.declared.Sections.{Sections}
-use Rattle.table.specs.declared.Checked.TheVariants.{Table}
 use Rattle.types.specs.Table.{checked}
 use Rattle.operations.specs.Entries.{op_place, kind_at, id_at}
 use Rattle.operations.specs.Search.{indexed, sought_in}
@@ -42,8 +42,8 @@ pub data RequestCall : Type 0 where
 -- any table that `check` accepts, with the sections that it handed back; ID and target have 32 bits
 abbrev pub Fair : RequestCall → Type 0
 Fair (send t s words id target payload out) =
-    (checked t ≡ Table s) × ((s.operations.count ≤ length words) × ((id < 2 ^ 32) × (target < 2 ^ 32)))
-Fair (receive t s message out) = checked t ≡ Table s
+    (checked t ≡ Ok s) × ((s.operations.count ≤ length words) × ((id < 2 ^ 32) × (target < 2 ^ 32)))
+Fair (receive t s message out) = checked t ≡ Ok s
 Fair (cancel n) = Unit {0}
 Fair (ask n) = Unit {0}
 

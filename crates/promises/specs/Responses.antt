@@ -2,10 +2,10 @@
 -- pending, or is refused with 61. A kind 3 ID is heard as 01 has it. The theorems are in proofs/Responses.antt; platforms that take
 -- another message for the response, or the same one twice, or none, are in specs/WrongResponses.
 use Rattle.std.specs.Prelude.{ℕ, ◌-◌, ◌≡◌, List, length, drop}
+use Rattle.std.specs.Prelude.{Ok}
 use Rattle.std.specs.Prelude.{Some}
 use Rattle.wire.specs.Bytes.{part}
 use Rattle.table.specs.declared.Sections.{Sections}
-use Rattle.table.specs.declared.Checked.TheVariants.{Table}
 use Rattle.types.specs.Table.{checked}
 use Rattle.message.specs.declared.Header.{Header}
 use Rattle.message.specs.declared.Message.TheVariants as message
@@ -21,7 +21,7 @@ use Rattle.promises.specs.Platforms.{Receiving, our_receiving}
 
 -- a domain 1 message with this header, which the platform `own` reads, and entry i of its table bears the message's ID
 pub record ComesUnder (own : ℕ) (t : List ℕ) (s : Sections) (m : List ℕ) (h : Header) (i : ℕ) : Type 0 where
-  pub table : checked t ≡ Table s
+  pub table : checked t ≡ Ok s
   pub start : ℕ
   pub len : ℕ
   pub read : read_of own m ≡ Read h message.Operation start len

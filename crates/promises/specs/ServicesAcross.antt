@@ -4,9 +4,9 @@
 -- numbers, pending requests or other platforms' services that change by it. Partners that do otherwise are in specs/WrongAcross. The theorem is in
 -- proofs/ServicesAcross.antt.
 use Rattle.std.specs.Prelude.{ℕ, ◌+◌, ◌*◌, ◌/◌, ◌^◌, ◌≤◌, ◌<◌, ◌≡◌, true, cond, eqb, length, get_or, take, drop, replicate}
+use Rattle.std.specs.Prelude.{Ok}
 use Rattle.wire.specs.Bytes.{Octets}
 use Rattle.table.specs.declared.Sections.{Sections}
-use Rattle.table.specs.declared.Checked.TheVariants.{Table}
 use Rattle.types.specs.Table.{checked}
 use Rattle.message3.specs.declared.Header3.{Header3}
 use Rattle.message3.specs.declared.Message3.TheVariants.{AvailabilityStatusRequest}
@@ -32,7 +32,7 @@ pub record Hears (X : Receiving3) (c d : MixedCall) (s : Sections) (h : Header3)
   pub bytes : Octets d.message
   pub who : d.own ≡ h.platform
   pub its_sections : Sections
-  pub its_table : checked d.table ≡ Table its_sections
+  pub its_table : checked d.table ≡ Ok its_sections
   pub set_up : is_three d.partners c.own ≡ true
   pub there : IsThere d c.own
   pub kempt : KemptBlock (block_at d c.own d.services)

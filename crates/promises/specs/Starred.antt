@@ -2,6 +2,7 @@
 -- 02, request 3, which is the start in each: one leaf, or a count. What a case says is `Holds` (specs/Cases.antt); the theorem is in
 -- proofs/Starred.antt.
 use Rattle.std.specs.Prelude.{List, [], ◌∷◌, ◌++◌, replicate}
+use Rattle.std.specs.Prelude.{Ok}
 use Rattle.binding.specs.declared.MessagePart.TheVariants.{Begin, End, Whole}
 use Rattle.channel.specs.declared.Outcome.TheVariants.{Delivered, Held, TooLong}
 use Rattle.channel.specs.declared.Slice.TheVariants.{Rooms}
@@ -45,14 +46,14 @@ starred =
     -- R = 24: beginning of 24 then end of 1 is too long; 23 then 1 is delivered
     ∷ joins 24
     (record { mark = Begin; counter = 5; piece = replicate 24 0xAA } ∷ record { mark = End; counter = 6; piece = 0xBB ∷ [] } ∷ [])
-    (Held 0 24 ∷ TooLong 0 ∷ []) []
+    (Ok (Held 0 24) ∷ Ok (TooLong 0) ∷ []) []
     ∷ joins 24
     (record { mark = Begin; counter = 5; piece = replicate 23 0xAA } ∷ record { mark = End; counter = 6; piece = 0xBB ∷ [] } ∷ [])
-    (Held 0 23 ∷ Delivered 0 (Rooms 0 24) ∷ []) ((replicate 23 0xAA ++ (0xBB ∷ [])) ∷ [])
+    (Ok (Held 0 23) ∷ Ok (Delivered 0 (Rooms 0 24)) ∷ []) ((replicate 23 0xAA ++ (0xBB ∷ [])) ∷ [])
     -- counter M-1, 65,535, then 0: missed 0
     ∷ joins 24
     (record { mark = Begin; counter = 65535; piece = 0xAA ∷ [] } ∷ record { mark = End; counter = 0; piece = 0xBB ∷ [] } ∷ [])
-    (Held 0 1 ∷ Delivered 0 (Rooms 0 2) ∷ []) ((0xAA ∷ 0xBB ∷ []) ∷ [])
+    (Ok (Held 0 1) ∷ Ok (Delivered 0 (Rooms 0 2)) ∷ []) ((0xAA ∷ 0xBB ∷ []) ∷ [])
     ∷ []
 
 -- every starred case holds

@@ -1,10 +1,11 @@
 -- Demand 1, "a fixed order of checks", for type tables: "30 and 31: whichever is met first in reading order", then 32 for any
 -- entry, then 33 (docs/DECISIONS.md, 21). The theorem is in proofs/TableOrder.antt.
 use Rattle.std.specs.Prelude.{ℕ, ◌+◌, ◌<◌, ◌≡◌, ◌⊎◌, List, [], ◌∷◌, ◌++◌, length}
+use Rattle.std.specs.Prelude.{Result, Ok}
+use Rattle.refusal.specs.Refusal.{refused}
+use Rattle.refusal.specs.declared.Refusal.{Refusal}
 use Rattle.table.specs.declared.Section.{Section}
 use Rattle.table.specs.declared.Sections.{Sections}
-use Rattle.table.specs.declared.Checked.{Checked}
-use Rattle.table.specs.declared.Checked.TheVariants.{Refused, Table}
 use Rattle.table.specs.Layout.{section_end, counted}
 use Rattle.table.specs.Checked.{number_given}
 use Rattle.types.specs.Sizes.{largest}
@@ -61,8 +62,8 @@ table_checks t =
     ∷ [])))
 
 -- a check, ours or any other
-abbrev pub TableInOrderBy : (List ℕ → Checked) → Type 1
-TableInOrderBy C = (t : List ℕ) → Answers Refused (Table (sections_in t)) (table_checks t) (C t)
+abbrev pub TableInOrderBy : (List ℕ → Result Sections Refusal) → Type 1
+TableInOrderBy C = (t : List ℕ) → Answers refused (Ok (sections_in t)) (table_checks t) (C t)
 
 abbrev pub TableInOrder : Type 1
 TableInOrder = TableInOrderBy checked

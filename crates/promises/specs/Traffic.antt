@@ -1,9 +1,11 @@
 -- Demand 3: a traffic, the datagrams of one channel in it, and what is delivered on that channel while it is taken.
 use Rattle.std.specs.Prelude.{ℕ, Bool, cond, ◌&&◌, List, [], ◌∷◌, ◌++◌, leb, ltb, eqb, length, get_or}
+use Rattle.std.specs.Prelude.{Result, Ok, Err}
+use Rattle.refusal.specs.declared.Refusal.{Refusal}
 use Rattle.wire.specs.Bytes.{Octets}
 use Rattle.binding.specs.Header.{version_in, sender_in}
 use Rattle.channel.specs.declared.Outcome.{Outcome}
-use Rattle.channel.specs.declared.Outcome.TheVariants.{Refused, Repeated, Delivered, Held, Stray, TooLong}
+use Rattle.channel.specs.declared.Outcome.TheVariants.{Repeated, Delivered, Held, Stray, TooLong}
 use Rattle.joiner.specs.declared.Joiner.{Joiner}
 use Rattle.joiner.specs.Setup.{setup_of}
 use Rattle.joiner.specs.Take.{taken_of, rooms_after, message_of}
@@ -26,18 +28,18 @@ of_channel ids k [] = []
 of_channel ids k (d ∷ ds) = cond (is_of ids k d) (d ∷ []) [] ++ of_channel ids k ds
 
 -- what `message` hands back after `take` answered with this outcome: one message where it delivered
-abbrev pub handed_back : Outcome → Datagram → List ℕ → List (List ℕ)
-handed_back (Delivered m p) d rooms = message_of (Delivered m p) d rooms ∷ []
-handed_back (Refused n) d rooms = []
-handed_back Repeated d rooms = []
-handed_back (Held m n) d rooms = []
-handed_back (Stray m) d rooms = []
-handed_back (TooLong m) d rooms = []
+abbrev pub handed_back : Result Outcome Refusal → Datagram → List ℕ → List (List ℕ)
+handed_back (Ok (Delivered m p)) d rooms = message_of (Ok (Delivered m p)) d rooms ∷ []
+handed_back (Err n) d rooms = []
+handed_back (Ok Repeated) d rooms = []
+handed_back (Ok (Held m n)) d rooms = []
+handed_back (Ok (Stray m)) d rooms = []
+handed_back (Ok (TooLong m)) d rooms = []
 
 -- a joiner, ours or any other: what it remembers beside the rooms lent to it, how it starts from a set-up of these IDs and rooms of
 -- R bytes, and what a datagram comes to
 pub record Took (State : Type 0) : Type 0 where
-  pub outcome : Outcome
+  pub outcome : Result Outcome Refusal
   pub state : State
   pub rooms : List ℕ
 
@@ -71,7 +73,7 @@ our_joining =
 abbrev pub delivered_on : List ℕ → ℕ → Joiner → List ℕ → List Datagram → List (List ℕ)
 delivered_on ids k j rooms ds = delivered_by our_joining ids k j rooms ds
 
-abbrev pub outcomes_on : List ℕ → ℕ → Joiner → List ℕ → List Datagram → List Outcome
+abbrev pub outcomes_on : List ℕ → ℕ → Joiner → List ℕ → List Datagram → List (Result Outcome Refusal)
 outcomes_on ids k j rooms [] = []
 outcomes_on ids k j rooms (d ∷ ds) =
     cond (is_of ids k d) ((taken_of j rooms d).outcome ∷ []) []

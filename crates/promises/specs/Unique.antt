@@ -4,8 +4,8 @@
 -- proof here. Beside them stands what the look-up and the call on sections come to on a table that `check` accepts. The theorem is
 -- in proofs/Unique.antt.
 use Rattle.std.specs.Prelude.{ℕ, ◌≤◌, ◌≡◌, List, length}
+use Rattle.std.specs.Prelude.{Ok}
 use Rattle.table.specs.declared.Sections.{Sections}
-use Rattle.table.specs.declared.Checked.TheVariants.{Table}
 use Rattle.types.specs.Table.{checked}
 use Rattle.platform.specs.declared.reactions.Standing.{Standing}
 use Rattle.platform.specs.Receiving.{received_of, left_of, list_after, sections_outcome, sections_output, sections_list}
@@ -237,11 +237,11 @@ pub record RecordingUnique : Type 0 where
 pub record OnAccepted : Type 0 where
   pub find : Lookups
   -- with the index as it is laid in any words that have room for it
-  pub receive-checked : (own : ℕ) (t : List ℕ) (s : Sections) (words : List ℕ) (p : Standing) (l m : List ℕ) (room : ℕ) → checked t ≡ Table s
+  pub receive-checked : (own : ℕ) (t : List ℕ) (s : Sections) (words : List ℕ) (p : Standing) (l m : List ℕ) (room : ℕ) → checked t ≡ Ok s
       → s.operations.count ≤ length words → sections_outcome own t s (laid t s words) p l m room ≡ received_of own t p l m room
-  pub receive_checked_out : (own : ℕ) (t : List ℕ) (s : Sections) (words : List ℕ) (p : Standing) (m out : List ℕ) → checked t ≡ Table s
+  pub receive_checked_out : (own : ℕ) (t : List ℕ) (s : Sections) (words : List ℕ) (p : Standing) (m out : List ℕ) → checked t ≡ Ok s
       → s.operations.count ≤ length words → sections_output own t s (laid t s words) p m out ≡ left_of own t p m out
-  pub receive_checked_list : (own : ℕ) (t : List ℕ) (s : Sections) (words l m : List ℕ) → checked t ≡ Table s
+  pub receive_checked_list : (own : ℕ) (t : List ℕ) (s : Sections) (words l m : List ℕ) → checked t ≡ Ok s
       → s.operations.count ≤ length words → sections_list own t s (laid t s words) l m ≡ list_after own t l m
 
 pub record Unique : Type 0 where

@@ -1,11 +1,10 @@
 -- 02, request 13: the plans of two small tables, word by word, and payloads by them; and by a plan that is forged. The theorem is in
 -- proofs/WorkedPlans.antt.
 use Rattle.std.specs.Prelude.{ℕ, ◌≡◌, true, false, List, [], ◌∷◌, ◌++◌, take, drop, replicate}
+use Rattle.std.specs.Prelude.{Ok}
 use Rattle.table.specs.declared.Sections.{Sections}
-use Rattle.table.specs.declared.Checked.TheVariants.{Table}
 use Rattle.types.specs.Table.{checked}
 use Rattle.walk.specs.Planned.{is_planned}
-use Rattle.plan.specs.declared.Length.TheVariants.{Words}
 use Rattle.plan.specs.Layout.{length_in, laid_number, laid_out}
 use Rattle.payload.specs.declared.Answer.TheVariants.{Stopped, Gave}
 use Rattle.payload.specs.Calls.{words_in, packed_in}
@@ -69,9 +68,9 @@ plan_words =
 -- different leaves as one; two runs left as they are where equal leaves meet; one word less taken for enough; a word changed behind
 -- the plans, or in words that are too few
 pub record PlansAre : Type 0 where
-  pub accepted : checked plan_table ≡ Table plan_sections
+  pub accepted : checked plan_table ≡ Ok plan_sections
   -- one word for the count, 7 for the types and one for each of 1, 1, 3, 6 and 7 leaves
-  pub long : length_in plan_table plan_sections ≡ Words 26
+  pub long : length_in plan_table plan_sections ≡ Ok 26
   pub enough : laid_number plan_table plan_sections 26 ≡ 0
   pub too_short : laid_number plan_table plan_sections 25 ≡ 10
   pub laid : laid_out plan_table plan_sections (replicate 27 9) ≡ plan_words ++ replicate 7 9
@@ -134,8 +133,8 @@ limit_sections =
     }
 
 pub record AtTheLimit : Type 0 where
-  pub accepted : checked limit_table ≡ Table limit_sections
-  pub long : length_in limit_table limit_sections ≡ Words 517
+  pub accepted : checked limit_table ≡ Ok limit_sections
+  pub long : length_in limit_table limit_sections ≡ Ok 517
   pub laid : laid_out limit_table limit_sections (replicate 517 9)
       ≡ (3 ∷ 0x0000000400010001 ∷ 0x0000000500010200 ∷ 0x0000000000000000 ∷ 0x0000000000000008 ∷ 0x000000000001FF08 ∷ []) ++ replicate 511 9
 

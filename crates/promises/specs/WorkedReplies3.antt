@@ -2,8 +2,8 @@
 -- asks for all services, of which 21 is AVAILABLE and 22 UNAVAILABLE; asks for 5, which is none of ours; and hears the answer. The theorem
 -- is in proofs/WorkedReplies3.antt.
 use Rattle.std.specs.Prelude.{ℕ, ◌+◌, ◌*◌, ◌^◌, ◌≡◌, true, false, List, [], ◌∷◌, replicate}
+use Rattle.std.specs.Prelude.{Ok}
 use Rattle.table.specs.declared.Sections.{Sections}
-use Rattle.table.specs.declared.Checked.TheVariants.{Table}
 use Rattle.types.specs.Table.{checked}
 use Rattle.message3.specs.declared.Header3.{Header3}
 use Rattle.states.specs.States.{stands_up}
@@ -111,7 +111,7 @@ pub record WorkedReplies3 : Type 0 where
   pub all_told : our_output (at_one ours2122 (fresh_standing 1) asks_for_all_of1 44) ≡ tells2122
   pub one_told : our_output (at_one ours2122 (fresh_standing 1) asks_for5 36) ≡ tells5
   -- and heard: such a pair of calls is one of specs/ServicesAcross
-  pub hears : (s : Sections) → checked bare_table ≡ Table s → Hears our_receiving3 (at_one ours2122 (fresh_standing 1) asks_for_all_of1 44) at_two s asks_header
+  pub hears : (s : Sections) → checked bare_table ≡ Ok s → Hears our_receiving3 (at_one ours2122 (fresh_standing 1) asks_for_all_of1 44) at_two s asks_header
   pub service_21 : availability_in (block_at at_two 1 (our_words at_two)) 21 ≡ Available
   pub service_22 : availability_in (block_at at_two 1 (our_words at_two)) 22 ≡ Unavailable
   pub service_23 : availability_in (block_at at_two 1 (our_words at_two)) 23 ≡ Unheard

@@ -1,9 +1,10 @@
 -- Wrong checks of type tables: the order of checks with 01's rules (specs/TableOrder, Rules32) leaves one check, and none of these
 -- meets it. The theorems are in proofs/WrongChecks.antt.
 use Rattle.std.specs.Prelude.{ℕ, ◌+◌, ◌*◌, ◌≡◌, Bool, not, cond, ◌&&◌, ◌||◌, List, eqb, ltb, length}
+use Rattle.std.specs.Prelude.{Result, Ok, Err}
+use Rattle.refusal.specs.Refusal.{refused}
+use Rattle.refusal.specs.declared.Refusal.{Refusal}
 use Rattle.table.specs.declared.Sections.{Sections}
-use Rattle.table.specs.declared.Checked.{Checked}
-use Rattle.table.specs.declared.Checked.TheVariants.{Refused, Table}
 use Rattle.wire.specs.All.{all_below}
 use Rattle.table.specs.Layout.{sections_of}
 use Rattle.types.specs.Table.{checked}
@@ -11,11 +12,11 @@ use Rattle.promises.specs.TableOrder.{TableInOrderBy, TableInOrder}
 use Rattle.promises.specs.Rules32.{kind_of, operation_kind, operation_type, response_type}
 
 -- as ours, but a table that does not pass a further test gets n
-abbrev pub only_where : ℕ → (List ℕ → Sections → Bool) → List ℕ → Checked → Checked
-only_where n ok t (Refused k) = Refused k
-only_where n ok t (Table s) = cond (ok t s) (Table s) (Refused n)
+abbrev pub only_where : ℕ → (List ℕ → Sections → Bool) → List ℕ → Result Sections Refusal → Result Sections Refusal
+only_where n ok t (Err k) = Err k
+only_where n ok t (Ok s) = cond (ok t s) (Ok s) (Err n)
 
-abbrev pub stricter : ℕ → (List ℕ → Sections → Bool) → List ℕ → Checked
+abbrev pub stricter : ℕ → (List ℕ → Sections → Bool) → List ℕ → Result Sections Refusal
 stricter n ok t = only_where n ok t (checked t)
 
 -- every record is refused: no type may be of kind 2
@@ -39,15 +40,15 @@ requests_typed t s =
     s.operations.count
 
 -- the sections are looked at, and no entry is judged
-abbrev pub nothing_judged : List ℕ → Checked
+abbrev pub nothing_judged : List ℕ → Result Sections Refusal
 nothing_judged t = sections_of t
 
-abbrev pub all_refused : List ℕ → Checked
-all_refused t = Refused 32
+abbrev pub all_refused : List ℕ → Result Sections Refusal
+all_refused t = refused 32
 
 pub record NoWrongCheck : Type 1 where
   pub ours : TableInOrder
-  pub only_ours : (C : List ℕ → Checked) → TableInOrderBy C → (t : List ℕ) → C t ≡ checked t
+  pub only_ours : (C : List ℕ → Result Sections Refusal) → TableInOrderBy C → (t : List ℕ) → C t ≡ checked t
   pub records_refused : TableInOrderBy (stricter 32 no_record) → ⊥
   pub eight_bytes_each : TableInOrderBy (stricter 30 eight_each) → ⊥
   pub requests_refused : TableInOrderBy (stricter 32 no_request) → ⊥

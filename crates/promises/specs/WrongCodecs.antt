@@ -1,11 +1,12 @@
 -- 01, "What the promises have to say": "all refused, or one constant answer", "packing and unpacking by plain copy". None of them
 -- meets demand 2. The theorems are in proofs/WrongCodecs.antt.
 use Rattle.std.specs.Prelude.{ℕ, ◌≡◌, Bool, cond, ◌&&◌, List, eqb, leb, ltb, length, get_or}
+use Rattle.std.specs.Prelude.{Result, Ok, Err}
+use Rattle.refusal.specs.declared.Refusal.{Refusal}
+use Rattle.table.specs.declared.Sections.{Sections}
 use Rattle.wire.specs.Bytes.{over, written}
 use Rattle.payload.specs.declared.Answer.{Answer}
 use Rattle.payload.specs.declared.Answer.TheVariants.{Refused, Stopped, Gave}
-use Rattle.table.specs.declared.Checked.{Checked}
-use Rattle.table.specs.declared.Checked.TheVariants as check
 use Rattle.types.specs.Table.{checked}
 use Rattle.walk.specs.Walk.{Codec, start, left, type_walk}
 use Rattle.unpack.specs.Reading.{reader}
@@ -94,9 +95,9 @@ pub record KeepsBy (C : Coding) : Type 0 where
   pub pack_output : (t : List ℕ) (i : ℕ) (ws out : List ℕ) → Keeps (number_given (C.packs t i ws (length out))) out (C.bytes_left t i ws out)
 
 -- "words stored before a late 42 is found": what the walk has written by then stays
-abbrev pub stored_by : Checked → Codec → List ℕ → ℕ → List ℕ → List ℕ
-stored_by (check.Refused k) c t i x = x
-stored_by (check.Table s) c t i x = left (type_walk c t s i start x)
+abbrev pub stored_by : Result Sections Refusal → Codec → List ℕ → ℕ → List ℕ → List ℕ
+stored_by (Err k) c t i x = x
+stored_by (Ok s) c t i x = left (type_walk c t s i start x)
 
 abbrev pub stores_at_once : Coding
 stores_at_once =

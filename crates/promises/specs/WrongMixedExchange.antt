@@ -2,9 +2,10 @@
 -- number bounds the exchanges that one status starts, and a fourth passes 9; a fifth goes on where two are at odds. The theorem is in
 -- proofs/WrongMixedExchange.antt.
 use Rattle.std.specs.Prelude.{ℕ, Bool, true, cond, not, ◌&&◌, List, [], ◌∷◌, eqb, ltb, length}
+use Rattle.std.specs.Prelude.{Result, Ok, Err}
+use Rattle.refusal.specs.declared.Refusal.{Refusal}
+use Rattle.table.specs.declared.Sections.{Sections}
 use Rattle.wire.specs.Bytes.{number}
-use Rattle.table.specs.declared.Checked.{Checked}
-use Rattle.table.specs.declared.Checked.TheVariants as checked
 use Rattle.types.specs.Table.{checked as checkedIs}
 use Rattle.pending.specs.Free.{drawn}
 use Rattle.states.specs.States.{stands_up}
@@ -93,9 +94,9 @@ services_asked_back =
     }
 
 -- a pull of all answered with UNKNOWN_OPERATION of all where there is no versioned data, as Issue 6 has it
-abbrev pub data_in : List ℕ → Checked → Bool
-data_in t (checked.Refused n) = true
-data_in t (checked.Table s) = some_data t s
+abbrev pub data_in : List ℕ → Result Sections Refusal → Bool
+data_in t (Err n) = true
+data_in t (Ok s) = some_data t s
 
 abbrev pub provides_data : TableGiven → Bool
 provides_data (bytes t) = data_in t (checkedIs t)

@@ -1,8 +1,9 @@
 -- Packing and unpacking that answer as ours do but for the place, or the leaves before it. None of them meets the laws of Places.
 -- The theorems are in proofs/WrongPlaces.antt.
 use Rattle.std.specs.Prelude.{ℕ, ◌+◌, ◌-◌, ◌≤◌, Bool, false, cond, ◌||◌, List, [], eqb, length}
-use Rattle.table.specs.declared.Checked.{Checked}
-use Rattle.table.specs.declared.Checked.TheVariants as check
+use Rattle.std.specs.Prelude.{Result, Ok, Err}
+use Rattle.refusal.specs.declared.Refusal.{Refusal}
+use Rattle.table.specs.declared.Sections.{Sections}
 use Rattle.table.specs.Entries.{array_kind, type_at}
 use Rattle.types.specs.Table.{checked}
 use Rattle.walk.specs.declared.Walked.{Walked}
@@ -48,9 +49,9 @@ abbrev pub behind_it : ℕ → ℕ → Coding
 behind_it far more = unpacking_says (λ t i b k o. cond (is_refused k) (record { at = o.at + far; leaves = o.leaves + more }) o)
 
 -- the count of an array is not among the leaves: one less, of arrays
-abbrev pub is_array : Checked → List ℕ → ℕ → Bool
-is_array (check.Refused k) t i = false
-is_array (check.Table s) t i = eqb (type_at t s i).kind array_kind
+abbrev pub is_array : Result Sections Refusal → List ℕ → ℕ → Bool
+is_array (Err k) t i = false
+is_array (Ok s) t i = eqb (type_at t s i).kind array_kind
 
 abbrev pub uncounted : Coding
 uncounted = unpacking_says (λ t i b k o. cond (is_array (checked t) t i) (record { at = o.at; leaves = o.leaves - 1 }) o)
@@ -64,9 +65,9 @@ abbrev pub written_to : Walked → ℕ
 written_to (walked.Went q) = q.to
 written_to (walked.Stopped k q) = q.to
 
-abbrev pub byte_of : Checked → List ℕ → ℕ → List ℕ → ℕ
-byte_of (check.Refused k) t i ws = 0
-byte_of (check.Table s) t i ws = written_to (answer (type_walk (writer ws) t s i start []))
+abbrev pub byte_of : Result Sections Refusal → List ℕ → ℕ → List ℕ → ℕ
+byte_of (Err k) t i ws = 0
+byte_of (Ok s) t i ws = written_to (answer (type_walk (writer ws) t s i start []))
 
 abbrev pub output_byte : Coding
 output_byte = packing_says (λ t i ws k o. record { at = byte_of (checked t) t i ws; leaves = o.leaves })

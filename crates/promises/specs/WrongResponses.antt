@@ -1,11 +1,12 @@
 -- 02, 1, "All refused, or one constant answer" for responses: platforms that do what ours does but for domain 1 messages with a kind 2
 -- ID. None of them meets `Responses`. The theorems are in proofs/WrongResponses.antt.
 use Rattle.std.specs.Prelude.{ℕ, ◌≡◌, Bool, false, cond, List, eqb}
+use Rattle.std.specs.Prelude.{Result, Ok, Err}
+use Rattle.refusal.specs.declared.Refusal.{Refusal}
+use Rattle.table.specs.declared.Sections.{Sections}
 use Rattle.std.specs.Prelude.{Option, Some, None}
 use Rattle.pending.specs.Free.{is_pending}
 use Rattle.pending.specs.Answers.{awaited_of, cancelled, is_response}
-use Rattle.table.specs.declared.Checked.{Checked}
-use Rattle.table.specs.declared.Checked.TheVariants as checked
 use Rattle.types.specs.Table.{checked}
 use Rattle.message.specs.declared.Header.{Header}
 use Rattle.message.specs.declared.Reading.{Reading}
@@ -33,13 +34,13 @@ abbrev pub list_by : Matching → List ℕ → Option (ℕ × ℕ) → List ℕ 
 list_by M t f l (reading.Refused n) = l
 list_by M t f l (reading.Read h m start len) = cond (is_answer t f m) (cond (M.is_it l h) (M.freed l h.sequence) l) l
 
-abbrev pub outcome_for : Matching → Checked → List ℕ → Standing → List ℕ → Reading → Received → Received
-outcome_for M (checked.Refused n) t p l x ours = ours
-outcome_for M (checked.Table s) t p l x ours = outcome_by M t (operation_in t s (index_of t s) x) p l x ours
+abbrev pub outcome_for : Matching → Result Sections Refusal → List ℕ → Standing → List ℕ → Reading → Received → Received
+outcome_for M (Err n) t p l x ours = ours
+outcome_for M (Ok s) t p l x ours = outcome_by M t (operation_in t s (index_of t s) x) p l x ours
 
-abbrev pub list_for : Matching → Checked → List ℕ → List ℕ → Reading → List ℕ
-list_for M (checked.Refused n) t l x = l
-list_for M (checked.Table s) t l x = list_by M t (operation_in t s (index_of t s) x) l x
+abbrev pub list_for : Matching → Result Sections Refusal → List ℕ → List ℕ → Reading → List ℕ
+list_for M (Err n) t l x = l
+list_for M (Ok s) t l x = list_by M t (operation_in t s (index_of t s) x) l x
 
 abbrev pub matching : Matching → Receiving
 matching M =

@@ -2,10 +2,12 @@
 -- together is the line.
 -- Assumes nothing.
 use Rattle.std.proofs.Common.{◌≡◌, ℕ, ◌+◌, ◌≤◌, List, [], ◌∷◌, ◌++◌, length, refl, ap, ◌∙◌, arith, length-append}
+use Rattle.std.specs.Prelude.{Result, Ok, Err}
+use Rattle.refusal.specs.declared.Refusal.{Refusal}
 use Rattle.wire.specs.Bytes.{written, part}
 use Rattle.channel.specs.Outcomes.{name_of, missed_in, bytes_in}
 use Rattle.channel.specs.declared.Outcome.{Outcome}
-use Rattle.channel.specs.declared.Outcome.TheVariants.{Refused, Repeated, Delivered, Held, Stray, TooLong}
+use Rattle.channel.specs.declared.Outcome.TheVariants.{Repeated, Delivered, Held, Stray, TooLong}
 use Rattle.recording.specs.Decimal.{digit_limit, decimal}
 use Rattle.recording.specs.Places.{behind, spaced, joined, put_all, end_all}
 use Rattle.recording.proofs.Decimals.{digits_few}
@@ -15,7 +17,7 @@ use Rattle.recording.specs.Words.{refusal_words, count_words, value_words}
 use Rattle.recording.specs.declared.lines.Ending.{Ending}
 
 -- the name of the outcome that was met, and its values
-module _ {x o : Outcome} (h : o ≡ x) where
+module _ {x o : Result Outcome Refusal} (h : o ≡ x) where
   pub name-end : {r : ℕ} (k at : ℕ) → r ≡ behind k at (spaced (name_of x)) → r ≡ behind k at (spaced (name_of o))
   name-end k at e = rw h e
 
@@ -29,17 +31,17 @@ module _ {x o : Outcome} (h : o ≡ x) where
   value-put w at e = rw h e
 
 -- any outcome but a refusal
-module _ {m b : ℕ} (o : Outcome) (t : (n : ℕ) → o ≡ Refused n → ⊥) (e : m ≡ missed_in o) (f : b ≡ bytes_in o) where
+module _ {m b : ℕ} (o : Result Outcome Refusal) (t : (n : ℕ) → o ≡ Err n → ⊥) (e : m ≡ missed_in o) (f : b ≡ bytes_in o) where
   counted : count_words m b ≡ value_words o
   counted = go o t e f
     where
-      go : (x : Outcome) → ((n : ℕ) → x ≡ Refused n → ⊥) → m ≡ missed_in x → b ≡ bytes_in x → count_words m b ≡ value_words x
-      go (Refused n) s g h = absurd (s n refl)
-      go Repeated s g h = rw (g, h)
-      go (Delivered x y) s g h = rw (g, h)
-      go (Held x y) s g h = rw (g, h)
-      go (Stray x) s g h = rw (g, h)
-      go (TooLong x) s g h = rw (g, h)
+      go : (x : Result Outcome Refusal) → ((n : ℕ) → x ≡ Err n → ⊥) → m ≡ missed_in x → b ≡ bytes_in x → count_words m b ≡ value_words x
+      go (Err n) s g h = absurd (s n refl)
+      go (Ok Repeated) s g h = rw (g, h)
+      go (Ok (Delivered x y)) s g h = rw (g, h)
+      go (Ok (Held x y)) s g h = rw (g, h)
+      go (Ok (Stray x)) s g h = rw (g, h)
+      go (Ok (TooLong x)) s g h = rw (g, h)
 
   pub counts_end : {r : ℕ} (w : List ℕ) (at : ℕ) → r ≡ end_all (count_words m b) w at → r ≡ end_all (value_words o) w at
   counts_end w at g = g ∙ ap (λ (ws : List (List ℕ)). end_all ws w at) counted
@@ -58,28 +60,28 @@ counts_short : (m b : ℕ) → length (joined (count_words m b)) ≤ 43
 counts_short m b =
     omega (arith, length-append (spaced (decimal m)) (spaced (decimal b) ++ line_feed), length-append (spaced (decimal b)) line_feed, few m, few b)
 
-values_short : (o : Outcome) → length (spaced (name_of o)) + length (joined (value_words o)) ≤ 53
-values_short (Refused k) = omega (arith, refusal_short k)
-values_short Repeated = omega (arith, counts_short (missed_in Repeated) (bytes_in Repeated))
-values_short (Delivered m p) = omega (arith, counts_short (missed_in (Delivered m p)) (bytes_in (Delivered m p)))
-values_short (Held m n) = omega (arith, counts_short (missed_in (Held m n)) (bytes_in (Held m n)))
-values_short (Stray m) = omega (arith, counts_short (missed_in (Stray m)) (bytes_in (Stray m)))
-values_short (TooLong m) = omega (arith, counts_short (missed_in (TooLong m)) (bytes_in (TooLong m)))
+values_short : (o : Result Outcome Refusal) → length (spaced (name_of o)) + length (joined (value_words o)) ≤ 53
+values_short (Err k) = omega (arith, refusal_short k)
+values_short (Ok Repeated) = omega (arith, counts_short (missed_in (Ok Repeated)) (bytes_in (Ok Repeated)))
+values_short (Ok (Delivered m p)) = omega (arith, counts_short (missed_in (Ok (Delivered m p))) (bytes_in (Ok (Delivered m p))))
+values_short (Ok (Held m n)) = omega (arith, counts_short (missed_in (Ok (Held m n))) (bytes_in (Ok (Held m n))))
+values_short (Ok (Stray m)) = omega (arith, counts_short (missed_in (Ok (Stray m))) (bytes_in (Ok (Stray m))))
+values_short (Ok (TooLong m)) = omega (arith, counts_short (missed_in (Ok (TooLong m))) (bytes_in (Ok (TooLong m))))
 
 -- its words are the line
-line_words : ℕ → Outcome → List (List ℕ)
+line_words : ℕ → Result Outcome Refusal → List (List ℕ)
 line_words n o = decimal n ∷ spaced (name_of o) ∷ value_words o
 
-line-words : (n : ℕ) (o : Outcome) → joined (line_words n o) ≡ line_of n o
+line-words : (n : ℕ) (o : Result Outcome Refusal) → joined (line_words n o) ≡ line_of n o
 unfolding line_of line_words
-line-words n (Refused k) = refl
-line-words n Repeated = refl
-line-words n (Delivered m p) = refl
-line-words n (Held m b) = refl
-line-words n (Stray m) = refl
-line-words n (TooLong m) = refl
+line-words n (Err k) = refl
+line-words n (Ok Repeated) = refl
+line-words n (Ok (Delivered m p)) = refl
+line-words n (Ok (Held m b)) = refl
+line-words n (Ok (Stray m)) = refl
+line-words n (Ok (TooLong m)) = refl
 
-line_short : (n : ℕ) (o : Outcome) → length (joined (line_words n o)) ≤ line_limit
+line_short : (n : ℕ) (o : Result Outcome Refusal) → length (joined (line_words n o)) ≤ line_limit
 unfolding line_words
 line_short n o =
     omega (
@@ -90,10 +92,10 @@ line_short n o =
       values_short o,
     )
 
-pub line-limit : (n : ℕ) (o : Outcome) → length (line_of n o) ≤ line_limit
+pub line-limit : (n : ℕ) (o : Result Outcome Refusal) → length (line_of n o) ≤ line_limit
 line-limit n o = rw (← line-words n o) (line_short n o)
 
-module _ (n : ℕ) (o : Outcome) (a b l s : List ℕ) (p q e : ℕ) (z : length s ≡ line_limit)
+module _ (n : ℕ) (o : Result Outcome Refusal) (a b l s : List ℕ) (p q e : ℕ) (z : length s ≡ line_limit)
     (pe : p ≡ behind (length s) 0 (decimal n)) (ae : a ≡ written s 0 (decimal n))
     (qe : q ≡ behind (length a) p (spaced (name_of o))) (be : b ≡ written a p (spaced (name_of o)))
     (ee : e ≡ end_all (value_words o) b q) (le : l ≡ put_all (value_words o) b q) where

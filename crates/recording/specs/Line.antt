@@ -1,9 +1,12 @@
 -- The lines of a recording, byte by byte. 01, What is built: the datagram's number from 0, then `refused` and the number,
 -- or the outcome's name, missed, and the bytes held or delivered (else 0).
 use Rattle.std.specs.Prelude.{ℕ, List, [], ◌∷◌, ◌++◌}
+use Rattle.std.specs.Prelude.{Result, Ok, Err}
+use Rattle.refusal.specs.Refusal.{number_of}
+use Rattle.refusal.specs.declared.Refusal.{Refusal}
 use Rattle.channel.specs.Outcomes.{name_of, missed_in, bytes_in}
 use Rattle.channel.specs.declared.Outcome.{Outcome}
-use Rattle.channel.specs.declared.Outcome.TheVariants.{Refused, Repeated, Delivered, Held, Stray, TooLong}
+use Rattle.channel.specs.declared.Outcome.TheVariants.{Repeated, Delivered, Held, Stray, TooLong}
 use Rattle.recording.specs.Decimal.{decimal}
 use Rattle.recording.specs.Places.{spaced}
 use Rattle.recording.specs.declared.lines.Ending.{Ending}
@@ -22,16 +25,16 @@ abbrev pub counts_of : ℕ → ℕ → List ℕ
 counts_of m b = spaced (decimal m) ++ (spaced (decimal b) ++ line_feed)
 
 -- what stands behind the name
-abbrev pub values_of : Outcome → List ℕ
-values_of (Refused k) = spaced (decimal k) ++ line_feed
-values_of Repeated = counts_of (missed_in Repeated) (bytes_in Repeated)
-values_of (Delivered m p) = counts_of (missed_in (Delivered m p)) (bytes_in (Delivered m p))
-values_of (Held m n) = counts_of (missed_in (Held m n)) (bytes_in (Held m n))
-values_of (Stray m) = counts_of (missed_in (Stray m)) (bytes_in (Stray m))
-values_of (TooLong m) = counts_of (missed_in (TooLong m)) (bytes_in (TooLong m))
+abbrev pub values_of : Result Outcome Refusal → List ℕ
+values_of (Err e) = spaced (decimal (number_of e)) ++ line_feed
+values_of (Ok Repeated) = counts_of (missed_in (Ok Repeated)) (bytes_in (Ok Repeated))
+values_of (Ok (Delivered m p)) = counts_of (missed_in (Ok (Delivered m p))) (bytes_in (Ok (Delivered m p)))
+values_of (Ok (Held m n)) = counts_of (missed_in (Ok (Held m n))) (bytes_in (Ok (Held m n)))
+values_of (Ok (Stray m)) = counts_of (missed_in (Ok (Stray m))) (bytes_in (Ok (Stray m)))
+values_of (Ok (TooLong m)) = counts_of (missed_in (Ok (TooLong m))) (bytes_in (Ok (TooLong m)))
 
 -- the line of the datagram with this number, from 0
-unfoldable pub line_of : ℕ → Outcome → List ℕ
+unfoldable pub line_of : ℕ → Result Outcome Refusal → List ℕ
 line_of n o = decimal n ++ (spaced (name_of o) ++ values_of o)
 
 -- `cut short`

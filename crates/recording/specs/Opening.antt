@@ -1,14 +1,12 @@
 -- The start of a recording. 01, What is built: 16-bit channel count, 32-bit R, a 16-bit sender ID for each channel. Count
 -- and R are judged before the IDs are read; what is wrong with an ID only after the last.
-use Rattle.std.specs.Prelude.{ℕ, zero, suc, ◌+◌, ◌*◌, Bool, cond, ◌&&◌, List, [], ◌∷◌, ◌++◌, length, nat_le, nat_lt}
+use Rattle.std.specs.Prelude.{ℕ, zero, suc, ◌+◌, ◌*◌, Bool, cond, ◌&&◌, List, [], ◌∷◌, ◌++◌, length, nat_le, nat_lt, Option, Some, None, Result, Ok, Err}
 use Rattle.wire.specs.Bytes.{number}
-use Rattle.channel.specs.Record.{channel_limit, bad_setup, largest_room, room_start}
+use Rattle.channel.specs.Record.{channel_limit, largest_room, room_start}
 use Rattle.joiner.specs.Setup.{fresh_of, setup_of, smallest_room}
-use Rattle.joiner.specs.declared.setups.Verdict.{Verdict}
-use Rattle.joiner.specs.declared.setups.Verdict.TheVariants as answer
-use Rattle.joiner.specs.declared.setups.NewJoiner.{NewJoiner}
-use Rattle.recording.specs.declared.start.Opening.{Opening}
-use Rattle.recording.specs.declared.start.Opening.TheVariants.{Unfinished, Refused, Open}
+use Rattle.joiner.specs.declared.Joiner.{Joiner}
+use Rattle.refusal.specs.declared.Refusal.{Refusal}
+use Rattle.refusal.specs.declared.Refusal.TheVariants.{NoJoiner}
 use Rattle.recording.specs.declared.start.Opened.{Opened}
 
 -- the bytes of count and R
@@ -38,27 +36,23 @@ ids_in s (suc n) = ids_in s n ++ (number 1 s (id_place n) ∷ [])
 unfoldable pub good_start : ℕ → ℕ → Bool
 good_start n R = (nat_le 1 n && nat_le n channel_limit) && ((nat_le smallest_room R && nat_le R largest_room) && nat_le (room_start R n) rooms_limit)
 
--- no set-up (yet): the joiner beside it has no channels
-abbrev pub closed : Opening → Opened
-closed o = record { opening = o; joiner = fresh_of [] 0 }
-
 -- what the set-up answered: the datagrams start at p, and b bytes are the rooms' total
-unfoldable pub opened_by : ℕ → ℕ → NewJoiner → Verdict → Opened
-opened_by p b new answer.Accepted = record { opening = Open p b; joiner = new.joiner }
-opened_by p b new (answer.Refused k) = closed (Refused k)
+unfoldable pub opened_by : ℕ → ℕ → Result Joiner Refusal → Result (Option Opened) Refusal
+opened_by p b (Ok j) = Ok (Some (record { joiner = j; start = p; rooms = b }))
+opened_by p b (Err e) = Err e
 
 -- n channels with rooms of R bytes, and the IDs that stand in s
-abbrev pub setup_in : List ℕ → ℕ → ℕ → NewJoiner
+abbrev pub setup_in : List ℕ → ℕ → ℕ → Result Joiner Refusal
 setup_in s n R = setup_of (ids_in s n) R (room_start R n)
 
-abbrev pub ready_in : List ℕ → ℕ → ℕ → Opened
-ready_in s n R = opened_by (id_place n) (room_start R n) (setup_in s n R) (setup_in s n R).answer
+abbrev pub ready_in : List ℕ → ℕ → ℕ → Result (Option Opened) Refusal
+ready_in s n R = opened_by (id_place n) (room_start R n) (setup_in s n R)
 
--- the start of the recording of which s is what has come so far
-unfoldable pub opened_in : List ℕ → Opened
+-- the start of the recording of which s is what has come so far: refused, open, or not yet there
+unfoldable pub opened_in : List ℕ → Result (Option Opened) Refusal
 opened_in s =
     cond (nat_lt (length s) sizes_length)
-    (closed Unfinished)
+    (Ok None)
     (cond (good_start (count_in s) (room_in s))
-    (cond (nat_lt (length s) (id_place (count_in s))) (closed Unfinished) (ready_in s (count_in s) (room_in s)))
-    (closed (Refused bad_setup)))
+    (cond (nat_lt (length s) (id_place (count_in s))) (Ok None) (ready_in s (count_in s) (room_in s)))
+    (Err NoJoiner))

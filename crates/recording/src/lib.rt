@@ -15,7 +15,7 @@ ghost use Rattle.recording.specs.Play.{state_of, played, stepped_of};
 pub use blocks::keep;
 use joiner::Joiner;
 pub use lines::{Ending, LINE_LIMIT, put_ending};
-pub use start::{Opened, Opening, open};
+pub use start::{Opened, open};
 
 // What stands at a place of the recording: a datagram that is all there, part of one, or nothing.
 #[derive(Clone, Copy)]

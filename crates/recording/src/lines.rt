@@ -9,6 +9,7 @@ ghost use Rattle.recording.specs.Words.{refusal_words, count_words, value_words}
 
 use crate::text;
 use channel::{Outcome, Slice};
+use refusal::Refusal;
 
 // How a run ends: after the last datagram, in the middle of something, or at its start.
 #[derive(Clone, Copy)]
@@ -22,7 +23,12 @@ pub enum Ending {
 pub const LINE_LIMIT: usize = 73;
 
 // Writes the line of the datagram with this number at `at`, where it fits, and answers where the next one goes.
-pub(crate) fn put_line(output: &mut [u8], at: usize, number: u64, outcome: Outcome) -> usize
+pub(crate) fn put_line(
+    output: &mut [u8],
+    at: usize,
+    number: u64,
+    outcome: Result<Outcome, Refusal>,
+) -> usize
     ensures value { result ≡ behind (length output.old) at (line_of number outcome) }
     ensures output_after { output.new ≡ written output.old at (line_of number outcome) }
 {
@@ -54,7 +60,7 @@ fn put_refused(output: &mut [u8], at: usize, number: u32) -> usize
     text::put_text(output, at, wire::part(line, 0, end))
 }
 
-fn make_line(line: &mut [u8], number: u64, outcome: Outcome) -> usize
+fn make_line(line: &mut [u8], number: u64, outcome: Result<Outcome, Refusal>) -> usize
     requires { length line.old ≡ line_limit }
     ensures { part line.new 0 result ≡ line_of number outcome }
 {
@@ -71,30 +77,32 @@ fn make_refused(line: &mut [u8], number: u32) -> usize
     put_refusal(line, named, number)
 }
 
-fn put_name(line: &mut [u8], at: usize, outcome: Outcome) -> usize
+fn put_name(line: &mut [u8], at: usize, outcome: Result<Outcome, Refusal>) -> usize
     ensures value { result ≡ behind (length line.old) at (spaced (name_of outcome)) }
     ensures line_after { line.new ≡ written line.old at (spaced (name_of outcome)) }
 {
     match outcome {
-        Outcome::Refused(_) => text::put_text(line, at, b" refused"),
-        Outcome::Repeated => text::put_text(line, at, b" repeated"),
-        Outcome::Delivered {
-            missed: _,
-            slice: _,
-        } => text::put_text(line, at, b" delivered"),
-        Outcome::Held { missed: _, held: _ } => text::put_text(line, at, b" held"),
-        Outcome::Stray { missed: _ } => text::put_text(line, at, b" stray"),
-        Outcome::TooLong { missed: _ } => text::put_text(line, at, b" too long"),
+        Err(_) => text::put_text(line, at, b" refused"),
+        Ok(Outcome::Repeated) => text::put_text(line, at, b" repeated"),
+        Ok(
+            Outcome::Delivered {
+                missed: _,
+                slice: _,
+            },
+        ) => text::put_text(line, at, b" delivered"),
+        Ok(Outcome::Held { missed: _, held: _ }) => text::put_text(line, at, b" held"),
+        Ok(Outcome::Stray { missed: _ }) => text::put_text(line, at, b" stray"),
+        Ok(Outcome::TooLong { missed: _ }) => text::put_text(line, at, b" too long"),
     }
 }
 
 // What stands behind the name.
-fn put_values(line: &mut [u8], at: usize, outcome: Outcome) -> usize
+fn put_values(line: &mut [u8], at: usize, outcome: Result<Outcome, Refusal>) -> usize
     ensures value { result ≡ end_all (value_words outcome) line.old at }
     ensures line_after { line.new ≡ put_all (value_words outcome) line.old at }
 {
     match outcome {
-        Outcome::Refused(number) => put_refusal(line, at, number),
+        Err(refusal) => put_refusal(line, at, refusal.number()),
         _ => put_counts(line, at, missed_in(outcome), bytes_in(outcome)),
     }
 }
@@ -116,32 +124,32 @@ fn put_counts(line: &mut [u8], at: usize, missed: u32, bytes: usize) -> usize
     text::put_text(line, last, b"\n")
 }
 
-fn missed_in(outcome: Outcome) -> u32
+fn missed_in(outcome: Result<Outcome, Refusal>) -> u32
     ensures { result ≡ missed_in outcome }
 {
     match outcome {
-        Outcome::Refused(_) => 0,
-        Outcome::Repeated => 0,
-        Outcome::Delivered { missed, slice: _ } => missed,
-        Outcome::Held { missed, held: _ } => missed,
-        Outcome::Stray { missed } => missed,
-        Outcome::TooLong { missed } => missed,
+        Err(_) => 0,
+        Ok(Outcome::Repeated) => 0,
+        Ok(Outcome::Delivered { missed, slice: _ }) => missed,
+        Ok(Outcome::Held { missed, held: _ }) => missed,
+        Ok(Outcome::Stray { missed }) => missed,
+        Ok(Outcome::TooLong { missed }) => missed,
     }
 }
 
 // The bytes held or delivered.
-fn bytes_in(outcome: Outcome) -> usize
+fn bytes_in(outcome: Result<Outcome, Refusal>) -> usize
     ensures { result ≡ bytes_in outcome }
 {
     match outcome {
-        Outcome::Refused(_) => 0,
-        Outcome::Repeated => 0,
-        Outcome::Delivered { missed: _, slice } => match slice {
+        Err(_) => 0,
+        Ok(Outcome::Repeated) => 0,
+        Ok(Outcome::Delivered { missed: _, slice }) => match slice {
             Slice::Datagram { start: _, length } => length,
             Slice::Rooms { start: _, length } => length,
         },
-        Outcome::Held { missed: _, held } => held as usize,
-        Outcome::Stray { missed: _ } => 0,
-        Outcome::TooLong { missed: _ } => 0,
+        Ok(Outcome::Held { missed: _, held }) => held as usize,
+        Ok(Outcome::Stray { missed: _ }) => 0,
+        Ok(Outcome::TooLong { missed: _ }) => 0,
     }
 }

@@ -1,11 +1,10 @@
 // The start of a recording: its sizes, then its sender IDs. It is read a block at a time: a call is handed what has come so far.
-ghost use Rattle.std.specs.Prelude.{◌≡◌, ◌≤◌, [], length, take};
+ghost use Rattle.std.specs.Prelude.{◌≡◌, ◌≤◌, length, take};
 ghost use Rattle.channel.specs.Record.{channel_limit};
-ghost use Rattle.joiner.specs.Setup.{fresh_of};
-ghost use Rattle.recording.specs.Opening.{opened_in, good_start, ids_in, ready_in, closed};
+ghost use Rattle.recording.specs.Opening.{opened_in, good_start, ids_in, ready_in};
 
-use channel::{BAD_SETUP, Channel};
-use joiner::{Joiner, Verdict};
+use joiner::Joiner;
+use refusal::Refusal;
 
 // The bytes of count and R.
 const SIZES: usize = 6;
@@ -13,63 +12,30 @@ const SIZES: usize = 6;
 // All rooms together.
 const ROOMS: usize = 65536;
 
-// How a recording starts: more bytes are needed, it is refused, or its datagrams start at `start` and its rooms are
-// `rooms` bytes together.
+// A recording that is open: its datagrams start at `start`, and its rooms are `rooms` bytes together.
 #[derive(Clone, Copy)]
-pub enum Opening {
-    Unfinished,
-    Refused(u32),
-    Open { start: usize, rooms: usize },
-}
-
-// An enum cannot hold an array, so the joiner stands beside it. It has no channels unless the recording is open.
-#[derive(Drop)]
 pub struct Opened {
-    pub opening: Opening,
     pub joiner: Joiner,
+    pub start: usize,
+    pub rooms: usize,
 }
 
-// The start of a recording of which `input` is what has come so far.
-pub fn open(input: &[u8]) -> Opened
+// The start of a recording of which `input` is what has come so far; none as long as more bytes are needed.
+pub fn open(input: &[u8]) -> Result<Option<Opened>, Refusal>
     ensures { result ≡ opened_in input.now }
 {
     if input.len() < SIZES {
-        return closed(Opening::Unfinished);
+        return Ok(None);
     }
     let count = wire::u16_at(input, 0) as usize;
     let room = wire::u32_at(input, 2);
     if is_good_start(count, room) {
         if input.len() < SIZES + 2 * count {
-            return closed(Opening::Unfinished);
+            return Ok(None);
         }
         return set_up(input, count, room);
     }
-    closed(Opening::Refused(BAD_SETUP))
-}
-
-fn closed(opening: Opening) -> Opened
-    ensures { result ≡ closed opening }
-{
-    Opened {
-        opening,
-        joiner: no_joiner(),
-    }
-}
-
-fn no_joiner() -> Joiner
-    ensures { result ≡ fresh_of [] 0 }
-{
-    let channel = Channel {
-        sender: 0,
-        seen: false,
-        last: 0,
-        held: 0,
-    };
-    Joiner {
-        channels: [channel; 32],
-        count: 0,
-        room: 0,
-    }
+    Err(Refusal::NoJoiner)
 }
 
 fn is_good_start(count: usize, room: u32) -> bool
@@ -84,27 +50,18 @@ fn is_good_start(count: usize, room: u32) -> bool
     false
 }
 
-fn set_up(input: &[u8], count: usize, room: u32) -> Opened
+fn set_up(input: &[u8], count: usize, room: u32) -> Result<Option<Opened>, Refusal>
     requires { count ≤ channel_limit }
     ensures { result ≡ ready_in input.now count room }
 {
     let ids = read_ids(input, count);
     let rooms = channel::room_start(room, count as u32);
-    let new = joiner::setup(&ids[..count], room, rooms);
-    let answer = new.answer;
-    match answer {
-        Verdict::Accepted => {
-            let joiner = new.joiner;
-            Opened {
-                opening: Opening::Open {
-                    start: SIZES + 2 * count,
-                    rooms,
-                },
-                joiner,
-            }
-        }
-        Verdict::Refused(number) => closed(Opening::Refused(number)),
-    }
+    let joiner = joiner::setup(&ids[..count], room, rooms)?;
+    Ok(Some(Opened {
+        joiner,
+        start: SIZES + 2 * count,
+        rooms,
+    }))
 }
 
 // The first `count` IDs. What follows them is of no account.

@@ -1,5 +1,5 @@
 -- The numbers that refuse (01, Numbers given back; of 02 those of requests 1 and 8), and the names that the code has for them.
-use Rattle.std.specs.Prelude.{ℕ, zero, suc, Result, Ok, Err, eqb, cond}
+use Rattle.std.specs.Prelude.{◌≡◌, ℕ, zero, suc, ◌/◌, ◌%◌, List, [], ◌∷◌, get_or, Result, Ok, Err}
 use Rattle.refusal.specs.declared.Refusal.{Refusal}
 use Rattle.refusal.specs.declared.Refusal.TheVariants.{MessageShort, Mark, Version, Domain, PayloadSize, Sender, PlatformId}
 use Rattle.refusal.specs.declared.Refusal.TheVariants.{PlatformLength, PlatformValue, NoRoom, NoJoiner, DatagramLength, DatagramVersion}
@@ -39,3 +39,31 @@ number_of ListFull = 60
 number_of NotAwaited = 61
 number_of NoRequest = 62
 number_of ServicesFull = 63
+
+-- the names of ten numbers, the first of which is ten times so many; 0 is no refusal's
+abbrev pub decade : ℕ → List Refusal
+decade zero =
+    MessageShort ∷ MessageShort ∷ Mark ∷ Version ∷ Domain ∷ PayloadSize ∷ Sender ∷ PlatformId ∷ PlatformLength ∷ PlatformValue ∷ []
+decade (suc zero) = NoRoom ∷ []
+decade (suc (suc zero)) = NoJoiner ∷ DatagramLength ∷ DatagramVersion ∷ NotSetUp ∷ []
+decade (suc (suc (suc zero))) = TableLength ∷ TableCount ∷ TableEntry ∷ TableSize ∷ []
+decade (suc (suc (suc (suc zero)))) = InputShort ∷ InputLeft ∷ Value ∷ ArrayCount ∷ NoType ∷ OutputShort ∷ []
+decade (suc (suc (suc (suc (suc zero))))) = CannotCut ∷ NoPiece ∷ DatagramRoom ∷ []
+decade n = ListFull ∷ NotAwaited ∷ NoRequest ∷ ServicesFull ∷ []
+
+-- the refusal that has the number; where none has it, any
+abbrev pub numbered : ℕ → Refusal
+numbered n = get_or (decade (n / 10)) (n % 10) ServicesFull
+
+-- what a call answers that refuses with the number, or with none where it is 0
+abbrev pub verdict_of : ℕ → Result Unit Refusal
+verdict_of zero = Ok tt
+verdict_of (suc n) = Err (numbered (suc n))
+
+-- an answer that is refused with a number
+abbrev pub refused : {A : Type 0} → ℕ → Result A Refusal
+refused n = Err (numbered n)
+
+-- each number that a name has is that name's
+abbrev pub Back : Refusal → Type 0
+Back e = numbered (number_of e) ≡ e

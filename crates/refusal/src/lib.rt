@@ -3,7 +3,7 @@
 #![tactic(auto)]
 
 ghost use Rattle.std.specs.Prelude.{◌≡◌};
-ghost use Rattle.refusal.specs.Refusal.{number_of};
+ghost use Rattle.refusal.specs.Refusal.{Back, number_of};
 
 use std::error::Error;
 use std::fmt;
@@ -52,8 +52,10 @@ pub enum Refusal {
 }
 
 impl Refusal {
+    // A name is found by its number again.
     pub fn number(self) -> u32
-        ensures { result ≡ number_of self }
+        ensures value { result ≡ number_of self }
+        ensures back { Back self }
     {
         self as u32
     }

@@ -1,11 +1,11 @@
 -- How a replay may end. 01, What is built: a set-up is refused with 20, and with no other number.
 use Prim.{Unit}
-use Rattle.std.specs.Prelude.{ℕ, ◌≤◌, ◌≡◌}
-use Rattle.channel.specs.Record.{bad_setup}
+use Rattle.std.specs.Prelude.{ℕ, ◌≤◌, ◌≡◌, Option, Result, Err}
+use Rattle.refusal.specs.Refusal.{number_of}
+use Rattle.refusal.specs.declared.Refusal.{Refusal}
 use Rattle.recording.specs.declared.lines.Ending.{Ending}
 use Rattle.recording.specs.declared.lines.Ending.TheVariants.{Whole, CutShort, RefusedSetup}
 use Rattle.recording.specs.declared.start.Opened.{Opened}
-use Rattle.recording.specs.declared.start.Opening.TheVariants.{Refused}
 use Rattle.replay.specs.Bounds.{input_length}
 use Rattle.replay.specs.declared.player.Next.{Next}
 use Rattle.replay.specs.declared.player.Next.TheVariants.{Write, Filled, End, Failed}
@@ -15,15 +15,15 @@ use Rattle.replay.specs.declared.player.Replayed.TheVariants.{Told, Unreadable, 
 abbrev pub Says20 : Ending → Type 0
 Says20 Whole = Unit {0}
 Says20 CutShort = Unit {0}
-Says20 (RefusedSetup k) = k ≡ bad_setup
+Says20 (RefusedSetup k) = k ≡ 20
 
 abbrev pub Refuses20 : Replayed → Type 0
 Refuses20 (Told e) = Says20 e
 Refuses20 Unreadable = Unit {0}
 Refuses20 Unwritable = Unit {0}
 
-abbrev pub RefusalIs20 : Opened → Type 0
-RefusalIs20 o = (k : ℕ) → o.opening ≡ Refused k → k ≡ bad_setup
+abbrev pub RefusalIs20 : Result (Option Opened) Refusal → Type 0
+RefusalIs20 o = (e : Refusal) → o ≡ Err e → number_of e ≡ 20
 
 -- what is filled lies in the input
 abbrev pub NextWithin : Next → Type 0

@@ -6,7 +6,8 @@ ghost use Rattle.replay.specs.Endings.{Says20, Refuses20, RefusalIs20, NextWithi
 ghost use Rattle.replay.specs.declared.player.Next.TheVariants.{Write};
 
 use files::Came;
-use recording::{Coming, Ending, Opened, Opening, Run};
+use recording::{Coming, Ending, Opened, Run};
+use refusal::Refusal;
 use std::io::{Error, Read, Seek};
 
 // Some four of the longest datagrams.
@@ -26,7 +27,7 @@ pub enum Replayed {
 // The start of the recording, as far as it came, and how much of the input is filled.
 #[derive(Drop)]
 struct Begun {
-    opened: Opened,
+    opened: Result<Option<Opened>, Refusal>,
     filled: usize,
     failed: Option<Error>,
 }
@@ -56,15 +57,12 @@ pub fn replay(
     let mut text = [0u8; BLOCK];
     let output: &mut [u8] = &mut text;
     let begun = begin(from, input);
-    let opened = begun.opened;
-    let opening = opened.opening;
-    match opening {
-        Opening::Open { start, rooms } => {
-            let joiner = opened.joiner;
+    match begun.opened {
+        Ok(Some(opened)) => {
             let run = Run {
-                joiner,
+                joiner: opened.joiner,
                 number: 0,
-                at: start,
+                at: opened.start,
                 made: 0,
             };
             play_in(
@@ -73,14 +71,14 @@ pub fn replay(
                 waits,
                 name,
                 run,
-                rooms,
+                opened.rooms,
                 input,
                 begun.filled,
                 output,
             )
         }
-        Opening::Refused(number) => finish(rt, output, 0, Ending::RefusedSetup(number)),
-        Opening::Unfinished => match begun.failed {
+        Err(refusal) => finish(rt, output, 0, Ending::RefusedSetup(refusal.number())),
+        Ok(None) => match begun.failed {
             Some(error) => fail(rt, name, error, output, 0),
             None => finish(rt, output, 0, Ending::CutShort),
         },
@@ -113,9 +111,8 @@ fn begin(from: &mut impl Read, input: &mut [u8]) -> Begun
     let mut filled: usize = 0;
     loop {
         let opened = recording::open(&input[..filled]);
-        let opening = opened.opening;
-        match opening {
-            Opening::Unfinished => match files::fill(from, input, filled) {
+        match opened {
+            Ok(None) => match files::fill(from, input, filled) {
                 Came::More(n) => filled += n,
                 Came::Nothing => {
                     return Begun {

@@ -1,6 +1,8 @@
 -- The sections of a table that were found: each lies behind the one before it, within its limit and the bytes.
 -- Assumes nothing.
 use Prim.Native.Nat.{ℕ, ◌+◌, ◌≤◌, ◌<◌}
+use Rattle.std.specs.Prelude.{Result, Ok, Err}
+use Rattle.refusal.specs.declared.Refusal.{Refusal}
 use mathlib.Core.Path.{◌≡◌, refl, sym, subst, ◌∙◌}
 use mathlib.Core.Bool.{Bool, true, false, cond}
 use mathlib.Core.List.{List}
@@ -11,10 +13,6 @@ use lib.Dec.{eqb}
 use lib.ListN.{length}
 use Rattle.table.specs.declared.Section.{Section}
 use Rattle.table.specs.declared.Sections.{Sections}
-use Rattle.table.specs.declared.Part.{Part}
-use Rattle.table.specs.declared.Part.TheVariants.{Missing, Found}
-use Rattle.table.specs.declared.Checked.{Checked}
-use Rattle.table.specs.declared.Checked.TheVariants.{Refused, Table}
 use Rattle.table.specs.Layout.{cut_short, type_width, member_width, value_width, operation_width, most_types, most_members, most_values, most_operations}
 use Rattle.table.specs.Layout.{entry_place, section_end, operations_end, section_at, after, ended, after_types, after_members, after_values, sections_of}
 use Rattle.table.specs.Layout.{lies_in, within}
@@ -29,16 +27,16 @@ pub record Chain (t : List ℕ) (s : Sections) : Type 0 where
   pub end : operations_end t s ≡ length t
 
 -- a chain that ends in a table has each of its links
-linked : (x : Part) (next : Section → Checked) (s : Sections) → after x next ≡ Table s → (u : Section) × ((x ≡ Found u) × (next u ≡ Table s))
+linked : (x : Result Section Refusal) (next : Section → Result Sections Refusal) (s : Sections) → after x next ≡ Ok s → (u : Section) × ((x ≡ Ok u) × (next u ≡ Ok s))
 unfolding after
-linked (Missing n) next s e = absurd (let z : ◌≡◌ {A = ℕ} 0 1 = cc in omega arith)
-linked (Found u) next s e = (u, (refl, e))
+linked (Err n) next s e = absurd (let z : ◌≡◌ {A = ℕ} 0 1 = cc in omega arith)
+linked (Ok u) next s e = (u, (refl, e))
 
-pub finished : (b : Bool) (n : ℕ) (x s : Sections) → cond b (Table x) (Refused n) ≡ Table s → (b ≡ true) × (x ≡ s)
+pub finished : (b : Bool) (n : ℕ) (x s : Sections) → cond b (Ok x) (Err n) ≡ Ok s → (b ≡ true) × (x ≡ s)
 finished true n x s e = (refl, cc)
 finished false n x s e = absurd (let z : ◌≡◌ {A = ℕ} 0 1 = cc in omega arith)
 
-pub chain : (t : List ℕ) (s : Sections) → sections_of t ≡ Table s → Chain t s
+pub chain : (t : List ℕ) (s : Sections) → sections_of t ≡ Ok s → Chain t s
 unfolding sections_of after_types after_members after_values ended
 chain t s e =
     let a = linked (section_at type_width 1 most_types t 0) (after_types t) s e in
@@ -58,7 +56,7 @@ chain t s e =
     } in
     subst (Chain t) {x = x} f.1 y
 
-pub few_types : (t : List ℕ) (s : Sections) (r : Checked) → r ≡ sections_of t → r ≡ Table s → s.types.count ≤ most_types
+pub few_types : (t : List ℕ) (s : Sections) (r : Result Sections Refusal) → r ≡ sections_of t → r ≡ Ok s → s.types.count ≤ most_types
 few_types t s r p h = (chain t s (sym p ∙ h)).types.few
 
 -- every look-up of an entry that the section has lands inside it, and inside the bytes

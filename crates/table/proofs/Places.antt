@@ -1,6 +1,9 @@
 -- Laws of the sections' places: no place wraps, and what a section that was found says.
 -- Assumes nothing.
 use Prim.Native.Nat.{ℕ, ◌+◌, ◌*◌, ◌^◌, ◌≤◌, ◌<◌}
+use Rattle.std.specs.Prelude.{Result, Ok, Err}
+use Rattle.refusal.specs.declared.Refusal.{Refusal}
+use Rattle.refusal.specs.declared.Refusal.TheVariants.{TableCount, TableLength}
 use mathlib.Core.Path.{◌≡◌, refl, sym, ap, subst, ◌∙◌}
 use mathlib.Core.Bool.{Bool, true, false, ◌&&◌, ◌||◌, cond}
 use mathlib.Core.List.{List}
@@ -15,10 +18,6 @@ use Rattle.wire.specs.Bytes.{number}
 use Rattle.wire.proofs.Cond.{neither}
 use Rattle.table.specs.declared.Section.{Section}
 use Rattle.table.specs.declared.Sections.{Sections}
-use Rattle.table.specs.declared.Checked.{Checked}
-use Rattle.table.specs.declared.Checked.TheVariants.{Refused, Table}
-use Rattle.table.specs.declared.Part.{Part}
-use Rattle.table.specs.declared.Part.TheVariants.{Missing, Found}
 use Rattle.table.specs.Layout.{cut_short, count_outside, type_width, member_width, value_width, operation_width, most_types}
 use Rattle.table.specs.Layout.{most_members, most_values, most_operations}
 use Rattle.table.specs.Layout.{section_at, section_end, operations_end, after, ended, lies_in, within}
@@ -38,39 +37,39 @@ place_fits p w i h a b = record { fits = omega (arith, product w i a b) }
 
 -- what reading a section finds, return by return
 module _ (w least most : ℕ) (t : List ℕ) (p : ℕ) where
-  pub cut-count : length t < p + 2 → Missing cut_short ≡ section_at w least most t p
+  pub cut-count : length t < p + 2 → Err TableLength ≡ section_at w least most t p
   unfolding section_at
   cut-count h = simp (lt-ltb (length t) (p + 2) h)
 
   module _ (n : ℕ) (there : p + 2 ≤ length t) (is : n ≡ number 1 t p) where
-    pub outside : (ltb n least || ltb most n) ≡ true → Missing count_outside ≡ section_at w least most t p
+    pub outside : (ltb n least || ltb most n) ≡ true → Err TableCount ≡ section_at w least most t p
     unfolding section_at
     outside o = rw (le-ltb (length t) (p + 2) there, ← is, o) refl
 
     module _ (o : (ltb n least || ltb most n) ≡ false) (e : ℕ) (ends : e ≡ p + 2 + w * n) where
-      pub cut-entries : length t < e → Missing cut_short ≡ section_at w least most t p
+      pub cut-entries : length t < e → Err TableLength ≡ section_at w least most t p
       unfolding section_at
       cut-entries h = rw (le-ltb (length t) (p + 2) there, ← is, o, ← ends, lt-ltb (length t) e h) refl
 
-      pub found : e ≤ length t → Found (record { at = p + 2; count = n }) ≡ section_at w least most t p
+      pub found : e ≤ length t → Ok (record { at = p + 2; count = n }) ≡ section_at w least most t p
       unfolding section_at
       found h = rw (le-ltb (length t) (p + 2) there, ← is, o, ← ends, le-ltb (length t) e h) refl
 
 -- the chain of the sections, link by link: a section is looked for at p, where the one before it ends
-module _ (w least most : ℕ) (t : List ℕ) (q : ℕ) (next : Section → Checked) (r : Part) (p : ℕ) (is : r ≡ section_at w least most t p) (e : p ≡ q) where
-  pub no-link : (n : ℕ) → r ≡ Missing n → Refused n ≡ after (section_at w least most t q) next
+module _ (w least most : ℕ) (t : List ℕ) (q : ℕ) (next : Section → Result Sections Refusal) (r : Result Section Refusal) (p : ℕ) (is : r ≡ section_at w least most t p) (e : p ≡ q) where
+  pub no-link : (n : ℕ) → r ≡ Err n → Err n ≡ after (section_at w least most t q) next
   unfolding after
   no-link n m = rw (← e, ← is, m) refl
 
-  pub link : (s : Section) (o : Checked) → r ≡ Found s → o ≡ next s → o ≡ after (section_at w least most t q) next
+  pub link : (s : Section) (o : Result Sections Refusal) → r ≡ Ok s → o ≡ next s → o ≡ after (section_at w least most t q) next
   unfolding after
   link s o f h = rw (← e, ← is, f) h
 
-pub at_end : (t : List ℕ) (s : Sections) (e : ℕ) → e ≡ operations_end t s → e ≡ length t → Table s ≡ ended t s
+pub at_end : (t : List ℕ) (s : Sections) (e : ℕ) → e ≡ operations_end t s → e ≡ length t → Ok s ≡ ended t s
 unfolding ended
 at_end t s e is h = rw (← is, eq-eqb e (length t) h) refl
 
-pub not_at_end : (t : List ℕ) (s : Sections) (e : ℕ) → e ≡ operations_end t s → (e ≡ length t → ⊥) → Refused cut_short ≡ ended t s
+pub not_at_end : (t : List ℕ) (s : Sections) (e : ℕ) → e ≡ operations_end t s → (e ≡ length t → ⊥) → Err TableLength ≡ ended t s
 unfolding ended
 not_at_end t s e is h = rw (← is, ne_eqb e (length t) h) refl
 
@@ -81,20 +80,20 @@ pub record Holds (w most : ℕ) (t : List ℕ) (p : ℕ) (s : Section) : Type 0 
   pub ends : section_end w s ≤ length t
 
 -- a test that did not refuse
-passed : (b : Bool) (n : ℕ) (y : Part) (s : Section) → cond b (Missing n) y ≡ Found s → (b ≡ false) × (y ≡ Found s)
+passed : (b : Bool) (n : ℕ) (y : Result Section Refusal) (s : Section) → cond b (Err n) y ≡ Ok s → (b ≡ false) × (y ≡ Ok s)
 passed true n y s e = absurd (let z : ◌≡◌ {A = ℕ} 0 1 = cc in omega arith)
 passed false n y s e = (refl, e)
 
-pub holds : (w least most : ℕ) (t : List ℕ) (p : ℕ) (s : Section) → section_at w least most t p ≡ Found s → Holds w most t p s
+pub holds : (w least most : ℕ) (t : List ℕ) (p : ℕ) (s : Section) → section_at w least most t p ≡ Ok s → Holds w most t p s
 unfolding section_at
 holds w least most t p s f =
     let n : ℕ = number 1 t p in
     let x : Section = record { at = p + 2; count = n } in
     let a = passed (ltb (length t) (p + 2)) cut_short
-    (cond (ltb n least || ltb most n) (Missing count_outside) (cond (ltb (length t) (p + 2 + w * n)) (Missing cut_short) (Found x))) s f in
-    let b = passed (ltb n least || ltb most n) count_outside (cond (ltb (length t) (p + 2 + w * n)) (Missing cut_short) (Found x)) s a.1 in
-    let d = passed (ltb (length t) (p + 2 + w * n)) cut_short (Found x) s b.1 in
-    let g : Found x ≡ Found s = d.1 in
+    (cond (ltb n least || ltb most n) (Err TableCount) (cond (ltb (length t) (p + 2 + w * n)) (Err TableLength) (Ok x))) s f in
+    let b = passed (ltb n least || ltb most n) count_outside (cond (ltb (length t) (p + 2 + w * n)) (Err TableLength) (Ok x)) s a.1 in
+    let d = passed (ltb (length t) (p + 2 + w * n)) cut_short (Ok x) s b.1 in
+    let g : Ok x ≡ Ok s = d.1 in
     let q : x ≡ s = cc in
     record {
       starts = ap (λ (y : Section). y.at) (sym q);
@@ -103,13 +102,13 @@ holds w least most t p s f =
     }
 
 -- how far a section reaches that starts no further than b
-pub reach : (w most b least : ℕ) (t : List ℕ) (p : ℕ) (s : Section) (r : Part) (q : ℕ) → r ≡ section_at w least most t p → r ≡ Found s → p
+pub reach : (w most b least : ℕ) (t : List ℕ) (p : ℕ) (s : Section) (r : Result Section Refusal) (q : ℕ) → r ≡ section_at w least most t p → r ≡ Ok s → p
     ≡ q → q ≤ b → section_end w s ≤ b + 2 + w * most
 reach w most b least t p s r q is f e h =
     let k : Holds w most t p s = holds w least most t p s (sym is ∙ f) in
     omega (arith, k.starts, mul-le-mul_left w k.few)
 
-pub reach_first : (w most least : ℕ) (t : List ℕ) (s : Section) (r : Part) → r ≡ section_at w least most t 0 → r ≡ Found s → section_end w s ≤ 2 + w * most
+pub reach_first : (w most least : ℕ) (t : List ℕ) (s : Section) (r : Result Section Refusal) → r ≡ section_at w least most t 0 → r ≡ Ok s → section_end w s ≤ 2 + w * most
 reach_first w most least t s r is f = omega (arith, reach w most 0 least t 0 s r 0 is f refl (omega arith))
 
 pub lies : (w most len : ℕ) (s : Section) (e : ℕ) → e ≡ section_end w s → (leb s.count most && leb e len) ≡ lies_in w most len s

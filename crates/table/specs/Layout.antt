@@ -1,14 +1,13 @@
 -- 01, "The type table": four sections, each after its 16-bit count. Where the i-th entry of each stands, and what reading
 -- the sections finds. Numbers 30 and 31.
 use Rattle.std.specs.Prelude.{ℕ, ◌+◌, ◌*◌, Bool, ◌&&◌, ◌||◌, cond, List, ltb, leb, eqb, length}
+use Rattle.std.specs.Prelude.{Result, Ok, Err}
+use Rattle.refusal.specs.declared.Refusal.{Refusal}
+use Rattle.refusal.specs.declared.Refusal.TheVariants.{TableCount, TableLength}
 use Rattle.wire.specs.Bytes.{number}
 use Rattle.operations.specs.Entries.{op_place}
 use Rattle.table.specs.declared.Section.{Section}
 use Rattle.table.specs.declared.Sections.{Sections}
-use Rattle.table.specs.declared.Part.{Part}
-use Rattle.table.specs.declared.Part.TheVariants.{Missing, Found}
-use Rattle.table.specs.declared.Checked.{Checked}
-use Rattle.table.specs.declared.Checked.TheVariants.{Refused, Table}
 
 -- the numbers of 01 for a table's sections
 abbrev pub cut_short : ℕ
@@ -64,39 +63,39 @@ abbrev pub counted : List ℕ → ℕ → Section
 counted t p = record { at = p + 2; count = number 1 t p }
 
 -- its count must be there and within its limits, and then its entries must be there
-unfoldable pub section_at : ℕ → ℕ → ℕ → List ℕ → ℕ → Part
+unfoldable pub section_at : ℕ → ℕ → ℕ → List ℕ → ℕ → Result Section Refusal
 section_at width least most t p =
-    cond (ltb (length t) (p + 2)) (Missing cut_short)
-    (cond (ltb (counted t p).count least || ltb most (counted t p).count) (Missing count_outside)
-    (cond (ltb (length t) (section_end width (counted t p))) (Missing cut_short) (Found (counted t p))))
+    cond (ltb (length t) (p + 2)) (Err TableLength)
+    (cond (ltb (counted t p).count least || ltb most (counted t p).count) (Err TableCount)
+    (cond (ltb (length t) (section_end width (counted t p))) (Err TableLength) (Ok (counted t p))))
 
 -- what comes after a section that was found
-unfoldable pub after : Part → (Section → Checked) → Checked
-after (Missing n) next = Refused n
-after (Found s) next = next s
+unfoldable pub after : Result Section Refusal → (Section → Result Sections Refusal) → Result Sections Refusal
+after (Err n) next = Err n
+after (Ok s) next = next s
 
 -- the four sections in reading order, and nothing after their end. Operations have entries of two widths: 30 where the last one ends
 -- past the bytes, or before their end
 abbrev pub operations_end : List ℕ → Sections → ℕ
 operations_end t s = op_place t s.operations.at s.operations.count
 
-unfoldable pub ended : List ℕ → Sections → Checked
-ended t s = cond (eqb (operations_end t s) (length t)) (Table s) (Refused cut_short)
+unfoldable pub ended : List ℕ → Sections → Result Sections Refusal
+ended t s = cond (eqb (operations_end t s) (length t)) (Ok s) (Err TableLength)
 
-unfoldable pub after_values : List ℕ → Section → Section → Section → Checked
+unfoldable pub after_values : List ℕ → Section → Section → Section → Result Sections Refusal
 after_values t types members values =
     after (section_at operation_width 0 most_operations t (section_end value_width values))
     (λ operations. ended t (record { types = types; members = members; values = values; operations = operations }))
 
-unfoldable pub after_members : List ℕ → Section → Section → Checked
+unfoldable pub after_members : List ℕ → Section → Section → Result Sections Refusal
 after_members t types members =
     after (section_at value_width 0 most_values t (section_end member_width members)) (after_values t types members)
 
-unfoldable pub after_types : List ℕ → Section → Checked
+unfoldable pub after_types : List ℕ → Section → Result Sections Refusal
 after_types t types =
     after (section_at member_width 0 most_members t (section_end type_width types)) (after_members t types)
 
-unfoldable pub sections_of : List ℕ → Checked
+unfoldable pub sections_of : List ℕ → Result Sections Refusal
 sections_of t = after (section_at type_width 1 most_types t 0) (after_types t)
 
 -- a section has no more entries than its limit, and they lie within the bytes

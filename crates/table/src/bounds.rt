@@ -5,7 +5,8 @@ ghost use Rattle.table.specs.Layout.{section_end, section_at, ended, after_value
 ghost use Rattle.table.specs.Layout.{sections_of, lies_in, within, type_width, member_width, value_width};
 
 use crate::layout::{MEMBER_WIDTH, OPERATION_WIDTH, TYPE_WIDTH, VALUE_WIDTH};
-use crate::{COUNT_OUTSIDE, CUT_SHORT, Checked, Part, Section, Sections, layout};
+use crate::{Section, Sections, layout};
+use refusal::Refusal;
 
 // The most entries of each section; of types there is at least one.
 pub const MOST_TYPES: u16 = 256;
@@ -31,89 +32,86 @@ pub fn within(table: &[u8], s: Sections) -> bool
 }
 
 // The four sections, and nothing after them.
-pub fn read(table: &[u8]) -> Checked
+pub fn read(table: &[u8]) -> Result<Sections, Refusal>
     ensures { result ≡ sections_of table.now }
 {
-    match section(table, 0, TYPE_WIDTH, 1, MOST_TYPES) {
-        Part::Missing(n) => Checked::Refused(n),
-        Part::Found(types) => after_types(table, types),
-    }
+    let types = section(table, 0, TYPE_WIDTH, 1, MOST_TYPES)?;
+    after_types(table, types)
 }
 
-fn after_types(table: &[u8], types: Section) -> Checked
+fn after_types(table: &[u8], types: Section) -> Result<Sections, Refusal>
     requires { section_end type_width types ≤ 2050 }
     ensures { result ≡ after_types table.now types }
 {
     let at = layout::end(types, TYPE_WIDTH);
-    match section(table, at, MEMBER_WIDTH, 0, MOST_MEMBERS) {
-        Part::Missing(n) => Checked::Refused(n),
-        Part::Found(members) => after_members(table, types, members),
-    }
+    let members = section(table, at, MEMBER_WIDTH, 0, MOST_MEMBERS)?;
+    after_members(table, types, members)
 }
 
-fn after_members(table: &[u8], types: Section, members: Section) -> Checked
+fn after_members(table: &[u8], types: Section, members: Section) -> Result<Sections, Refusal>
     requires { section_end member_width members ≤ 4100 }
     ensures { result ≡ after_members table.now types members }
 {
     let at = layout::end(members, MEMBER_WIDTH);
-    match section(table, at, VALUE_WIDTH, 0, MOST_VALUES) {
-        Part::Missing(n) => Checked::Refused(n),
-        Part::Found(values) => after_values(table, types, members, values),
-    }
+    let values = section(table, at, VALUE_WIDTH, 0, MOST_VALUES)?;
+    after_values(table, types, members, values)
 }
 
-fn after_values(table: &[u8], types: Section, members: Section, values: Section) -> Checked
+fn after_values(
+    table: &[u8],
+    types: Section,
+    members: Section,
+    values: Section,
+) -> Result<Sections, Refusal>
     requires { section_end value_width values ≤ 12294 }
     ensures { result ≡ after_values table.now types members values }
 {
     let at = layout::end(values, VALUE_WIDTH);
-    match section(table, at, OPERATION_WIDTH, 0, MOST_OPERATIONS) {
-        Part::Missing(n) => Checked::Refused(n),
-        Part::Found(operations) => ended(
-            table,
-            Sections {
-                types,
-                members,
-                values,
-                operations,
-            },
-        ),
-    }
+    let operations = section(table, at, OPERATION_WIDTH, 0, MOST_OPERATIONS)?;
+    ended(
+        table,
+        Sections {
+            types,
+            members,
+            values,
+            operations,
+        },
+    )
 }
 
 // The operations, whose entries have two widths, end where the bytes do.
-fn ended(table: &[u8], s: Sections) -> Checked
+fn ended(table: &[u8], s: Sections) -> Result<Sections, Refusal>
     ensures { result ≡ ended table.now s }
 {
     let at = s.operations.at;
     let count = s.operations.count;
     if operations::end(table, at, count) == table.len() {
-        Checked::Table(s)
+        Ok(s)
     } else {
-        Checked::Refused(CUT_SHORT)
+        Err(Refusal::TableLength)
     }
 }
 
 // The section whose count stands at `at`.
-fn section(table: &[u8], at: usize, width: u16, least: u16, most: u16) -> Part
+fn section(table: &[u8], at: usize, width: u16, least: u16, most: u16) -> Result<Section, Refusal>
     requires { at ≤ 65533 }
     ensures { result ≡ section_at width least most table.now at }
 {
     if table.len() < at + 2 {
-        return Part::Missing(CUT_SHORT);
+        return Err(Refusal::TableLength);
     }
     let count = wire::u16_at(table, at);
     if (count < least) | (most < count) {
-        return Part::Missing(COUNT_OUTSIDE);
+        return Err(Refusal::TableCount);
     }
     let found = Section {
         at: (at + 2) as u16,
         count,
     };
     if table.len() < layout::end(found, width) {
-        return Part::Missing(CUT_SHORT);
+        return Err(Refusal::TableLength);
     }
-    Part::Found(found)
+    Ok(found)
 }
 
 fn lies_in(s: Section, width: u16, most: u16, len: usize) -> bool

@@ -16,8 +16,6 @@ pub use stored::{BOUNDS_WORDS, SECTIONS_WORDS, WORD_LIMIT, sections_in};
 // 01, Numbers given back.
 pub const CUT_SHORT: u32 = 30;
 
-pub const COUNT_OUTSIDE: u32 = 31;
-
 // Kinds of types.
 pub const BASE: u16 = 0;
 
@@ -43,13 +41,6 @@ pub struct Sections {
     pub operations: Section,
 }
 
-// What is answered of table bytes: the number of a refusal, or the sections.
-#[derive(Clone, Copy)]
-pub enum Checked {
-    Refused(u32),
-    Table(Sections),
-}
-
 // A type's entry.
 #[derive(Clone, Copy)]
 pub struct Entry {
@@ -57,11 +48,4 @@ pub struct Entry {
     pub of: u16,
     pub first: u16,
     pub count: u16,
-}
-
-// What reading a section finds.
-#[derive(Clone, Copy)]
-pub enum Part {
-    Missing(u32),
-    Found(Section),
 }

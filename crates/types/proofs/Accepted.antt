@@ -1,12 +1,12 @@
 -- A table that `check` accepts: what the walk's and the platform's proofs may count on.
 -- Assumes nothing.
 use Rattle.std.proofs.Common.{◌≡◌, ℕ, ◌+◌, ◌<◌, ◌≤◌, Bool, true, false, cond, eqb, ltb, leb, List, refl, ◌∙◌, subst, arith, ltb-true, lt-ltb, le-leb, leb-false, leb-true}
+use Rattle.std.specs.Prelude.{Result, Ok, Err}
+use Rattle.refusal.specs.declared.Refusal.{Refusal}
 use Rattle.std.specs.Prelude.{Some}
 use borrow.Author.Tests.{eqb-false, not-true}
 use Rattle.table.specs.declared.Sections.{Sections}
 use Rattle.table.specs.declared.Entry.{Entry}
-use Rattle.table.specs.declared.Checked.{Checked}
-use Rattle.table.specs.declared.Checked.TheVariants.{Refused, Table}
 use Rattle.wire.specs.All.{all_below}
 use Rattle.table.specs.Leaf.{is_base, is_enum_base, allowed}
 use Rattle.table.specs.Layout.{most_types, sections_of, within}
@@ -30,17 +30,17 @@ pub record Accepted (t : List ℕ) (s : Sections) : Type 0 where
   pub keep : entries_ok t s ≡ true
   pub fit : sizes_ok t s ≡ true
 
-twice : (a b : Bool) (m n : ℕ) (x s : Sections) → cond a (cond b (Table x) (Refused m)) (Refused n) ≡ Table s → (a ≡ true) × ((b ≡ true) × (x ≡ s))
+twice : (a b : Bool) (m n : ℕ) (x s : Sections) → cond a (cond b (Ok x) (Err m)) (Err n) ≡ Ok s → (a ≡ true) × ((b ≡ true) × (x ≡ s))
 twice true b m n x s e = (refl, finished b m x s e)
 twice false b m n x s e = absurd (let z : ◌≡◌ {A = ℕ} 0 1 = cc in omega arith)
 
-pub accepted : (t : List ℕ) (s : Sections) → checked t ≡ Table s → Accepted t s
+pub accepted : (t : List ℕ) (s : Sections) → checked t ≡ Ok s → Accepted t s
 unfolding checked judging judged
 accepted t s e = go (sections_of t) refl e
   where
-    go : (x : Checked) → sections_of t ≡ x → judging t x ≡ Table s → Accepted t s
-    go (Refused n) p h = absurd (let z : ◌≡◌ {A = ℕ} 0 1 = cc in omega arith)
-    go (Table y) p h =
+    go : (x : Result Sections Refusal) → sections_of t ≡ x → judging t x ≡ Ok s → Accepted t s
+    go (Err n) p h = absurd (let z : ◌≡◌ {A = ℕ} 0 1 = cc in omega arith)
+    go (Ok y) p h =
         let k = twice (entries_ok t y) (sizes_ok t y) too_large rule_broken y s h in
         subst (Accepted t) {x = y} k.1.1 (record { lie = chain t y p; keep = k.0; fit = k.1.0 })
 

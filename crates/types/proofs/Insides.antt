@@ -1,12 +1,12 @@
 -- What stands in the entries of sections that lie within the bytes, at the returns.
 -- Assumes nothing.
 use Rattle.std.proofs.Common.{◌≡◌, ℕ, ◌+◌, ◌-◌, ◌<◌, ◌≤◌, List, length, take, drop, sym, refl, ◌∙◌, arith}
+use Rattle.std.specs.Prelude.{Result, Ok}
+use Rattle.refusal.specs.declared.Refusal.{Refusal}
 use Rattle.wire.specs.Bytes.{number, whole}
 use Rattle.wire.proofs.Numbers.{read_in}
 use Rattle.table.specs.declared.Sections.{Sections}
 use Rattle.table.specs.declared.Entry.{Entry}
-use Rattle.table.specs.declared.Checked.{Checked}
-use Rattle.table.specs.declared.Checked.TheVariants.{Table}
 use Rattle.table.specs.Layout.{type_place, member_place, value_place, sections_of}
 use Rattle.table.specs.Entries.{type_at, member_at, value_at}
 use Rattle.types.specs.Inside.{Lying}
@@ -27,7 +27,7 @@ module _ (t : List ℕ) (s : Sections) (i : ℕ) where
   value-inside {r} lie l a = let h : value_place s i + 8 ≤ length t = omega (arith, lie.values) in read_in 3 t (value_place s i) r h a
 
 -- sections that were found lie within the bytes
-pub found_lie : (t : List ℕ) (s : Sections) (r : Checked) → r ≡ sections_of t → r ≡ Table s → Lying t s
+pub found_lie : (t : List ℕ) (s : Sections) (r : Result Sections Refusal) → r ≡ sections_of t → r ≡ Ok s → Lying t s
 found_lie t s r p h =
     let c = chain t s (sym p ∙ h) in
     record {

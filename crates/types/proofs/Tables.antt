@@ -1,9 +1,10 @@
 -- What checking a table comes to, return by return.
 -- Assumes nothing.
 use Rattle.std.proofs.Common.{◌≡◌, ℕ, Bool, true, false, List, refl}
+use Rattle.std.specs.Prelude.{Result, Ok, Err}
+use Rattle.refusal.specs.declared.Refusal.{Refusal}
+use Rattle.refusal.specs.declared.Refusal.TheVariants.{TableEntry, TableSize}
 use Rattle.table.specs.declared.Sections.{Sections}
-use Rattle.table.specs.declared.Checked.{Checked}
-use Rattle.table.specs.declared.Checked.TheVariants.{Refused, Table}
 use Rattle.wire.specs.All.{all_below}
 use Rattle.table.specs.Layout.{sections_of}
 use Rattle.types.specs.Rules.{type_ok}
@@ -20,27 +21,27 @@ module _ (t : List ℕ) (s : Sections) where
     types-bad h = rw (← p, h) refl
 
   module _ (a : Bool) (p : a ≡ entries_ok t s) where
-    pub bad-entry : a ≡ false → Refused rule_broken ≡ judged t s
+    pub bad-entry : a ≡ false → Err TableEntry ≡ judged t s
     unfolding judged
     bad-entry h = rw (← p, h) refl
 
     module _ (h : a ≡ true) (b : Bool) (q : b ≡ sizes_ok t s) where
-      pub bad-size : b ≡ false → Refused too_large ≡ judged t s
+      pub bad-size : b ≡ false → Err TableSize ≡ judged t s
       unfolding judged
       bad-size g = rw (← p, h, ← q, g) refl
 
-      pub good-table : b ≡ true → Table s ≡ judged t s
+      pub good-table : b ≡ true → Ok s ≡ judged t s
       unfolding judged
       good-table g = rw (← p, h, ← q, g) refl
 
 -- every way in which the entries and the sizes can be judged
 pub ruleset judgements = (bad-entry, bad-size, good-table)
 
-module _ (t : List ℕ) (r : Checked) (p : r ≡ sections_of t) where
-  pub no-sections : (n : ℕ) → r ≡ Refused n → Refused n ≡ checked t
+module _ (t : List ℕ) (r : Result Sections Refusal) (p : r ≡ sections_of t) where
+  pub no-sections : (n : ℕ) → r ≡ Err n → Err n ≡ checked t
   unfolding checked judging
   no-sections n h = rw (← p, h) refl
 
-  pub the-sections : (s : Sections) (o : Checked) → r ≡ Table s → o ≡ judged t s → o ≡ checked t
+  pub the-sections : (s : Sections) (o : Result Sections Refusal) → r ≡ Ok s → o ≡ judged t s → o ≡ checked t
   unfolding checked judging
   the-sections s o h q = rw (← p, h) q

@@ -1,8 +1,9 @@
 -- 01, "The type table": what checking a table answers. 30 and 31 in reading order, then 32 for any entry, then 33.
 use Rattle.std.specs.Prelude.{ℕ, Bool, cond, ◌&&◌, List}
+use Rattle.std.specs.Prelude.{Result, Ok, Err}
+use Rattle.refusal.specs.declared.Refusal.{Refusal}
+use Rattle.refusal.specs.declared.Refusal.TheVariants.{TableEntry, TableSize}
 use Rattle.table.specs.declared.Sections.{Sections}
-use Rattle.table.specs.declared.Checked.{Checked}
-use Rattle.table.specs.declared.Checked.TheVariants.{Refused, Table}
 use Rattle.wire.specs.All.{all_below}
 use Rattle.table.specs.Layout.{sections_of}
 use Rattle.types.specs.Rules.{type_ok}
@@ -27,13 +28,13 @@ entries_ok t s = all_below (type_ok t s) s.types.count && operations_keep t s
 unfoldable pub sizes_ok : List ℕ → Sections → Bool
 sizes_ok t s = all_below (fits_in_size t s) s.types.count
 
-unfoldable pub judged : List ℕ → Sections → Checked
-judged t s = cond (entries_ok t s) (cond (sizes_ok t s) (Table s) (Refused too_large)) (Refused rule_broken)
+unfoldable pub judged : List ℕ → Sections → Result Sections Refusal
+judged t s = cond (entries_ok t s) (cond (sizes_ok t s) (Ok s) (Err TableSize)) (Err TableEntry)
 
 -- the sections first, and then what is in them
-unfoldable pub judging : List ℕ → Checked → Checked
-judging t (Refused n) = Refused n
-judging t (Table s) = judged t s
+unfoldable pub judging : List ℕ → Result Sections Refusal → Result Sections Refusal
+judging t (Err n) = Err n
+judging t (Ok s) = judged t s
 
-unfoldable pub checked : List ℕ → Checked
+unfoldable pub checked : List ℕ → Result Sections Refusal
 checked t = judging t (sections_of t)

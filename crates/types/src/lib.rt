@@ -14,35 +14,32 @@ ghost use Rattle.std.specs.Prelude.{◌≡◌};
 ghost use Rattle.types.specs.Inside.{Lying};
 ghost use Rattle.types.specs.Table.{checked, judged, entries_ok};
 
-use table::{Checked, Sections};
+use refusal::Refusal;
+use table::Sections;
 
-// 01, Numbers given back. 30 and 31 are the sections'.
+// The number of a walk that meets an entry which breaks a rule.
 pub const RULE_BROKEN: u32 = 32;
 
-pub const TOO_LARGE: u32 = 33;
-
-pub fn check(table: &[u8]) -> Checked
+pub fn check(table: &[u8]) -> Result<Sections, Refusal>
     ensures { result ≡ checked table.now }
 {
-    match table::read(table) {
-        Checked::Refused(n) => Checked::Refused(n),
-        Checked::Table(s) => judged(table, s),
-    }
+    let s = table::read(table)?;
+    judged(table, s)
 }
 
 // Every entry is judged before any size.
-fn judged(table: &[u8], s: Sections) -> Checked
+fn judged(table: &[u8], s: Sections) -> Result<Sections, Refusal>
     requires { Lying table.now s }
     ensures { result ≡ judged table.now s }
 {
     if entries_ok(table, s) {
         if sizes::all_fit(table, s) {
-            Checked::Table(s)
+            Ok(s)
         } else {
-            Checked::Refused(TOO_LARGE)
+            Err(Refusal::TableSize)
         }
     } else {
-        Checked::Refused(RULE_BROKEN)
+        Err(Refusal::TableEntry)
     }
 }
 

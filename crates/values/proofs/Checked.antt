@@ -2,6 +2,8 @@
 -- to 33; and a walk's own numbers are 40 to 43.
 -- Assumes nothing.
 use Prim.Native.Nat.{ℕ, zero, suc, ◌+◌, ◌≤◌, ◌<◌}
+use Rattle.std.specs.Prelude.{Result, Ok}
+use Rattle.refusal.specs.declared.Refusal.{Refusal}
 use mathlib.Core.Path.{◌≡◌, refl, sym, ap, subst}
 use mathlib.Core.Bool.{Bool, true, false, ◌&&◌, cond}
 use mathlib.Core.Logic.{◌⊎◌, inl, inr}
@@ -13,8 +15,6 @@ use lib.ListN.{get_or}
 use Rattle.wire.proofs.Cond.{no_eq}
 use Rattle.table.specs.declared.Sections.{Sections}
 use Rattle.table.specs.declared.Entry.{Entry}
-use Rattle.table.specs.declared.Checked.{Checked}
-use Rattle.table.specs.declared.Checked.TheVariants as check
 use Rattle.table.specs.Entries.{type_at, member_at, value_at}
 use Rattle.table.specs.Leaf.{base, bytes_of, width, allowed}
 use Rattle.types.specs.Table.{checked}
@@ -30,14 +30,14 @@ use Rattle.walk.proofs.Walks.{some_bytes}
 use Rattle.walk.proofs.Trees.{known}
 
 -- both forms of a call are one
-module _ (t : List ℕ) (s : Sections) (h : checked t ≡ check.Table s) (c : Codec) (n i : ℕ) where
+module _ (t : List ℕ) (s : Sections) (h : checked t ≡ Ok s) (c : Codec) (n i : ℕ) where
   pub same_answer : (room : ℕ) → answered_if (checked t) c n t i room ≡ answered_in c n t s i room
   unfolding answered_if
-  same_answer room = ap (λ (r : Checked). answered_if r c n t i room) h
+  same_answer room = ap (λ (r : Result Sections Refusal). answered_if r c n t i room) h
 
   pub same_left : (x : List ℕ) → left_if (checked t) c n t i x ≡ left_over_in c n t s i x
   unfolding left_if
-  same_left x = ap (λ (r : Checked). left_if r c n t i x) h
+  same_left x = ap (λ (r : Result Sections Refusal). left_if r c n t i x) h
 
 -- a tree with no broken part, each of whose leaves has a byte at least
 abbrev pub Whole : Tree → Type 0
