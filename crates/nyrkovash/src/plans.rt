@@ -39,7 +39,10 @@ pub extern "C" fn nyr_plans(
     ensures plans_after { plans.new ≡ plans_left table.now sections.now plans.old }
 {
     let s = table::sections_in(sections);
-    plan::lay(table, s, plans)
+    match plan::lay(table, s, plans) {
+        Ok(()) => 0,
+        Err(refusal) => refusal.number(),
+    }
 }
 
 // Unpacks a payload of the table's type of that number, by its plan where it has one: 40 to 43, 45, without a plan 30, 32 and 44 too, or
