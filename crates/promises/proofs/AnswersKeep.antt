@@ -10,8 +10,6 @@ use native.Mathlib.Omega.{arith}
 use Rattle.binding.specs.Counted.{number_given as countNumber}
 use Rattle.binding.specs.Made.{number_given as cut_number}
 use Rattle.joiner.specs.declared.Joiner.{Joiner}
-use Rattle.joiner.specs.declared.setups.Verdict.{Verdict}
-use Rattle.joiner.specs.declared.setups.Verdict.TheVariants as set_up
 use Rattle.channel.specs.declared.Outcome.{Outcome}
 use Rattle.channel.specs.declared.Outcome.TheVariants.{Repeated, Delivered, Held, Stray, TooLong}
 use Rattle.channel.specs.Outcomes.{left_over_by, number_given as outcomeNumber}
@@ -97,13 +95,13 @@ length_keeps was (Err n) k = refl
 length_keeps was (Ok n) k = absurd (k refl)
 
 -- joining
-accepted_keeps : (was : List ℕ) (x : Verdict) (j : Joiner) → Keeps (verdictNumber x) was (accepted_words x j was)
-accepted_keeps was set_up.Accepted j k = absurd (k refl)
-accepted_keeps was (set_up.Refused n) j k = refl
+accepted_keeps : (was : List ℕ) (x : Result Joiner Refusal) → Keeps (verdictNumber x) was (accepted_words x was)
+accepted_keeps was (Ok j) k = absurd (k refl)
+accepted_keeps was (Err e) k = refl
 
 pub setup_keeps : (ids : List ℕ) (R b : ℕ) (ws : List ℕ) → Keeps (setup_number ids R b) ws (setup_words ids R b ws)
 unfolding setup_number setup_words
-setup_keeps ids R b ws = accepted_keeps ws (setup_of ids R b).answer (setup_of ids R b).joiner
+setup_keeps ids R b ws = accepted_keeps ws (setup_of ids R b)
 
 outcome_keeps : (was : List ℕ) (o : Result Outcome Refusal) → Keeps (outcomeNumber o) was (outcome_words o was)
 outcome_keeps was (Err n) k = refl

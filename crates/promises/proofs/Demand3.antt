@@ -8,7 +8,6 @@ use lib.ListN.{length, get_or}
 use Rattle.channel.specs.Channel.{room_of}
 use Rattle.channel.specs.Record.{new_channel}
 use Rattle.joiner.specs.declared.Joiner.{Joiner}
-use Rattle.joiner.specs.declared.setups.Verdict.TheVariants.{Accepted}
 use Rattle.joiner.specs.Setup.{senders_of, fresh_of, setup_of}
 use Rattle.joiner.specs.View.{View, view_of}
 use Rattle.joiner.proofs.Accepted.{accepted, accepted-joiner, accepted-standing, fresh-senders, fresh-view}
@@ -22,9 +21,9 @@ use Rattle.promises.proofs.Agrees.{machine, same_deliveries}
 use Rattle.promises.proofs.Arrivals.{events, fit_messages}
 
 -- a fresh joiner, and the view of a channel in it
-module _ (ids : List ℕ) (R : ℕ) (rooms : List ℕ) (ok : (setup_of ids R (length rooms)).answer ≡ Accepted) where
+module _ (ids : List ℕ) (R : ℕ) (rooms : List ℕ) (ok : setup_of ids R (length rooms) ≡ Ok (fresh_of ids R)) where
   joiner : fresh ids R rooms ≡ fresh_of ids R
-  joiner = accepted-joiner ids R (length rooms) ok
+  joiner = ap given ok
 
   pub underway : Underway ids R (fresh ids R rooms) rooms
   unfolding fresh_of
@@ -40,7 +39,7 @@ module _ (ids : List ℕ) (R : ℕ) (rooms : List ℕ) (ok : (setup_of ids R (le
 
 -- one channel with a genuine sender, whatever the others do
 pub on_channel : (ids : List ℕ) (R : ℕ) (rooms : List ℕ) (s : Sender) (traffic : List Datagram) (k : ℕ) → k < length ids
-    → (setup_of ids R (length rooms)).answer ≡ Accepted → Genuine R s → of_channel ids k traffic ≡ arrives (get_or ids k 0) s → AreBytes traffic
+    → setup_of ids R (length rooms) ≡ Ok (fresh_of ids R) → Genuine R s → of_channel ids k traffic ≡ arrives (get_or ids k 0) s → AreBytes traffic
     → delivered_on ids k (fresh ids R rooms) rooms traffic ≡ complete_of s.messages
 on_channel ids R rooms s traffic k h ok w mixed o =
     let v : View = record { channel = new_channel (get_or ids k 0); bytes = [] } in
@@ -58,7 +57,7 @@ demand_3 ids R rooms sender traffic g k h = on_channel ids R rooms (sender k) tr
 
 pub mix_makes_no_difference : MixMakesNoDifference
 mix_makes_no_difference ids R rooms rooms' k one other a =
-    let ok' : (setup_of ids R (length rooms')).answer ≡ Accepted = ap (λ (n : ℕ). (setup_of ids R n).answer) a.as_long ∙ a.set_up in
+    let ok' : setup_of ids R (length rooms') ≡ Ok (fresh_of ids R) = ap (setup_of ids R) a.as_long ∙ a.set_up in
     let p = through ids R k a.known one a.bytes (fresh ids R rooms) rooms (underway ids R rooms a.set_up) in
     let q = through ids R k a.known other a.bytes' (fresh ids R rooms') rooms' (underway ids R rooms' ok') in
     let v : view_of (fresh ids R rooms) rooms k ≡ view_of (fresh ids R rooms') rooms' k = at_first ids R rooms a.set_up k a.known

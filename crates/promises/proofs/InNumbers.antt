@@ -13,8 +13,6 @@ use Rattle.wire.proofs.Cond.{and_left, and_right, and_true, either}
 use Rattle.binding.specs.declared.MessagePart.{MessagePart}
 use Rattle.binding.specs.declared.MessagePart.TheVariants.{Begin, Middle, End, Whole}
 use Rattle.binding.specs.Header.{header_of, header_bytes}
-use Rattle.joiner.specs.declared.setups.Verdict.TheVariants.{Accepted}
-use Rattle.joiner.specs.declared.setups.NewJoiner.{NewJoiner}
 use Rattle.joiner.specs.Setup.{setup_of, Acceptable}
 use Rattle.joiner.proofs.Accepted.{accepts, accepted}
 use Rattle.promises.specs.Order.{CanSetUp}
@@ -28,10 +26,10 @@ pub acceptable : (ids : List ℕ) (R b : ℕ) → CanSetUp ids R b → Acceptabl
 acceptable ids R b s =
     record { some = s.some; few = s.few; wide = s.wide; narrow = s.narrow; whole = s.whole; range = s.range; once = s.once }
 
-pub set_ups : (ids : List ℕ) (R b : ℕ) → CanSetUp ids R b → (setup_of ids R b).answer ≡ Accepted
-set_ups ids R b s = ap (λ (x : NewJoiner). x.answer) (accepts ids R b (acceptable ids R b s))
+pub set_ups : (ids : List ℕ) (R b : ℕ) → CanSetUp ids R b → setup_of ids R b ≡ Ok (fresh_of ids R)
+set_ups ids R b s = accepts ids R b (acceptable ids R b s)
 
-set_ups_back : (ids : List ℕ) (R b : ℕ) → (setup_of ids R b).answer ≡ Accepted → CanSetUp ids R b
+set_ups_back : (ids : List ℕ) (R b : ℕ) → setup_of ids R b ≡ Ok (fresh_of ids R) → CanSetUp ids R b
 set_ups_back ids R b e =
     let a : Acceptable ids R b = accepted ids R b e in
     record { some = a.some; few = a.few; wide = a.wide; narrow = a.narrow; whole = a.whole; range = a.range; once = a.once }

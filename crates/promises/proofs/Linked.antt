@@ -14,7 +14,6 @@ use Rattle.channel.specs.Record.{channel_limit, new_channel}
 use Rattle.channel.specs.declared.Channel.{Channel}
 use Rattle.channel.specs.declared.Outcome.{Outcome}
 use Rattle.joiner.specs.declared.Joiner.{Joiner}
-use Rattle.joiner.specs.declared.setups.NewJoiner.{NewJoiner}
 use Rattle.joiner.specs.Setup.{channel_at, fresh_of, setup_of, number_given, Acceptable}
 use Rattle.joiner.specs.Take.{taken_of, rooms_after}
 use Rattle.joiner.specs.JoinerWords.{joiner_words, sender_limit, joiner_in, records_words, words_of}
@@ -24,7 +23,7 @@ use Rattle.joiner.proofs.Storing.{words-some, words_length}
 use Rattle.joiner.proofs.FoundBack.{words_back}
 use Rattle.joiner.proofs.WordsBack.{taken_back}
 use Rattle.promises.specs.Order.{CanSetUp}
-use Rattle.promises.specs.Traffic.{Datagram, is_of, handed_back, delivered_by, fresh, delivered_on, outcomes_on, left_on, AreBytes, none, more}
+use Rattle.promises.specs.Traffic.{Datagram, given, is_of, handed_back, delivered_by, fresh, delivered_on, outcomes_on, left_on, AreBytes, none, more}
 use Rattle.promises.specs.Linked.{SetupLent, TakeLent, TakeLeft, nyr, Call, InTurn, over, next, SetUpAndRun}
 use Rattle.promises.specs.Linked.{Delivers, MixMakesNoDifference}
 use Rattle.promises.specs.Linked.{message_in, delivered_in, outcome_from, outcomes_in, state_in, rooms_in, lying_in, linked, AsAJoiner}
@@ -56,14 +55,14 @@ module _ (ids : List ℕ) (R b : ℕ) (a : Acceptable ids R b) where
 
   set-number : setup_number ids R b ≡ 0
   unfolding setup_number
-  set-number = ap (λ (x : NewJoiner). number_given x.answer) (accepts ids R b a)
+  set-number = ap number_given (accepts ids R b a)
 
   set_words : (was : List ℕ) → setup_words ids R b was ≡ words_of j
   unfolding setup_words
-  set_words was = ap (λ (x : NewJoiner). accepted_words x.answer x.joiner was) (accepts ids R b a)
+  set_words was = ap (λ (x : Result Joiner Refusal). accepted_words x was) (accepts ids R b a)
 
-  set_back : (was : List ℕ) → joiner_in (setup_words ids R b was) ≡ (setup_of ids R b).joiner
-  set_back was = ap joiner_in (set_words was) ∙ fresh-back ∙ sym (ap (λ (x : NewJoiner). x.joiner) (accepts ids R b a))
+  set_back : (was : List ℕ) → joiner_in (setup_words ids R b was) ≡ given (setup_of ids R b)
+  set_back was = ap joiner_in (set_words was) ∙ fresh-back ∙ sym (ap given (accepts ids R b a))
 
   set-length : (was : List ℕ) → length (setup_words ids R b was) ≡ joiner_words
   set-length was =

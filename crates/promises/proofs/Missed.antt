@@ -117,7 +117,7 @@ d = 0x30 ∷ 0x01 ∷ 0x00 ∷ 0x07 ∷ 0xAA ∷ []
 
 one_more : CarriesMissed (λ j r x. one_more_missed (ours j r x)) → ⊥
 unfolding missed_of keeping noted_of begun_of followed_of placed_of stepped_of good_sizes good fresh_of setup_of sent_to heading_by judged_of taken_by taken_of
-one_more f = let e : ◌≡◌ {A = ℕ} 1 0 = (f (setup_of (1 ∷ []) 24 24).joiner rooms d refl).nothing_seen refl in omega arith
+one_more f = let e : ◌≡◌ {A = ℕ} 1 0 = (f (fresh_of (1 ∷ []) 24) rooms d refl).nothing_seen refl in omega arith
 
 pub missed : Missed
 missed =

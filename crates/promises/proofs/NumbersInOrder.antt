@@ -15,7 +15,6 @@ use Rattle.channel.specs.Outcomes.{number_given as take_number}
 use Rattle.channel.proofs.Cases.{step-cases}
 use Rattle.joiner.specs.declared.Joiner.{Joiner}
 use Rattle.joiner.specs.declared.Taken.{Taken}
-use Rattle.joiner.specs.declared.setups.NewJoiner.{NewJoiner}
 use Rattle.joiner.specs.Setup.{channel_at, number_given as setup_number}
 use Rattle.joiner.proofs.Moving.{step-number}
 use Rattle.promises.specs.Order.{its_channel, its_step, NumbersInOrder}
@@ -36,7 +35,7 @@ numbers_in_order =
       read = λ own s. numbers number_read (λ n. refl) refl (read_in_order own s);
       write = λ domain id payload room. numbers write_number (λ n. refl) refl (write_in_order domain id payload room);
       header = λ d. numbers headerNumber (λ n. refl) refl (header_in_order d);
-      setup = λ ids R buffer. numbers (λ (x : NewJoiner). setup_number x.answer) (λ n. refl) refl (setup_in_order ids R buffer);
+      setup = λ ids R buffer. numbers setup_number (λ n. refl) refl (setup_in_order ids R buffer);
       take = λ j rooms d w. numbers (λ (x : Taken). take_number x.outcome) (λ n. refl) (no_number j d) (take_in_order j rooms d w);
       pieces = λ m s. numbers pieces_number (λ n. refl) refl (pieces_in_order m s);
       cut = λ msg s sender first i room. numbers cut_number (λ n. refl) refl (cut_in_order msg s sender first i room);

@@ -13,7 +13,6 @@ use Rattle.binding.specs.Header.{heading_in}
 use Rattle.binding.specs.Cutting.{counted_of, made_of}
 use Rattle.channel.specs.declared.Outcome.TheVariants as outcome
 use Rattle.joiner.specs.declared.Joiner.{Joiner}
-use Rattle.joiner.specs.declared.setups.Verdict.TheVariants as verdict
 use Rattle.joiner.specs.Setup.{fresh_of, setup_of}
 use Rattle.joiner.specs.Take.{changed, taken_of}
 use Rattle.table.specs.declared.Sections.{Sections}
@@ -110,7 +109,7 @@ pub record EachNumber : Type 0 where
   pub header : Each refused heading_in (21 for replicate 4 0 ∷ 22 for (0x40 ∷ 5 ∷ 0 ∷ 0 ∷ 1 ∷ []) ∷ [])
   pub header_long : (d : List ℕ) → length d ≡ 65508 → heading_in d ≡ refused 21
   -- a set-up: each line of what 20 asks
-  pub setup : Each verdict.Refused (λ (x : List ℕ × ℕ × ℕ). (setup_of x.0 x.1 x.2).answer)
+  pub setup : Each refused (λ (x : List ℕ × ℕ × ℕ). setup_of x.0 x.1 x.2)
       (20 for ([], 24, 0)
       ∷ 20 for (too_many, 24, 792)
       ∷ 20 for (5 ∷ [], 23, 23)

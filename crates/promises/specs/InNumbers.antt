@@ -4,7 +4,6 @@ use Rattle.std.specs.Prelude.{ℕ, ◌+◌, ◌-◌, ◌*◌, ◌/◌, ◌%◌, 
 use Rattle.binding.specs.declared.MessagePart.{MessagePart}
 use Rattle.binding.specs.declared.MessagePart.TheVariants.{Begin, Middle, End, Whole}
 use Rattle.binding.specs.Header.{header_of, header_bytes}
-use Rattle.joiner.specs.declared.setups.Verdict.TheVariants.{Accepted}
 use Rattle.joiner.specs.Setup.{setup_of}
 use Rattle.promises.specs.Order.{CanSetUp}
 use Rattle.promises.specs.Senders.{Piece, Message, Sender, Sent, Genuine, sent_by, after, arrives, together}
@@ -52,8 +51,8 @@ part_number End = 2
 part_number Whole = 3
 
 pub record InNumbers : Type 0 where
-  pub set_ups : (ids : List ℕ) (R buffer : ℕ) → CanSetUp ids R buffer → (setup_of ids R buffer).answer ≡ Accepted
-  pub set_ups_back : (ids : List ℕ) (R buffer : ℕ) → (setup_of ids R buffer).answer ≡ Accepted → CanSetUp ids R buffer
+  pub set_ups : (ids : List ℕ) (R buffer : ℕ) → CanSetUp ids R buffer → setup_of ids R buffer ≡ Ok (fresh_of ids R)
+  pub set_ups_back : (ids : List ℕ) (R buffer : ℕ) → setup_of ids R buffer ≡ Ok (fresh_of ids R) → CanSetUp ids R buffer
   pub genuine : (R : ℕ) (s : Sender) → GenuineIn R s → Genuine R s
   pub genuine_back : (R : ℕ) (s : Sender) → Genuine R s → GenuineIn R s
   pub granted : (ids : List ℕ) (R : ℕ) (rooms : List ℕ) (sender : ℕ → Sender) (traffic : List Datagram)

@@ -2,6 +2,7 @@
 -- these allow. The theorems are in proofs/Linked.antt.
 use Rattle.std.specs.Prelude.{ℕ, ◌+◌, ◌*◌, ◌<◌, ◌≡◌, cond, ◌&&◌, List, [], ◌∷◌, ◌++◌, eqb, length, get_or}
 use Rattle.std.specs.Prelude.{Result, Ok, Err}
+use Rattle.refusal.specs.Refusal.{refused}
 use Rattle.refusal.specs.declared.Refusal.{Refusal}
 use Rattle.wire.specs.Bytes.{part}
 use Rattle.channel.specs.declared.Slice.{Slice}
@@ -118,7 +119,7 @@ outcome_from n w =
     (cond (eqb which 1) (Ok Repeated)
     (cond (eqb which 2) (Ok (Delivered missed (slice_from w)))
     (cond (eqb which 3) (Ok (Held missed (get_or w 2 0))) (cond (eqb which 4) (Ok (Stray missed)) (Ok (TooLong missed))))))
-    (Err n)
+    (refused n)
 
 abbrev pub outcomes_in : List ℕ → ℕ → List Call → List (Result Outcome Refusal)
 outcomes_in ids k [] = []

@@ -2,7 +2,6 @@
 -- the papers' numbers. The theorems are in proofs/LinkedMessages.antt.
 use Rattle.std.specs.Prelude.{ℕ, suc, ◌+◌, ◌-◌, ◌^◌, ◌≤◌, ◌<◌, ◌≡◌, cond, List, [], ◌∷◌, ◌⊎◌, eqb, length, get_or, take, drop}
 use Rattle.wire.specs.Bytes.{Octets, number, bytes, over}
-use Rattle.joiner.specs.declared.setups.Verdict.TheVariants.{Accepted}
 use Rattle.joiner.specs.Setup.{setup_of}
 use Rattle.nyrkovash.proofs.nyr_pieces.Reads.{Post as nyr-pieces}
 use Rattle.nyrkovash.proofs.nyr_cut.Reads.{Post as nyr-cut}
@@ -103,7 +102,7 @@ CutsEach msg s sender first count =
 
 -- a joiner that knows the sender as its channel k, and has room for the message, or needs none as it is one piece
 pub record CanJoin (ids : List ℕ) (R : ℕ) (rooms : List ℕ) (k : ℕ) (msg : List ℕ) (s sender : ℕ) : Type 0 where
-  pub set_up : (setup_of ids R (length rooms)).answer ≡ Accepted
+  pub set_up : setup_of ids R (length rooms) ≡ Ok (fresh_of ids R)
   pub known : k < length ids
   pub its_id : get_or ids k 0 ≡ sender
   pub room : (length msg ≤ s) ⊎ (length msg ≤ R)

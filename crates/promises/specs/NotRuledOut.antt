@@ -8,7 +8,7 @@ use Rattle.promises.specs.Traffic.{Joining, fresh, our_joining}
 use Rattle.promises.specs.Demand3.{Demand3For}
 use Rattle.joiner.specs.declared.Joiner.{Joiner}
 
-abbrev pub saying : ((Result Outcome Refusal) → Result Outcome Refusal) → Joining
+abbrev pub saying : (Result Outcome Refusal → Result Outcome Refusal) → Joining
 saying f =
     record {
       State = Joiner;

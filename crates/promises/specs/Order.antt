@@ -20,8 +20,6 @@ use Rattle.channel.specs.Channel.{room_of, stepped_of}
 use Rattle.channel.specs.Outcomes.{number_given as take_number}
 use Rattle.joiner.specs.declared.Joiner.{Joiner}
 use Rattle.joiner.specs.declared.Taken.{Taken}
-use Rattle.joiner.specs.declared.setups.Verdict.TheVariants as answer
-use Rattle.joiner.specs.declared.setups.NewJoiner.{NewJoiner}
 use Rattle.joiner.specs.Setup.{place_of, senders_of, channel_at, fresh_of, setup_of, number_given as setup_number}
 use Rattle.joiner.specs.Take.{changed, taken_of}
 use Rattle.promises.specs.Checks.{Check, ◌when◌, Answers, Gives, Outside}
@@ -93,10 +91,10 @@ abbrev pub its_step : Joiner → List ℕ → Step
 its_step j d = stepped_of (room_of j.room (its_channel j d)) (channel_at j (its_channel j d)) (part_carried d) (counter_in d) (length (piece_in d))
 
 abbrev pub moved : Joiner → List ℕ → Taken
-moved j d = record { outcome = (its_step j d).outcome; joiner = changed j (its_channel j d) (its_step j d).channel }
+moved j d = record { outcome = Ok (its_step j d).outcome; joiner = changed j (its_channel j d) (its_step j d).channel }
 
 abbrev pub kept_with : Joiner → ℕ → Taken
-kept_with j n = record { outcome = Err n; joiner = j }
+kept_with j n = record { outcome = refused n; joiner = j }
 
 -- what 20 asks of a set-up: 1 to 32 channels, a room of 24 to 65,560 bytes, a buffer of channels times that, IDs that differ
 pub record CanSetUp (ids : List ℕ) (R buffer : ℕ) : Type 0 where
@@ -108,18 +106,18 @@ pub record CanSetUp (ids : List ℕ) (R buffer : ℕ) : Type 0 where
   pub range : (k : ℕ) → k < length ids → get_or ids k 0 < 4096
   pub once : (a b : ℕ) → a < b → b < length ids → ¬ (get_or ids a 0 ≡ get_or ids b 0)
 
-abbrev pub fresh : List ℕ → ℕ → NewJoiner
-fresh ids R = record { answer = answer.Accepted; joiner = fresh_of ids R }
+abbrev pub fresh : List ℕ → ℕ → Result Joiner Refusal
+fresh ids R = Ok (fresh_of ids R)
 
-abbrev pub not_set_up : ℕ → NewJoiner
-not_set_up n = record { answer = answer.Refused n; joiner = fresh_of [] 0 }
+abbrev pub not_set_up : ℕ → Result Joiner Refusal
+not_set_up n = refused n
 
 -- each call gives back the number of the first of its checks that applies, and 0 where none does: by the definition of its answer
 pub record NumbersInOrder : Type 1 where
   pub read : (own : ℕ) (s : List ℕ) → Gives (read_checks own s) (number_read (read_of own s))
   pub write : (domain id : ℕ) (payload : List ℕ) (room : ℕ) → Gives (write_checks domain id payload room) (write_number (write_of domain id payload room))
   pub header : (d : List ℕ) → Gives (header_checks d) (headerNumber (heading_in d))
-  pub setup : (ids : List ℕ) (R buffer : ℕ) → Gives (20 when (¬ (CanSetUp ids R buffer)) ∷ []) (setup_number (setup_of ids R buffer).answer)
+  pub setup : (ids : List ℕ) (R buffer : ℕ) → Gives (20 when (¬ (CanSetUp ids R buffer)) ∷ []) (setup_number (setup_of ids R buffer))
   pub take : (j : Joiner) (rooms d : List ℕ) → length j.channels ≡ 32 → Gives (take_checks j (length rooms) d) (take_number (taken_of j rooms d).outcome)
   pub pieces : (m s : ℕ) → Gives (50 when (Outside 1 65560 m ⊎ Outside 1 65503 s) ∷ []) (pieces_number (counted_of m s))
   pub cut : (msg : List ℕ) (s sender first i room : ℕ) → Gives (cut_checks msg s sender first i room) (cut_number (made_of msg s sender first i room))

@@ -7,7 +7,7 @@ use Rattle.binding.specs.Header.{version_in, sender_in}
 use Rattle.channel.specs.declared.Outcome.{Outcome}
 use Rattle.channel.specs.declared.Outcome.TheVariants.{Repeated, Delivered, Held, Stray, TooLong}
 use Rattle.joiner.specs.declared.Joiner.{Joiner}
-use Rattle.joiner.specs.Setup.{setup_of}
+use Rattle.joiner.specs.Setup.{fresh_of, setup_of}
 use Rattle.joiner.specs.Take.{taken_of, rooms_after, message_of}
 use Rattle.joiner.specs.View.{View, view_of}
 
@@ -55,9 +55,14 @@ delivered_by J ids k s rooms (d ∷ ds) =
     cond (is_of ids k d) (handed_back (J.take s rooms d).outcome d (J.take s rooms d).rooms) []
     ++ delivered_by J ids k (J.take s rooms d).state (J.take s rooms d).rooms ds
 
+-- the joiner that a set-up gives: of no channels where it was refused
+abbrev pub given : Result Joiner Refusal → Joiner
+given (Ok j) = j
+given (Err e) = fresh_of [] 0
+
 -- the joiner that `setup` answers: "from a fresh start"
 abbrev pub fresh : List ℕ → ℕ → List ℕ → Joiner
-fresh ids R rooms = (setup_of ids R (length rooms)).joiner
+fresh ids R rooms = given (setup_of ids R (length rooms))
 
 -- our own
 abbrev pub our_joining : Joining

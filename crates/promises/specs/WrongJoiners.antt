@@ -83,7 +83,7 @@ abbrev pub again_answered : Joining
 again_answered =
     record {
       State = LastSaid;
-      start = λ ids R rooms. record { joiner = fresh ids R rooms; last = (Ok Repeated) };
+      start = λ ids R rooms. record { joiner = fresh ids R rooms; last = Ok Repeated };
       take = λ s rooms d. answered_again s.last (our_joining.take s.joiner rooms d);
     }
 
@@ -112,7 +112,7 @@ stepping step = record { State = Joiner; start = fresh; take = λ j rooms d. too
 -- steps 1 and 2 by another test of what is repeated
 abbrev pub testing : (Channel → ℕ → Bool) → Stepping
 testing again room ch p c n =
-    cond (again ch c) (record { outcome = (Ok Repeated); channel = ch; put = None }) (placed_of room (noted_of ch c) p n (missed_of ch c))
+    cond (again ch c) (record { outcome = Repeated; channel = ch; put = None }) (placed_of room (noted_of ch c) p n (missed_of ch c))
 
 -- "counters compared with greater than": what is not above the last is repeated
 abbrev pub not_above : Channel → ℕ → Bool
@@ -125,7 +125,7 @@ never ch c = false
 -- "a beginning that keeps the old held length", if there is one
 abbrev pub begun_over : Room → Channel → ℕ → ℕ → ℕ → Step
 begun_over room ch old n m =
-    cond (leb n room.size) (record { outcome = Ok (Held m n); channel = holding ch (cond (eqb old 0) n old); put = Some room.start }) (too_long ch m)
+    cond (leb n room.size) (record { outcome = Held m n; channel = holding ch (cond (eqb old 0) n old); put = Some room.start }) (too_long ch m)
 
 abbrev pub placed_over : ℕ → Room → Channel → MessagePart → ℕ → ℕ → Step
 placed_over old room ch Begin n m = begun_over room ch old n m
@@ -136,7 +136,7 @@ placed_over old room ch End n m = placed_of room ch End n m
 -- the length held before the datagram came
 abbrev pub beginning_keeps : Stepping
 beginning_keeps room ch p c n =
-    cond (repeated ch c) (record { outcome = (Ok Repeated); channel = ch; put = None })
+    cond (repeated ch c) (record { outcome = Repeated; channel = ch; put = None })
     (placed_over ch.held room (noted_of ch c) p n (missed_of ch c))
 
 -- "a repeated middle appended twice": what is repeated is placed once more
@@ -144,13 +144,12 @@ abbrev pub repeated_placed : Stepping
 repeated_placed room ch p c n = cond (repeated ch c) (placed_of room ch p n 0) (placed_of room (noted_of ch c) p n (missed_of ch c))
 
 -- "a stray that leaves the last counter as it was"
-abbrev pub unless_stray : Channel → Result Outcome Refusal → Channel → Channel
-unless_stray old (Ok (Stray m)) new = old
-unless_stray old (Err n) new = new
-unless_stray old (Ok Repeated) new = new
-unless_stray old (Ok (Delivered m p)) new = new
-unless_stray old (Ok (Held m n)) new = new
-unless_stray old (Ok (TooLong m)) new = new
+abbrev pub unless_stray : Channel → Outcome → Channel → Channel
+unless_stray old (Stray m) new = old
+unless_stray old Repeated new = new
+unless_stray old (Delivered m p) new = new
+unless_stray old (Held m n) new = new
+unless_stray old (TooLong m) new = new
 
 -- nothing is held after a stray in either
 abbrev pub stray_forgotten : Stepping
@@ -165,7 +164,7 @@ shared_room room ch p c n = stepped_of (record { start = 0; size = room.size }) 
 -- every channel but the first is passed over
 abbrev pub first_channel_only : Stepping
 first_channel_only room ch p c n =
-    cond (eqb room.start 0) (stepped_of room ch p c n) (record { outcome = (Ok Repeated); channel = ch; put = None })
+    cond (eqb room.start 0) (stepped_of room ch p c n) (record { outcome = Repeated; channel = ch; put = None })
 
 -- with our step it is our_joining; and with the others, and those above, it does not meet demand 3
 pub record NoWrongJoiner : Type 1 where
