@@ -10,7 +10,12 @@ use message::{Header, Message, Own, Reading, Status};
 use table::Sections;
 
 // The operation that the message asks for, if it asks for one.
-pub(crate) fn look_up(table: &[u8], s: Sections, index: &[u64], reading: Reading) -> Option<(u16, usize)>
+pub(crate) fn look_up(
+    table: &[u8],
+    s: Sections,
+    index: &[u64],
+    reading: Reading,
+) -> Option<(u16, usize)>
     ensures { result ≡ operation_in table.now s index.now reading }
 {
     match reading {
@@ -53,7 +58,13 @@ pub(crate) fn reaction_to(
     }
 }
 
-fn looked_for(table: &[u8], s: Sections, index: &[u64], header: Header, message: Message) -> Option<(u16, usize)>
+fn looked_for(
+    table: &[u8],
+    s: Sections,
+    index: &[u64],
+    header: Header,
+    message: Message,
+) -> Option<(u16, usize)>
     ensures { result ≡ operation_for table.now s index.now header message }
 {
     match message {
@@ -153,7 +164,13 @@ fn on_pull_all(table: &[u8], s: Sections, standing: Standing, number: u32) -> Re
     }
 }
 
-fn on_pull_one(table: &[u8], found: Option<(u16, usize)>, standing: Standing, number: u32, id: u32) -> Reaction
+fn on_pull_one(
+    table: &[u8],
+    found: Option<(u16, usize)>,
+    standing: Standing,
+    number: u32,
+    id: u32,
+) -> Reaction
     ensures { result ≡ on_pull_one table.now found standing number id }
 {
     match found {
