@@ -22,7 +22,7 @@ use Rattle.binding.specs.declared.MessagePart.TheVariants.{Begin, Middle, End, W
 use Rattle.binding.specs.declared.BindingHeader.{BindingHeader}
 use Rattle.binding.specs.Header.{senders, counters, largest_piece, code_of, header_of, header_bytes}
 use Rattle.binding.specs.Cutting.{piece_count, counted_of, part_of_piece, bytes_from, behind, datagram_of, largest_message, can_cut}
-use Rattle.binding.specs.Cutting.{can_head, cannot_cut, no_such_piece, no_room_for_datagram, made_in, made_of, cut_into}
+use Rattle.binding.specs.Cutting.{can_head, made_in, made_of, cut_into}
 use Rattle.binding.specs.Made.{left_over_by}
 use Rattle.binding.proofs.Cutting.{cuttable, headable, starts-in, started, covered, count_most}
 

@@ -2,7 +2,8 @@
 -- its header and its piece.
 -- Assumes nothing.
 use Prim.Native.Nat.{ℕ, zero, suc, min, ◌+◌, ◌-◌, ◌*◌, ◌≤◌, ◌<◌}
-use Rattle.std.specs.Prelude.{Ok, Err}
+use Rattle.std.specs.Prelude.{Result, Ok, Err}
+use Rattle.refusal.specs.declared.Refusal.{Refusal}
 use Rattle.refusal.specs.declared.Refusal.TheVariants.{CannotCut, DatagramRoom, NoPiece}
 use mathlib.Core.Path.{◌≡◌, refl, sym, ap, ◌∙◌}
 use mathlib.Core.Logic.{◌↔◌}
@@ -17,7 +18,7 @@ use lib.ListN.{length, take, drop, length-take, length-drop}
 use lib.Seq.{take_all, take-add, take_at, drop_at}
 use Rattle.binding.specs.Header.{header_length, senders, counters, largest_piece, heading_in, piece_in}
 use Rattle.binding.specs.Cutting.{piece_count, counted_of, piece_at, counter_of, header_of_piece, datagram_of, largest_message}
-use Rattle.binding.specs.Cutting.{can_cut, can_head, made_of, cut_into, together, no_room_for_datagram, no_such_piece, cannot_cut}
+use Rattle.binding.specs.Cutting.{can_cut, can_head, made_of, cut_into, together}
 use Rattle.binding.proofs.Headers.{header_back, piece_back}
 
 -- what 50 leaves: a message of m bytes, cut at s
@@ -95,17 +96,11 @@ together_all msg s h =
     together_take msg s (piece_count (length msg) s) ∙ take_all (piece_count (length msg) s * s) msg (covered (length msg) s h)
 
 -- answers that differ
-not_made : {n k : ℕ} → Err n ≡ Ok k → ⊥
+not_made : {e : Refusal} {k : ℕ} → Err e ≡ Ok k → ⊥
 not_made e = let z : ◌≡◌ {A = ℕ} 0 1 = cc in omega arith
 
-same_size : {n k : ℕ} → Ok n ≡ Ok k → k ≡ n
+same_size : {n k : ℕ} → ◌≡◌ {A = Result ℕ Refusal} (Ok n) (Ok k) → k ≡ n
 same_size e = cc
-
-not_counted : {n k : ℕ} → Err n ≡ Ok k → ⊥
-not_counted e = let z : ◌≡◌ {A = ℕ} 0 1 = cc in omega arith
-
-same_count : {n k : ℕ} → Ok n ≡ Ok k → n ≡ k
-same_count e = cc
 
 -- a datagram cut reads back
 pub counter_lt : (first i : ℕ) → counter_of first i < counters
@@ -176,14 +171,14 @@ module _ (msg : List ℕ) (s sender first i : ℕ) where
       go : (t : Bool) → can_cut (length msg) s ≡ t → cond t (Ok (piece_count (length msg) s)) (Err CannotCut) ≡ Ok n
           → made_of msg s sender first i room ≡ Ok (length (datagram_of msg s sender first i))
       go true t q =
-          let c : piece_count (length msg) s ≡ n = same_count q in
+          let c : piece_count (length msg) s ≡ n = sym (same_size q) in
           makes-made room (length (datagram_of msg s sender first i))
           (record { cut = cuttable (length msg) s t; sends = k; counts = f; piece = omega arith; fits = omega (arith, datagram-most); size = refl })
-      go false t q = absurd (not_counted q)
+      go false t q = absurd (not_made q)
 
   module _ (out : List ℕ) where
     -- a refusal leaves the output as it was
-    pub refused-same : {n : ℕ} → made_of msg s sender first i (length out) ≡ Err n → cut_into msg s sender first i out ≡ out
+    pub refused-same : {n : Refusal} → made_of msg s sender first i (length out) ≡ Err n → cut_into msg s sender first i out ≡ out
     refused-same e = rw e
 
     -- else the datagram stands at its start, and the rest is as it was

@@ -18,7 +18,7 @@ use Rattle.binding.specs.declared.MessagePart.TheVariants.{Begin, Middle, End, W
 use Rattle.binding.specs.declared.BindingHeader.{BindingHeader}
 use Rattle.binding.specs.Header.{header_length, the_version, senders, counters, largest_piece, smallest_datagram}
 use Rattle.binding.specs.Header.{largest_datagram, code_of, part_of_code, version_in, part_carried, sender_in, counter_in, header_in}
-use Rattle.binding.specs.Header.{piece_in, heading_in, wrong_length, wrong_field, header_bytes}
+use Rattle.binding.specs.Header.{piece_in, heading_in, header_bytes}
 use Rattle.binding.proofs.Reading.{has_code}
 
 pub code_lt : (p : MessagePart) → code_of p < 4

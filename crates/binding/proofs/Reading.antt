@@ -16,7 +16,7 @@ use Rattle.binding.specs.declared.MessagePart.{MessagePart}
 use Rattle.binding.specs.declared.MessagePart.TheVariants.{Begin, Middle, End, Whole}
 use Rattle.binding.specs.declared.BindingHeader.{BindingHeader}
 use Rattle.binding.specs.Header.{the_version, senders, counters, smallest_datagram, largest_datagram, code_of, part_of_code}
-use Rattle.binding.specs.Header.{header_of, version_in, sender_in, counter_in, heading_in, wrong_length, wrong_field}
+use Rattle.binding.specs.Header.{header_of, version_in, sender_in, counter_in, heading_in}
 
 pub has_code : (p : MessagePart) {x : ℕ} → x ≡ code_of p → p ≡ part_of_code x
 has_code Begin e = rw e

@@ -43,7 +43,7 @@ module _ (own : ℕ) (i t ss m : List ℕ) (d : ℕ) (ed : d ≡ domain_in m) wh
   abbrev heard : Option (ℕ × ℕ)
   heard = operation_heard own t (sections_in ss) (index_in ss) m
 
-  both : (b : Bool) → None ≡ cond b None None
+  both : (b : Bool) → None ≡ cond {A = Option (ℕ × ℕ)} b None None
   both true = refl
   both false = refl
 

@@ -7,7 +7,7 @@ use mathlib.Core.Bool.{Bool, true, false, cond, ◌&&◌}
 use mathlib.Core.List.{List}
 use native.Mathlib.Omega.{arith}
 use borrow.Author.Tests.{leb-true, leb-false, lt-leb, eq-eqb, ne_eqb}
-use lib.Dec.{ltb, leb, eqb}
+use lib.Dec.{leb}
 use lib.ListN.{length, get_or, take, drop, get_or-eq_default}
 use lib.Seq.{get_or-take, get_or-drop}
 use Rattle.wire.specs.Bytes.{number}
@@ -115,14 +115,6 @@ module _ (index : List ℕ) (count id : ℕ) where
         go false f g =
             record { some = omega arith; below = omega (arith, ends.below); its_word = g ∙ ends.its_word ∙ ap (λ (k : ℕ). get_or index k 0) (sym f) }
 
--- what the index says, held against the bytes
-module _ (t index : List ℕ) (count id : ℕ) (r : Option (ℕ × ℕ)) (says : Says index count id r) where
-  pub held-there : (x : Option (ℕ × ℕ)) (m p : ℕ) → r ≡ Some (m, p) → x ≡ borne t id m p → x ≡ sought_in t index count id
-  held-there x m p is e = e ∙ ap (held_to t id) (sym is) ∙ says t
-
-  pub held_none : r ≡ None → None ≡ sought_in t index count id
-  held_none is = ap (held_to t id) (sym is) ∙ says t
-
 -- what a word says
 module _ (word id m : ℕ) where
   pub is_told : word / half ≡ id → Some (m, word % half) ≡ said_by word id m
@@ -154,17 +146,17 @@ module _ (t : List ℕ) (id m p w d : ℕ) (bears : w / half ≡ number 2 t p) (
   unfolding borne
   bears-another h = rw (ne_eqb (number 2 t p) id (λ (e : number 2 t p ≡ id). h (is ∙ bears ∙ e))) (go (leb (p + op_width t p) (length t)))
     where
-      go : (b : Bool) → None ≡ cond (b && false) (Some (m, p)) None
+      go : (b : Bool) → None ≡ cond {A = Option (ℕ × ℕ)} (b && false) (Some (m, p)) None
       go true = refl
       go false = refl
 
   module _ (same : d ≡ id) (k v : ℕ) (b : Bool) (kind : w / 65536 % 65536 ≡ kind_at t p) (its : k ≡ w / 65536 % 65536) (wd : v ≡ width_of k)
       (room : b ≡ leb (p + v) (length t)) where
-    by-room : borne t id m p ≡ cond b (Some (m, p)) None
+    by-room : borne t id m p ≡ cond {A = Option (ℕ × ℕ)} b (Some (m, p)) None
     unfolding borne op_width
     by-room = rw (eq-eqb (number 2 t p) id (sym (is ∙ bears) ∙ same), sym (its ∙ kind), sym wd, sym room) (go b)
       where
-        go : (b : Bool) → cond (b && true) (Some (m, p)) None ≡ cond b (Some (m, p)) None
+        go : (b : Bool) → cond {A = Option (ℕ × ℕ)} (b && true) (Some (m, p)) None ≡ cond b (Some (m, p)) None
         go true = refl
         go false = refl
 

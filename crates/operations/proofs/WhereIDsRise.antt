@@ -65,7 +65,7 @@ module _ (t : List ℕ) (first id : ℕ) where
     one-bears : (x y : Option (ℕ × ℕ)) → Bears count x → Bears count y → x ≡ y
     one-bears (Some (i, p)) (Some (j, q)) (a, (b, c)) (d, (e, f)) =
         let s : i ≡ j = same_id i j a d (c ∙ sym f) in
-        ap₂ Some (s, b ∙ ap (op_place t first) s ∙ sym e)
+        ap₂ (λ (a b : ℕ). Some (a, b)) s (b ∙ ap (op_place t first) s ∙ sym e)
     one-bears (Some (i, p)) None (a, (b, c)) q = absurd (q i a c)
     one-bears None (Some (j, q)) p (d, (e, f)) = absurd (p j d f)
     one-bears None None p q = refl

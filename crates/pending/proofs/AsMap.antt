@@ -70,7 +70,7 @@ module _ (l r : List ℕ) (k : ℕ) (words : (j : ℕ) → (j ≡ k → ⊥) →
             let z : x ≡ 0 → ⊥ = number-not-zero l x j p in
             let d : j ≡ k → ⊥ = λ e. z (a (subst (λ (i : ℕ). number_at l i ≡ x) e f.named)) in
             let q : place_of r x ≡ Some j = stands r x only j f.below (same_number j d f.below ∙ f.named) z in
-            ap (asked_at r) q ∙ ap₂ Some ((ap (λ (y : ℕ). y % 2 ^ 32) (words j d f.below)), targets j d f.below) ∙ sym (ap (asked_at l) p)
+            ap (asked_at r) q ∙ ap₂ (λ (a b : ℕ). Some (a, b)) (ap (λ (y : ℕ). y % 2 ^ 32) (words j d f.below)) (targets j d f.below) ∙ sym (ap (asked_at l) p)
         go None p =
             let q : place_of r x ≡ None = absent r x (λ j h e. gone p j h e (eqb x 0) refl (eqb j k) refl) in
             ap (asked_at r) q ∙ sym (ap (asked_at l) p)
@@ -164,7 +164,7 @@ module _ (l : List ℕ) (m : Map) (like : LikeMap l m) where
         here : awaited_of new n ≡ Some (id, target)
         here =
             ap (asked_at new) (stands new n new-once k there.below new-number not_zero)
-            ∙ ap₂ Some ((ap (λ (y : ℕ). y % 2 ^ 32) new_word ∙ id-in n id id-small), target-here l k (n * 2 ^ 32 + id) target there.below like.whole)
+            ∙ ap₂ (λ (a b : ℕ). Some (a, b)) (ap (λ (y : ℕ). y % 2 ^ 32) new_word ∙ id-in n id id-small) (target-here l k (n * 2 ^ 32 + id) target there.below like.whole)
 
         go : (s : Bool) → eqb x n ≡ s → awaited_of new x ≡ cond (eqb x n) (Some (id, target)) (m.under x)
         go true s = ap (awaited_of new) (eqb-true x n s) ∙ here ∙ sym (yes-if (Some (id, target)) (m.under x) s)

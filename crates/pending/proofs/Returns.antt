@@ -1,13 +1,13 @@
 -- What the functions of `pending` come to at their returns.
 -- Assumes nothing.
-use Rattle.std.proofs.Common.{◌≡◌, ℕ, suc, ◌+◌, ◌-◌, ◌<◌, ◌≤◌, Bool, true, false, cond, ◌&&◌, ◌||◌, eqb, leb, List, length, set, sym, refl, ap, ◌∙◌, subst, ap₂, arith, eq-eqb, ne_eqb, leb-true}
+use Rattle.std.proofs.Common.{◌≡◌, ℕ, suc, ◌+◌, ◌-◌, ◌<◌, ◌≤◌, Bool, true, false, cond, ◌&&◌, ◌||◌, eqb, leb, List, length, set, sym, refl, ap, ◌∙◌, subst, arith, eq-eqb, ne_eqb, leb-true}
 use Rattle.std.specs.Prelude.{Option, Some, None}
 use lib.Seq.{set_out}
 use Rattle.wire.proofs.Cond.{yes_lt, no_lt, yes-eq, no_eq, yes-if, no-if}
 use Rattle.pending.proofs.Looking.{its-place}
-use Rattle.pending.specs.Places.{number_at, pending_id_at, target_at, bearing, first_bearing, place_of, placed, cleared}
-use Rattle.pending.specs.Free.{drawn, is_at, is_pending, blocked, free_within, next_free}
-use Rattle.pending.specs.Answers.{asked_at, awaited_of, cleared_at, cancelled, bears, bears_at, is_response, responded}
+use Rattle.pending.specs.Places.{number_at, pending_id_at, target_at, bearing, first_bearing, place_of, placed}
+use Rattle.pending.specs.Free.{drawn, is_at, blocked, free_within, next_free}
+use Rattle.pending.specs.Answers.{bears}
 
 module _ (l : List ℕ) where
   pub not_set : (i a : ℕ) → length l ≤ i → l ≡ set l i a
@@ -117,56 +117,6 @@ module _ (l : List ℕ) where
       let e : m ≡ 0 = omega arith in
       sym (ap (λ (k : ℕ). free_within l k x) e) ∙ left
 
-  -- what was found under a number
-  module _ (n : ℕ) (s : Option ℕ) (p : s ≡ place_of l n) where
-    module _ (k : ℕ) (e : s ≡ Some k) where
-      there : place_of l n ≡ Some k
-      there = sym p ∙ e
-
-      pub in_list : k < 64
-      in_list = (its-place l n k there).below
-
-      pub is-there : true ≡ is_pending l n
-      is-there = sym (ap is_at there)
-
-      pub given_up : (r : List ℕ) → r ≡ cleared l k → r ≡ cancelled l n
-      given_up r q = q ∙ sym (ap (cleared_at l) there)
-
-      pub what-was-asked : (i t : ℕ) → i ≡ pending_id_at l k → t ≡ target_at l k → Some (i, t) ≡ awaited_of l n
-      what-was-asked i t a b = ap₂ Some (a, b) ∙ sym (ap (asked_at l) there)
-
-      module _ (id sender : ℕ) (b : Bool) (q : b ≡ bears l k id sender) where
-        its-bearing : is_response l n id sender ≡ b
-        its-bearing = ap (λ (x : Option ℕ). bears_at l x id sender) there ∙ sym q
-
-        pub the-response : b ≡ true → true ≡ is_response l n id sender
-        the-response t = sym (its-bearing ∙ t)
-
-        pub another-message : b ≡ false → false ≡ is_response l n id sender
-        another-message t = sym (its-bearing ∙ t)
-
-        pub place-freed : (r : List ℕ) → b ≡ true → r ≡ cleared l k → r ≡ responded l n id sender
-        place-freed r t c = given_up r c ∙ sym (yes-if (cancelled l n) l (its-bearing ∙ t))
-
-        pub place_kept : b ≡ false → l ≡ responded l n id sender
-        place_kept t = sym (no-if (cancelled l n) l (its-bearing ∙ t))
-
-    module _ (e : s ≡ None) where
-      nowhere : place_of l n ≡ None
-      nowhere = sym p ∙ e
-
-      pub not_there : false ≡ is_pending l n
-      not_there = sym (ap is_at nowhere)
-
-      pub all-stays : l ≡ cancelled l n
-      all-stays = sym (ap (cleared_at l) nowhere)
-
-      pub nothing-asked : None ≡ awaited_of l n
-      nothing-asked = sym (ap (asked_at l) nowhere)
-
-      module _ (id sender : ℕ) where
-        pub no_response : false ≡ is_response l n id sender
-        no_response = sym (ap (λ (x : Option ℕ). bears_at l x id sender) nowhere)
-
-        pub list_kept : l ≡ responded l n id sender
-        list_kept = sym (no-if (cancelled l n) l (sym no_response))
+  -- what was found under a number is a place of the list
+  pub in_list : (n k : ℕ) (s : Option ℕ) → s ≡ place_of l n → s ≡ Some k → k < 64
+  in_list n k s p e = (its-place l n k (sym p ∙ e)).below

@@ -78,13 +78,11 @@ pub fn cancel(list: &mut [u64], number: u32) -> bool
     ensures answer { result ≡ is_pending list.old number }
     ensures list { list.new ≡ cancelled list.old number }
 {
-    match place_of(list, number) {
-        Some(place) => {
-            clear(list, place);
-            true
-        }
-        None => false,
-    }
+    let Some(place) = place_of(list, number) else {
+        return false;
+    };
+    clear(list, place);
+    true
 }
 
 // What is pending under a number: the ID of the operation that was asked, and the platform. A target above 0xFFFFFFFF is nobody's.
@@ -100,16 +98,14 @@ pub fn take_response(list: &mut [u64], number: u32, id: u32, sender: u32) -> boo
     ensures answer { result ≡ is_response list.old number id sender }
     ensures list { list.new ≡ responded list.old number id sender }
 {
-    match place_of(list, number) {
-        Some(place) => {
-            if is_for(list, place, id, sender) {
-                clear(list, place);
-                true
-            } else {
-                false
-            }
-        }
-        None => false,
+    let Some(place) = place_of(list, number) else {
+        return false;
+    };
+    if is_for(list, place, id, sender) {
+        clear(list, place);
+        true
+    } else {
+        false
     }
 }
 

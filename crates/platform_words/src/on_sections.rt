@@ -129,7 +129,13 @@ fn taken(
 }
 
 // The operation of the table that the message is, where nothing refuses it.
-fn operation_heard(own: Own, table: &[u8], s: Sections, index: &[u64], message: &[u8]) -> Option<(u16, usize)>
+fn operation_heard(
+    own: Own,
+    table: &[u8],
+    s: Sections,
+    index: &[u64],
+    message: &[u8],
+) -> Option<(u16, usize)>
     ensures { result ≡ operation_heard own.platform table.now s index.now message.now }
 {
     if wire::u8_at(message, Header::DOMAIN_AT) == Header::PLATFORM_DOMAIN {

@@ -3,6 +3,7 @@
 use Prim.Native.Nat.{ℕ, ◌+◌, ◌≤◌, ◌<◌}
 use Rattle.std.specs.Prelude.{Result, Ok, Err}
 use Rattle.refusal.specs.declared.Refusal.{Refusal}
+use Rattle.refusal.specs.declared.Refusal.TheVariants.{TableLength}
 use mathlib.Core.Path.{◌≡◌, refl, sym, subst, ◌∙◌}
 use mathlib.Core.Bool.{Bool, true, false, cond}
 use mathlib.Core.List.{List}
@@ -13,7 +14,7 @@ use lib.Dec.{eqb}
 use lib.ListN.{length}
 use Rattle.table.specs.declared.Section.{Section}
 use Rattle.table.specs.declared.Sections.{Sections}
-use Rattle.table.specs.Layout.{cut_short, type_width, member_width, value_width, operation_width, most_types, most_members, most_values, most_operations}
+use Rattle.table.specs.Layout.{type_width, member_width, value_width, operation_width, most_types, most_members, most_values, most_operations}
 use Rattle.table.specs.Layout.{entry_place, section_end, operations_end, section_at, after, ended, after_types, after_members, after_values, sections_of}
 use Rattle.table.specs.Layout.{lies_in, within}
 use Rattle.table.proofs.Places.{Holds, holds}
@@ -32,7 +33,7 @@ unfolding after
 linked (Err n) next s e = absurd (let z : ◌≡◌ {A = ℕ} 0 1 = cc in omega arith)
 linked (Ok u) next s e = (u, (refl, e))
 
-pub finished : (b : Bool) (n : ℕ) (x s : Sections) → cond b (Ok x) (Err n) ≡ Ok s → (b ≡ true) × (x ≡ s)
+pub finished : (b : Bool) (n : Refusal) (x s : Sections) → cond b (Ok x) (Err n) ≡ Ok s → (b ≡ true) × (x ≡ s)
 finished true n x s e = (refl, cc)
 finished false n x s e = absurd (let z : ◌≡◌ {A = ℕ} 0 1 = cc in omega arith)
 
@@ -45,7 +46,7 @@ chain t s e =
     let d = linked (section_at operation_width 0 most_operations t (section_end value_width c.0))
     (λ (u : Section). ended t (record { types = a.0; members = b.0; values = c.0; operations = u })) s c.1.1 in
     let x : Sections = record { types = a.0; members = b.0; values = c.0; operations = d.0 } in
-    let f = finished (eqb (operations_end t x) (length t)) cut_short x s d.1.1 in
+    let f = finished (eqb (operations_end t x) (length t)) TableLength x s d.1.1 in
     let y : Chain t x =
     record {
       types = holds type_width 1 most_types t 0 a.0 a.1.0;

@@ -18,9 +18,9 @@ use Rattle.wire.specs.Bytes.{number}
 use Rattle.wire.proofs.Cond.{neither}
 use Rattle.table.specs.declared.Section.{Section}
 use Rattle.table.specs.declared.Sections.{Sections}
-use Rattle.table.specs.Layout.{cut_short, count_outside, type_width, member_width, value_width, operation_width, most_types}
+use Rattle.table.specs.Layout.{type_width, member_width, value_width, operation_width, most_types}
 use Rattle.table.specs.Layout.{most_members, most_values, most_operations}
-use Rattle.table.specs.Layout.{section_at, section_end, operations_end, after, ended, lies_in, within}
+use Rattle.table.specs.Layout.{section_at, section_end, operations_end, ended, lies_in, within}
 
 -- a 16-bit width times a 32-bit index
 product : (w i : ℕ) → Fits w16 w → Fits w32 i → w * i ≤ 65535 * 4294967295
@@ -55,16 +55,6 @@ module _ (w least most : ℕ) (t : List ℕ) (p : ℕ) where
       unfolding section_at
       found h = rw (le-ltb (length t) (p + 2) there, ← is, o, ← ends, le-ltb (length t) e h) refl
 
--- the chain of the sections, link by link: a section is looked for at p, where the one before it ends
-module _ (w least most : ℕ) (t : List ℕ) (q : ℕ) (next : Section → Result Sections Refusal) (r : Result Section Refusal) (p : ℕ) (is : r ≡ section_at w least most t p) (e : p ≡ q) where
-  pub no-link : (n : ℕ) → r ≡ Err n → Err n ≡ after (section_at w least most t q) next
-  unfolding after
-  no-link n m = rw (← e, ← is, m) refl
-
-  pub link : (s : Section) (o : Result Sections Refusal) → r ≡ Ok s → o ≡ next s → o ≡ after (section_at w least most t q) next
-  unfolding after
-  link s o f h = rw (← e, ← is, f) h
-
 pub at_end : (t : List ℕ) (s : Sections) (e : ℕ) → e ≡ operations_end t s → e ≡ length t → Ok s ≡ ended t s
 unfolding ended
 at_end t s e is h = rw (← is, eq-eqb e (length t) h) refl
@@ -80,7 +70,7 @@ pub record Holds (w most : ℕ) (t : List ℕ) (p : ℕ) (s : Section) : Type 0 
   pub ends : section_end w s ≤ length t
 
 -- a test that did not refuse
-passed : (b : Bool) (n : ℕ) (y : Result Section Refusal) (s : Section) → cond b (Err n) y ≡ Ok s → (b ≡ false) × (y ≡ Ok s)
+passed : (b : Bool) (n : Refusal) (y : Result Section Refusal) (s : Section) → cond b (Err n) y ≡ Ok s → (b ≡ false) × (y ≡ Ok s)
 passed true n y s e = absurd (let z : ◌≡◌ {A = ℕ} 0 1 = cc in omega arith)
 passed false n y s e = (refl, e)
 
@@ -89,11 +79,11 @@ unfolding section_at
 holds w least most t p s f =
     let n : ℕ = number 1 t p in
     let x : Section = record { at = p + 2; count = n } in
-    let a = passed (ltb (length t) (p + 2)) cut_short
+    let a = passed (ltb (length t) (p + 2)) TableLength
     (cond (ltb n least || ltb most n) (Err TableCount) (cond (ltb (length t) (p + 2 + w * n)) (Err TableLength) (Ok x))) s f in
-    let b = passed (ltb n least || ltb most n) count_outside (cond (ltb (length t) (p + 2 + w * n)) (Err TableLength) (Ok x)) s a.1 in
-    let d = passed (ltb (length t) (p + 2 + w * n)) cut_short (Ok x) s b.1 in
-    let g : Ok x ≡ Ok s = d.1 in
+    let b = passed (ltb n least || ltb most n) TableCount (cond (ltb (length t) (p + 2 + w * n)) (Err TableLength) (Ok x)) s a.1 in
+    let d = passed (ltb (length t) (p + 2 + w * n)) TableLength (Ok x) s b.1 in
+    let g : ◌≡◌ {A = Result Section Refusal} (Ok x) (Ok s) = d.1 in
     let q : x ≡ s = cc in
     record {
       starts = ap (λ (y : Section). y.at) (sym q);

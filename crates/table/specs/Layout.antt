@@ -9,12 +9,9 @@ use Rattle.operations.specs.Entries.{op_place}
 use Rattle.table.specs.declared.Section.{Section}
 use Rattle.table.specs.declared.Sections.{Sections}
 
--- the numbers of 01 for a table's sections
+-- 01's number for a table cut short, where a call answers with a number
 abbrev pub cut_short : ℕ
 cut_short = 30
-
-abbrev pub count_outside : ℕ
-count_outside = 31
 
 -- the bytes of one entry of each section; of an operation the fewest
 abbrev pub type_width : ℕ

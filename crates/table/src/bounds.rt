@@ -32,6 +32,7 @@ pub fn within(table: &[u8], s: Sections) -> bool
 }
 
 // The four sections, and nothing after them.
+#[tactic(auto, unfolding(crate::specs::Layout::sections_of, crate::specs::Layout::after))]
 pub fn read(table: &[u8]) -> Result<Sections, Refusal>
     ensures { result ≡ sections_of table.now }
 {
@@ -39,6 +40,7 @@ pub fn read(table: &[u8]) -> Result<Sections, Refusal>
     after_types(table, types)
 }
 
+#[tactic(auto, unfolding(crate::specs::Layout::after_types, crate::specs::Layout::after))]
 fn after_types(table: &[u8], types: Section) -> Result<Sections, Refusal>
     requires { section_end type_width types ≤ 2050 }
     ensures { result ≡ after_types table.now types }
@@ -48,6 +50,7 @@ fn after_types(table: &[u8], types: Section) -> Result<Sections, Refusal>
     after_members(table, types, members)
 }
 
+#[tactic(auto, unfolding(crate::specs::Layout::after_members, crate::specs::Layout::after))]
 fn after_members(table: &[u8], types: Section, members: Section) -> Result<Sections, Refusal>
     requires { section_end member_width members ≤ 4100 }
     ensures { result ≡ after_members table.now types members }
@@ -57,6 +60,7 @@ fn after_members(table: &[u8], types: Section, members: Section) -> Result<Secti
     after_values(table, types, members, values)
 }
 
+#[tactic(auto, unfolding(crate::specs::Layout::after_values, crate::specs::Layout::after))]
 fn after_values(
     table: &[u8],
     types: Section,

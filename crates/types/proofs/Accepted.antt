@@ -1,9 +1,9 @@
 -- A table that `check` accepts: what the walk's and the platform's proofs may count on.
 -- Assumes nothing.
 use Rattle.std.proofs.Common.{◌≡◌, ℕ, ◌+◌, ◌<◌, ◌≤◌, Bool, true, false, cond, eqb, ltb, leb, List, refl, ◌∙◌, subst, arith, ltb-true, lt-ltb, le-leb, leb-false, leb-true}
-use Rattle.std.specs.Prelude.{Result, Ok, Err}
+use Rattle.std.specs.Prelude.{Some, Result, Ok, Err}
 use Rattle.refusal.specs.declared.Refusal.{Refusal}
-use Rattle.std.specs.Prelude.{Some}
+use Rattle.refusal.specs.declared.Refusal.TheVariants.{TableEntry, TableSize}
 use borrow.Author.Tests.{eqb-false, not-true}
 use Rattle.table.specs.declared.Sections.{Sections}
 use Rattle.table.specs.declared.Entry.{Entry}
@@ -17,7 +17,7 @@ use Rattle.types.specs.Values.{value_of, value_ok, unlike, unlike_before, distin
 use Rattle.operations.specs.Rules.{ids_rise}
 use Rattle.operations.proofs.Passing.{good-rise}
 use Rattle.types.specs.Sizes.{most_bytes, largest, fits_in_size, bytes_up_to, largest_below, largest_of}
-use Rattle.types.specs.Table.{rule_broken, too_large, operations_keep, entries_ok, sizes_ok, judged, judging, checked}
+use Rattle.types.specs.Table.{operations_keep, entries_ok, sizes_ok, judged, judging, checked}
 use Rattle.wire.proofs.Cond.{and_left, and_right}
 use Rattle.wire.proofs.AllBelow.{at-below, all-below}
 use Rattle.table.proofs.Fields.{three, base-entry, enum-entry, record-entry, fixed-entry, array-entry, no_entry}
@@ -30,7 +30,7 @@ pub record Accepted (t : List ℕ) (s : Sections) : Type 0 where
   pub keep : entries_ok t s ≡ true
   pub fit : sizes_ok t s ≡ true
 
-twice : (a b : Bool) (m n : ℕ) (x s : Sections) → cond a (cond b (Ok x) (Err m)) (Err n) ≡ Ok s → (a ≡ true) × ((b ≡ true) × (x ≡ s))
+twice : (a b : Bool) (m n : Refusal) (x s : Sections) → cond a (cond b (Ok x) (Err m)) (Err n) ≡ Ok s → (a ≡ true) × ((b ≡ true) × (x ≡ s))
 twice true b m n x s e = (refl, finished b m x s e)
 twice false b m n x s e = absurd (let z : ◌≡◌ {A = ℕ} 0 1 = cc in omega arith)
 
@@ -41,7 +41,7 @@ accepted t s e = go (sections_of t) refl e
     go : (x : Result Sections Refusal) → sections_of t ≡ x → judging t x ≡ Ok s → Accepted t s
     go (Err n) p h = absurd (let z : ◌≡◌ {A = ℕ} 0 1 = cc in omega arith)
     go (Ok y) p h =
-        let k = twice (entries_ok t y) (sizes_ok t y) too_large rule_broken y s h in
+        let k = twice (entries_ok t y) (sizes_ok t y) TableSize TableEntry y s h in
         subst (Accepted t) {x = y} k.1.1 (record { lie = chain t y p; keep = k.0; fit = k.1.0 })
 
 -- what an entry of each kind is known to be

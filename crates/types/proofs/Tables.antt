@@ -1,14 +1,12 @@
--- What checking a table comes to, return by return.
+-- What judging the entries and the sizes of a table comes to, return by return.
 -- Assumes nothing.
 use Rattle.std.proofs.Common.{◌≡◌, ℕ, Bool, true, false, List, refl}
-use Rattle.std.specs.Prelude.{Result, Ok, Err}
-use Rattle.refusal.specs.declared.Refusal.{Refusal}
+use Rattle.std.specs.Prelude.{Ok, Err}
 use Rattle.refusal.specs.declared.Refusal.TheVariants.{TableEntry, TableSize}
 use Rattle.table.specs.declared.Sections.{Sections}
 use Rattle.wire.specs.All.{all_below}
-use Rattle.table.specs.Layout.{sections_of}
 use Rattle.types.specs.Rules.{type_ok}
-use Rattle.types.specs.Table.{rule_broken, too_large, operations_keep, entries_ok, sizes_ok, judged, judging, checked}
+use Rattle.types.specs.Table.{operations_keep, entries_ok, sizes_ok, judged}
 
 module _ (t : List ℕ) (s : Sections) where
   module _ (a : Bool) (p : a ≡ all_below (type_ok t s) s.types.count) where
@@ -36,12 +34,3 @@ module _ (t : List ℕ) (s : Sections) where
 
 -- every way in which the entries and the sizes can be judged
 pub ruleset judgements = (bad-entry, bad-size, good-table)
-
-module _ (t : List ℕ) (r : Result Sections Refusal) (p : r ≡ sections_of t) where
-  pub no-sections : (n : ℕ) → r ≡ Err n → Err n ≡ checked t
-  unfolding checked judging
-  no-sections n h = rw (← p, h) refl
-
-  pub the-sections : (s : Sections) (o : Result Sections Refusal) → r ≡ Ok s → o ≡ judged t s → o ≡ checked t
-  unfolding checked judging
-  the-sections s o h q = rw (← p, h) q

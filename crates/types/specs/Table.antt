@@ -10,12 +10,9 @@ use Rattle.types.specs.Rules.{type_ok}
 use Rattle.operations.specs.Rules.{operations_ok}
 use Rattle.types.specs.Sizes.{fits_in_size}
 
--- the numbers of 01 for an entry and for a size
+-- 01's number for an entry that breaks a rule, where a call answers with a number
 abbrev pub rule_broken : ℕ
 rule_broken = 32
-
-abbrev pub too_large : ℕ
-too_large = 33
 
 -- every entry keeps its rule
 abbrev pub operations_keep : List ℕ → Sections → Bool

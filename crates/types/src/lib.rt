@@ -20,6 +20,7 @@ use table::Sections;
 // The number of a walk that meets an entry which breaks a rule.
 pub const RULE_BROKEN: u32 = 32;
 
+#[tactic(auto, unfolding(crate::specs::Table::checked, crate::specs::Table::judging))]
 pub fn check(table: &[u8]) -> Result<Sections, Refusal>
     ensures { result ≡ checked table.now }
 {

@@ -1,16 +1,8 @@
--- `pending::awaited` meets its contract.
+-- `pending::awaited` meets its contract: a place that was found is one of the list.
 -- Assumes nothing.
-use Rattle.pending.proofs.Returns.{in_list, what-was-asked, nothing-asked}
+use Rattle.pending.proofs.Returns.{in_list}
 use Rattle.pending.proofs.awaited.Goals as goal
 
 pub target_at-requires : goal.target_at-requires
 target_at-requires c =
-    search in_list
-
-pub returns-in-Some : goal.returns-in-Some
-returns-in-Some c =
-    search what-was-asked
-
-pub returns-in-None : goal.returns-in-None
-returns-in-None c =
-    search nothing-asked
+    search (in_list, c.in_ok-place.was)

@@ -1,5 +1,7 @@
--- `plan::front::lay` meets its contract: 30, or what lies in the bytes.
+-- `plan::front::lay` meets its contract: refused with 30, or what lies in the bytes.
 -- Assumes nothing.
+use mathlib.Core.Path.{ap}
+use Rattle.refusal.specs.Refusal.{verdict_of}
 use Rattle.plan.proofs.LeafLaws.{few_types}
 use Rattle.plan.proofs.WholePlans.{lies_in, cut-number, cut-held}
 use Rattle.plan.proofs.front.lay.Goals as goal
@@ -10,7 +12,7 @@ lay_within-requires c =
 
 pub returns-else-within-clause-value : goal.returns-else-within-clause-value
 returns-else-within-clause-value c =
-    search cut-number
+    ap verdict_of {x = 30} (search cut-number)
 
 pub returns-else-within-clause-plans_after : goal.returns-else-within-clause-plans_after
 returns-else-within-clause-plans_after c =

@@ -1,8 +1,9 @@
 -- `plan::front::lay_within` meets its contract: too short, or laid out.
 -- Assumes nothing.
 use borrow.Author.Rules.{rules}
-use mathlib.Core.Path.{sym}
+use mathlib.Core.Path.{sym, ap}
 use lib.Seq.{length-take-le}
+use Rattle.refusal.specs.Refusal.{verdict_of}
 use Rattle.plan.proofs.LeafLaws.{few_taken}
 use Rattle.plan.proofs.WholePlans.{short-number, short-held, laid-number, laid-held, counts-long, counts_all, counts-room}
 use Rattle.plan.proofs.front.lay_within.Goals as goal
@@ -17,7 +18,7 @@ sum-requires c =
 
 pub returns-then-words-n-clause-value : goal.returns-then-words-n-clause-value
 returns-then-words-n-clause-value c =
-    search short-number
+    ap verdict_of {x = 10} (search short-number)
 
 pub returns-then-words-n-clause-words_after : goal.returns-then-words-n-clause-words_after
 returns-then-words-n-clause-words_after c =
@@ -41,7 +42,7 @@ lay_out-requires-clause-counts_in_bounds c =
 
 pub returns-clause-value : goal.returns-clause-value
 returns-clause-value c =
-    search laid-number
+    ap verdict_of {x = 0} (search laid-number)
 
 pub returns-clause-words_after : goal.returns-clause-words_after
 returns-clause-words_after c =

@@ -1,4 +1,4 @@
-use Rattle.std.proofs.Common.{true, rules}
+use Rattle.std.proofs.Common.{rules}
 use Rattle.wire.proofs.AllBelow.{none_below}
 use Rattle.types.proofs.TypePasses.{quick-loose, quick-next, loose-next, not_risen, types-end, types_rise, types_compared}
 use Rattle.types.proofs.rules.types_ok.Goals as goal
