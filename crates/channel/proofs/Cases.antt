@@ -15,7 +15,7 @@ use Rattle.channel.specs.declared.Channel.{Channel}
 use Rattle.channel.specs.declared.Room.{Room}
 use Rattle.channel.specs.declared.Step.{Step}
 use Rattle.channel.specs.declared.Slice.TheVariants.{Rooms}
-use Rattle.channel.specs.declared.Outcome.TheVariants.{Refused, Repeated, Delivered, Held, Stray, TooLong}
+use Rattle.channel.specs.declared.Outcome.TheVariants.{Repeated, Delivered, Held, Stray, TooLong}
 use Rattle.channel.specs.Channel.{missed_of, repeated, keeping, noted_of, holding, too_long, whole_of, begun_of, joined_of, followed_of, placed_of, stepped_of}
 use Rattle.channel.specs.Record.{good_channel, new_channel}
 
@@ -91,7 +91,7 @@ module _ (room : Room) (ch : Channel) (c n : ℕ) where
       go true e = again e
       go false e = places e p
 
-  -- no step changes the sender ID, and none is a refusal
+  -- no step changes the sender ID
   pub step-sender : {p : MessagePart} {s : Step} → Stepped room ch c n p s → s.channel.sender ≡ ch.sender
   unfolding noted_of
   step-sender (again r) = refl
@@ -101,15 +101,6 @@ module _ (room : Room) (ch : Channel) (c n : ℕ) where
   step-sender (long r) = refl
   step-sender (goes_on r z f) = refl
   step-sender (ends r z f) = refl
-
-  pub step-taken : {p : MessagePart} {s : Step} (k : ℕ) → Stepped room ch c n p s → s.outcome ≡ Refused k → ⊥
-  step-taken k (again r) e = let z : ◌≡◌ {A = ℕ} 0 1 = cc in omega arith
-  step-taken k (whole r) e = let z : ◌≡◌ {A = ℕ} 0 1 = cc in omega arith
-  step-taken k (begins r f) e = let z : ◌≡◌ {A = ℕ} 0 1 = cc in omega arith
-  step-taken k (stray r z) e = let y : ◌≡◌ {A = ℕ} 0 1 = cc in omega arith
-  step-taken k (long r) e = let z : ◌≡◌ {A = ℕ} 0 1 = cc in omega arith
-  step-taken k (goes_on r z f) e = let y : ◌≡◌ {A = ℕ} 0 1 = cc in omega arith
-  step-taken k (ends r z f) e = let y : ◌≡◌ {A = ℕ} 0 1 = cc in omega arith
 
   pub keeping-le : keeping ch c ≤ ch.held
   unfolding keeping

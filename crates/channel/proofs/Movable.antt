@@ -16,7 +16,7 @@ use Rattle.binding.specs.Header.{header_length, largest_datagram, counters}
 use Rattle.binding.specs.declared.BindingHeader.{BindingHeader}
 use Rattle.channel.specs.declared.Channel.{Channel}
 use Rattle.channel.specs.declared.Step.{Step}
-use Rattle.channel.specs.Record.{channel_limit, largest_room, bad_setup, room_start}
+use Rattle.channel.specs.Record.{channel_limit, largest_room, room_start}
 use Rattle.channel.specs.Channel.{Steppable, stepped_of, can_move, moved_of}
 
 -- a product of two 32-bit numbers is a usize

@@ -9,7 +9,7 @@ use Rattle.binding.specs.Header.{header_length, largest_piece, largest_datagram,
 use Rattle.binding.specs.declared.BindingHeader.{BindingHeader}
 use Rattle.binding.specs.declared.MessagePart.{MessagePart}
 use Rattle.binding.specs.declared.MessagePart.TheVariants.{Begin, Middle, End, Whole}
-use Rattle.channel.specs.Record.{channel_limit, bad_setup, largest_room, room_start}
+use Rattle.channel.specs.Record.{channel_limit, largest_room, room_start}
 use Rattle.channel.specs.declared.Channel.{Channel}
 use Rattle.channel.specs.declared.Room.{Room}
 use Rattle.channel.specs.declared.Step.{Step}

@@ -58,8 +58,8 @@ pub struct Step {
     pub put: Option<usize>,
 }
 
-// What a datagram comes to before anything is written: the channel, and its step. That of channel `at` with rooms of `size` bytes, for a datagram of `length` bytes. A record that no look finds is refused
-// as a joiner that is not good.
+// What a datagram of `length` bytes comes to before anything is written: the channel `at`, and its step with rooms of `size` bytes. A record
+// that no look finds is refused as a joiner that is not good.
 pub fn moved(
     at: usize,
     size: u32,

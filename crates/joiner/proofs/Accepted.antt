@@ -2,6 +2,9 @@
 -- channel with nothing seen and nothing held.
 -- Assumes nothing.
 use Prim.Native.Nat.{ℕ, ◌-◌, ◌≤◌, ◌<◌}
+use Rattle.std.specs.Prelude.{Result, Ok, Err}
+use Rattle.refusal.specs.declared.Refusal.{Refusal}
+use Rattle.refusal.specs.declared.Refusal.TheVariants.{NoJoiner}
 use mathlib.Core.Path.{◌≡◌, refl, sym, ap, ◌∙◌}
 use mathlib.Core.Bool.{Bool, true, false, ◌&&◌, cond}
 use mathlib.Core.List.{List, [], ◌∷◌, map}
@@ -13,9 +16,8 @@ use lib.Seq.{take_at}
 use Rattle.binding.specs.Header.{senders}
 use Rattle.channel.specs.Record.{channel_limit, new_channel, good_channel}
 use Rattle.channel.proofs.Cases.{channel_says, sound_good}
-use Rattle.joiner.specs.declared.setups.NewJoiner.{NewJoiner}
-use Rattle.joiner.specs.declared.setups.Verdict.TheVariants.{Accepted}
-use Rattle.joiner.specs.Setup.{distinct, sender_of, senders_of, channel_at, good_sizes, good, fresh_of, refused_setup, setup_of, Acceptable}
+use Rattle.joiner.specs.declared.Joiner.{Joiner}
+use Rattle.joiner.specs.Setup.{distinct, sender_of, senders_of, channel_at, good, fresh_of, setup_of, Acceptable}
 use Rattle.joiner.specs.View.{view_of}
 use Rattle.joiner.proofs.Places.{distinct_says, is_distinct}
 use Rattle.joiner.proofs.Lookups.{Sizes}
@@ -82,31 +84,26 @@ module _ (ids : List ℕ) (R : ℕ) (few : length ids ≤ channel_limit) where
       range k h = (channel_says R (new_channel (get_or ids k 0)) (ap (good_channel R) (sym (fresh-channel k h)) ∙ g.each k h)).sender
 
 module _ (ids : List ℕ) (R b : ℕ) where
-  pub accepts : Acceptable ids R b → setup_of ids R b ≡ record { answer = Accepted; joiner = fresh_of ids R }
+  pub accepts : Acceptable ids R b → setup_of ids R b ≡ Ok (fresh_of ids R)
   unfolding setup_of
   accepts a = rw (le-leb (length ids) channel_limit a.few, fresh-good ids R a.few b a)
 
-  accepted-by : (setup_of ids R b).answer ≡ Accepted → (length ids ≤ channel_limit) × (good (fresh_of ids R) b ≡ true)
-  unfolding setup_of
-  accepted-by e = go (leb (length ids) channel_limit) refl (good (fresh_of ids R) b) refl e
-    where
-      go : (t : Bool) → leb (length ids) channel_limit ≡ t → (g : Bool) → good (fresh_of ids R) b ≡ g
-          → (cond (t && g) (record { answer = Accepted; joiner = fresh_of ids R }) refused_setup).answer ≡ Accepted
-          → (length ids ≤ channel_limit) × (good (fresh_of ids R) b ≡ true)
-      go true h true f q = (leb-true (length ids) channel_limit h, f)
-      go true h false f q = let z : ◌≡◌ {A = ℕ} 0 1 = cc in absurd (omega arith)
-      go false h g f q = let z : ◌≡◌ {A = ℕ} 0 1 = cc in absurd (omega arith)
+  module _ {j : Joiner} (e : setup_of ids R b ≡ Ok j) where
+    accepted-by : (length ids ≤ channel_limit) × (good (fresh_of ids R) b ≡ true)
+    unfolding setup_of
+    accepted-by = go (leb (length ids) channel_limit) refl (good (fresh_of ids R) b) refl e
+      where
+        go : (t : Bool) → leb (length ids) channel_limit ≡ t → (g : Bool) → good (fresh_of ids R) b ≡ g
+            → cond (t && g) (Ok (fresh_of ids R)) (Err NoJoiner) ≡ Ok j → (length ids ≤ channel_limit) × (good (fresh_of ids R) b ≡ true)
+        go true h true f q = (leb-true (length ids) channel_limit h, f)
+        go true h false f q = let z : ◌≡◌ {A = ℕ} 0 1 = cc in absurd (omega arith)
+        go false h g f q = let z : ◌≡◌ {A = ℕ} 0 1 = cc in absurd (omega arith)
 
-  pub accepted : (setup_of ids R b).answer ≡ Accepted → Acceptable ids R b
-  accepted e = good-fresh ids R (accepted-by e).0 b (accepted-by e).1
+    pub accepted : Acceptable ids R b
+    accepted = good-fresh ids R accepted-by.0 b accepted-by.1
 
-  pub accepted-joiner : (setup_of ids R b).answer ≡ Accepted → (setup_of ids R b).joiner ≡ fresh_of ids R
-  accepted-joiner e = ap (λ (x : NewJoiner). x.joiner) (accepts (accepted e))
+    pub accepted-joiner : j ≡ fresh_of ids R
+    accepted-joiner = let q : ◌≡◌ {A = Result Joiner Refusal} (Ok j) (Ok (fresh_of ids R)) = sym e ∙ accepts accepted in cc
 
-  pub accepted-standing : (setup_of ids R b).answer ≡ Accepted → Standing (setup_of ids R b).joiner b
-  accepted-standing e = rw (accepted-joiner e) (record { width = fresh-width ids R (accepted-by e).0; well = (accepted-by e).1 })
-
--- the joiner beside a refusal is not good: whatever it is handed in with gets 20
-pub refused_joiner : (b : ℕ) → good refused_setup.joiner b ≡ false
-unfolding good good_sizes fresh_of
-refused_joiner b = refl
+    pub accepted-standing : Standing j b
+    accepted-standing = rw accepted-joiner (record { width = fresh-width ids R accepted-by.0; well = accepted-by.1 })

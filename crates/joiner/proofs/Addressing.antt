@@ -4,6 +4,7 @@
 use Prim.Native.Nat.{ℕ, ◌≤◌, ◌<◌}
 use Rattle.std.specs.Prelude.{Result, Ok, Err}
 use Rattle.refusal.specs.declared.Refusal.{Refusal}
+use Rattle.refusal.specs.Refusal.{number_of}
 use Rattle.refusal.specs.declared.Refusal.TheVariants.{DatagramLength, DatagramVersion, NoJoiner, NotSetUp}
 use Rattle.binding.specs.declared.BindingHeader.{BindingHeader}
 use mathlib.Core.Path.{◌≡◌, refl, sym, ap, ◌∙◌}
@@ -15,13 +16,12 @@ use borrow.Author.Tests.{leb-true, leb-false, ltb-true, ltb-false, eqb-true, eqb
 use lib.Dec.{leb, ltb, eqb}
 use lib.ListN.{length, get_or}
 use Rattle.binding.specs.Header.{the_version, smallest_datagram, largest_datagram, version_in, part_carried, sender_in, counter_in, header_in}
-use Rattle.binding.specs.Header.{heading_in, piece_in, wrong_length, wrong_field}
+use Rattle.binding.specs.Header.{heading_in, piece_in}
 use Rattle.binding.proofs.Headers.{Headed, headed_heading, heading_headed}
 use Rattle.channel.specs.Channel.{room_of, stepped_of}
-use Rattle.channel.specs.Record.{bad_setup}
 use Rattle.joiner.specs.declared.Joiner.{Joiner}
 use Rattle.joiner.specs.Setup.{place_of, distinct, senders_of, channel_at}
-use Rattle.joiner.specs.Take.{not_set_up, sent_to, heading_by, judged_of, taken_of, Addressed, Foreign}
+use Rattle.joiner.specs.Take.{sent_to, heading_by, judged_of, taken_of, Addressed, Foreign}
 use Rattle.joiner.proofs.Places.{at_place, place_first, distinct_says}
 use Rattle.joiner.proofs.Lookups.{senders-length}
 use Rattle.joiner.proofs.Judging.{Good}
@@ -53,15 +53,15 @@ whose ids d = go (leb smallest_datagram (length d)) refl (leb (length d) largest
           },
         )
 
-heading_refused : (d : List ℕ) (n : ℕ) → heading_in d ≡ Err n → (wrong_length ≤ n) × (n ≤ wrong_field)
+heading_refused : (d : List ℕ) (n : Refusal) → heading_in d ≡ Err n → (21 ≤ number_of n) × (number_of n ≤ 22)
 heading_refused d n e = go (leb smallest_datagram (length d)) (leb (length d) largest_datagram) (eqb (version_in d) the_version) e
   where
     go : (a b v : Bool) → cond (a && b) (cond v (Ok (header_in d)) (Err DatagramVersion)) (Err DatagramLength)
-        ≡ Err n → (wrong_length ≤ n) × (n ≤ wrong_field)
+        ≡ Err n → (21 ≤ number_of n) × (number_of n ≤ 22)
     go true true true q = let z : ◌≡◌ {A = ℕ} 0 1 = cc in absurd (omega arith)
-    go true true false q = let z : n ≡ wrong_field = cc in (omega arith, omega arith)
-    go true false v q = let z : n ≡ wrong_length = cc in (omega arith, omega arith)
-    go false b v q = let z : n ≡ wrong_length = cc in (omega arith, omega arith)
+    go true true false q = let z : n ≡ DatagramVersion = cc in rw z (omega arith, omega arith)
+    go true false v q = let z : n ≡ DatagramLength = cc in rw z (omega arith, omega arith)
+    go false b v q = let z : n ≡ DatagramLength = cc in rw z (omega arith, omega arith)
 
 -- where no ID stands twice, the place of a channel's ID is its own
 pub place_own : (ids : List ℕ) (k x : ℕ) → distinct ids ≡ true → k < length ids → get_or ids k 0 ≡ x → place_of ids x ≡ k
@@ -92,7 +92,7 @@ module _ (j : Joiner) (b : ℕ) (d : List ℕ) (s : Standing j b) where
   not_known w h = by-header ∙ ap (heading_by j d) (headed_heading d (header_in d) w) ∙ rw (le-ltb (place_of (senders_of j) (sender_in d)) j.count h)
 
   -- a foreign datagram, and no other, is refused, with 21, 22 or 23
-  pub foreign-refused : Foreign (senders_of j) d → (n : ℕ) × (judged_of j b d ≡ Err n) × (wrong_length ≤ n) × (n ≤ not_set_up)
+  pub foreign-refused : Foreign (senders_of j) d → (n : Refusal) × (judged_of j b d ≡ Err n) × (21 ≤ number_of n) × (number_of n ≤ 23)
   unfolding heading_by
   foreign-refused f = go (heading_in d) refl
     where
@@ -107,14 +107,14 @@ module _ (j : Joiner) (b : ℕ) (d : List ℕ) (s : Standing j b) where
           → ⊥ = λ q. h (place_of (senders_of j) (sender_in d)) q (at_place (senders_of j) (sender_in d) q) in
           omega arith
 
-      go : (x : Result BindingHeader Refusal) → heading_in d ≡ x → (n : ℕ) × (judged_of j b d ≡ Err n) × (wrong_length ≤ n) × (n ≤ not_set_up)
+      go : (x : Result BindingHeader Refusal) → heading_in d ≡ x → (n : Refusal) × (judged_of j b d ≡ Err n) × (21 ≤ number_of n) × (number_of n ≤ 23)
       go (Err n) e = (n, by-header ∙ ap (heading_by j d) e, (heading_refused d n e).0, omega (arith, (heading_refused d n e).1))
       go (Ok y) e =
           let w : Headed d y = heading_headed d y e in
           let v : Headed d (header_in d) = record { long = w.long; short = w.short; version = w.version; fields = refl } in
-          (not_set_up, not_known v (nowhere v f), omega arith, omega arith)
+          (NotSetUp, not_known v (nowhere v f), omega arith, omega arith)
 
-  pub refused-foreign : (n : ℕ) → judged_of j b d ≡ Err n → Foreign (senders_of j) d
+  pub refused-foreign : (n : Refusal) → judged_of j b d ≡ Err n → Foreign (senders_of j) d
   refused-foreign n e = ⊎_elim (λ f. f) (λ a. absurd (clash a.0 a.1)) (whose (senders_of j) d)
     where
       clash : (k : ℕ) → Addressed (senders_of j) k d → ⊥
@@ -127,11 +127,11 @@ module _ (j : Joiner) (b : ℕ) (d : List ℕ) (s : Standing j b) where
 -- 20 cannot arise
 pub never_20 : (j : Joiner) (rooms d : List ℕ) → Standing j (length rooms) → (taken_of j rooms d).outcome ≡ Err NoJoiner → ⊥
 never_20 j rooms d s e =
-    let q : judged_of j (length rooms) d ≡ Err NoJoiner = refused-here j rooms d bad_setup e in
-    go q (foreign-refused j (length rooms) d s (refused-foreign j (length rooms) d s bad_setup q))
+    let q : judged_of j (length rooms) d ≡ Err NoJoiner = refused-here j rooms d NoJoiner e in
+    go q (foreign-refused j (length rooms) d s (refused-foreign j (length rooms) d s NoJoiner q))
   where
-    go : judged_of j (length rooms) d ≡ Err NoJoiner → (n : ℕ) × (judged_of j (length rooms) d ≡ Err n) × (wrong_length ≤ n) × (n ≤ not_set_up) → ⊥
+    go : judged_of j (length rooms) d ≡ Err NoJoiner → (n : Refusal) × (judged_of j (length rooms) d ≡ Err n) × (21 ≤ number_of n) × (number_of n ≤ 23) → ⊥
     go q r =
         let p : judged_of j (length rooms) d ≡ Err r.0 = r.1 in
-        let m : r.0 ≡ bad_setup = cc in
-        omega (arith, r.2)
+        let m : r.0 ≡ NoJoiner = cc in
+        omega (arith, rw m at r.2)

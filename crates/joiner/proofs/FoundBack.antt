@@ -1,7 +1,7 @@
 -- A joiner in its words is found as it is: the look at its words is the look at the joiner.
 -- Assumes nothing.
 use Prim.Native.Nat.{ℕ, zero, suc, ◌+◌, ◌-◌, ◌*◌, ◌≤◌, ◌<◌}
-use Rattle.std.specs.Prelude.{Some, None, Result, Ok, Err}
+use Rattle.std.specs.Prelude.{Option, Some, None, Result, Ok, Err}
 use Rattle.refusal.specs.declared.Refusal.{Refusal}
 use Rattle.refusal.specs.declared.Refusal.TheVariants.{NoJoiner}
 use mathlib.Core.Path.{◌≡◌, refl, sym, ap, ◌∙◌}
@@ -100,10 +100,10 @@ module _ (j : Joiner) (w : length j.channels ≡ channel_limit) (h : j.count ≤
       ∙ ap (λ (f : Result (Option (ℕ × Channel)) Refusal). cond (good j b) f (Err NoJoiner)) (go (place_of (senders_of j) x) (ltb (place_of (senders_of j) x) j.count) refl)
     where
       there : Joiner → ℕ → Result (Option (ℕ × Channel)) Refusal
-      there i k = cond (ltb k j.count) (Ok (Some (k, channel_at i k))) (Ok None)
+      there i k = Ok (cond {A = Option (ℕ × Channel)} (ltb k j.count) (Some (k, channel_at i k)) None)
 
       go : (k : ℕ) (t : Bool) → ltb k j.count ≡ t → there stored k ≡ there j k
-      go k true q = ap (λ (c : Channel). cond (ltb k j.count) (Ok (Some (k, c))) (Ok None)) (same_at k (ltb-true k j.count q))
+      go k true q = ap (λ (c : Channel). Ok (cond {A = Option (ℕ × Channel)} (ltb k j.count) (Some (k, c)) None)) (same_at k (ltb-true k j.count q))
       go k false q = rw q
 
   good-joiner : (b : ℕ) → good j b ≡ true → is_joiner ws ≡ true

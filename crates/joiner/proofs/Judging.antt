@@ -2,7 +2,7 @@
 -- grant to the channel's step.
 -- Assumes nothing.
 use Prim.Native.Nat.{ℕ, ◌-◌, ◌≤◌, ◌<◌}
-use Rattle.std.specs.Prelude.{Some, None, Result, Ok, Err}
+use Rattle.std.specs.Prelude.{Option, Some, None, Result, Ok, Err}
 use Rattle.refusal.specs.declared.Refusal.{Refusal}
 use Rattle.refusal.specs.declared.Refusal.TheVariants.{NoJoiner, NotSetUp}
 use mathlib.Core.Path.{◌≡◌, refl, sym, ap, ◌∙◌}
@@ -20,10 +20,10 @@ use Rattle.channel.specs.declared.Channel.{Channel}
 use Rattle.channel.proofs.Cases.{Sound, channel_says}
 use Rattle.channel.specs.declared.Step.{Step}
 use Rattle.channel.specs.Channel.{room_of, stepped_of, can_move, moved_of}
-use Rattle.channel.specs.Record.{channel_limit, largest_room, bad_setup, new_channel, good_channel, room_start}
+use Rattle.channel.specs.Record.{channel_limit, largest_room, new_channel, good_channel, room_start}
 use Rattle.joiner.specs.declared.Joiner.{Joiner}
 use Rattle.joiner.specs.Setup.{place_of, distinct, every, channels_of, senders_of, channel_at, good_sizes, good, found_of}
-use Rattle.joiner.specs.Take.{not_set_up, sent_to, heading_by, judged_of, sender_by, refusal_by, judged_by}
+use Rattle.joiner.specs.Take.{sent_to, heading_by, judged_of, sender_by, judged_by}
 use Rattle.joiner.proofs.Places.{every-at}
 use Rattle.joiner.proofs.Lookups.{Sizes, sizes_say, channels_length, channels-at, Borne, found-bad, found-nobody, found-somebody}
 
@@ -55,25 +55,6 @@ unfolding good
 good-sizes j b e =
     sizes_say j.count j.room b (and_left (good_sizes j.count j.room b) (every (good_channel j.room) (channels_of j) && distinct (senders_of j)) e)
 
--- `judge`
-module _ {f : Result (Option (ℕ × Channel)) Refusal} (R n : ℕ) (x : Result BindingHeader Refusal) where
-  pub judged-bad : f ≡ (Err NoJoiner) → Err NoJoiner ≡ judged_by f R x n
-  unfolding judged_by
-  judged-bad e = rw e
-
-  pub judged-nobody : {m : ℕ} → m ≡ refusal_by x → f ≡ (Ok None) → Err m ≡ judged_by f R x n
-  unfolding judged_by
-  judged-nobody q e = rw (e, q)
-
-  pub judged-refused : (k : ℕ) (ch : Channel) (m : ℕ) → f ≡ Ok (Some (k, ch)) → x ≡ Err m → Err m ≡ judged_by f R x n
-  unfolding judged_by
-  judged-refused k ch m e q = rw (e, q)
-
-  pub judged-somebody : {y : Result (ℕ × Step) Refusal} (k : ℕ) (ch : Channel) (h : BindingHeader) → f ≡ Ok (Some (k, ch)) → x ≡ Ok h → y
-      ≡ moved_of k R ch h n → y ≡ judged_by f R x n
-  unfolding judged_by
-  judged-somebody k ch h e q m = rw (e, q) m
-
 -- a datagram that is judged by what was found, as by the joiner itself
 module _ (j : Joiner) (b : ℕ) (d : List ℕ) {r : Result BindingHeader Refusal} (er : r ≡ heading_in d) where
   not-well : good j b ≡ false → Err NoJoiner ≡ judged_of j b d
@@ -84,7 +65,7 @@ module _ (j : Joiner) (b : ℕ) (d : List ℕ) {r : Result BindingHeader Refusal
   unfolding judged_of
   by-header g = rw (g, er)
 
-  pub no-heading : {t : Bool} {n : ℕ} → t ≡ good j b → t ≡ true → r ≡ Err n → Err n ≡ judged_of j b d
+  pub no-heading : {t : Bool} {n : Refusal} → t ≡ good j b → t ≡ true → r ≡ Err n → Err n ≡ judged_of j b d
   unfolding heading_by
   no-heading e g m = sym (by-header (sym e ∙ g) ∙ ap (heading_by j d) m)
 
@@ -132,11 +113,11 @@ judged-by {f} {r} {s} j b d w er es ef ex = ex ∙ go f refl r refl
     sought : (h : BindingHeader) → r ≡ Ok h → f ≡ found_of j b h.sender
     sought h p = ef ∙ ap (found_of j b) (es ∙ ap sender_by p)
 
-    refused : (n : ℕ) → r ≡ Err n → good j b ≡ true → Err n ≡ judged_of j b d
+    refused : (n : Refusal) → r ≡ Err n → good j b ≡ true → Err n ≡ judged_of j b d
     refused n p g = no-heading j b d er {t = good j b} refl g p
 
     go : (g : Result (Option (ℕ × Channel)) Refusal) → f ≡ g → (y : Result BindingHeader Refusal) → r ≡ y → judged_by g j.room y (length d) ≡ judged_of j b d
-    go (Err NoJoiner) q y p = not-well j b d er (sym (found-bad j b s ef q))
+    go (Err e) q y p = ap Err (found-bad j b s ef q).1 ∙ not-well j b d er (found-bad j b s ef q).0
     go (Ok None) q (Err n) p = refused n p (found-nobody j b s ef q).0
     go (Ok None) q (Ok h) p = to-nobody j b d er h p (sought h p) q
     go (Ok (Some (k, ch))) q (Err n) p = refused n p (found-somebody j b s ef k ch q).well
@@ -152,27 +133,30 @@ pub record Moved (j : Joiner) (b : ℕ) (d : List ℕ) (k : ℕ) (s : Step) : Ty
   pub step : s ≡ stepped_of (room_of j.room k) (channel_at j k) (part_carried d) (counter_in d) (length (piece_in d))
 
 module _ (j : Joiner) (b : ℕ) (d : List ℕ) (k : ℕ) (s : Step) where
-  clash : (n : ℕ) → Err n ≡ Ok (k, s) → ⊥
+  clash : (e : Refusal) → ◌≡◌ {A = Result (ℕ × Step) Refusal} (Err e) (Ok (k, s)) → ⊥
   clash n e = let z : ◌≡◌ {A = ℕ} 0 1 = cc in omega arith
 
   sent : good j b ≡ true → Headed d (header_in d) → (t : Bool) → ltb (place_of (senders_of j) (sender_in d)) j.count ≡ t →
-      cond t (Move (place_of (senders_of j) (sender_in d))
-      (stepped_of (room_of j.room (place_of (senders_of j) (sender_in d))) (channel_at j (place_of (senders_of j) (sender_in d))) (part_carried d)
-      (counter_in d) (length (piece_in d)))) (Err NotSetUp) ≡ Ok (k, s) →
+      cond {A = Result (ℕ × Step) Refusal} t (Ok (
+        place_of (senders_of j) (sender_in d),
+        stepped_of (room_of j.room (place_of (senders_of j) (sender_in d))) (channel_at j (place_of (senders_of j) (sender_in d))) (part_carried d)
+            (counter_in d) (length (piece_in d)),
+      )) (Err NotSetUp) ≡ Ok (k, s) →
       Moved j b d k s
   sent g h true e q =
-      let ek : k ≡ place_of (senders_of j) (sender_in d) = cc in
-      let es : s ≡ stepped_of (room_of j.room (place_of (senders_of j) (sender_in d))) (channel_at j (place_of (senders_of j) (sender_in d)))
-      (part_carried d) (counter_in d) (length (piece_in d)) = cc in
+      let at : ℕ = place_of (senders_of j) (sender_in d) in
+      let w : ◌≡◌ {A = ℕ × Step} (k, s) (at, stepped_of (room_of j.room at) (channel_at j at) (part_carried d) (counter_in d) (length (piece_in d))) = cc in
+      let ek : k ≡ at = ap (λ (y : ℕ × Step). y.0) w in
+      let es : s ≡ stepped_of (room_of j.room at) (channel_at j at) (part_carried d) (counter_in d) (length (piece_in d)) = ap (λ (y : ℕ × Step). y.1) w in
       record { well = g; headed = h; channel = ek; known = omega (arith, ltb-true (place_of (senders_of j) (sender_in d)) j.count e); step = rw ek es }
-  sent g h false e q = absurd (clash not_set_up q)
+  sent g h false e q = absurd (clash NotSetUp q)
 
   pub judged-moved : judged_of j b d ≡ Ok (k, s) → Moved j b d k s
   unfolding judged_of heading_by sent_to
   judged-moved e = by (good j b) refl (heading_in d) refl e
     where
       by : (g : Bool) → good j b ≡ g → (x : Result BindingHeader Refusal) → heading_in d ≡ x → cond g (heading_by j d x) (Err NoJoiner) ≡ Ok (k, s) → Moved j b d k s
-      by false g x h q = absurd (clash bad_setup q)
+      by false g x h q = absurd (clash NoJoiner q)
       by true g (Err n) h q = absurd (clash n q)
       by true g (Ok y) h q =
           let w : Headed d y = heading_headed d y h in

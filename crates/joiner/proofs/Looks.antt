@@ -1,8 +1,7 @@
 -- What the functions of the look show at their returns.
 -- Assumes nothing.
 use Prim.Native.Nat.{ℕ, ◌+◌, ◌≤◌, ◌<◌}
-use Rattle.std.specs.Prelude.{Some, None, Result, Ok, Err}
-use Rattle.refusal.specs.declared.Refusal.{Refusal}
+use Rattle.std.specs.Prelude.{Option, Some, None, Ok, Err}
 use Rattle.refusal.specs.declared.Refusal.TheVariants.{NoJoiner}
 use mathlib.Core.Path.{◌≡◌, refl, sym, ap, ◌∙◌}
 use mathlib.Core.Bool.{Bool, true, false, ◌&&◌, cond}
@@ -161,11 +160,11 @@ module _ (ws : List ℕ) (k : ℕ) where
     unfolding are_good
     good_one h = at-below (good_record ws) (get_or ws 0 0) k (and_left (good_records ws (get_or ws 0 0)) (distinct (senders_in ws)) e) (omega arith)
 
-    pub found-one : {ch : Channel} → k < n → ch ≡ record_in ws k → Ok (Some (k, ch)) ≡ found_at ws k
+    pub found-one : {ch : Channel} → k < n → ch ≡ record_in ws k → Some (k, ch) ≡ found_at ws k
     unfolding found_at
     found-one h f = let l : k < get_or ws 0 0 = omega arith in rw (lt-ltb k (get_or ws 0 0) l, f)
 
-    pub found-no-one : n ≤ k → (Ok None) ≡ found_at ws k
+    pub found-no-one : n ≤ k → None ≡ found_at ws k
     unfolding found_at
     found-no-one h = let l : get_or ws 0 0 ≤ k = omega arith in rw (le-ltb k (get_or ws 0 0) l)
 
@@ -227,13 +226,13 @@ module _ (ws : List ℕ) (b x : ℕ) where
       pub bad-records : {u : Bool} → u ≡ are_good ws → u ≡ false → (Err NoJoiner) ≡ found_of (joiner_in ws) b x
       bad-records g h = bad (well ∙ sym g ∙ h)
 
-      pub found_in : {u : Bool} {p : ℕ} {r : Result (Option (ℕ × Channel)) Refusal} → u ≡ are_good ws → u ≡ true → p ≡ place_of (senders_in ws) x → r ≡ found_at ws p → r
+      pub found_in : {u : Bool} {p : ℕ} {r : Option (ℕ × Channel)} → u ≡ are_good ws → u ≡ true → p ≡ place_of (senders_in ws) x → r ≡ found_at ws p → Ok r
           ≡ found_of (joiner_in ws) b x
       unfolding found_of found_at
       found_in {u} {p} {r} g h ep er =
           let j : joiner_in ws ≡ stored_in ws = stored_joiner ws (well-joiner ws b sized (sym g ∙ h)) in
-          er ∙ ap (found_at ws) ep ∙ go (place_of (senders_in ws) x) (ltb (place_of (senders_in ws) x) (get_or ws 0 0)) refl ∙ rw (well ∙ sym g ∙ h, j)
+          ap Ok (er ∙ ap (found_at ws) ep ∙ go (place_of (senders_in ws) x) (ltb (place_of (senders_in ws) x) (get_or ws 0 0)) refl) ∙ rw (well ∙ sym g ∙ h, j)
         where
-          go : (k : ℕ) (t : Bool) → ltb k (get_or ws 0 0) ≡ t → found_at ws k ≡ cond (ltb k (get_or ws 0 0)) (Ok (Some (k, channel_at (stored_in ws) k))) (Ok None)
+          go : (k : ℕ) (t : Bool) → ltb k (get_or ws 0 0) ≡ t → found_at ws k ≡ cond {A = Option (ℕ × Channel)} (ltb k (get_or ws 0 0)) (Some (k, channel_at (stored_in ws) k)) None
           go k true q = rw (q, stored_at ws sized.few k (ltb-true k (get_or ws 0 0) q))
           go k false q = rw q

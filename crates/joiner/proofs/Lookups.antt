@@ -1,7 +1,7 @@
 -- What a look at a joiner shows: its records against the lists of `specs/`, its sizes, and what was found.
 -- Assumes nothing.
 use Prim.Native.Nat.{ℕ, ◌≤◌, ◌<◌}
-use Rattle.std.specs.Prelude.{Some, None, Result, Ok, Err}
+use Rattle.std.specs.Prelude.{Option, Some, None, Result, Ok, Err}
 use Rattle.refusal.specs.declared.Refusal.{Refusal}
 use Rattle.refusal.specs.declared.Refusal.TheVariants.{NoJoiner}
 use mathlib.Core.Path.{◌≡◌, refl, sym, ap, ◌∙◌}
@@ -118,24 +118,21 @@ pub record Borne (j : Joiner) (b x k : ℕ) (ch : Channel) : Type 0 where
   pub channel : ch ≡ channel_at j k
 
 module _ (j : Joiner) (b x : ℕ) {r : Result (Option (ℕ × Channel)) Refusal} (e : r ≡ found_of j b x) where
-  is-bad : (t : Bool) → good j b ≡ t → r ≡ (Err NoJoiner) → t ≡ false
+  pub found-bad : {n : Refusal} → r ≡ Err n → (good j b ≡ false) × (n ≡ NoJoiner)
   unfolding found_of
-  is-bad true g m = go (ltb (place_of (senders_of j) x) j.count) (sym m ∙ e ∙ rw g)
+  found-bad {n} m = go (good j b) refl (sym m ∙ e)
     where
-      go : (u : Bool) → (Err NoJoiner) ≡ cond u (Ok (Some (place_of (senders_of j) x, channel_at j (place_of (senders_of j) x)))) (Ok None) → true ≡ false
-      go true q = let z : ◌≡◌ {A = ℕ} 0 1 = cc in absurd (omega arith)
-      go false q = let z : ◌≡◌ {A = ℕ} 0 1 = cc in absurd (omega arith)
-  is-bad false g m = refl
-
-  pub found-bad : r ≡ (Err NoJoiner) → false ≡ good j b
-  found-bad m = sym (is-bad (good j b) refl m)
+      go : (g : Bool) → good j b ≡ g → Err n ≡ cond g (Ok (cond {A = Option (ℕ × Channel)} (ltb (place_of (senders_of j) x) j.count)
+          (Some (place_of (senders_of j) x, channel_at j (place_of (senders_of j) x))) None)) (Err NoJoiner) → (good j b ≡ false) × (n ≡ NoJoiner)
+      go true g q = let z : ◌≡◌ {A = ℕ} 0 1 = cc in absurd (omega arith)
+      go false g q = (g, cc)
 
   pub found-nobody : r ≡ (Ok None) → (good j b ≡ true) × (j.count ≤ place_of (senders_of j) x)
   unfolding found_of
   found-nobody m = go (good j b) refl (ltb (place_of (senders_of j) x) j.count) refl (sym m ∙ e)
     where
-      go : (g : Bool) → good j b ≡ g → (u : Bool) → ltb (place_of (senders_of j) x) j.count ≡ u → (Ok None)
-          ≡ cond g (cond u (Ok (Some (place_of (senders_of j) x, channel_at j (place_of (senders_of j) x)))) (Ok None)) (Err NoJoiner) → (good j b ≡ true)
+      go : (g : Bool) → good j b ≡ g → (u : Bool) → ltb (place_of (senders_of j) x) j.count ≡ u → Ok None
+          ≡ cond g (Ok (cond {A = Option (ℕ × Channel)} u (Some (place_of (senders_of j) x, channel_at j (place_of (senders_of j) x))) None)) (Err NoJoiner) → (good j b ≡ true)
           × (j.count ≤ place_of (senders_of j) x)
       go true g false h q = (g, ltb-false (place_of (senders_of j) x) j.count h)
       go true g true h q = let z : ◌≡◌ {A = ℕ} 0 1 = cc in absurd (omega arith)
@@ -145,11 +142,13 @@ module _ (j : Joiner) (b x : ℕ) {r : Result (Option (ℕ × Channel)) Refusal}
   unfolding found_of
   found-somebody k ch m = go (good j b) refl (ltb (place_of (senders_of j) x) j.count) refl (sym m ∙ e)
     where
-      go : (g : Bool) → good j b ≡ g → (u : Bool) → ltb (place_of (senders_of j) x) j.count ≡ u → Ok (Some (k, ch))
-          ≡ cond g (cond u (Ok (Some (place_of (senders_of j) x, channel_at j (place_of (senders_of j) x)))) (Ok None)) (Err NoJoiner) → Borne j b x k ch
+      go : (g : Bool) → good j b ≡ g → (u : Bool) → ltb (place_of (senders_of j) x) j.count ≡ u
+          → ◌≡◌ {A = Result (Option (ℕ × Channel)) Refusal} (Ok (Some (k, ch)))
+          (cond g (Ok (cond u (Some (place_of (senders_of j) x, channel_at j (place_of (senders_of j) x))) None)) (Err NoJoiner)) → Borne j b x k ch
       go true g true h q =
-          let p : k ≡ place_of (senders_of j) x = cc in
-          let f : ch ≡ channel_at j (place_of (senders_of j) x) = cc in
+          let w : ◌≡◌ {A = ℕ × Channel} (k, ch) (place_of (senders_of j) x, channel_at j (place_of (senders_of j) x)) = cc in
+          let p : k ≡ place_of (senders_of j) x = ap (λ (y : ℕ × Channel). y.0) w in
+          let f : ch ≡ channel_at j (place_of (senders_of j) x) = ap (λ (y : ℕ × Channel). y.1) w in
           record { well = g; place = p; known = omega (arith, ltb-true (place_of (senders_of j) x) j.count h); channel = rw p f }
       go true g false h q = let z : ◌≡◌ {A = ℕ} 0 1 = cc in absurd (omega arith)
       go false g u h q = let z : ◌≡◌ {A = ℕ} 0 1 = cc in absurd (omega arith)

@@ -1,6 +1,8 @@
 -- How a fresh joiner is made, record by record, and what a set-up answers.
 -- Assumes nothing.
 use Prim.Native.Nat.{ℕ, suc, ◌+◌, ◌-◌, ◌≤◌, ◌<◌}
+use Rattle.std.specs.Prelude.{Ok, Err}
+use Rattle.refusal.specs.declared.Refusal.TheVariants.{NoJoiner}
 use mathlib.Core.Path.{◌≡◌, sym, ap, ◌∙◌}
 use mathlib.Core.Bool.{Bool, true, false}
 use mathlib.Core.List.{List, [], ◌∷◌, ◌++◌, map, map-append, append_assoc}
@@ -10,11 +12,9 @@ use borrow.Author.Tests.{le-leb, lt-leb}
 use lib.ListN.{length, get_or, set, take, replicate, length-map}
 use lib.Seq.{length-take-le, take-suc, take-length, set_at}
 use Rattle.channel.specs.declared.Channel.{Channel}
-use Rattle.channel.specs.Record.{channel_limit, bad_setup, new_channel}
+use Rattle.channel.specs.Record.{channel_limit, new_channel}
 use Rattle.joiner.specs.declared.Joiner.{Joiner}
-use Rattle.joiner.specs.declared.setups.NewJoiner.{NewJoiner}
-use Rattle.joiner.specs.declared.setups.Verdict.TheVariants.{Accepted, Refused}
-use Rattle.joiner.specs.Setup.{good, fresh_of, refused_setup, setup_of}
+use Rattle.joiner.specs.Setup.{good, fresh_of, setup_of}
 use Rattle.joiner.specs.JoinerWords.{joiner_in, words_of}
 use Rattle.joiner.proofs.FoundBack.{good_back}
 
@@ -47,30 +47,23 @@ made_all {cs} ids i R e h l =
     let f : cs ≡ map new_channel ids ++ replicate (channel_limit - length ids) (new_channel 0) = e ∙ rw (n, take-length ids) in
     rw f
 
-pub no_channels : {z : Channel} → z ≡ new_channel 0
-    → record { answer = Refused bad_setup; joiner = record { channels = replicate channel_limit z; count = 0; room = 0 } } ≡ refused_setup
-unfolding fresh_of
-no_channels e = rw e
-
 -- `is_good`
 pub judged_good : {t : Bool} {ws : List ℕ} (j : Joiner) (b : ℕ) → length j.channels ≡ channel_limit → ws ≡ words_of j → t ≡ good (joiner_in ws) b → t ≡ good j b
 judged_good j b w ew e = e ∙ ap (λ (v : List ℕ). good (joiner_in v) b) ew ∙ good_back j b w
 
 module _ (ids : List ℕ) (R b : ℕ) where
-  pub set_up : {t : Bool} {j : Joiner} → length ids ≤ channel_limit → j ≡ fresh_of ids R → t ≡ good j b → t ≡ true
-      → record { answer = Accepted; joiner = j } ≡ setup_of ids R b
+  pub set_up : {t : Bool} {j : Joiner} → length ids ≤ channel_limit → j ≡ fresh_of ids R → t ≡ good j b → t ≡ true → Ok j ≡ setup_of ids R b
   unfolding setup_of
   set_up {t} {j} h e f g =
       let q : good (fresh_of ids R) b ≡ true = ap (λ (i : Joiner). good i b) (sym e) ∙ sym f ∙ g in
       rw (le-leb (length ids) channel_limit h, q, e)
 
-  pub not_good : {t : Bool} {j : Joiner} {s : NewJoiner} → length ids ≤ channel_limit → j ≡ fresh_of ids R → t ≡ good j b → t ≡ false → s
-      ≡ refused_setup → s ≡ setup_of ids R b
+  pub not_good : {t : Bool} {j : Joiner} → length ids ≤ channel_limit → j ≡ fresh_of ids R → t ≡ good j b → t ≡ false → Err NoJoiner ≡ setup_of ids R b
   unfolding setup_of
-  not_good {t} {j} {s} h e f g r =
+  not_good {t} {j} h e f g =
       let q : good (fresh_of ids R) b ≡ false = ap (λ (i : Joiner). good i b) (sym e) ∙ sym f ∙ g in
-      rw (le-leb (length ids) channel_limit h, q, r)
+      rw (le-leb (length ids) channel_limit h, q)
 
-  pub too_many : {s : NewJoiner} → channel_limit < length ids → s ≡ refused_setup → s ≡ setup_of ids R b
+  pub too_many : channel_limit < length ids → Err NoJoiner ≡ setup_of ids R b
   unfolding setup_of
-  too_many h r = rw (lt-leb (length ids) channel_limit h, r)
+  too_many h = rw (lt-leb (length ids) channel_limit h)

@@ -1,7 +1,7 @@
 -- A joiner in its words that a datagram moves: the step that was taken, and the record that it leaves.
 -- Assumes nothing.
 use Prim.Native.Nat.{ℕ, ◌≤◌, ◌<◌}
-use Rattle.std.specs.Prelude.{Result, Ok, Err}
+use Rattle.std.specs.Prelude.{Option, Result, Ok, Err}
 use Rattle.refusal.specs.declared.Refusal.{Refusal}
 use Rattle.refusal.specs.declared.Refusal.TheVariants.{NoJoiner}
 use Rattle.binding.specs.declared.BindingHeader.{BindingHeader}
@@ -16,14 +16,14 @@ use lib.Seq.{get_or-set_same}
 use Rattle.wire.specs.Bytes.{written}
 use Rattle.wire.proofs.Cond.{and_left}
 use Rattle.binding.specs.Header.{heading_in, part_carried, counter_in, piece_in}
-use Rattle.binding.specs.declared.MessagePart.{MessagePart}
 use Rattle.channel.specs.Record.{channel_limit, new_channel}
 use Rattle.channel.specs.declared.Channel.{Channel}
 use Rattle.channel.specs.Channel.{room_of}
 use Rattle.channel.specs.Outcomes.{number_given, left_over_by}
-use Rattle.channel.specs.declared.Room.{Room}
 use Rattle.channel.specs.declared.Step.{Step}
-use Rattle.channel.proofs.Cases.{Stepped, again, whole, begins, stray, long, goes_on, ends, step-cases}
+use Rattle.channel.proofs.Cases.{Stepped, step-cases}
+use Rattle.channel.specs.declared.Outcome.{Outcome}
+use Rattle.channel.specs.declared.Outcome.TheVariants.{Repeated, Delivered, Held, Stray, TooLong}
 use Rattle.joiner.specs.Setup.{fresh_of, channel_at, found_of}
 use Rattle.joiner.specs.declared.Joiner.{Joiner}
 use Rattle.joiner.specs.Take.{judged_of, sender_by, judged_by, taken_by, changed}
@@ -33,24 +33,19 @@ use Rattle.joiner.proofs.Stored.{stored-length, none_good, stored_joiner}
 use Rattle.joiner.specs.Calls.{with_record, place_in, words_by}
 
 -- a step that was taken
-module _ {room : Room} {ch : Channel} {c n : ℕ} where
-  pub step-changes : {p : MessagePart} {s : Step} (old new : List ℕ) → Stepped room ch c n p s → left_over_by s.outcome old new ≡ new
-  step-changes old new (again r) = refl
-  step-changes old new (whole r) = refl
-  step-changes old new (begins r f) = refl
-  step-changes old new (stray r z) = refl
-  step-changes old new (long r) = refl
-  step-changes old new (goes_on r z f) = refl
-  step-changes old new (ends r z f) = refl
+pub step-changes : (o : Outcome) (old new : List ℕ) → left_over_by (Ok o) old new ≡ new
+step-changes Repeated old new = refl
+step-changes (Delivered m p) old new = refl
+step-changes (Held m n) old new = refl
+step-changes (Stray m) old new = refl
+step-changes (TooLong m) old new = refl
 
-  pub step-number : {p : MessagePart} {s : Step} → Stepped room ch c n p s → 0 ≡ number_given s.outcome
-  step-number (again r) = refl
-  step-number (whole r) = refl
-  step-number (begins r f) = refl
-  step-number (stray r z) = refl
-  step-number (long r) = refl
-  step-number (goes_on r z f) = refl
-  step-number (ends r z f) = refl
+pub step-number : (o : Outcome) → 0 ≡ number_given (Ok o)
+step-number Repeated = refl
+step-number (Delivered m p) = refl
+step-number (Held m n) = refl
+step-number (Stray m) = refl
+step-number (TooLong m) = refl
 
 -- a joiner with a channel is one that the words are
 pub some_joiner : (ws : List ℕ) (k : ℕ) → k < (joiner_in ws).count → is_joiner ws ≡ true
@@ -91,7 +86,7 @@ same_room {f} ws b y r n e = go (is_joiner ws) refl
   where
     go : (t : Bool) → is_joiner ws ≡ t → judged_by f (get_or ws 1 0) r n ≡ judged_by f (joiner_in ws).room r n
     go true q = rw (stored_joiner ws q)
-    go false q = let bad : f ≡ (Err NoJoiner) = e ∙ rw (none_good ws b q) in rw bad
+    go false q = let bad : f ≡ Err NoJoiner = e ∙ rw (none_good ws b q) in rw bad
 
 pub judged_in : {f : Result (Option (ℕ × Channel)) Refusal} {r : Result BindingHeader Refusal} {y R : ℕ} {x : Result (ℕ × Step) Refusal} (ws : List ℕ) (b : ℕ) (d : List ℕ) → R ≡ get_or ws 1 0 → r ≡ heading_in d → y
     ≡ sender_by r → f ≡ found_of (joiner_in ws) b y → x ≡ judged_by f R r (length d) → x ≡ judged_of (joiner_in ws) b d
@@ -117,6 +112,6 @@ module _ (ws : List ℕ) (b : ℕ) (d : List ℕ) (k : ℕ) (s : Step) (e : judg
   words-moved =
       let new : List ℕ = with_record ws (place_in j d) (changed j k s.channel) in
       let w : length j.channels ≡ channel_limit = channels_length ws in
-      step-changes ws new steps
+      step-changes s.outcome ws new
       ∙ ap (λ (i : ℕ). with_record ws i (changed j k s.channel)) (sym moves.channel)
       ∙ ap (λ (c : Channel). written ws (record_at k) (record_words c)) (get_or-set_same j.channels k s.channel (new_channel 0) (omega (arith, known)))

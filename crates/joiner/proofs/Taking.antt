@@ -32,7 +32,7 @@ use Rattle.joiner.specs.JoinerWords.{joiner_in, words_of}
 use Rattle.joiner.proofs.FoundBack.{looked}
 use Rattle.joiner.proofs.Judging.{Moved, judged-by, judged-moved, good-sizes}
 
-module _ {o : Result Outcome Refusal} {pl : Slice} (d rooms : List ℕ) where
+module _ {E : Type 0} {o : Result Outcome E} {pl : Slice} (d rooms : List ℕ) where
   pub in-datagram : {x : List ℕ} (m s l : ℕ) → o ≡ Ok (Delivered m pl) → pl ≡ Datagram s l → x ≡ part d s l → x ≡ message_of o d rooms
   unfolding message_of
   in-datagram m s l eo ep ex = rw (eo, ep) ex
@@ -61,7 +61,7 @@ put_none rooms d a e h = rw e (go (leb (a + length (drop header_length d)) (leng
     go false q = no_run rooms a (drop header_length d) refl q
 
 -- any outcome but a delivery
-pub not_delivered : (o : Result Outcome Refusal) (d rooms : List ℕ) → ((m : ℕ) (p : Slice) → o ≡ Ok (Delivered m p) → ⊥) → [] ≡ message_of o d rooms
+pub not_delivered : {E : Type 0} (o : Result Outcome E) (d rooms : List ℕ) → ((m : ℕ) (p : Slice) → o ≡ Ok (Delivered m p) → ⊥) → [] ≡ message_of o d rooms
 unfolding message_of
 not_delivered (Err n) d rooms t = refl
 not_delivered (Ok Repeated) d rooms t = refl
@@ -78,7 +78,7 @@ module _
   judged : x ≡ judged_of j (length rooms) d
   judged = judged-by j (length rooms) d w er ey (looked j (length rooms) y w ew ef) ex
 
-  module _ (n : ℕ) (m : x ≡ Err n) where
+  module _ (n : Refusal) (m : x ≡ Err n) where
     refused-taken : record { outcome = Err n; joiner = j } ≡ taken_of j rooms d
     unfolding taken_of taken_by
     refused-taken = rw (sym judged ∙ m)
@@ -99,7 +99,7 @@ module _
     pub moved-fits : Fits w64 (k * 12)
     moved-fits = record { fits = omega (arith, moved-known) }
 
-    moved-taken : record { outcome = s.outcome; joiner = changed j k s.channel } ≡ taken_of j rooms d
+    moved-taken : record { outcome = Ok s.outcome; joiner = changed j k s.channel } ≡ taken_of j rooms d
     unfolding taken_of taken_by
     moved-taken = rw (sym judged ∙ m)
 
@@ -108,5 +108,5 @@ module _
       unfolding rooms_after rooms_by
       moved-rooms = rw (sym judged ∙ m) g
 
-      pub moved : (record { outcome = s.outcome; joiner = changed j k s.channel } ≡ taken_of j rooms d) × (after ≡ rooms_after j rooms d)
+      pub moved : (record { outcome = Ok s.outcome; joiner = changed j k s.channel } ≡ taken_of j rooms d) × (after ≡ rooms_after j rooms d)
       moved = (moved-taken, moved-rooms)

@@ -97,7 +97,7 @@ module _ (room : Room) (ch : Channel) (rooms d : List ℕ) (fits : room.start + 
       ∙ ap (λ (u : List ℕ). u ++ q) (kept n)
 
   pub held_after : {p : MessagePart} {s : Step} → Stepped room ch c (length q) p s
-      → bytes_at (put_by rooms s.put d) room.start s.channel.held ≡ held_by v.bytes (leading v p c ++ q) s.outcome
+      → bytes_at (put_by rooms s.put d) room.start s.channel.held ≡ held_by v.bytes (leading v p c ++ q) (Ok s.outcome)
   unfolding put_by noted_of
   held_after (again r) = refl
   held_after (whole r) = refl
@@ -111,7 +111,7 @@ module _ (room : Room) (ch : Channel) (rooms d : List ℕ) (fits : room.start + 
   held_after (ends r z f) = refl
 
   pub given-after : {p : MessagePart} {s : Step} → header_length ≤ length d → Stepped room ch c (length q) p s
-      → message_of s.outcome d (put_by rooms s.put d) ≡ given_by q (leading v p c ++ q) s.outcome
+      → message_of {E = Refusal} (Ok s.outcome) d (put_by rooms s.put d) ≡ given_by q (leading v p c ++ q) (Ok s.outcome)
   unfolding message_of put_by
   given-after l (again r) = refl
   given-after l (whole r) = part_in d header_length (length q) (omega (arith, piece_length d)) ∙ take-length q
@@ -171,7 +171,7 @@ module _ (j : Joiner) (rooms d : List ℕ) (s : Standing j (length rooms)) where
     unfolding rooms_after rooms_by
     rooms-after = ap (rooms_by rooms d) moves
 
-    pub own-outcome : (taken_of j rooms d).outcome ≡ (view_step room view d).outcome
+    pub own-outcome : (taken_of j rooms d).outcome ≡ Ok (view_step room view d).outcome
     unfolding taken_of taken_by
     own-outcome = ap (λ (x : Result (ℕ × Step) Refusal). (taken_by j x).outcome) moves
 

@@ -1,7 +1,6 @@
 -- What the look at a joiner in lent words goes by: its records as the words have them.
 use Rattle.std.specs.Prelude.{ℕ, ◌+◌, ◌≤◌, ◌≡◌, Bool, ◌&&◌, cond, List, leb, ltb, length, get_or}
-use Rattle.std.specs.Prelude.{Some, None, Result, Ok}
-use Rattle.refusal.specs.declared.Refusal.{Refusal}
+use Rattle.std.specs.Prelude.{Option, Some, None}
 use Rattle.channel.specs.declared.Channel.{Channel}
 use Rattle.wire.specs.All.{all_below}
 use Rattle.binding.specs.Header.{senders, counters}

@@ -9,7 +9,6 @@ use Rattle.wire.specs.Bytes.{written, part}
 use Rattle.binding.specs.Header.{the_version, smallest_datagram, largest_datagram, version_in, sender_in, heading_in, piece_in}
 use Rattle.binding.specs.declared.BindingHeader.{BindingHeader}
 use Rattle.channel.specs.Channel.{room_of, stepped_of, moved_of}
-use Rattle.channel.specs.Record.{bad_setup}
 use Rattle.channel.specs.declared.Channel.{Channel}
 use Rattle.channel.specs.declared.Slice.{Slice}
 use Rattle.channel.specs.declared.Slice.TheVariants.{Datagram, Rooms}

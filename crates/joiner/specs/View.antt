@@ -64,10 +64,10 @@ abbrev pub view_step : Room → View → List ℕ → Step
 view_step room v d = stepped_of room v.channel (part_carried d) (counter_in d) (length (piece_in d))
 
 unfoldable pub view_after : Room → View → List ℕ → View
-view_after room v d = record { channel = (view_step room v d).channel; bytes = held_by v.bytes (joined_in v d) (view_step room v d).outcome }
+view_after room v d = record { channel = (view_step room v d).channel; bytes = held_by v.bytes (joined_in v d) (Ok (view_step room v d).outcome) }
 
 unfoldable pub view_given : Room → View → List ℕ → List ℕ
-view_given room v d = given_by (piece_in d) (joined_in v d) (view_step room v d).outcome
+view_given room v d = given_by (piece_in d) (joined_in v d) (Ok (view_step room v d).outcome)
 
 -- the message that `message` hands back after `take` took d, and none where d delivered nothing
 unfoldable pub delivered_of : Joiner → List ℕ → List ℕ → List ℕ

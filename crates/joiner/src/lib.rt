@@ -63,6 +63,7 @@ pub fn take(joiner: Joiner, rooms: &mut [u8], datagram: &[u8]) -> Taken
 
 // The message that `outcome` delivered, as a part of the datagram or of the rooms; an empty part where it delivered none, or whatever refused.
 // A part of the rooms is good until the next `take`.
+#[tactic(auto, unfolding(crate::specs::Take::message_of))]
 pub fn message<'a, E: Copy>(
     outcome: Result<Outcome, E>,
     datagram: &'a [u8],
@@ -91,6 +92,7 @@ pub(crate) fn sender_of(heading: Result<BindingHeader, Refusal>) -> u16
 
 // What a datagram of `length` bytes comes to, before anything is written: the numbers in their order, then its channel's
 // step. `found` is what the look for its sender ID found in a joiner with rooms of `size` bytes.
+#[tactic(auto, unfolding(crate::specs::Take::judged_by))]
 pub(crate) fn judge(
     found: Result<Option<(usize, Channel)>, Refusal>,
     size: u32,
@@ -120,12 +122,9 @@ fn refusal(heading: Result<BindingHeader, Refusal>) -> Refusal
 pub(crate) fn write_piece(rooms: &mut [u8], place: Option<usize>, datagram: &[u8])
     ensures { rooms.new ≡ put_by rooms.old place datagram.now }
 {
-    match place {
-        None => {}
-        Some(at) => {
-            if BindingHeader::LENGTH <= datagram.len() {
-                wire::put_run(rooms, at, &datagram[BindingHeader::LENGTH..]);
-            }
+    if let Some(at) = place {
+        if BindingHeader::LENGTH <= datagram.len() {
+            wire::put_run(rooms, at, &datagram[BindingHeader::LENGTH..]);
         }
     }
 }

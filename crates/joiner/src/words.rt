@@ -27,6 +27,7 @@ pub const IN_DATAGRAM: u64 = 1;
 pub const IN_ROOMS: u64 = 2;
 
 // A fresh joiner for these sender IDs, with `room` bytes for each in rooms of `rooms` bytes; or 20.
+#[tactic(auto, unfolding(crate::specs::Calls::setup_number, crate::specs::Calls::setup_words))]
 pub fn setup(state: &mut [u32; JOINER_WORDS], ids: &[u16], room: u32, rooms: usize) -> u32
     ensures value { result ≡ setup_number ids.now room rooms }
     ensures state_after { state.new ≡ setup_words ids.now room rooms state.old }
