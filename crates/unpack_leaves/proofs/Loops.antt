@@ -63,9 +63,11 @@ module _ (b codes : List ℕ) (first : ℕ) where
 
   module _ (k from : ℕ) (left : k + there_count b (drop k codes) from ≡ there_count b codes first) where
     -- all were judged
-    pub all_counted : length codes ≤ k → k ≡ there_count b codes first
+    pub all_counted : k ≤ length codes → length codes ≤ k → length codes ≡ there_count b codes first
     unfolding there_count
-    all_counted done = sym (add-zero k) ∙ ap (λ (u : List ℕ). k + there_count b u from) (sym (drop_of_length-le codes done)) ∙ left
+    all_counted most done =
+        let e : length codes ≡ k + 0 = omega arith in
+        e ∙ ap (λ (u : List ℕ). k + there_count b u from) (sym (drop_of_length-le codes done)) ∙ left
 
     module _ (less : k < length codes) (r : Bool) (there : r ≡ is_there b (get_or codes k 0) from) where
       next : k + cond (is_there b (get_or codes k 0) from) (suc (there_count b (drop (suc k) codes) (from + width (get_or codes k 0)))) 0 ≡ there_count b codes first
