@@ -4,13 +4,13 @@ use Prim.Native.Nat.{ℕ, zero, suc, ◌+◌, ◌*◌, ◌^◌, ◌≤◌, ◌<�
 use mathlib.Core.Path.{◌≡◌, refl, sym, ap, ◌∙◌}
 use mathlib.Core.Bool.{Bool, true, false, ◌&&◌, cond}
 use mathlib.Core.List.{List}
-use native.Mathlib.Nat.{mul-le-mul_left, zero-mul, one-mul, add-zero}
+use native.Mathlib.Nat.{mul-le-mul_left, zero-mul, add-zero}
 use native.Mathlib.Omega.{arith}
 use borrow.Author.Tests.{le-leb, leb-true, ne_eqb}
 use mir.Syntax.{w64}
 use mir.Val.{Fits}
 use lib.Dec.{leb, eqb}
-use lib.ListN.{length, set}
+use lib.ListN.{length}
 use Rattle.wire.proofs.Cond.{yes-if, no-if, and_left, and_right}
 use Rattle.wire.specs.All.{all_below}
 use Rattle.table.specs.Leaf.{Leaf, none, base, is_value, width, allowed}
@@ -22,8 +22,7 @@ use Rattle.walk.specs.Walk.{Step, on, through}
 use Rattle.walk.proofs.Walks.{width_few}
 use Rattle.unpack_leaves.specs.OneCode.{along, is_good, filled, run_there}
 use Rattle.unpack_leaves.specs.Steps.{Reads}
-use Rattle.unpack_leaves.proofs.OneLeaf.{stored_word, fits-is}
-use Rattle.unpack_leaves.proofs.OneCode.{run_on, no-room-left}
+use Rattle.unpack_leaves.proofs.OneCode.{run_on}
 
 -- the bytes of so many leaves are few
 pub bytes_fit : (n w code : ℕ) → w ≡ width code → n < 2 ^ 32 → Fits w64 (n * w)
