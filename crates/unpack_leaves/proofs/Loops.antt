@@ -11,7 +11,7 @@ use borrow.Author.Tests.{le-leb, lt-leb}
 use mir.Syntax.{w64}
 use mir.Val.{Fits}
 use lib.Dec.{leb}
-use lib.ListN.{length, get_or, set, take, drop, length-take, drop_of_length-le}
+use lib.ListN.{length, get_or, set, take, drop, drop_of_length-le}
 use lib.Seq.{take-suc, drop-cons}
 use Rattle.wire.proofs.Cond.{yes-if, no-if}
 use Rattle.table.specs.Leaf.{width}
@@ -38,9 +38,6 @@ module _ (b codes : List ℕ) (p : Place) (x : List ℕ) where
 
   pub no_room : length x ≤ p.to → x ≡ laid b (take (whole_count b codes p.from) codes) p x
   no_room h = sym (laid_out b (take (whole_count b codes p.from) codes) p x h)
-
-  pub room_in : (n : ℕ) → p.to < length x → n ≡ min (length codes) (length x - p.to) → p.to + length (take n codes) ≤ length x
-  room_in n h e = omega (arith, length-take n codes)
 
   pub room-stored : (n : ℕ) (y : List ℕ) → n ≡ min (length codes) (length x - p.to) → y
       ≡ laid b (take (whole_count b (take n codes) p.from) (take n codes)) p x → y ≡ laid b (take (whole_count b codes p.from) codes) p x
@@ -99,10 +96,6 @@ module _ (l from code n : ℕ) (room : from + width code ≤ l) (is : n ≡ widt
 -- storing
 abbrev pub rest : List ℕ → List ℕ → ℕ → Place → List ℕ → List ℕ
 rest b codes k p x = laid b (take (whole_count b (drop k codes) p.from) (drop k codes)) p x
-
-pub start_stored : (b codes : List ℕ) (p : Place) (x : List ℕ) → rest b codes 0 (record { from = p.from; to = p.to + 0 }) x
-    ≡ laid b (take (whole_count b codes p.from) codes) p x
-start_stored b codes p x = ap (λ (n : ℕ). laid b (take (whole_count b codes p.from) codes) (record { from = p.from; to = n }) x) (add-zero p.to)
 
 module _ (b codes : List ℕ) (k from to : ℕ) (x z : List ℕ) (left : rest b codes k (record { from = from; to = to + k }) x ≡ z) where
   pub all_stored : length codes ≤ k → x ≡ z

@@ -2,7 +2,7 @@
 -- Assumes nothing.
 use Prim.Native.Nat.{ℕ, zero, suc, min, ◌+◌, ◌-◌, ◌*◌, ◌≤◌, ◌<◌}
 use mathlib.Core.Path.{◌≡◌, refl, sym, ap, ◌∙◌}
-use mathlib.Core.Bool.{Bool, true, false, cond}
+use mathlib.Core.Bool.{true, cond}
 use mathlib.Core.List.{List, [], ◌∷◌}
 use mathlib.Core.Logic.{⊎_elim}
 use native.Mathlib.Nat.{eq-or-lt_of_le, mul-le-mul_right, suc-mul, zero-mul, add-zero}
@@ -12,7 +12,6 @@ use borrow.Author.Tests.{le-leb}
 use lib.Dec.{leb, eqb}
 use lib.ListN.{length, set}
 use Rattle.wire.specs.Bytes.{written, Octets}
-use Rattle.wire.proofs.Cond.{yes-if, no-if}
 use Rattle.wire.proofs.Runs.{length_written, written_out}
 use Rattle.wire.specs.All.{all_below}
 use Rattle.table.specs.Leaf.{base, width, allowed}
@@ -37,17 +36,6 @@ module _ (l from n w code k : ℕ) (is : w ≡ width code) (room : from + n * wi
 
   pub leaf_room : from + k * w + width code ≤ l
   leaf_room = rw is (omega (arith, leaf-in))
-
--- fewer leaves are there too
-pub fewer_in : (l from m n room code : ℕ) → from + n * width code ≤ l → m ≡ min n room → from + m * width code ≤ l
-fewer_in l from m n room code h e = let g : m ≤ n = omega arith in omega (arith, mul-le-mul_right (width code) g)
-
--- judging: what a leaf adds to the number of those refused
-pub taken_one : (code w : ℕ) (a : Bool) → a ≡ allowed code w → a ≡ true → ◌≡◌ {A = ℕ} 0 (cond (allowed code w) 0 1)
-taken_one code w a e h = sym (yes-if 0 1 (sym e ∙ h))
-
-pub refused_one : (code w : ℕ) (a : Bool) → a ≡ allowed code w → a ≡ false → ◌≡◌ {A = ℕ} 1 (cond (allowed code w) 0 1)
-refused_one code w a e h = sym (no-if 0 1 (sym e ∙ h))
 
 module _ (b : List ℕ) (code from : ℕ) where
   pub all_good : (n : ℕ) → Octets b → (g : Range) → g ≡ range_of (base code) → g.every ≡ true → true ≡ all_below (is_good b code from) n

@@ -9,4 +9,5 @@ use Rattle.unpack.proofs.by_plan.judge_runs.Given as goal
 
 abbrev pub invariant-loop-k : goal.invariant-loop-k
 invariant-loop-k l =
-    Going (Reading l.payload) (run_read l.payload l.table l.runs) (length l.runs) 0 (record { from = l.initial.from; to = l.initial.to }) [] l.k (record { from = l.from; to = l.to }) []
+    Going (Reading l.payload) (run_read l.payload l.table l.runs) (length l.runs) 0 (record { from = l.initial.from; to = l.initial.to }) []
+    l.k (record { from = l.from; to = l.to }) []

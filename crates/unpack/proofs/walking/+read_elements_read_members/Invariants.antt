@@ -15,7 +15,8 @@ decreases-read_members l = l.i
 
 abbrev pub invariant-read_elements-loop : goal.invariant-read_elements-loop
 invariant-read_elements-loop l =
-    Going (Reading l.payload) (element_step (reader l.payload) l.plans l.table l.s l.i l.child) l.count l.first l.initial.at l.initial.words l.counter l.at l.words
+    Going (Reading l.payload) (element_step (reader l.payload) l.plans l.table l.s l.i l.child) l.count l.first l.initial.at l.initial.words
+    l.counter l.at l.words
 
 abbrev pub invariant-read_members-loop-k : goal.invariant-read_members-loop-k
 invariant-read_members-loop-k l =
