@@ -1,14 +1,12 @@
 -- Elements that are records of bases, read by the codes of their members.
 -- Assumes nothing.
-use Prim.Native.Nat.{ℕ, ◌+◌, ◌*◌, ◌^◌, ◌≤◌, ◌<◌}
+use Prim.Native.Nat.{ℕ, ◌+◌, ◌≤◌, ◌<◌}
 use mathlib.Core.Path.{◌≡◌, refl, sym, ap, ◌∙◌}
 use mathlib.Core.Bool.{Bool, true, false, cond}
 use mathlib.Core.List.{List}
 use native.Mathlib.Nat.{zero-add}
 use native.Mathlib.Omega.{arith}
 use borrow.Author.Tests.{eqb-false}
-use mir.Syntax.{w64}
-use mir.Val.{Fits}
 use lib.Dec.{ltb, leb, eqb}
 use lib.ListN.{length, take}
 use lib.Seq.{take-length}
@@ -34,9 +32,6 @@ use Rattle.unpack.specs.Reading.{Reading, tree_read, member_read, record_of, Ali
 use Rattle.unpack.proofs.ReadBases.{part_in, part-reading, part-goes}
 use Rattle.unpack.proofs.ReadCodes.{codes-read, all-given}
 
-pub coded_none : {b codes : List ℕ} {n : ℕ} {p : Place} {x : List ℕ} → Reading b p → Coded b codes n p x 0 p x
-coded_none h = record { most = omega arith; here = h; as_long = refl; goes = λ f reads p₀ x₀ so_far. so_far }
-
 -- one more, of which all leaves are there
 module _ (b codes : List ℕ) (q : Place) (c e : ℕ) (counts : c ≡ there_count b codes q.from)
     (end : e ≡ ends (take (there_count b codes q.from) codes) q.from) (all : length codes ≤ c) where
@@ -45,9 +40,6 @@ module _ (b codes : List ℕ) (q : Place) (c e : ℕ) (counts : c ≡ there_coun
 
   pub coded-here : Reading b q → Reading b (record { from = e; to = q.to + length codes })
   coded-here h = rw (← as_many) (part-reading b codes q c e counts end h)
-
-  pub coded-fits : Reading b q → length b * 1 < 2 ^ 63 → Fits w64 (q.to + length codes)
-  coded-fits h few = record { fits = omega (arith, (coded-here h).0, (coded-here h).1) }
 
   whole_part : take c codes ≡ codes
   whole_part = ap (λ (k : ℕ). take k codes) as_many ∙ take-length codes

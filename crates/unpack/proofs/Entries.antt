@@ -1,13 +1,11 @@
 -- Elements that are one leaf's entry, a base or an enum: what a run of them comes to.
 -- Assumes nothing.
-use Prim.Native.Nat.{ℕ, ◌+◌, ◌*◌, ◌^◌, ◌≤◌, ◌<◌}
+use Prim.Native.Nat.{ℕ, ◌+◌, ◌*◌, ◌≤◌}
 use mathlib.Core.Path.{◌≡◌, refl, sym, ap, subst, ◌∙◌}
-use mathlib.Core.Bool.{Bool, true, false, cond}
+use mathlib.Core.Bool.{Bool, true, cond}
 use mathlib.Core.List.{List}
 use native.Mathlib.Omega.{arith}
 use borrow.Author.Tests.{le-leb}
-use mir.Syntax.{w64}
-use mir.Val.{Fits}
 use lib.Dec.{leb}
 use lib.ListN.{length}
 use Rattle.wire.specs.All.{all_below}
@@ -64,13 +62,6 @@ module _ (b t : List ℕ) (s : Sections) (e : Entry) (p : Place) (x : List ℕ) 
         rw is
         (kept_on (Reading b) (length x) (walk (reader b) tr p x) ((reader_keeps b).walks tr p x here) (Went q) z
         (did_on (walk (reader b) tr p x) q z z all-on refl) q refl)
-
-    module _ (few : length b * 1 < 2 ^ 63) where
-      pub all-from-fits : Fits w64 (p.from + n * w)
-      all-from-fits = record { fits = omega (arith, all-reading.1) }
-
-      pub all-to-fits : Fits w64 (p.to + n)
-      all-to-fits = record { fits = omega (arith, all-reading.0, all-reading.1) }
 
     pub all-going : (y : List ℕ) → y ≡ cond (leb (p.from + n * width e.of) (length b)) (filled b e.of p n x) x
         → Going (Reading b) (entry_read b t s e) n 0 p x n (record { from = p.from + n * w; to = p.to + n }) y

@@ -5,15 +5,15 @@ use mathlib.Core.Path.{◌≡◌, refl, sym, ap, ◌∙◌}
 use mathlib.Core.Bool.{Bool, true, false, ◌&&◌}
 use mathlib.Core.List.{List, [], ◌∷◌}
 use native.Mathlib.Omega.{arith}
-use borrow.Author.Tests.{le-leb, lt-leb, leb-true, leb-false, eqb-true}
+use borrow.Author.Tests.{le-leb, lt-leb, leb-true, leb-false}
 use mir.Syntax.{w64}
 use mir.Val.{Fits}
-use lib.Dec.{leb, eqb}
+use lib.Dec.{leb}
 use lib.ListN.{length, get_or}
 use Rattle.wire.proofs.Cond.{yes-eq, no_eq, and_left, and_right, and_true}
 use Rattle.wire.specs.Bytes.{Octets}
 use Rattle.wire.specs.All.{all_below}
-use Rattle.wire.proofs.AllBelow.{at-below, all-below}
+use Rattle.wire.proofs.AllBelow.{at-below}
 use Rattle.table.specs.Leaf.{base, width, allowed}
 use Rattle.leaf.specs.Choice.{among_at}
 use Rattle.leaf.specs.declared.codes.Range.{Range}
@@ -124,10 +124,6 @@ pub no_words : (y : List ℕ) → length y ≡ 0 → [] ≡ y
 no_words [] h = refl
 no_words (a ∷ y) h = absurd (omega arith)
 
--- the bytes of a run
-pub run_bytes : (run many code w : ℕ) → many ≡ many_in run → code ≡ code_in run → w ≡ width code → many * w ≡ many_in run * width (code_in run)
-run_bytes run many code w m c e = rw (e, c, m) refl
-
 -- the next of several runs, which is good
 module _ (t b runs : List ℕ) {n first k : ℕ} {p : Place} {from to : ℕ}
     (g : Going (Reading b) (run_read b t runs) n first p [] k (record { from = from; to = to }) [])
@@ -146,6 +142,3 @@ module _ (t b runs : List ℕ) {n first k : ℕ} {p : Place} {from to : ℕ}
 
   pub run-next-from : length b * 1 < 2 ^ 63 → Fits w64 (from + many * w)
   run-next-from few = record { fits = omega (arith, run-next.here.1) }
-
-  pub run-next-to : length b * 1 < 2 ^ 63 → Fits w64 (to + many)
-  run-next-to few = record { fits = omega (arith, run-next.here.0, run-next.here.1) }

@@ -4,7 +4,6 @@ pub mod ReadCodes
 pub mod Entries
 pub mod GoodRuns
 pub mod Among
-pub mod Anew
 pub mod LeafByLeaf
 pub mod Upto
 pub mod ByWidth

@@ -1,11 +1,11 @@
 -- A payload that is walked over a near room: what its reader answers and leaves, of words x that are as they were.
 -- Assumes nothing.
 use Prim.Native.Nat.{ℕ, ◌+◌, ◌≤◌}
-use mathlib.Core.Path.{◌≡◌, refl}
+use mathlib.Core.Path.{◌≡◌, refl, ap}
 use mathlib.Core.Bool.{Bool, true, false}
-use mathlib.Core.List.{List, []}
+use mathlib.Core.List.{List, [], ◌++◌}
 use native.Mathlib.Omega.{arith}
-use lib.ListN.{length, take}
+use lib.ListN.{length, take, drop}
 use lib.Seq.{length-take-le}
 use Rattle.wire.specs.Bytes.{over}
 use Rattle.table.specs.Leaf.{allowed}
@@ -19,9 +19,11 @@ use Rattle.walk.proofs.Near.{as_first, near-stored}
 use Rattle.walk.proofs.Whole.{Gives, refused, not-whole, all_stored}
 use Rattle.unpack.specs.Reading.{reader}
 
--- so many words of a list have room where there is room for so many
-pub few_enough : (k room : ℕ) (l : List ℕ) → k ≤ length l → k ≤ room → length (take k l) ≤ room
-few_enough k room l h g = let e : length (take k l) ≡ k = length-take-le k l h in omega arith
+-- so many words of a list, copied to the start of another
+pub copied : (x l s : List ℕ) (k : ℕ) → k ≤ length l → s ≡ take k l → s ++ drop k x ≡ over x 0 (take k l)
+copied x l s k h e =
+    let n : k ≡ 0 + length (take k l) = omega (arith, length-take-le k l h) in
+    rw e (ap (λ (m : ℕ). take k l ++ drop m x) n)
 
 -- each leaf is one word
 moves : (b : List ℕ) (code : ℕ) (p : Place) → (reader b).there code p ≡ true → allowed code ((reader b).word code p) ≡ true

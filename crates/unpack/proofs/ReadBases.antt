@@ -27,7 +27,7 @@ use Rattle.unpack_leaves.specs.Leaves.{is_there, behind, stored, ends, all_there
 use Rattle.unpack_leaves.specs.OneCode.{along, is_good, filled, run_there}
 use Rattle.unpack_leaves.specs.Steps.{Reads, ReadsCodes}
 use Rattle.unpack_leaves.proofs.InTurn.{codes-on, fewer_read}
-use Rattle.unpack_leaves.proofs.Counts.{there-few, there-all, there-ends, ends-far, laid-whole, length-laid}
+use Rattle.unpack_leaves.proofs.Counts.{there-few, there-all, there-ends, ends-far, laid-whole}
 use Rattle.unpack_leaves.proofs.OneCode.{same-many}
 use Rattle.unpack_leaves.proofs.WholeRuns.{run_room, run-good, run-walked}
 use Rattle.unpack.specs.Reading.{reader, Reading}
@@ -85,9 +85,6 @@ module _ (b codes : List ℕ) (p : Place) (c e : ℕ) (counts : c ≡ there_coun
     part-fits few = record { fits = omega (arith, part-reading.0, part-reading.1) }
 
   module _ (x y : List ℕ) (put : y ≡ laid b (take (whole_count b (take c codes) p.from) (take c codes)) p x) where
-    pub part-many : length y ≡ length x
-    part-many = ap length put ∙ length-laid b (take (whole_count b (take c codes) p.from) (take c codes)) p x
-
     pub part-goes : (m : ℕ) (f : ℕ → Place → List ℕ → Step) → ReadsCodes b codes m f → Goes f m p x (m + c) (record { from = e; to = p.to + c }) y
     part-goes m f reads p₀ x₀ so_far =
         ap (λ (n : ℕ). through (m + n) f p₀ x₀) length_is
@@ -113,9 +110,6 @@ module _ (b : List ℕ) (code : ℕ) (p : Place) (r : Bool) (here : Reading b p)
 
     pub run-from-fits : length b * 1 < 2 ^ 63 → Fits w64 (p.from + n * w)
     run-from-fits few = record { fits = omega (arith, run-reading.1) }
-
-    pub run-to-fits : length b * 1 < 2 ^ 63 → Fits w64 (p.to + n)
-    run-to-fits few = record { fits = omega (arith, run-reading.0, run-reading.1) }
 
 pub run_many : (b : List ℕ) (code n : ℕ) (p : Place) (x y : List ℕ) → y
     ≡ cond (leb (p.from + n * width code) (length b)) (filled b code p n x) x → length y ≡ length x

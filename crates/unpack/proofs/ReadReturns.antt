@@ -1,42 +1,29 @@
 -- What the returns of the readers come to, return by return.
 -- Assumes nothing.
-use Prim.Native.Nat.{ℕ, zero, suc, ◌+◌, ◌*◌, ◌^◌, ◌≤◌, ◌<◌}
-use mathlib.Core.Path.{◌≡◌, refl, sym, ap, subst, ◌∙◌}
-use mathlib.Core.Bool.{Bool, true, false, ◌&&◌, cond}
+use Prim.Native.Nat.{ℕ, ◌+◌, ◌^◌, ◌≤◌, ◌<◌}
+use mathlib.Core.Path.{◌≡◌, refl, sym, ◌∙◌}
+use mathlib.Core.Bool.{Bool, true, false, ◌&&◌}
 use mathlib.Core.List.{List, [], ◌∷◌}
 use native.Mathlib.Omega.{arith}
-use borrow.Author.Tests.{le-leb, lt-leb, lt-ltb, le-ltb, ltb-true, leb-true}
-use mir.Syntax.{w64}
-use mir.Val.{Fits}
-use lib.Dec.{ltb, leb, eqb}
-use lib.ListN.{length, get_or, set}
+use borrow.Author.Tests.{le-leb, lt-leb, lt-ltb, leb-true}
+use lib.Dec.{leb}
+use lib.ListN.{length}
 use Rattle.wire.specs.Bytes.{number, written}
 use Rattle.wire.proofs.Cond.{no_eq}
-use Rattle.wire.proofs.Runs.{held, set_over, written_in, written_out, length_written}
 use Rattle.table.specs.declared.Sections.{Sections}
 use Rattle.table.specs.declared.Entry.{Entry}
 use Rattle.table.specs.Leaf.{base, bytes_of, is_value, width, allowed}
-use Rattle.leaf.specs.Forms.{word_of, word_at, form_of}
+use Rattle.leaf.specs.Forms.{word_of, word_at}
 use Rattle.leaf.specs.Choice.{choice, takes}
 use Rattle.walk.specs.declared.Place.{Place}
-use Rattle.walk.specs.declared.Walked.{Walked}
 use Rattle.walk.specs.declared.Walked.TheVariants.{Went, Stopped}
-use Rattle.walk.specs.Tree.{Tree}
-use Rattle.walk.specs.Walk.{Step, counted, count_code, walk, begun, times, leaf_walk}
+use Rattle.walk.specs.Walk.{counted, begun, times, leaf_walk}
 use Rattle.unpack_leaves.specs.Leaves.{whole_word}
 use Rattle.unpack.specs.Reading.{reader, Reading}
 use Rattle.unpack_leaves.proofs.OneLeaf.{word_there}
 use Rattle.walk.proofs.Walks.{some_bytes}
 use Rattle.walk.proofs.Returns.{Did, did_on, did_stop, item-short, item-bad, item_on, counts}
 use Rattle.walk.proofs.Turns.{Keeps, keeps}
-
--- a further place fits, of bytes and of words: no item has more than 8
-module _ (n : ℕ) (p : Place) (k : ℕ) (r : (p.to ≤ p.from) × (p.from ≤ n)) (h : k ≤ 8) (l : n * 1 < 2 ^ 63) where
-  pub next_from : Fits w64 (p.from + k)
-  next_from = record { fits = omega (arith, r.1) }
-
-  pub next_to : Fits w64 (p.to + k)
-  next_to = record { fits = omega (arith, r.0, r.1) }
 
 -- reading a leaf
 module _ (t : List ℕ) (s : Sections) (e : Entry) (b : List ℕ) (p : Place) (x : List ℕ) (n : ℕ) (h : Bool) (is : n ≡ width e.of)

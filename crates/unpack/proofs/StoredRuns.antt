@@ -19,16 +19,10 @@ use Rattle.unpack_leaves.proofs.OneLeaf.{stored_word}
 use Rattle.unpack_leaves.proofs.WholeRuns.{bytes_fit}
 
 -- one leaf of a code that has its bytes
-pub one_room : (l from n code : ℕ) → n ≡ 1 → from + n * width code ≤ l → from + width code ≤ l
-one_room l from n code e h = let g : n * width code ≡ width code = rw e (omega arith) in omega arith
-
 module _ (b : List ℕ) (code : ℕ) (p : Place) (x : List ℕ) where
   pub leaf-stored : (at w : ℕ) → at ≡ p.to → at < length x → w ≡ word_at code b p.from → set x at w ≡ filled b code p 1 x
   unfolding filled
   leaf-stored at w e h r = stored_word x at w b p.from code h r ∙ rw (e, zero-mul (width code), add-zero p.from, add-zero p.to) refl
-
-  pub one-stored : (n : ℕ) (y : List ℕ) → n ≡ 1 → y ≡ filled b code p 1 x → y ≡ filled b code p n x
-  one-stored n y e h = rw e h
 
 -- behind no run, and behind all
 pub place_start : (runs : List ℕ) (p : Place) (upto : ℕ) → p ≡ place_at runs p upto 0
@@ -38,10 +32,6 @@ place_start runs p upto = refl
 pub stored_start : (b runs : List ℕ) (p : Place) (upto : ℕ) (x : List ℕ) → x ≡ stored_upto b runs p upto 0 x
 unfolding stored_upto
 stored_start b runs p upto x = refl
-
-pub stored_end : (b runs : List ℕ) (p : Place) (upto k : ℕ) (x y : List ℕ) → y ≡ stored_upto b runs p upto k x → k ≤ length runs → length runs ≤ k
-    → y ≡ stored_upto b runs p upto (length runs) x
-stored_end b runs p upto k x y h l m = h ∙ ap (λ (j : ℕ). stored_upto b runs p upto j x) (omega arith)
 
 -- the bytes of some leaves of a run are few
 pub some_fit : (n many room w code : ℕ) → n ≡ min many room → many < 2 ^ 32 → w ≡ width code → Fits w64 (n * w)

@@ -22,9 +22,6 @@ use Rattle.unpack.proofs.Upto.{same_answer}
 use Rattle.unpack.proofs.WholeStores.{went_on, went_to}
 
 module _ (b t runs x : List ℕ) (r : Walked) (walks : r ≡ answer (walk (reader b) (runs_tree t runs) start [])) where
-  pub came-to : (v : Walked) → r ≡ v → v ≡ answer (walk (reader b) (runs_tree t runs) start [])
-  came-to v h = sym h ∙ walks
-
   pub none-if-refused : (n : ℕ) (q : Place) → r ≡ Stopped n q → x ≡ all_or_nothing (reader b) (length b) (runs_tree t runs) x
   none-if-refused n q h = (refused (reader b) (length b) (runs_tree t runs) x r walks x refl n q h).1
 

@@ -40,10 +40,6 @@ pub none_stored : (b runs x : List ℕ) → x ≡ stored_whole b runs 0 x
 unfolding stored_whole
 none_stored b runs x = refl
 
-pub all_stored : (b runs : List ℕ) (k : ℕ) (x y : List ℕ) → y ≡ stored_whole b runs k x → k ≤ length runs → length runs ≤ k
-    → y ≡ stored_whole b runs (length runs) x
-all_stored b runs k x y h l m = h ∙ ap (λ (j : ℕ). stored_whole b runs j x) (omega arith)
-
 -- places only go on
 module _ (runs : List ℕ) where
   from-grows : (n k : ℕ) → k ≤ n → (whole_at runs k).from ≤ (whole_at runs n).from

@@ -21,18 +21,14 @@ pub(crate) fn judge_runs(table: &[u8], runs: &[u64], payload: &[u8], p: Place) -
 {
     let mut from = p.from;
     let mut to = p.to;
-    let mut k: usize = 0;
-    while k < runs.len() {
-        let run = runs[k];
+    for (k, &run) in runs.iter().enumerate() {
         let many = walk::plans::many_in(run) as usize;
         let bytes = many * leaf::width(walk::plans::code_in(run));
-        if is_good(table, run, payload, from, bytes) {
-            from = from + bytes;
-            to = to + many;
-            k += 1;
-        } else {
+        if !is_good(table, run, payload, from, bytes) {
             return judge_rest(table, runs, k, payload, Place { from, to });
         }
+        from = from + bytes;
+        to = to + many;
     }
     Walked::Went(Place { from, to })
 }
@@ -104,13 +100,9 @@ pub(crate) fn judge_rest(
         → result ≡ answer (walk (reader payload.now) (runs_tree table.now runs.now) o []) }
 {
     let mut at = p;
-    let mut k = first;
-    while k < runs.len() {
+    for k in first..runs.len() {
         match judge_leaves(table, runs[k], payload, at) {
-            Walked::Went(q) => {
-                at = q;
-                k += 1;
-            }
+            Walked::Went(q) => at = q,
             Walked::Stopped(n, q) => return Walked::Stopped(n, q),
         }
     }
@@ -124,13 +116,9 @@ fn judge_leaves(table: &[u8], run: u64, payload: &[u8], p: Place) -> Walked
 {
     let many = walk::plans::many_in(run);
     let mut at = p;
-    let mut k: u32 = 0;
-    while k < many {
+    for _ in 0..many {
         match judge_leaf(table, run, payload, at) {
-            Walked::Went(q) => {
-                at = q;
-                k += 1;
-            }
+            Walked::Went(q) => at = q,
             Walked::Stopped(n, q) => return Walked::Stopped(n, q),
         }
     }
@@ -171,15 +159,12 @@ pub(crate) fn store_runs(payload: &[u8], words: &mut [u64], runs: &[u64], p: Pla
     }
     let mut from = p.from;
     let mut to = p.to;
-    let mut k: usize = 0;
-    while k < runs.len() {
-        let run = runs[k];
+    for &run in runs {
         let code = walk::plans::code_in(run);
         let many = wire::least(walk::plans::many_in(run) as usize, upto - to);
         store_leaves(payload, words, code, many as u32, Place { from, to });
         from = from + many * leaf::width(code);
         to = to + many;
-        k += 1;
     }
 }
 

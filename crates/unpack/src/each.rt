@@ -89,15 +89,11 @@ fn are_single(runs: &[u64], codes: &mut [u8]) -> bool
     if codes.len() < runs.len() {
         return false;
     }
-    let mut k: usize = 0;
-    while k < runs.len() {
-        let run = runs[k];
-        if is_single(run) {
-            codes[k] = walk::plans::code_in(run) as u8;
-            k += 1;
-        } else {
+    for (k, &run) in runs.iter().enumerate() {
+        if !is_single(run) {
             return false;
         }
+        codes[k] = walk::plans::code_in(run) as u8;
     }
     true
 }
@@ -122,18 +118,16 @@ fn read_times(
         0 p words.old result.upto result.at words.new }
 {
     let mut at = p;
-    let mut k: u32 = 0;
-    while k < count {
+    for k in 0..count {
         match by_plan::judge_runs(table, runs, payload, at) {
             Walked::Went(q) => {
                 by_plan::store_runs(payload, words, runs, at, q.to);
                 at = q;
-                k += 1;
             }
             Walked::Stopped(_, _) => return Reached { upto: k, at },
         }
     }
-    Reached { upto: k, at }
+    Reached { upto: count, at }
 }
 
 // Records all of whose members are bases: their codes are got from the table once for all of them. None where a member is no base.
@@ -166,8 +160,7 @@ fn read_coded(payload: &[u8], words: &mut [u64], codes: &[u8], count: u32, p: Pl
     ensures { Coded payload.now codes.now count p words.old result.upto result.at words.new }
 {
     let mut at = p;
-    let mut k: u32 = 0;
-    while k < count {
+    for k in 0..count {
         let part = unpack_leaves::judge_codes(payload, codes, at.from);
         if part.count < codes.len() {
             return Reached { upto: k, at };
@@ -177,9 +170,8 @@ fn read_coded(payload: &[u8], words: &mut [u64], codes: &[u8], count: u32, p: Pl
             from: part.from,
             to: at.to + codes.len(),
         };
-        k += 1;
     }
-    Reached { upto: k, at }
+    Reached { upto: count, at }
 }
 
 // As `unpack_leaves::store_codes`, under the same laws: with a second caller that would be a call where a record's members are read.
@@ -203,15 +195,13 @@ fn store_within(payload: &[u8], words: &mut [u64], codes: &[u8], p: Place)
         ≡ laid payload.now (take (whole_count payload.now codes.now p.from) codes.now) p words.old }
 {
     let mut from = p.from;
-    let mut k: usize = 0;
-    while k < codes.len() {
-        let code = codes[k] as u16;
+    for (k, &byte) in codes.iter().enumerate() {
+        let code = byte as u16;
         let width = leaf::width(code);
         if payload.len() - from < width {
             return;
         }
         words[p.to + k] = bases::leaf_in(payload, from, code);
         from = from + width;
-        k += 1;
     }
 }

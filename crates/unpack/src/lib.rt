@@ -9,8 +9,7 @@ mod each;
 mod walking;
 mod whole;
 
-ghost use Rattle.std.specs.Prelude.{◌≡◌, [], ◌≤◌, length};
-ghost use Rattle.wire.specs.Bytes.{over};
+ghost use Rattle.std.specs.Prelude.{◌≡◌, [], length};
 ghost use Rattle.walk.specs.Walk.{start, answer, walk};
 ghost use Rattle.walk.specs.Planned.{plan_tree, type_by};
 ghost use Rattle.walk.specs.Whole.{all_or_nothing};
@@ -85,7 +84,7 @@ fn read_near(
             if walk::fits(q, payload.len(), words.len()) {
                 let count = q.to;
                 if count <= near.len() {
-                    copy(words, &near[..count]);
+                    words[..count].copy_from_slice(&near[..count]);
                     Walked::Went(q)
                 } else {
                     walking::read_once(table, s, plans, i, payload, words)
@@ -120,18 +119,6 @@ fn read_long(
                 Walked::Went(q)
             }
         }
-    }
-}
-
-// These words, at the start of others.
-fn copy(words: &mut [u64], these: &[u64])
-    requires { length these.now ≤ length words.old }
-    ensures { words.new ≡ over words.old 0 these.now }
-{
-    let mut k: usize = 0;
-    while k < these.len() {
-        words[k] = these[k];
-        k += 1;
     }
 }
 

@@ -56,6 +56,7 @@ fn read_members(
     let count = e.count as u32;
     let mut at = p;
     let mut k: u32 = 0;
+    // By hand: a step that hangs on the data, behind the member up to which the bases were read, is no counting loop.
     while k < count {
         let run = at_once::read_bases(table, s, i, e, k, payload, words, at);
         let next = run.upto;
@@ -108,12 +109,12 @@ fn read_elements(
             let count = times(payload, e, p);
             let run = at_once::read_leaves(table, s, plans, i, child, payload, words, count, q);
             let mut at = run.at;
-            let mut k = run.upto;
-            if k == count {
+            let first = run.upto;
+            if first == count {
                 return Walked::Went(at);
             }
             let met = walk::meet(table, s, i, child);
-            while k < count {
+            for _ in first..count {
                 let here = met;
                 let step = match here {
                     Met::Leaf(c) => read_leaf(table, s, c, payload, words, at),
@@ -124,10 +125,7 @@ fn read_elements(
                     Met::Broken => Walked::Stopped(types::RULE_BROKEN, at),
                 };
                 match step {
-                    Walked::Went(q) => {
-                        at = q;
-                        k += 1;
-                    }
+                    Walked::Went(q) => at = q,
                     Walked::Stopped(n, q) => return Walked::Stopped(n, q),
                 }
             }

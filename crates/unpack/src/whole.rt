@@ -39,18 +39,14 @@ fn judge_whole(table: &[u8], runs: &[u64], payload: &[u8]) -> Walked
 {
     let mut from: usize = 0;
     let mut to: usize = 0;
-    let mut k: usize = 0;
-    while k < runs.len() {
-        let run = runs[k];
+    for (k, &run) in runs.iter().enumerate() {
         let many = walk::plans::many_in(run) as usize;
         let bytes = many * leaf::width(walk::plans::code_in(run));
-        if by_plan::is_good(table, run, payload, from, bytes) {
-            from = from + bytes;
-            to = to + many;
-            k += 1;
-        } else {
+        if !by_plan::is_good(table, run, payload, from, bytes) {
             return by_plan::judge_rest(table, runs, k, payload, Place { from, to });
         }
+        from = from + bytes;
+        to = to + many;
     }
     Walked::Went(Place { from, to })
 }
@@ -62,15 +58,12 @@ fn store_whole(payload: &[u8], words: &mut [u64], runs: &[u64])
 {
     let mut from: usize = 0;
     let mut to: usize = 0;
-    let mut k: usize = 0;
-    while k < runs.len() {
-        let run = runs[k];
+    for &run in runs {
         let code = walk::plans::code_in(run);
         let many = walk::plans::many_in(run);
         store_run(payload, words, code, many, Place { from, to });
         from = from + many as usize * leaf::width(code);
         to = to + many as usize;
-        k += 1;
     }
 }
 

@@ -26,14 +26,6 @@ module _ (t : List ℕ) (p n : ℕ) (b : List ℕ) (code from k w word : ℕ) (r
   pub among-stop : (m : ℕ) → k < m → r ≡ false → false ≡ all_below (is_among t p n b code from) m
   among-stop m less h = stop-below (is_among t p n b code from) m k r its-test h less
 
--- the arm of a code
-pub arm_room : (x n l from m : ℕ) → x ≡ n → from + m * width x ≤ l → from + m * width n ≤ l
-arm_room x n l from m e h = rw (← e) h
-
-pub arm_among : (t : List ℕ) (p c : ℕ) (b : List ℕ) (x n from m : ℕ) (r : Bool) → r ≡ all_below (is_among t p c b n from) m → x ≡ n → r
-    ≡ all_below (is_among t p c b x from) m
-arm_among t p c b x n from m r h e = rw e h
-
 -- by what the test of their bytes said; and of leaves whose bytes are there
 module _ (t : List ℕ) (p n : ℕ) (b : List ℕ) (code from m : ℕ) where
   module _ (w : ℕ) (is : w ≡ width code) (h : Bool) (room : h ≡ leb (from + m * w) (length b)) where

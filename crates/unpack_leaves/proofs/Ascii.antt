@@ -59,6 +59,3 @@ module _ (b : List ℕ) (from : ℕ) where
     pub chars-in : (l : ℕ) → from + n * width code ≤ l → from + n ≤ l
     unfolding width base bytes_of
     chars-in l h = let g : from + n * width 2 ≤ l = subst (λ (c : ℕ). from + n * width c ≤ l) is h in omega arith
-
-    pub chars-judged : (r : Bool) → r ≡ all_below (is_good b 2 from) n → r ≡ all_below (is_good b code from) n
-    chars-judged r h = rw is h

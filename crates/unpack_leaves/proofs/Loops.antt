@@ -11,7 +11,7 @@ use borrow.Author.Tests.{le-leb, lt-leb}
 use mir.Syntax.{w64}
 use mir.Val.{Fits}
 use lib.Dec.{leb}
-use lib.ListN.{length, get_or, set, take, drop, length-take, drop_of_length-le}
+use lib.ListN.{length, get_or, set, take, drop, drop_of_length-le}
 use lib.Seq.{take-suc, drop-cons}
 use Rattle.wire.proofs.Cond.{yes-if, no-if}
 use Rattle.table.specs.Leaf.{width}
@@ -39,9 +39,6 @@ module _ (b codes : List ℕ) (p : Place) (x : List ℕ) where
   pub no_room : length x ≤ p.to → x ≡ laid b (take (whole_count b codes p.from) codes) p x
   no_room h = sym (laid_out b (take (whole_count b codes p.from) codes) p x h)
 
-  pub room_in : (n : ℕ) → p.to < length x → n ≡ min (length codes) (length x - p.to) → p.to + length (take n codes) ≤ length x
-  room_in n h e = omega (arith, length-take n codes)
-
   pub room-stored : (n : ℕ) (y : List ℕ) → n ≡ min (length codes) (length x - p.to) → y
       ≡ laid b (take (whole_count b (take n codes) p.from) (take n codes)) p x → y ≡ laid b (take (whole_count b codes p.from) codes) p x
   room-stored n y h e = e ∙ laid-cut b codes n p x (λ l. omega arith)
@@ -63,9 +60,11 @@ module _ (b codes : List ℕ) (first : ℕ) where
 
   module _ (k from : ℕ) (left : k + there_count b (drop k codes) from ≡ there_count b codes first) where
     -- all were judged
-    pub all_counted : length codes ≤ k → k ≡ there_count b codes first
+    pub all_counted : k ≤ length codes → length codes ≤ k → length codes ≡ there_count b codes first
     unfolding there_count
-    all_counted done = sym (add-zero k) ∙ ap (λ (u : List ℕ). k + there_count b u from) (sym (drop_of_length-le codes done)) ∙ left
+    all_counted most done =
+        let e : length codes ≡ k + 0 = omega arith in
+        e ∙ ap (λ (u : List ℕ). k + there_count b u from) (sym (drop_of_length-le codes done)) ∙ left
 
     module _ (less : k < length codes) (r : Bool) (there : r ≡ is_there b (get_or codes k 0) from) where
       next : k + cond (is_there b (get_or codes k 0) from) (suc (there_count b (drop (suc k) codes) (from + width (get_or codes k 0)))) 0 ≡ there_count b codes first
@@ -97,10 +96,6 @@ module _ (l from code n : ℕ) (room : from + width code ≤ l) (is : n ≡ widt
 -- storing
 abbrev pub rest : List ℕ → List ℕ → ℕ → Place → List ℕ → List ℕ
 rest b codes k p x = laid b (take (whole_count b (drop k codes) p.from) (drop k codes)) p x
-
-pub start_stored : (b codes : List ℕ) (p : Place) (x : List ℕ) → rest b codes 0 (record { from = p.from; to = p.to + 0 }) x
-    ≡ laid b (take (whole_count b codes p.from) codes) p x
-start_stored b codes p x = ap (λ (n : ℕ). laid b (take (whole_count b codes p.from) codes) (record { from = p.from; to = n }) x) (add-zero p.to)
 
 module _ (b codes : List ℕ) (k from to : ℕ) (x z : List ℕ) (left : rest b codes k (record { from = from; to = to + k }) x ≡ z) where
   pub all_stored : length codes ≤ k → x ≡ z

@@ -1,20 +1,17 @@
 -- Leaves of one base code, one behind another: where they stand, that they are judged by counting, and what they come to.
 -- Assumes nothing.
-use Prim.Native.Nat.{ℕ, zero, suc, min, ◌+◌, ◌-◌, ◌*◌, ◌^◌, ◌≤◌, ◌<◌}
+use Prim.Native.Nat.{ℕ, zero, suc, min, ◌+◌, ◌-◌, ◌*◌, ◌≤◌, ◌<◌}
 use mathlib.Core.Path.{◌≡◌, refl, sym, ap, ◌∙◌}
-use mathlib.Core.Bool.{Bool, true, false, ◌&&◌, cond}
+use mathlib.Core.Bool.{true, cond}
 use mathlib.Core.List.{List, [], ◌∷◌}
 use mathlib.Core.Logic.{⊎_elim}
 use native.Mathlib.Nat.{eq-or-lt_of_le, mul-le-mul_right, suc-mul, zero-mul, add-zero}
 use native.Mathlib.Numerals.{add-one}
 use native.Mathlib.Omega.{arith}
-use borrow.Author.Tests.{le-leb, ne_eqb}
-use mir.Syntax.{w64}
-use mir.Val.{Fits}
+use borrow.Author.Tests.{le-leb}
 use lib.Dec.{leb, eqb}
 use lib.ListN.{length, set}
 use Rattle.wire.specs.Bytes.{written, Octets}
-use Rattle.wire.proofs.Cond.{yes-if, no-if}
 use Rattle.wire.proofs.Runs.{length_written, written_out}
 use Rattle.wire.specs.All.{all_below}
 use Rattle.table.specs.Leaf.{base, width, allowed}
@@ -40,24 +37,6 @@ module _ (l from n w code k : ℕ) (is : w ≡ width code) (room : from + n * wi
   pub leaf_room : from + k * w + width code ≤ l
   leaf_room = rw is (omega (arith, leaf-in))
 
-  module _ (h : l * 1 < 2 ^ 63) where
-    pub product_fits : Fits w64 (k * w)
-    product_fits = rw is (record { fits = omega (arith, leaf-in) })
-
-    pub place_fits : Fits w64 (from + k * w)
-    place_fits = rw is (record { fits = omega (arith, leaf-in) })
-
--- fewer leaves are there too
-pub fewer_in : (l from m n room code : ℕ) → from + n * width code ≤ l → m ≡ min n room → from + m * width code ≤ l
-fewer_in l from m n room code h e = let g : m ≤ n = omega arith in omega (arith, mul-le-mul_right (width code) g)
-
--- judging: what a leaf adds to the number of those refused
-pub taken_one : (code w : ℕ) (a : Bool) → a ≡ allowed code w → a ≡ true → ◌≡◌ {A = ℕ} 0 (cond (allowed code w) 0 1)
-taken_one code w a e h = sym (yes-if 0 1 (sym e ∙ h))
-
-pub refused_one : (code w : ℕ) (a : Bool) → a ≡ allowed code w → a ≡ false → ◌≡◌ {A = ℕ} 1 (cond (allowed code w) 0 1)
-refused_one code w a e h = sym (no-if 0 1 (sym e ∙ h))
-
 module _ (b : List ℕ) (code from : ℕ) where
   pub all_good : (n : ℕ) → Octets b → (g : Range) → g ≡ range_of (base code) → g.every ≡ true → true ≡ all_below (is_good b code from) n
   all_good n o g e h = sym (all-below (is_good b code from) n (λ k l. every-word b (from + k * width code) o code g e h))
@@ -66,17 +45,11 @@ module _ (b : List ℕ) (code from : ℕ) where
       ≡ all_below (is_good b code from) k → eqb (n + r) 0 ≡ all_below (is_good b code from) (k + 1)
   judged-more k n v r w is e g h = counted-more (is_good b code from) k n r h (g ∙ rw (e, is) refl)
 
-  pub judged-all : (k m n : ℕ) → eqb n 0 ≡ all_below (is_good b code from) k → k ≤ m → m ≤ k → eqb n 0 ≡ all_below (is_good b code from) m
-  judged-all k m n h i j = h ∙ ap (all_below (is_good b code from)) (omega arith)
-
 -- storing
 module _ (b : List ℕ) (code : ℕ) (p : Place) (x : List ℕ) where
   pub filled_none : x ≡ filled b code p 0 x
   unfolding filled
   filled_none = refl
-
-  pub filled-all : (k n : ℕ) (y : List ℕ) → y ≡ filled b code p k x → k ≤ n → n ≤ k → y ≡ filled b code p n x
-  filled-all k n y h i j = h ∙ ap (λ (m : ℕ). filled b code p m x) (omega arith)
 
   length-filled : (n : ℕ) → length (filled b code p n x) ≡ length x
   unfolding filled

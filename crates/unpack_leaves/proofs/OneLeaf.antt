@@ -1,6 +1,6 @@
 -- A leaf of a base code that is there: its word, each arm being the rule of its code, and that the word is allowed.
 -- Assumes nothing.
-use Prim.Native.Nat.{ℕ, ◌+◌, ◌-◌, ◌*◌, ◌^◌, ◌≤◌, ◌<◌}
+use Prim.Native.Nat.{ℕ, ◌+◌, ◌-◌, ◌≤◌, ◌<◌}
 use mathlib.Core.Path.{◌≡◌, refl, sym, ap, ◌∙◌}
 use mathlib.Core.Bool.{Bool, true, false}
 use mathlib.Core.List.{List, [], ◌∷◌}
@@ -10,7 +10,7 @@ use borrow.Author.Tests.{le-leb, lt-leb, leb-true}
 use lib.Dec.{ltb, leb}
 use lib.ListN.{length, set}
 use Rattle.wire.specs.Bytes.{number, written, Octets}
-use Rattle.wire.proofs.Cond.{and_left, and_right, yes-if, no-if}
+use Rattle.wire.proofs.Cond.{and_left, and_right, yes-if}
 use Rattle.table.specs.Leaf.{Leaf, base, width, allowed}
 use Rattle.table.proofs.Leaves.{none_of}
 use Rattle.leaf.specs.declared.codes.Range.{Range}
@@ -25,10 +25,6 @@ use Rattle.unpack_leaves.specs.Leaves.{is_there, whole_word}
 pub room_of : (n w : ℕ) → w ≡ width n → (p l code : ℕ) → code ≡ n → p + width code ≤ l → p + w ≤ l
 room_of n w e p l code h r = rw (e, ← h) r
 
--- the room that a test of the bytes showed
-pub room_there : (l from n code : ℕ) (r : Bool) → n ≡ width code → r ≡ leb (from + n) l → r ≡ true → from + width code ≤ l
-room_there l from n code r e h t = rw (← e) (leb-true (from + n) l (sym h ∙ t))
-
 -- its word, where that was asked for one that has them all; and where the test failed
 module _ (b : List ℕ) (from n code : ℕ) (h : Bool) (is : n ≡ width code) (room : h ≡ leb (from + n) (length b)) where
   pub fits-is : leb (from + width code) (length b) ≡ h
@@ -36,12 +32,6 @@ module _ (b : List ℕ) (from n code : ℕ) (h : Bool) (is : n ≡ width code) (
 
   pub word_there : (w : ℕ) → h ≡ true → w ≡ whole_word code b from → w ≡ word_at code b from
   word_there w f e = e ∙ yes-if (word_at code b from) 0 (fits-is ∙ f)
-
-  pub word_whole : (w : ℕ) → h ≡ true → w ≡ word_at code b from → w ≡ whole_word code b from
-  word_whole w f e = e ∙ sym (yes-if (word_at code b from) 0 (fits-is ∙ f))
-
-  pub word_cut : h ≡ false → 0 ≡ whole_word code b from
-  word_cut f = sym (no-if (word_at code b from) 0 (fits-is ∙ f))
 
 -- reading: the arm of code n
 pub at_truth : (s : List ℕ) (p x r code : ℕ) → x ≡ number 0 s p → r ≡ truth x → code ≡ 0 → r ≡ word_at code s p
@@ -98,9 +88,6 @@ module _ (b : List ℕ) (from code : ℕ) where
 
   pub surely : Octets b → (g : Range) → g ≡ range_of (base code) → g.every ≡ true → true ≡ allowed code (word_at code b from)
   surely o g e h = sym (every-word b from o code g e h)
-
-  pub by_word : (w : ℕ) (r : Bool) → w ≡ word_at code b from → r ≡ allowed code w → r ≡ allowed code (word_at code b from)
-  by_word w r e h = rw (← e) h
 
 -- where it is there, its bytes are
 pub there_room : (b : List ℕ) (from code : ℕ) (r : Bool) → r ≡ is_there b code from → r ≡ true → from + width code ≤ length b

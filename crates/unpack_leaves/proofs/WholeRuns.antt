@@ -4,14 +4,14 @@ use Prim.Native.Nat.{ℕ, zero, suc, ◌+◌, ◌*◌, ◌^◌, ◌≤◌, ◌<�
 use mathlib.Core.Path.{◌≡◌, refl, sym, ap, ◌∙◌}
 use mathlib.Core.Bool.{Bool, true, false, ◌&&◌, cond}
 use mathlib.Core.List.{List}
-use native.Mathlib.Nat.{mul-le-mul_left, zero-mul, one-mul, add-zero}
+use native.Mathlib.Nat.{mul-le-mul_left, zero-mul, add-zero}
 use native.Mathlib.Omega.{arith}
 use borrow.Author.Tests.{le-leb, leb-true, ne_eqb}
 use mir.Syntax.{w64}
 use mir.Val.{Fits}
 use lib.Dec.{leb, eqb}
-use lib.ListN.{length, set}
-use Rattle.wire.proofs.Cond.{yes-if, no-if, and_left, and_right}
+use lib.ListN.{length}
+use Rattle.wire.proofs.Cond.{yes-if, and_left, and_right}
 use Rattle.wire.specs.All.{all_below}
 use Rattle.table.specs.Leaf.{Leaf, none, base, is_value, width, allowed}
 use Rattle.wire.proofs.AllBelow.{at-below}
@@ -22,8 +22,7 @@ use Rattle.walk.specs.Walk.{Step, on, through}
 use Rattle.walk.proofs.Walks.{width_few}
 use Rattle.unpack_leaves.specs.OneCode.{along, is_good, filled, run_there}
 use Rattle.unpack_leaves.specs.Steps.{Reads}
-use Rattle.unpack_leaves.proofs.OneLeaf.{stored_word, fits-is}
-use Rattle.unpack_leaves.proofs.OneCode.{run_on, no-room-left}
+use Rattle.unpack_leaves.proofs.OneCode.{run_on}
 
 -- the bytes of so many leaves are few
 pub bytes_fit : (n w code : ℕ) → w ≡ width code → n < 2 ^ 32 → Fits w64 (n * w)
@@ -61,23 +60,8 @@ module _ (b : List ℕ) (code from n : ℕ) where
     unfolding run_there
     run_short f = rw (← has, f) refl
 
-either_way : {x y : List ℕ} (c : Bool) → x ≡ y → x ≡ cond c y x
-either_way true e = e
-either_way false e = refl
-
 -- storing one
 module _ (b : List ℕ) (code n : ℕ) (p : Place) (x : List ℕ) where
-  module _ (w : ℕ) (is : w ≡ width code) (h : Bool) (room : h ≡ leb (p.from + n * w) (length b)) where
-    pub run_stored : (y : List ℕ) → h ≡ true → y ≡ filled b code p n x → y ≡ cond (leb (p.from + n * width code) (length b)) (filled b code p n x) x
-    run_stored y t e = e ∙ sym (yes-if (filled b code p n x) x (sym (has b code p.from n w is h room) ∙ t))
-
-    pub run-left : h ≡ false → x ≡ cond (leb (p.from + n * width code) (length b)) (filled b code p n x) x
-    run-left f = sym (no-if (filled b code p n x) x (sym (has b code p.from n w is h room) ∙ f))
-
-  -- the arm of a code
-  pub arm-stored : (m : ℕ) (y : List ℕ) → y ≡ filled b m p n x → code ≡ m → y ≡ filled b code p n x
-  arm-stored m y e c = e ∙ ap (λ (k : ℕ). filled b k p n x) (sym c)
-
   -- a run that is there, and stored, is walked over
   pub run-walked : (y : List ℕ) → run_there b code p.from n ≡ true → y
       ≡ cond (leb (p.from + n * width code) (length b)) (filled b code p n x) x → (f : ℕ → Place → List ℕ → Step) → Reads b code f
@@ -86,13 +70,7 @@ module _ (b : List ℕ) (code n : ℕ) (p : Place) (x : List ℕ) where
       run_on b code p x f reads n (run_room b code p.from n h) (λ k l. at-below (is_good b code p.from) n k (run-good b code p.from n h) l)
       ∙ ap (on (along code p n)) (sym (e ∙ yes-if (filled b code p n x) x (le-leb (p.from + n * width code) (length b) (run_room b code p.from n h))))
 
-pub arm_in : (l from n code m : ℕ) → from + n * width code ≤ l → code ≡ m → from + n * width m ≤ l
-arm_in l from n code m h e = rw (← e) h
-
--- the arm of a code, and of those that are no base: no leaf at all is there
-pub arm_judged : (b : List ℕ) (code from n m : ℕ) (r : Bool) → r ≡ run_there b m from n → code ≡ m → r ≡ run_there b code from n
-arm_judged b code from n m r e c = e ∙ ap (λ (k : ℕ). run_there b k from n) (sym c)
-
+-- a code that is no base: no leaf at all is there
 with_true : (a : Bool) → a ≡ (a && true)
 with_true true = refl
 with_true false = refl

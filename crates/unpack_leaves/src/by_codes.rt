@@ -34,18 +34,18 @@ fn judge_within(payload: &[u8], codes: &[u8], first: usize) -> Passed
     ensures from_value { result.from ≡ ends (take (there_count payload.now codes.now first) codes.now) first }
 {
     let mut from = first;
-    let mut k: usize = 0;
-    while k < codes.len() {
-        let code = codes[k] as u16;
+    for (k, &byte) in codes.iter().enumerate() {
+        let code = byte as u16;
         let width = leaf::width(code);
-        if bases::is_there(payload, from, code, width) {
-            from = from + width;
-            k += 1;
-        } else {
+        if !bases::is_there(payload, from, code, width) {
             return Passed { count: k, from };
         }
+        from = from + width;
     }
-    Passed { count: k, from }
+    Passed {
+        count: codes.len(),
+        from,
+    }
 }
 
 // Stores the words of leaves of these codes, each where there is room for it, up to one whose bytes are not all there.
@@ -69,15 +69,13 @@ fn store_within(payload: &[u8], words: &mut [u64], codes: &[u8], p: Place)
         ≡ laid payload.now (take (whole_count payload.now codes.now p.from) codes.now) p words.old }
 {
     let mut from = p.from;
-    let mut k: usize = 0;
-    while k < codes.len() {
-        let code = codes[k] as u16;
+    for (k, &byte) in codes.iter().enumerate() {
+        let code = byte as u16;
         let width = leaf::width(code);
         if payload.len() - from < width {
             return;
         }
         words[p.to + k] = bases::word_in(payload, from, code);
         from = from + width;
-        k += 1;
     }
 }

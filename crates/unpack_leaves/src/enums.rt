@@ -63,12 +63,9 @@ fn each_among(
     ensures { result ≡ all_below (is_among table.now at count payload.now code from) many }
 {
     let width = leaf::width(code);
-    let mut k: usize = 0;
-    while k < many {
+    for k in 0..many {
         let word = bases::word_in(payload, from + k * width, code);
-        if leaf::among_at(table, at, count, word) {
-            k += 1;
-        } else {
+        if !leaf::among_at(table, at, count, word) {
             return false;
         }
     }

@@ -54,10 +54,8 @@ fn judged(payload: &[u8], from: usize, code: u16, count: usize) -> bool
     }
     let width = leaf::width(code);
     let mut bad: u32 = 0;
-    let mut seen: usize = 0;
-    while seen < count {
+    for seen in 0..count {
         bad += refused(code, bases::word_in(payload, from + seen * width, code));
-        seen += 1;
     }
     bad == 0
 }
@@ -69,10 +67,8 @@ fn are_ascii(payload: &[u8], from: usize, count: usize) -> bool
     ensures { result ≡ all_below (is_good payload.now 2 from) count }
 {
     let mut all: u8 = 0;
-    let mut seen: usize = 0;
-    while seen < count {
+    for seen in 0..count {
         all = all | payload[from + seen];
-        seen += 1;
     }
     all as u64 <= leaf::range_of(leaf::CHAR8).last
 }
@@ -138,8 +134,7 @@ fn store_fours(payload: &[u8], words: &mut [u64], code: u16, count: usize, p: Pl
 {
     let width = leaf::width(code);
     let fours = count / 4;
-    let mut k: usize = 0;
-    while k < fours {
+    for k in 0..fours {
         let at = 4 * k;
         store(
             payload,
@@ -151,7 +146,6 @@ fn store_fours(payload: &[u8], words: &mut [u64], code: u16, count: usize, p: Pl
                 to: p.to + at,
             },
         );
-        k += 1;
     }
     let done = 4 * fours;
     store(
@@ -171,9 +165,7 @@ fn store(payload: &[u8], words: &mut [u64], code: u16, count: usize, p: Place)
     ensures { words.new ≡ filled payload.now code p count words.old }
 {
     let width = leaf::width(code);
-    let mut done: usize = 0;
-    while done < count {
+    for done in 0..count {
         words[p.to + done] = bases::word_in(payload, p.from + done * width, code);
-        done += 1;
     }
 }

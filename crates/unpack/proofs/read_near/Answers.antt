@@ -2,15 +2,8 @@
 -- Assumes nothing.
 use borrow.Author.Rules.{rules}
 use mathlib.Core.Path.{refl}
-use lib.ListN.{length}
-use Rattle.walk.proofs.Whole.{room_for}
-use Rattle.unpack.proofs.NearWords.{few_enough, near-refused, near-over, near_again, near-copied}
+use Rattle.unpack.proofs.NearWords.{copied, near-refused, near-over, near_again, near-copied}
 use Rattle.unpack.proofs.read_near.Goals as goal
-
-pub copy-requires : goal.copy-requires
-copy-requires c =
-    few_enough c.in-Went.q.to _ c.read_once.new.words (search rules)
-    (room_for (length c.args.payload.now) _ c.in-Went.q _ c.fits.ensures _ c.if-fits.true refl)
 
 pub returns-in-Stopped : goal.returns-in-Stopped
 returns-in-Stopped c =
@@ -19,7 +12,7 @@ returns-in-Stopped c =
 pub returns-then-count-near : goal.returns-then-count-near
 returns-then-count-near c =
     let t = near-copied _ _ _ _ _ _ c.read_once.ensures.value _ c.in-Went.is _ c.fits.ensures _ _ _ c.if-fits.true refl
-    (search rules) c.read_once.ensures.words_after c.copy.ensures in record { value = t.0; words_after = t.1 }
+    (search rules) c.read_once.ensures.words_after (copied _ _ _ _ (search rules) c.copy_from_slice.ensures.after) in record { value = t.0; words_after = t.1 }
 
 pub returns-else-count-near : goal.returns-else-count-near
 returns-else-count-near c =

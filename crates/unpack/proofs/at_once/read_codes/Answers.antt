@@ -1,7 +1,7 @@
 -- `unpack::at_once::read_codes` meets its contract: the leaves that are there are read, and no more.
 -- Assumes nothing.
 use borrow.Author.Rules.{rules}
-use Rattle.unpack.proofs.ReadBases.{part_length, part_small, upto-small, upto-most, part-reading, part-fits, part-many, part-goes}
+use Rattle.unpack.proofs.ReadBases.{part_length, part_small, upto-small, upto-most, part-reading, part-fits, part-goes}
 use Rattle.unpack.proofs.at_once.read_codes.Goals as goal
 
 pub slice_bounds-store_codes-end : goal.slice_bounds-store_codes-end
@@ -20,17 +20,9 @@ pub overflow_add-result-2 : goal.overflow_add-result-2
 overflow_add-result-2 c =
     search part-fits
 
-pub shape_of-words : goal.shape_of-words
-shape_of-words c =
-    search part-many
-
 pub returns-clause-from_le_upto : goal.returns-clause-from_le_upto
 returns-clause-from_le_upto c =
     (search rules, search upto-most, search part-reading)
-
-pub returns-clause-words_len_unchanged : goal.returns-clause-words_len_unchanged
-returns-clause-words_len_unchanged c =
-    search part-many
 
 pub returns-clause-by_index : goal.returns-clause-by_index
 returns-clause-by_index c =

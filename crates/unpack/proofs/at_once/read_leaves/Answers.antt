@@ -1,7 +1,5 @@
 -- `unpack::at_once::read_leaves` meets its contract: by what type c is.
 -- Assumes nothing.
-use borrow.Author.Rules.{rules}
-use Rattle.walk.proofs.Turns.{going_start}
 use Rattle.unpack.proofs.ReadBases.{element_reads}
 use Rattle.unpack.proofs.ByCodes.{alike-members, alike-elements}
 use Rattle.unpack.proofs.Entries.{entry_met}
@@ -22,7 +20,3 @@ returns-in-Members c =
 pub returns-in-Elements : goal.returns-in-Elements
 returns-in-Elements c =
     c.read_alike-in-Elements.ensures _ (alike-elements _ _ _ _ _ _ _ c.meet.ensures c.in-Elements.is)
-
-pub returns-in-Broken : goal.returns-in-Broken
-returns-in-Broken c =
-    going_start (search rules) (search rules)

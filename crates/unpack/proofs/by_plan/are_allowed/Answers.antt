@@ -1,10 +1,6 @@
 -- `unpack::by_plan::are_allowed` meets its contract: by the bytes' end where the code takes every word.
 -- Assumes nothing.
-use borrow.Author.Rules.{rules}
-use mathlib.Core.Path.{sym}
-use lib.Seq.{length-take-le}
 use Rattle.wire.specs.Bytes.{Octets}
-use Rattle.unpack.proofs.Anew.{run_anew}
 use Rattle.unpack.proofs.GoodRuns.{every-there}
 use Rattle.unpack.proofs.by_plan.are_allowed.Goals as goal
 
@@ -12,11 +8,3 @@ pub returns-then-range_of : goal.returns-then-range_of
 returns-then-range_of c =
     let o : Octets c.args.payload.now = λ k. (c.type_inv.payload k).fits in
     search every-there
-
-pub slice_bounds-judge_run-end : goal.slice_bounds-judge_run-end
-slice_bounds-judge_run-end c =
-    sym (length-take-le _ _ (search rules))
-
-pub returns : goal.returns
-returns c =
-    search run_anew

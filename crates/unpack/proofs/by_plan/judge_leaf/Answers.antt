@@ -1,13 +1,7 @@
 -- `unpack::by_plan::judge_leaf` meets its contract: the three ends of a leaf.
 -- Assumes nothing.
-use Rattle.walk.proofs.Walks.{width_few}
-use Rattle.unpack.proofs.ReadReturns.{next_from}
 use Rattle.unpack.proofs.LeafByLeaf.{judged-short, judged-bad, judged-went}
 use Rattle.unpack.proofs.by_plan.judge_leaf.Goals as goal
-
-pub overflow_add-result : goal.overflow_add-result
-overflow_add-result c =
-    search (next_from, width_few)
 
 pub returns-then-allowed-is_taken : goal.returns-then-allowed-is_taken
 returns-then-allowed-is_taken c =

@@ -1,6 +1,5 @@
 -- `unpack::by_plan::judge_rest` meets its contract: so many runs are judged, and the walk is at this place.
 -- Assumes nothing.
-use Prim.Native.Nat.{◌-◌}
 use mathlib.Core.List.{[]}
 use lib.ListN.{length}
 use Rattle.walk.specs.Walk.{Going}
@@ -10,6 +9,3 @@ use Rattle.unpack.proofs.by_plan.judge_rest.Given as goal
 
 abbrev pub invariant-loop-k : goal.invariant-loop-k
 invariant-loop-k l = Going (Reading l.payload) (run_read l.payload l.table l.runs) (length l.runs) l.first l.initial.at [] l.k l.at []
-
-abbrev pub decreases-loop-k : goal.decreases-loop-k
-decreases-loop-k l = length l.runs - l.k

@@ -1,6 +1,5 @@
 -- `unpack::by_plan::judge_runs` meets its contract: so many runs are good, and the walk is at this place.
 -- Assumes nothing.
-use Prim.Native.Nat.{◌-◌}
 use mathlib.Core.List.{[]}
 use lib.ListN.{length}
 use Rattle.walk.specs.Walk.{Going}
@@ -10,7 +9,5 @@ use Rattle.unpack.proofs.by_plan.judge_runs.Given as goal
 
 abbrev pub invariant-loop-k : goal.invariant-loop-k
 invariant-loop-k l =
-    Going (Reading l.payload) (run_read l.payload l.table l.runs) (length l.runs) 0 (record { from = l.initial.from; to = l.initial.to }) [] l.k (record { from = l.from; to = l.to }) []
-
-abbrev pub decreases-loop-k : goal.decreases-loop-k
-decreases-loop-k l = length l.runs - l.k
+    Going (Reading l.payload) (run_read l.payload l.table l.runs) (length l.runs) 0 (record { from = l.initial.from; to = l.initial.to }) []
+    l.k (record { from = l.from; to = l.to }) []

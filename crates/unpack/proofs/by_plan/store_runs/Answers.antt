@@ -1,6 +1,5 @@
 use borrow.Author.Rules.{rules}
-use mathlib.Core.Path.{refl}
-use Rattle.unpack.proofs.StoredRuns.{place_start, stored_start, stored_end, some_fit, place-next, bytes-in, from-fits, stored_next}
+use Rattle.unpack.proofs.StoredRuns.{place_start, stored_start, some_fit, place-next, bytes-in, from-fits, stored_next}
 use Rattle.unpack.proofs.Upto.{none_stored}
 use Rattle.unpack.proofs.by_plan.store_runs.Goals as goal
 
@@ -8,9 +7,9 @@ pub returns-then-words-p : goal.returns-then-words-p
 returns-then-words-p c =
     search none_stored
 
-pub loop-k-init : goal.loop-k-init
-loop-k-init c =
-    (search stored_start, search place_start, search rules, search rules, refl)
+pub loop-run-init : goal.loop-run-init
+loop-run-init c =
+    (search stored_start, search place_start, search rules)
 
 pub store_leaves-requires : goal.store_leaves-requires
 store_leaves-requires c =
@@ -24,10 +23,6 @@ pub overflow_add-from : goal.overflow_add-from
 overflow_add-from c =
     search from-fits
 
-pub loop-k-preserved : goal.loop-k-preserved
-loop-k-preserved c =
-    (search stored_next, search place-next, search rules, search rules, search rules)
-
-pub returns : goal.returns
-returns c =
-    search stored_end
+pub loop-run-preserved : goal.loop-run-preserved
+loop-run-preserved c =
+    (search stored_next, search place-next, search rules)

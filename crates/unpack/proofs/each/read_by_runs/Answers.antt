@@ -1,19 +1,8 @@
 -- `unpack::each::read_by_runs` meets its contract: runs of one leaf each are leaves of their codes.
 -- Assumes nothing.
-use mathlib.Core.Path.{sym}
 use lib.ListN.{replicate}
-use lib.Seq.{length-take-le}
 use Rattle.unpack.proofs.SingleRuns.{codes_there, single-going}
 use Rattle.unpack.proofs.each.read_by_runs.Goals as goal
-
-pub slice_bounds-codes-end : goal.slice_bounds-codes-end
-slice_bounds-codes-end c =
-    codes_there _ (replicate 64 0) c.are_single.new.codes c.are_single.ensures.0 (c.are_single.ensures.1 c.if-are_single.true).0
-
-pub slice_bounds-read_coded-end : goal.slice_bounds-read_coded-end
-slice_bounds-read_coded-end c =
-    let are = c.are_single.ensures in
-    sym (length-take-le _ _ (codes_there _ (replicate 64 0) c.are_single.new.codes are.0 (are.1 c.if-are_single.true).0))
 
 pub returns-then-are_single : goal.returns-then-are_single
 returns-then-are_single c =

@@ -1,10 +1,8 @@
 -- `unpack::each::read_records` meets its contract: leaves of the codes are the members.
 -- Assumes nothing.
-use borrow.Author.Rules.{rules}
 use mathlib.Core.Path.{sym}
 use lib.ListN.{replicate}
 use lib.Seq.{length-take-le}
-use Rattle.walk.proofs.Turns.{going_start}
 use Rattle.unpack.proofs.ReadCodes.{codes-in}
 use Rattle.unpack.proofs.ByCodes.{coded_going}
 use Rattle.unpack.proofs.each.read_records.Goals as goal
@@ -21,6 +19,3 @@ pub returns-then-n-e : goal.returns-then-n-e
 returns-then-n-e c = λ ps.
     coded_going _ _ _ _ _ (replicate 64 0) _ c.base_codes-n.ensures.value c.base_codes-n.ensures.codes_after c.if-n-e.true _ ps
     c.read_coded.ensures
-
-pub returns-else-n-e : goal.returns-else-n-e
-returns-else-n-e c = λ ps. going_start (search rules) (search rules)

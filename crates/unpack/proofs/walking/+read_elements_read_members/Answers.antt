@@ -23,23 +23,23 @@ pub read_elements-read_leaves-run-requires : goal.read_elements-read_leaves-run-
 read_elements-read_leaves-run-requires t c =
     begun_here _ _ _ _ _ _ (reader_keeps _) c.requires (c.begin.ensures.value, c.begin.ensures.words_after) c.in-Went.is
 
-pub read_elements-returns-then-k-count : goal.read_elements-returns-then-k-count
-read_elements-returns-then-k-count t c =
+pub read_elements-returns-then-first-count : goal.read_elements-returns-then-first-count
+read_elements-returns-then-first-count t c =
     let d = elements-done _ _ _ _ _ _ c.is_planned.ensures c.if-is_planned.false _ _ _ (c.begin.ensures.value, c.begin.ensures.words_after) c.in-Went.is
-    c.times-count.ensures c.read_leaves-run.ensures (omega (arith, c.if-k-count.true)) in record { value = d.0; words_after = d.1 }
+    c.times-count.ensures c.read_leaves-run.ensures (omega (arith, c.if-first-count.true)) in record { value = d.0; words_after = d.1 }
 
 pub read_elements-read_members-step-requires : goal.read_elements-read_members-step-requires
 read_elements-read_members-step-requires t c =
-    (members-smaller _ _ _ _ _ c.decreases _ _ c.meet-met.ensures c.in-Members.is, c.loop-k.invariant.here)
+    (members-smaller _ _ _ _ _ c.decreases _ _ c.meet-met.ensures c.in-Members.is, c.loop.invariant.here)
 
 pub read_elements-read_elements-step-requires : goal.read_elements-read_elements-step-requires
 read_elements-read_elements-step-requires t c =
-    (elements-smaller _ _ _ _ _ c.decreases _ _ c.meet-met.ensures c.in-Elements.is, c.loop-k.invariant.here)
+    (elements-smaller _ _ _ _ _ c.decreases _ _ c.meet-met.ensures c.in-Elements.is, c.loop.invariant.here)
 
-pub read_elements-loop-k-preserved : goal.read_elements-loop-k-preserved
-read_elements-loop-k-preserved t c =
-    let s : Did (element_step (reader c.args.payload.now) c.args.plans.now c.args.table.now c.args.s c.args.i c.args.e.of c.loop-k.k c.loop-k.at
-    c.loop-k.words) c.match-here.step c.match-here.words =
+pub read_elements-loop-preserved : goal.read_elements-loop-preserved
+read_elements-loop-preserved t c =
+    let s : Did (element_step (reader c.args.payload.now) c.args.plans.now c.args.table.now c.args.s c.args.i c.args.e.of c.loop.counter c.loop.at
+    c.loop.words) c.match-here.step c.match-here.words =
     elim c.match-here.branch [
       | read_elements-in-Leaf w ↦ leaf-stepped _ _ _ _ _ _ _ refl _ _ _ c.meet-met.ensures _ _ _ _ _ w.in-Leaf.is
           (w.read_leaf-step.ensures.value, w.read_leaf-step.ensures.words_after) w.words-is w.step-is
@@ -49,13 +49,13 @@ read_elements-loop-k-preserved t c =
           (w.read_elements-step.ensures.value, w.read_elements-step.ensures.words_after) w.words-is w.step-is
       | read_elements-in-Broken w ↦ broken-stepped _ _ _ _ _ _ _ refl _ _ _ c.meet-met.ensures _ _ w.in-Broken.is w.words-is w.step-is
     ] in
-    let g = c.loop-k.invariant in
-    going_next g _ _ _ ((reader_keeps _).walks _ _ _ g.here) c.loop-k-test.true s c.in-Went-step.is
+    let g = c.loop.invariant in
+    going_next g _ _ _ ((reader_keeps _).walks _ _ _ g.here) c.loop-test.true s c.in-Went-step.is
 
 pub read_elements-returns-in-Stopped-step : goal.read_elements-returns-in-Stopped-step
 read_elements-returns-in-Stopped-step t c =
-    let s : Did (element_step (reader c.args.payload.now) c.args.plans.now c.args.table.now c.args.s c.args.i c.args.e.of c.loop-k.k c.loop-k.at
-    c.loop-k.words) c.match-here.step c.match-here.words =
+    let s : Did (element_step (reader c.args.payload.now) c.args.plans.now c.args.table.now c.args.s c.args.i c.args.e.of c.loop.counter c.loop.at
+    c.loop.words) c.match-here.step c.match-here.words =
     elim c.match-here.branch [
       | read_elements-in-Leaf w ↦ leaf-stepped _ _ _ _ _ _ _ refl _ _ _ c.meet-met.ensures _ _ _ _ _ w.in-Leaf.is
           (w.read_leaf-step.ensures.value, w.read_leaf-step.ensures.words_after) w.words-is w.step-is
@@ -67,18 +67,18 @@ read_elements-returns-in-Stopped-step t c =
     ] in
     let d = elements-stop _ _ _ _ _ _ c.is_planned.ensures c.if-is_planned.false _ _ _ (c.begin.ensures.value, c.begin.ensures.words_after) c.in-Went.is
     c.times-count.ensures
-    (going_on c.read_leaves-run.ensures c.loop-k.invariant) _ _ _ _ c.loop-k-test.true s c.in-Stopped-step.is in record { value = d.0; words_after = d.1 }
+    (going_on c.read_leaves-run.ensures c.loop.invariant) _ _ _ _ c.loop-test.true s c.in-Stopped-step.is in record { value = d.0; words_after = d.1 }
 
 pub read_elements-returns-in-Stopped : goal.read_elements-returns-in-Stopped
 read_elements-returns-in-Stopped t c =
     let d = elements-stopped _ _ _ _ _ _ c.is_planned.ensures c.if-is_planned.false _ _ _ _
     (c.begin.ensures.value, c.begin.ensures.words_after) _ _ c.in-Stopped.is in record { value = d.0; words_after = d.1 }
 
-pub read_elements-returns-after-loop-k : goal.read_elements-returns-after-loop-k
-read_elements-returns-after-loop-k t c =
+pub read_elements-returns-after-loop : goal.read_elements-returns-after-loop
+read_elements-returns-after-loop t c =
     let d = elements-done _ _ _ _ _ _ c.is_planned.ensures c.if-is_planned.false _ _ _ (c.begin.ensures.value, c.begin.ensures.words_after) c.in-Went.is
     c.times-count.ensures
-    (going_on c.read_leaves-run.ensures c.loop-k.invariant) c.loop-k-test.false in record { value = d.0; words_after = d.1 }
+    (going_on c.read_leaves-run.ensures c.loop.invariant) c.loop-test.false in record { value = d.0; words_after = d.1 }
 
 pub read_members-returns-then-is_planned : goal.read_members-returns-then-is_planned
 read_members-returns-then-is_planned t c =

@@ -13,12 +13,10 @@ decreases-read_elements l = l.i
 abbrev pub decreases-read_members : goal.decreases-read_members
 decreases-read_members l = l.i
 
-abbrev pub invariant-read_elements-loop-k : goal.invariant-read_elements-loop-k
-invariant-read_elements-loop-k l =
-    Going (Reading l.payload) (element_step (reader l.payload) l.plans l.table l.s l.i l.child) l.count l.initial.k l.initial.at l.initial.words l.k l.at l.words
-
-abbrev pub decreases-read_elements-loop-k : goal.decreases-read_elements-loop-k
-decreases-read_elements-loop-k l = l.count - l.k
+abbrev pub invariant-read_elements-loop : goal.invariant-read_elements-loop
+invariant-read_elements-loop l =
+    Going (Reading l.payload) (element_step (reader l.payload) l.plans l.table l.s l.i l.child) l.count l.first l.initial.at l.initial.words
+    l.counter l.at l.words
 
 abbrev pub invariant-read_members-loop-k : goal.invariant-read_members-loop-k
 invariant-read_members-loop-k l =

@@ -1,21 +1,12 @@
 -- `unpack::begin` meets its contract: nothing before a fixed array, and the three ends of a count.
 -- Assumes nothing.
-use native.Mathlib.Omega.{arith}
 use Rattle.walk.proofs.Returns.{fixed-begun}
-use Rattle.unpack.proofs.ReadReturns.{count-short, count-over, count-went, next_from, next_to}
+use Rattle.unpack.proofs.ReadReturns.{count-short, count-over, count-went}
 use Rattle.unpack.proofs.walking.begin.Goals as goal
 
 pub returns-then-e-eq-FIXED : goal.returns-then-e-eq-FIXED
 returns-then-e-eq-FIXED c =
     let t = fixed-begun _ _ _ _ c.if-e-eq-FIXED.true in record { value = t.0; words_after = t.1 }
-
-pub overflow_add-result : goal.overflow_add-result
-overflow_add-result c =
-    next_from _ _ _ c.requires (omega arith) c.well_formed.0.1
-
-pub overflow_add-result-then-count-e : goal.overflow_add-result-then-count-e
-overflow_add-result-then-count-e c =
-    next_to _ _ _ c.requires (omega arith) c.well_formed.0.1
 
 pub returns-then-count-e : goal.returns-then-count-e
 returns-then-count-e c =

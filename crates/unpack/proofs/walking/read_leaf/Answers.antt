@@ -1,17 +1,7 @@
 -- `unpack::read_leaf` meets its contract: the three ends of an item.
 -- Assumes nothing.
-use native.Mathlib.Omega.{arith}
-use Rattle.walk.proofs.Walks.{width_few}
-use Rattle.unpack.proofs.ReadReturns.{leaf-short, leaf-bad, leaf-went, next_from, next_to}
+use Rattle.unpack.proofs.ReadReturns.{leaf-short, leaf-bad, leaf-went}
 use Rattle.unpack.proofs.walking.read_leaf.Goals as goal
-
-pub overflow_add-result : goal.overflow_add-result
-overflow_add-result c =
-    next_from _ _ _ c.requires (width_few _ _ c.width-width.ensures) c.well_formed.1.1.1.0.1
-
-pub overflow_add-result-then-takes : goal.overflow_add-result-then-takes
-overflow_add-result-then-takes c =
-    next_to _ _ _ c.requires (omega arith) c.well_formed.1.1.1.0.1
 
 pub returns-then-takes : goal.returns-then-takes
 returns-then-takes c =

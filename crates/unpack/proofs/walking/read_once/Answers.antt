@@ -1,20 +1,7 @@
 -- `unpack::read_once` meets its contract: by what stands at the entry.
 -- Assumes nothing.
-use native.Mathlib.Omega.{arith}
 use Rattle.walk.proofs.Returns.{tree_looked, met-leaf, met-members, met-elements, met-broken}
 use Rattle.unpack.proofs.walking.read_once.Goals as goal
-
-pub read_leaf-requires : goal.read_leaf-requires
-read_leaf-requires c =
-    (omega arith, omega arith)
-
-pub read_members-requires : goal.read_members-requires
-read_members-requires c =
-    (omega arith, omega arith)
-
-pub read_elements-requires : goal.read_elements-requires
-read_elements-requires c =
-    (omega arith, omega arith)
 
 pub returns-in-Leaf : goal.returns-in-Leaf
 returns-in-Leaf c =

@@ -1,12 +1,10 @@
-use borrow.Author.Rules.{rules}
-use mathlib.Core.Path.{refl}
 use Rattle.unpack_leaves.proofs.WholeRuns.{bytes_fit}
-use Rattle.unpack.proofs.WholeStores.{at_start, none_stored, all_stored, next-at, next-bytes, next-room, next-from-fits, next-to-fits, next-stored}
+use Rattle.unpack.proofs.WholeStores.{at_start, none_stored, next-at, next-bytes, next-room, next-from-fits, next-to-fits, next-stored}
 use Rattle.unpack.proofs.whole.store_whole.Goals as goal
 
-pub loop-k-init : goal.loop-k-init
-loop-k-init c =
-    (search none_stored, search at_start, search rules, refl)
+pub loop-run-init : goal.loop-run-init
+loop-run-init c =
+    (search none_stored, search at_start)
 
 pub store_run-requires : goal.store_run-requires
 store_run-requires c =
@@ -24,10 +22,6 @@ pub overflow_add-to : goal.overflow_add-to
 overflow_add-to c =
     search next-to-fits
 
-pub loop-k-preserved : goal.loop-k-preserved
-loop-k-preserved c =
-    (search next-stored, search next-at, search rules, search rules)
-
-pub returns : goal.returns
-returns c =
-    search all_stored
+pub loop-run-preserved : goal.loop-run-preserved
+loop-run-preserved c =
+    (search next-stored, search next-at)

@@ -3,7 +3,7 @@
 use mathlib.Core.Path.{refl}
 use native.Mathlib.Omega.{arith}
 use Rattle.table.specs.Leaf.{width, base, bytes_of}
-use Rattle.unpack_leaves.proofs.OneLeaf.{room_of, is-char8, surely, by_word}
+use Rattle.unpack_leaves.proofs.OneLeaf.{room_of, is-char8, surely}
 use Rattle.unpack_leaves.proofs.bases.is_allowed.Goals as goal
 
 pub u8_in-requires : goal.u8_in-requires
@@ -20,8 +20,3 @@ pub returns-then-range_of : goal.returns-then-range_of
 unfolding width base bytes_of
 returns-then-range_of c =
     surely _ _ _ (λ k. omega (arith, c.type_inv.payload k)) _ c.range_of.ensures c.if-range_of.true
-
-pub returns : goal.returns
-unfolding width base bytes_of
-returns c =
-    search by_word

@@ -1,15 +1,11 @@
 -- `unpack_leaves::bases::is_there` meets its contract: the two ends of a base's leaf.
 -- Assumes nothing.
-use Rattle.unpack_leaves.proofs.OneLeaf.{cut_off, all_there, judged}
+use Rattle.unpack_leaves.proofs.OneLeaf.{cut_off, judged}
 use Rattle.unpack_leaves.proofs.bases.is_there.Goals as goal
 
 pub returns-then-payload-from : goal.returns-then-payload-from
 returns-then-payload-from c =
     search cut_off
-
-pub is_allowed-requires : goal.is_allowed-requires
-is_allowed-requires c =
-    search all_there
 
 pub returns : goal.returns
 returns c =

@@ -1,6 +1,5 @@
 -- `unpack_leaves::enums::each_among` meets its contract: the words seen are all among the values.
 -- Assumes nothing.
-use Prim.Native.Nat.{◌-◌, ◌≤◌}
 use mathlib.Core.Path.{◌≡◌}
 use mathlib.Core.Bool.{true}
 use Rattle.wire.specs.All.{all_below}
@@ -8,7 +7,4 @@ use Rattle.unpack_leaves.specs.OneCode.{is_among}
 use Rattle.unpack_leaves.proofs.enums.each_among.Given as goal
 
 abbrev pub invariant-loop-k : goal.invariant-loop-k
-invariant-loop-k l = (all_below (is_among l.table l.at l.count l.payload l.code l.from) l.k ≡ true) × (l.k ≤ l.many)
-
-abbrev pub decreases-loop-k : goal.decreases-loop-k
-decreases-loop-k l = l.many - l.k
+invariant-loop-k l = all_below (is_among l.table l.at l.count l.payload l.code l.from) l.k ≡ true

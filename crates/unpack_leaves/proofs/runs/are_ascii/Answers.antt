@@ -4,11 +4,11 @@ use Rattle.unpack_leaves.proofs.runs.are_ascii.Goals as goal
 
 pub loop-seen-init : goal.loop-seen-init
 loop-seen-init c =
-    (search none-ascii, search rules, search rules)
+    (search none-ascii, search rules)
 
 pub loop-seen-preserved : goal.loop-seen-preserved
 loop-seen-preserved c =
-    (search more-ascii, search still_byte, search rules)
+    (search more-ascii, search still_byte)
 
 pub returns : goal.returns
 returns c =

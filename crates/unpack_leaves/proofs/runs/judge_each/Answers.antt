@@ -1,16 +1,11 @@
 -- `unpack_leaves::runs::judge_each` meets its contract: the two ends of a run of one code.
 -- Assumes nothing.
-use borrow.Author.Rules.{rules}
-use Rattle.unpack_leaves.proofs.WholeRuns.{bytes_fit, run_in, run-judged, run_short}
+use Rattle.unpack_leaves.proofs.WholeRuns.{bytes_fit, run-judged, run_short}
 use Rattle.unpack_leaves.proofs.runs.judge_each.Goals as goal
 
 pub overflow_mul-many : goal.overflow_mul-many
 overflow_mul-many c =
     search bytes_fit
-
-pub judged-requires : goal.judged-requires
-judged-requires c =
-    (search run_in, search rules)
 
 pub returns-then-has_room : goal.returns-then-has_room
 returns-then-has_room c =

@@ -1,8 +1,0 @@
--- `unpack::bases::u64_in` meets its contract.
--- Assumes nothing.
-use Rattle.wire.proofs.Numbers.{read_in}
-use Rattle.unpack.proofs.bases.u64_in.Goals as goal
-
-pub returns : goal.returns
-returns c =
-    search (read_in 3)
