@@ -8,5 +8,5 @@ use Rattle.pack.proofs.by_plan.judge_runs.Given as goal
 
 abbrev pub invariant-loop-k : goal.invariant-loop-k
 invariant-loop-k l =
-    Leads l.words l.table l.runs (answer (overRuns l.words l.table l.runs (record { from = l.initial.from; to = l.initial.to }) [])) l.k (record { from = l.from; to = l.to })
+    Leads l.words l.table l.runs (answer (overRuns l.words l.table l.runs l.fn.p [])) l.k (record { from = l.from; to = l.to })
     × Writing l.words (record { from = l.from; to = l.to })

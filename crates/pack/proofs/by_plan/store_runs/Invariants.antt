@@ -8,6 +8,6 @@ use Rattle.pack.proofs.by_plan.store_runs.Given as goal
 
 abbrev pub invariant-loop-run : goal.invariant-loop-run
 invariant-loop-run l =
-    Stores l.words l.runs l.upto (stored_runs l.words l.runs (record { from = l.initial.from; to = l.initial.to }) l.upto l.initial.out) l.run-index (record { from = l.from; to = l.to }) l.out
+    Stores l.words l.runs l.upto (stored_runs l.words l.runs l.fn.p l.upto l.initial.out) l.run-index (record { from = l.from; to = l.to }) l.out
     × Writing l.words (record { from = l.from; to = l.to })
     × (l.from ≤ l.upto)

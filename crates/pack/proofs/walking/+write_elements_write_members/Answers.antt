@@ -17,8 +17,10 @@ use Rattle.pack.proofs.WriteBases.{element_writes}
 use Rattle.pack.proofs.AlikeLeaves.{leaf_written, element_met}
 use Rattle.pack.proofs.Sure.{Goes_on, going_sure, members-sure, elements-sure, sure-leaf, sure-members, sure-elements}
 use Rattle.pack.proofs.SureLeaves.{run_sure, going_leaves, going_codes}
-use Rattle.pack.proofs.walking.+write_elements_write_members.Goals.{write_elements-in-Leaf, write_elements-in-Members, write_elements-in-Elements, write_elements-in-Broken}
-use Rattle.pack.proofs.walking.+write_elements_write_members.Goals.{write_members-in-Leaf, write_members-in-Members, write_members-in-Elements, write_members-in-Broken}
+use Rattle.pack.proofs.walking.+write_elements_write_members.Goals.{write_elements-in-Leaf, write_elements-in-Members}
+use Rattle.pack.proofs.walking.+write_elements_write_members.Goals.{write_elements-in-Elements, write_elements-in-Broken}
+use Rattle.pack.proofs.walking.+write_elements_write_members.Goals.{write_members-in-Leaf, write_members-in-Members}
+use Rattle.pack.proofs.walking.+write_elements_write_members.Goals.{write_members-in-Elements, write_members-in-Broken}
 use Rattle.pack.proofs.walking.+write_elements_write_members.Goals as goal
 
 pub write_elements-returns-then-is_planned : goal.write_elements-returns-then-is_planned

@@ -15,7 +15,8 @@ decreases-write_members l = l.i
 
 abbrev pub invariant-write_elements-loop : goal.invariant-write_elements-loop
 invariant-write_elements-loop l =
-    Going (Writing l.words) (element_step (writer l.words) l.plans l.table l.s l.i l.child) l.count l.initial.counter l.initial.at l.initial.out l.counter l.at l.out
+    Going (Writing l.words) (element_step (writer l.words) l.plans l.table l.s l.i l.child)
+    l.count l.initial.counter l.initial.at l.initial.out l.counter l.at l.out
 
 abbrev pub invariant-write_members-loop-k : goal.invariant-write_members-loop-k
 invariant-write_members-loop-k l =
