@@ -109,6 +109,7 @@ fn among_whole(table: &[u8], at: usize, count: usize, word: u64) -> bool
 {
     let turned = wire::swap64(word);
     let mut k: usize = 0;
+    // By hand: each stretch is longer than the one before it, and a step that hangs on what is behind is no counting loop.
     while k < count {
         let many = wire::least(k + 4, count - k);
         if hits_whole(table, at + 8 * k, turned, many) == 0 {
@@ -127,10 +128,8 @@ fn hits_whole(table: &[u8], at: usize, turned: u64, count: usize) -> u64
     ensures { (result == 0) ≡ all_below (other_at table.now at (swapped 3 turned)) count }
 {
     let mut hits: u64 = 0;
-    let mut k: usize = 0;
-    while k < count {
+    for k in 0..count {
         hits += hit_whole(table, at, turned, k);
-        k += 1;
     }
     hits
 }
@@ -159,11 +158,8 @@ fn other_whole(table: &[u8], at: usize, turned: u64, k: usize) -> bool
 fn among_cut(table: &[u8], at: u32, count: u16, word: u64) -> bool
     ensures { result ≡ among_at table.now at count word }
 {
-    let mut k: u16 = 0;
-    while k < count {
-        if other_cut(table, at, word, k) {
-            k += 1;
-        } else {
+    for k in 0..count {
+        if !other_cut(table, at, word, k) {
             return true;
         }
     }

@@ -6,13 +6,12 @@ use mathlib.Core.Bool.{Bool, true, false, true≢false}
 use mathlib.Core.List.{List}
 use native.Mathlib.Omega.{arith}
 use borrow.Author.Count.{below_more}
-use borrow.Author.Tests.{le-leb, leb-true}
+use borrow.Author.Tests.{le-leb}
 use lib.Bits.{bit_or}
 use lib.Dec.{leb}
 use lib.ListN.{length, get_or}
 use Rattle.wire.proofs.Bits.{or_left, or_right}
 use Rattle.table.specs.Leaf.{base, allowed}
-use Rattle.leaf.specs.declared.codes.Range.{Range}
 use Rattle.leaf.specs.Limits.{range_of, measure}
 use Rattle.leaf.proofs.Limits.{counted}
 use Rattle.pack_leaves.specs.Stored.{is_there}
@@ -24,9 +23,6 @@ module _ (ws : List ℕ) (code from : ℕ) where
   abbrev pub Judged : ℕ → ℕ → Type 0
   Judged all k = all ≤ (range_of (base code)).last → AllThere ws code from k
 
-  pub none-judged : Judged 0 0
-  none-judged h k l = absurd (omega arith)
-
   pub more-judged : (all k m : ℕ) → code < 13 → from + k < length ws → ((i : ℕ) → get_or ws i 0 < 18446744073709551616) → Judged all k → m
       ≡ measure (base code) (get_or ws (from + k) 0) → Judged (bit_or all m) (k + 1)
   more-judged all k m b l f old e h =
@@ -35,9 +31,6 @@ module _ (ws : List ℕ) (code from : ℕ) where
       (omega (arith, or_right all m)) in
       let g : allowed code w ≡ true = counted code w b (f (from + k)) ∙ i in
       below_more (λ j. is_there ws code (from + j) ≡ true) k (old (omega (arith, or_left all m))) (sym (judged ws (from + k) code true l (sym g)))
-
-  pub all-judged : (all k n : ℕ) (r : Range) → Judged all k → k ≤ n → n ≤ k → r ≡ range_of (base code) → leb all r.last ≡ true → AllThere ws code from n
-  all-judged all k n r old a b e t j h = old (leb-true all (range_of (base code)).last (rw e at t)) j (omega arith)
 
 -- by the arm of its code; and no other code takes a word
 pub by_code : (ws : List ℕ) (code from count n : ℕ) (r : Bool) → code ≡ n → (r ≡ true → AllThere ws n from count) → r ≡ true → AllThere ws code from count

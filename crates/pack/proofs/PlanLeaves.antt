@@ -5,7 +5,6 @@ use mathlib.Core.Path.{◌≡◌, refl, sym, ap, ap₂, subst, ◌∙◌}
 use mathlib.Core.Bool.{Bool, true, false, ◌&&◌, cond}
 use mathlib.Core.List.{List, []}
 use native.Mathlib.Omega.{arith}
-use borrow.Author.Count.{below_more}
 use borrow.Author.Tests.{lt-ltb, le-ltb}
 use lib.Dec.{eqb}
 use lib.ListN.{length, get_or}
@@ -50,18 +49,7 @@ pub both_taken : (t : List ℕ) (w c v : ℕ) (a b : Bool) → c ≡ code_in w �
     → (a && b) ≡ (allowed (code_in w) v && taken_by t w v)
 both_taken t w c v a b h e g = ap₂ ◌&&◌ (e ∙ ap (λ (n : ℕ). allowed n v) h) g
 
--- all words, among values
-module _ (ws t : List ℕ) (p n from : ℕ) where
-  pub none-among : AllAmong ws t p n from 0
-  none-among k l = absurd (omega arith)
-
-  pub more-among : (k : ℕ) (r : Bool) → AllAmong ws t p n from k → r ≡ among_at t p n (get_or ws (from + k) 0) → r ≡ true → AllAmong ws t p n from (k + 1)
-  more-among k r so_far is h = below_more (λ j. among_at t p n (get_or ws (from + j) 0) ≡ true) k so_far (sym is ∙ h)
-
-  pub as-many-among : (k many : ℕ) → AllAmong ws t p n from k → many ≤ k → AllAmong ws t p n from many
-  as-many-among k many so_far h j l = so_far j (omega arith)
-
--- and of a run
+-- all words of a run
 module _ (ws t : List ℕ) (w from : ℕ) where
   pub any-taken : (n : ℕ) → n ≡ values_in w → n ≡ 0 → (m : ℕ) → AllTaken ws t w from m
   any-taken n count h m k l = sym (no-values t w n count (get_or ws (from + k) 0) h)

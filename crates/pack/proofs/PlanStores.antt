@@ -24,7 +24,7 @@ use Rattle.pack_leaves.specs.StoredRuns.{behind_all, stored_all}
 use Rattle.pack.specs.Writing.{writer, Writing}
 use Rattle.pack.specs.ByPlan.{stored_runs}
 use Rattle.pack_leaves.proofs.Laid.{put_behind}
-use Rattle.pack_leaves.proofs.StoredRuns.{length_all, as_long}
+use Rattle.pack_leaves.proofs.StoredRuns.{length_all}
 use Rattle.pack.proofs.JudgedRuns.{none_yet, one_more, all_stored, writing-run}
 use Rattle.pack.proofs.WriteReturns.{writer_keeps}
 use Rattle.pack.proofs.PlanWalks.{overRun, overRuns, leafStep, run-leaves, no_run, first_run}
@@ -185,9 +185,6 @@ module _ (ws rs : List ℕ) (upto : ℕ) (all : List ℕ) (k : ℕ) (q : Place) 
       (laid : z ≡ cond (leb (q.from + m) (length ws)) (stored_all ws code q m y) y) where
     put : z ≡ stored_all ws code q m y
     put = all_stored ws code q y m z (omega arith) laid
-
-    pub stores-long : length z ≡ length y
-    stores-long = as_long ws code q y m put
 
     pub stores-on : k < length rs → Stores → stored_runs ws (drop (k + 1) rs) (record { from = q.from + m; to = q.to + m * d }) upto z ≡ all
     stores-on l h =

@@ -66,7 +66,7 @@ leaf_written ws x y code n p at is e put =
     (is ∙ sym (add-zero p.from))
     ∙ ap (λ (m : ℕ). stored_all ws code p m x) (sym e)
 
--- behind no run, and behind all
+-- behind no run
 pub at_start : (rs : List ℕ) → start ≡ whole_at rs 0
 unfolding whole_at
 at_start rs = refl
@@ -74,10 +74,6 @@ at_start rs = refl
 pub none_stored : (ws rs x : List ℕ) → x ≡ stored_whole ws rs 0 x
 unfolding stored_whole
 none_stored ws rs x = refl
-
-pub all_stored : (ws rs : List ℕ) (k : ℕ) (x y : List ℕ) → y ≡ stored_whole ws rs k x → k ≤ length rs → length rs ≤ k
-    → y ≡ stored_whole ws rs (length rs) x
-all_stored ws rs k x y h l m = h ∙ ap (λ (j : ℕ). stored_whole ws rs j x) (omega arith)
 
 -- places only go on
 module _ (rs : List ℕ) where

@@ -59,15 +59,12 @@ pub(crate) fn judge_runs(table: &[u8], runs: &[u64], words: &[u64], p: Place) ->
 {
     let mut from = p.from;
     let mut to = p.to;
-    let mut k: usize = 0;
-    while k < runs.len() {
-        let run = runs[k];
+    for (k, &run) in runs.iter().enumerate() {
         if takes_run(table, run, words, from) {
             let many = plans::many_in(run) as usize;
             let width = leaf::width(plans::code_in(run));
             from = from + many;
             to = to + many * width;
-            k += 1;
         } else {
             return judge_rest(table, runs, words, k, Place { from, to });
         }
@@ -140,11 +137,8 @@ pub(crate) fn are_among(
     requires { from + many ≤ length words.now }
     ensures { result ≡ true → AllAmong words.now table.now at count from many }
 {
-    let mut k: usize = 0;
-    while k < many {
-        if leaf::among_at(table, at, count, words[from + k]) {
-            k += 1;
-        } else {
+    for k in 0..many {
+        if !leaf::among_at(table, at, count, words[from + k]) {
             return false;
         }
     }
@@ -163,13 +157,9 @@ pub(crate) fn judge_rest(
     ensures { result ≡ answer (walk (writer words.now) (runs_tree table.now (drop first runs.now)) p []) }
 {
     let mut at = p;
-    let mut k = first;
-    while k < runs.len() {
+    for k in first..runs.len() {
         match judge_leaves(table, runs[k], words, at) {
-            Walked::Went(q) => {
-                at = q;
-                k += 1;
-            }
+            Walked::Went(q) => at = q,
             Walked::Stopped(n, q) => return Walked::Stopped(n, q),
         }
     }
@@ -185,15 +175,13 @@ fn judge_leaves(table: &[u8], run: u64, words: &[u64], p: Place) -> Walked
     let width = leaf::width(plans::code_in(run));
     let mut from = p.from;
     let mut to = p.to;
-    let mut k: u32 = 0;
-    while k < many {
+    for _ in 0..many {
         if words.len() <= from {
             return Walked::Stopped(walk::ENDS_EARLY, Place { from, to });
         }
         if takes_word(table, run, words[from]) {
             from = from + 1;
             to = to + width;
-            k += 1;
         } else {
             return Walked::Stopped(walk::NOT_ALLOWED, Place { from, to });
         }
@@ -229,14 +217,11 @@ pub(crate) fn store_runs(words: &[u64], out: &mut [u8], runs: &[u64], p: Place, 
     }
     let mut from = p.from;
     let mut to = p.to;
-    let mut k: usize = 0;
-    while k < runs.len() {
-        let run = runs[k];
+    for &run in runs {
         let code = plans::code_in(run);
         let many = wire::least(plans::many_in(run) as usize, upto - from);
         pack_leaves::store_leaves(words, out, code, many, Place { from, to });
         from = from + many;
         to = to + many * leaf::width(code);
-        k += 1;
     }
 }

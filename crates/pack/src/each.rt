@@ -67,18 +67,16 @@ fn write_times(
         from p out.old result.upto result.at out.new }
 {
     let mut at = p;
-    let mut k = from;
-    while k < count {
+    for k in from..count {
         match by_plan::judge_runs(table, runs, words, at) {
             Walked::Went(q) => {
                 store_element(words, out, runs, at, q.from);
                 at = q;
-                k += 1;
             }
             Walked::Stopped(_, _) => return Reached { upto: k, at },
         }
     }
-    Reached { upto: k, at }
+    Reached { upto: count, at }
 }
 
 // Stores the leaves of one element. The room is seen before the call: the first walk has none, and the call costs as much as a leaf.

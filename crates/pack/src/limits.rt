@@ -32,10 +32,8 @@ fn judged_each(words: &[u64], from: usize, code: u16, count: usize) -> bool
     ensures { result ≡ true → AllThere words.now code from count }
 {
     let mut all: u64 = 0;
-    let mut k = 0;
-    while k < count {
+    for k in 0..count {
         all = all | leaf::measure(code, words[from + k]);
-        k += 1;
     }
     all <= leaf::range_of(code).last
 }

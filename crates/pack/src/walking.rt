@@ -64,6 +64,7 @@ fn write_members(
     let count = e.count as u32;
     let mut at = p;
     let mut k: u32 = 0;
+    // By hand: a turn goes on behind the bases that it wrote and one member more, and a step that hangs on the data is no counting loop.
     while k < count {
         let run = write_bases(table, s, i, e, k, words, out, at);
         let next = run.upto;
@@ -124,8 +125,7 @@ fn write_elements(
             let met = walk::meet(table, s, i, child);
             let rest = alike::write_met(table, s, plans, child, met, words, out, next, count, end);
             let mut at = rest.at;
-            let mut k = rest.upto;
-            while k < count {
+            for _ in rest.upto..count {
                 let here = met;
                 let step = match here {
                     Met::Leaf(c) => write_leaf(table, s, c, words, out, at),
@@ -134,10 +134,7 @@ fn write_elements(
                     Met::Broken => Walked::Stopped(types::RULE_BROKEN, at),
                 };
                 match step {
-                    Walked::Went(q) => {
-                        at = q;
-                        k += 1;
-                    }
+                    Walked::Went(q) => at = q,
                     Walked::Stopped(n, q) => return Walked::Stopped(n, q),
                 }
             }
@@ -280,13 +277,11 @@ fn store_bases(words: &[u64], out: &mut [u8], codes: &[u8], p: Place) -> usize
     ensures out_after { out.new ≡ laid words.now codes.now p out.old }
 {
     let mut to = p.to;
-    let mut k: usize = 0;
-    while k < codes.len() {
-        let code = codes[k] as u16;
+    for (k, &base) in codes.iter().enumerate() {
+        let code = base as u16;
         let from = p.from + k;
         leaf::put(out, to, code, words[from]);
         to = to + leaf::width(code);
-        k += 1;
     }
     to
 }

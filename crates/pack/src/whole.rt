@@ -40,15 +40,12 @@ fn judge_whole(table: &[u8], runs: &[u64], words: &[u64]) -> Walked
 {
     let mut from: usize = 0;
     let mut to: usize = 0;
-    let mut k: usize = 0;
-    while k < runs.len() {
-        let run = runs[k];
+    for (k, &run) in runs.iter().enumerate() {
         if takes_run(table, run, words, from) {
             let many = plans::many_in(run) as usize;
             let width = leaf::width(plans::code_in(run));
             from = from + many;
             to = to + many * width;
-            k += 1;
         } else {
             return by_plan::judge_rest(table, runs, words, k, Place { from, to });
         }
@@ -89,16 +86,13 @@ fn store_whole(words: &[u64], out: &mut [u8], runs: &[u64])
 {
     let mut from: usize = 0;
     let mut to: usize = 0;
-    let mut k: usize = 0;
-    while k < runs.len() {
-        let run = runs[k];
+    for &run in runs {
         let code = plans::code_in(run);
         let many = plans::many_in(run) as usize;
         let bytes = many * leaf::width(code);
         store_run(words, out, code, many, bytes, Place { from, to });
         to = to + bytes;
         from = from + many;
-        k += 1;
     }
 }
 

@@ -5,11 +5,9 @@ use mathlib.Core.Path.{◌≡◌, refl, sym, ap, ap₂, ◌∙◌}
 use mathlib.Core.Logic.{⊎_elim}
 use mathlib.Core.Bool.{cond}
 use mathlib.Core.List.{List}
-use native.Mathlib.Nat.{add-zero, zero-mul, suc-mul, mod-lt, mul-le-mul_right, eq-or-lt_of_le, div-add-mod'}
+use native.Mathlib.Nat.{add-zero, zero-mul, mod-lt, mul-le-mul_right, eq-or-lt_of_le, div-add-mod'}
 use native.Mathlib.Numerals.{add-one}
 use native.Mathlib.Omega.{arith}
-use mir.Syntax.{w64}
-use mir.Val.{Fits}
 use lib.Dec.{leb}
 use lib.ListN.{length, get_or}
 use Rattle.wire.specs.Bytes.{written}
@@ -29,24 +27,6 @@ pub has_width : (code : ℕ) → code < 13 → 1 ≤ width code
 unfolding width base bytes_of
 has_width code h = each (λ n. 1 ≤ width n) (search arith) code h
 
--- so many leaves, and one more
-more : (w n : ℕ) → n * w + w ≡ suc n * w
-more w n = sym (suc-mul n w)
-
--- the k-th of n leaves that there is room for
-module _ (code w k n to len : ℕ) (is : w ≡ width code) (below : k < n) (room : to + n * width code ≤ len) where
-  far : k * w + w ≤ n * width code
-  far = rw (is, more (width code) k) (mul-le-mul_right (width code) below)
-
-  pub at-times : len < 2 ^ 64 → Fits w64 (k * w)
-  at-times l = record { fits = omega (arith, far) }
-
-  pub at_place : len < 2 ^ 64 → Fits w64 (to + k * w)
-  at_place l = record { fits = omega (arith, far) }
-
-  pub at_room : {m : ℕ} → m ≡ len → to + k * w + width code ≤ m
-  at_room e = omega (arith, far)
-
 module _ (ws : List ℕ) (code : ℕ) (p : Place) (x : List ℕ) where
   pub length_all : (n : ℕ) → length (stored_all ws code p n x) ≡ length x
   unfolding stored_all
@@ -61,9 +41,6 @@ module _ (ws : List ℕ) (code : ℕ) (p : Place) (x : List ℕ) where
       ≡ written y (p.to + n * k) (form_of code (get_or ws (p.from + n) 0)) → z ≡ stored_all ws code p (n + 1) x
   unfolding stored_all
   one-stored n k e h g = g ∙ rw (e, h, add-one n) refl
-
-  pub all_stored : (n k : ℕ) {y : List ℕ} → y ≡ stored_all ws code p k x → k ≤ n → n ≤ k → y ≡ stored_all ws code p n x
-  all_stored n k h a b = let e : k ≡ n = omega arith in h ∙ ap (λ (m : ℕ). stored_all ws code p m x) e
 
   pub as_long : (n : ℕ) {y : List ℕ} → y ≡ stored_all ws code p n x → length y ≡ length x
   as_long n h = ap length h ∙ length_all n

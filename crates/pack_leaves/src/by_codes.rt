@@ -19,15 +19,13 @@ pub fn judge_codes(words: &[u64], codes: &[u8], from: usize) -> Passed
     }
     let n = wire::least(codes.len(), words.len() - from);
     let mut bytes: usize = 0;
-    let mut k: usize = 0;
-    while k < n {
+    for k in 0..n {
         let code = codes[k] as u16;
         if leaf::allowed(code, words[from + k]) {
             bytes = bytes + leaf::width(code);
-            k += 1;
         } else {
             return Passed { count: k, bytes };
         }
     }
-    Passed { count: k, bytes }
+    Passed { count: n, bytes }
 }

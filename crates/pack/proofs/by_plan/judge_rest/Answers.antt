@@ -1,11 +1,6 @@
-use mathlib.Core.Path.{refl, sym, ◌∙◌}
-use borrow.Author.Rules.{rules}
+use mathlib.Core.Path.{sym, ◌∙◌}
 use Rattle.pack.proofs.PlanWalks.{leads-went, leads-stop, leads-end, run-keeps}
 use Rattle.pack.proofs.by_plan.judge_rest.Goals as goal
-
-pub loop-k-init : goal.loop-k-init
-loop-k-init c =
-    (refl, search rules)
 
 pub loop-k-preserved : goal.loop-k-preserved
 loop-k-preserved c = (

@@ -1,8 +1,7 @@
 -- `pack::by_plan::judge_rest` meets its contract. The loop's invariant: what is left to walk over leads from here to the whole.
 -- Assumes nothing.
-use Prim.Native.Nat.{◌-◌}
 use mathlib.Core.List.{[]}
-use lib.ListN.{length, drop}
+use lib.ListN.{drop}
 use Rattle.walk.specs.Walk.{answer}
 use Rattle.pack.specs.Writing.{Writing}
 use Rattle.pack.proofs.PlanWalks.{overRuns, Leads}
@@ -10,6 +9,3 @@ use Rattle.pack.proofs.by_plan.judge_rest.Given as goal
 
 abbrev pub invariant-loop-k : goal.invariant-loop-k
 invariant-loop-k l = Leads l.words l.table l.runs (answer (overRuns l.words l.table (drop l.first l.runs) l.initial.at [])) l.k l.at × Writing l.words l.at
-
-abbrev pub decreases-loop-k : goal.decreases-loop-k
-decreases-loop-k l = length l.runs - l.k

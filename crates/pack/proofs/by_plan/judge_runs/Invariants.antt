@@ -1,8 +1,6 @@
 -- `pack::by_plan::judge_runs` meets its contract. The loop's invariant: what is left to walk over leads from here to the whole.
 -- Assumes nothing.
-use Prim.Native.Nat.{◌-◌}
 use mathlib.Core.List.{[]}
-use lib.ListN.{length}
 use Rattle.walk.specs.Walk.{answer}
 use Rattle.pack.specs.Writing.{Writing}
 use Rattle.pack.proofs.PlanWalks.{overRuns, Leads}
@@ -10,8 +8,5 @@ use Rattle.pack.proofs.by_plan.judge_runs.Given as goal
 
 abbrev pub invariant-loop-k : goal.invariant-loop-k
 invariant-loop-k l =
-    Leads l.words l.table l.runs (answer (overRuns l.words l.table l.runs (record { from = l.initial.from; to = l.initial.to }) [])) l.k (record { from = l.from; to = l.to })
+    Leads l.words l.table l.runs (answer (overRuns l.words l.table l.runs l.fn.p [])) l.k (record { from = l.from; to = l.to })
     × Writing l.words (record { from = l.from; to = l.to })
-
-abbrev pub decreases-loop-k : goal.decreases-loop-k
-decreases-loop-k l = length l.runs - l.k

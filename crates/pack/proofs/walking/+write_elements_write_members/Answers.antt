@@ -17,8 +17,10 @@ use Rattle.pack.proofs.WriteBases.{element_writes}
 use Rattle.pack.proofs.AlikeLeaves.{leaf_written, element_met}
 use Rattle.pack.proofs.Sure.{Goes_on, going_sure, members-sure, elements-sure, sure-leaf, sure-members, sure-elements}
 use Rattle.pack.proofs.SureLeaves.{run_sure, going_leaves, going_codes}
-use Rattle.pack.proofs.walking.+write_elements_write_members.Goals.{write_elements-in-Leaf, write_elements-in-Members, write_elements-in-Elements, write_elements-in-Broken}
-use Rattle.pack.proofs.walking.+write_elements_write_members.Goals.{write_members-in-Leaf, write_members-in-Members, write_members-in-Elements, write_members-in-Broken}
+use Rattle.pack.proofs.walking.+write_elements_write_members.Goals.{write_elements-in-Leaf, write_elements-in-Members}
+use Rattle.pack.proofs.walking.+write_elements_write_members.Goals.{write_elements-in-Elements, write_elements-in-Broken}
+use Rattle.pack.proofs.walking.+write_elements_write_members.Goals.{write_members-in-Leaf, write_members-in-Members}
+use Rattle.pack.proofs.walking.+write_elements_write_members.Goals.{write_members-in-Elements, write_members-in-Broken}
 use Rattle.pack.proofs.walking.+write_elements_write_members.Goals as goal
 
 pub write_elements-returns-then-is_planned : goal.write_elements-returns-then-is_planned
@@ -72,8 +74,8 @@ write_elements-write_met-rest-requires t c =
       λ h e is. going_leaves _ _ _ e run whole (leaf_written _ _ _ e _ ((element_met start.plans.now _ _ _ _ _ c.meet-met.ensures).of_leaf e is)) h,
     )
 
-pub write_elements-loop-k-init : goal.write_elements-loop-k-init
-write_elements-loop-k-init t c =
+pub write_elements-loop-init : goal.write_elements-loop-init
+write_elements-loop-init t c =
     let start = c.args in
     let met = c.write_met-rest.ensures _ (element_met start.plans.now _ _ _ _ _ c.meet-met.ensures) in
     going_start met.most met.here
@@ -90,9 +92,9 @@ write_elements-write_leaf-step-requires t c =
     (c.requires.1 (omega (arith, c.begin.auto.out))) in
     let run = c.write_run-run.ensures _ (element_writes _ start.plans.now _ _ _ _ _ c.base_at-code.ensures) in
     let met = c.write_met-rest.ensures _ (element_met start.plans.now _ _ _ _ _ c.meet-met.ensures) in
-    let so_far = going_on run (going_on met c.loop-k.invariant) in (
-      c.loop-k.invariant.here,
-      λ h. sure-leaf _ _ _ _ _ _ _ refl _ _ _ c.meet-met.ensures _ (going_sure so_far whole c.loop-k-test.true h) c.in-Leaf.is,
+    let so_far = going_on run (going_on met c.loop.invariant) in (
+      c.loop.invariant.here,
+      λ h. sure-leaf _ _ _ _ _ _ _ refl _ _ _ c.meet-met.ensures _ (going_sure so_far whole c.loop-test.true h) c.in-Leaf.is,
     )
 
 pub write_elements-write_members-step-requires : goal.write_elements-write_members-step-requires
@@ -107,11 +109,11 @@ write_elements-write_members-step-requires t c =
     (c.requires.1 (omega (arith, c.begin.auto.out))) in
     let run = c.write_run-run.ensures _ (element_writes _ start.plans.now _ _ _ _ _ c.base_at-code.ensures) in
     let met = c.write_met-rest.ensures _ (element_met start.plans.now _ _ _ _ _ c.meet-met.ensures) in
-    let so_far = going_on run (going_on met c.loop-k.invariant) in (
+    let so_far = going_on run (going_on met c.loop.invariant) in (
       members-smaller _ _ _ _ _ c.decreases _ _ c.meet-met.ensures c.in-Members.is,
       (
-        c.loop-k.invariant.here,
-        λ h. sure-members _ _ _ _ _ _ _ refl _ _ _ c.meet-met.ensures _ (going_sure so_far whole c.loop-k-test.true h) c.in-Members.is,
+        c.loop.invariant.here,
+        λ h. sure-members _ _ _ _ _ _ _ refl _ _ _ c.meet-met.ensures _ (going_sure so_far whole c.loop-test.true h) c.in-Members.is,
       ),
     )
 
@@ -127,19 +129,19 @@ write_elements-write_elements-step-requires t c =
     (c.requires.1 (omega (arith, c.begin.auto.out))) in
     let run = c.write_run-run.ensures _ (element_writes _ start.plans.now _ _ _ _ _ c.base_at-code.ensures) in
     let met = c.write_met-rest.ensures _ (element_met start.plans.now _ _ _ _ _ c.meet-met.ensures) in
-    let so_far = going_on run (going_on met c.loop-k.invariant) in (
+    let so_far = going_on run (going_on met c.loop.invariant) in (
       elements-smaller _ _ _ _ _ c.decreases _ _ c.meet-met.ensures c.in-Elements.is,
       (
-        c.loop-k.invariant.here,
-        λ h. sure-elements _ _ _ _ _ _ _ refl _ _ _ c.meet-met.ensures _ (going_sure so_far whole c.loop-k-test.true h) c.in-Elements.is,
+        c.loop.invariant.here,
+        λ h. sure-elements _ _ _ _ _ _ _ refl _ _ _ c.meet-met.ensures _ (going_sure so_far whole c.loop-test.true h) c.in-Elements.is,
       ),
     )
 
-pub write_elements-loop-k-preserved : goal.write_elements-loop-k-preserved
-write_elements-loop-k-preserved t c =
+pub write_elements-loop-preserved : goal.write_elements-loop-preserved
+write_elements-loop-preserved t c =
     let start = c.args in
-    let stepped : Did (element_step (writer start.words.now) start.plans.now start.table.now start.s start.i start.e.of c.loop-k.k c.loop-k.at
-    c.loop-k.out) c.match-here.step c.match-here.out =
+    let stepped : Did (element_step (writer start.words.now) start.plans.now start.table.now start.s start.i start.e.of c.loop.counter c.loop.at
+    c.loop.out) c.match-here.step c.match-here.out =
     elim c.match-here.branch [
       | write_elements-in-Leaf w ↦ leaf-stepped _ _ _ _ _ _ _ refl _ _ _ c.meet-met.ensures _ _ _ _ _ w.in-Leaf.is
           (w.write_leaf-step.ensures.value, w.write_leaf-step.ensures.out_after) w.out-is w.step-is
@@ -149,8 +151,8 @@ write_elements-loop-k-preserved t c =
           (w.write_elements-step.ensures.value, w.write_elements-step.ensures.out_after) w.out-is w.step-is
       | write_elements-in-Broken w ↦ broken-stepped _ _ _ _ _ _ _ refl _ _ _ c.meet-met.ensures _ _ w.in-Broken.is w.out-is w.step-is
     ] in
-    let g = c.loop-k.invariant in
-    going_next g _ _ _ ((writer_keeps _).walks _ _ _ g.here) c.loop-k-test.true stepped c.in-Went-step.is
+    let g = c.loop.invariant in
+    going_next g _ _ _ ((writer_keeps _).walks _ _ _ g.here) c.loop-test.true stepped c.in-Went-step.is
 
 pub write_elements-returns-in-Stopped-step : goal.write_elements-returns-in-Stopped-step
 write_elements-returns-in-Stopped-step t c =
@@ -159,9 +161,9 @@ write_elements-returns-in-Stopped-step t c =
     (c.begin.ensures.value, c.begin.ensures.out_after) in
     let run = c.write_run-run.ensures _ (element_writes _ start.plans.now _ _ _ _ _ c.base_at-code.ensures) in
     let met = c.write_met-rest.ensures _ (element_met start.plans.now _ _ _ _ _ c.meet-met.ensures) in
-    let so_far = going_on run (going_on met c.loop-k.invariant) in
-    let stepped : Did (element_step (writer start.words.now) start.plans.now start.table.now start.s start.i start.e.of c.loop-k.k c.loop-k.at
-    c.loop-k.out) c.match-here.step c.match-here.out =
+    let so_far = going_on run (going_on met c.loop.invariant) in
+    let stepped : Did (element_step (writer start.words.now) start.plans.now start.table.now start.s start.i start.e.of c.loop.counter c.loop.at
+    c.loop.out) c.match-here.step c.match-here.out =
     elim c.match-here.branch [
       | write_elements-in-Leaf w ↦ leaf-stepped _ _ _ _ _ _ _ refl _ _ _ c.meet-met.ensures _ _ _ _ _ w.in-Leaf.is
           (w.write_leaf-step.ensures.value, w.write_leaf-step.ensures.out_after) w.out-is w.step-is
@@ -172,7 +174,7 @@ write_elements-returns-in-Stopped-step t c =
       | write_elements-in-Broken w ↦ broken-stepped _ _ _ _ _ _ _ refl _ _ _ c.meet-met.ensures _ _ w.in-Broken.is w.out-is w.step-is
     ] in
     let did = elements-stop _ _ _ _ _ _ c.is_planned.ensures c.if-is_planned.false _ _ _ begun c.in-Went.is c.times-count.ensures
-    so_far _ _ _ _ c.loop-k-test.true stepped c.in-Stopped-step.is in
+    so_far _ _ _ _ c.loop-test.true stepped c.in-Stopped-step.is in
     record { value = did.0; out_after = did.1 }
 
 pub write_elements-returns-in-Stopped : goal.write_elements-returns-in-Stopped
@@ -183,16 +185,16 @@ write_elements-returns-in-Stopped t c =
     let did = elements-stopped _ _ _ _ _ _ c.is_planned.ensures c.if-is_planned.false _ _ _ _ begun _ _ c.in-Stopped.is in
     record { value = did.0; out_after = did.1 }
 
-pub write_elements-returns-after-loop-k : goal.write_elements-returns-after-loop-k
-write_elements-returns-after-loop-k t c =
+pub write_elements-returns-after-loop : goal.write_elements-returns-after-loop
+write_elements-returns-after-loop t c =
     let start = c.args in
     let begun : Did (begun (writer start.words.now) start.e start.p start.out.now) c.begin.result c.begin.new.out =
     (c.begin.ensures.value, c.begin.ensures.out_after) in
     let run = c.write_run-run.ensures _ (element_writes _ start.plans.now _ _ _ _ _ c.base_at-code.ensures) in
     let met = c.write_met-rest.ensures _ (element_met start.plans.now _ _ _ _ _ c.meet-met.ensures) in
-    let so_far = going_on run (going_on met c.loop-k.invariant) in
+    let so_far = going_on run (going_on met c.loop.invariant) in
     let did = elements-done _ _ _ _ _ _ c.is_planned.ensures c.if-is_planned.false _ _ _ begun c.in-Went.is c.times-count.ensures
-    so_far c.loop-k-test.false in
+    so_far c.loop-test.false in
     record { value = did.0; out_after = did.1 }
 
 pub write_members-returns-then-is_planned : goal.write_members-returns-then-is_planned

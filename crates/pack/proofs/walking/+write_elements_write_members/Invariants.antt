@@ -13,12 +13,10 @@ decreases-write_elements l = l.i
 abbrev pub decreases-write_members : goal.decreases-write_members
 decreases-write_members l = l.i
 
-abbrev pub invariant-write_elements-loop-k : goal.invariant-write_elements-loop-k
-invariant-write_elements-loop-k l =
-    Going (Writing l.words) (element_step (writer l.words) l.plans l.table l.s l.i l.child) l.count l.initial.k l.initial.at l.initial.out l.k l.at l.out
-
-abbrev pub decreases-write_elements-loop-k : goal.decreases-write_elements-loop-k
-decreases-write_elements-loop-k l = l.count - l.k
+abbrev pub invariant-write_elements-loop : goal.invariant-write_elements-loop
+invariant-write_elements-loop l =
+    Going (Writing l.words) (element_step (writer l.words) l.plans l.table l.s l.i l.child)
+    l.count l.initial.counter l.initial.at l.initial.out l.counter l.at l.out
 
 abbrev pub invariant-write_members-loop-k : goal.invariant-write_members-loop-k
 invariant-write_members-loop-k l =

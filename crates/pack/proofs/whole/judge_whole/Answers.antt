@@ -1,19 +1,9 @@
-use mathlib.Core.Path.{refl, ◌∙◌}
 use native.Mathlib.Omega.{arith}
-use borrow.Author.Rules.{rules}
 use Rattle.walk.specs.declared.Place.{Place}
 use Rattle.walk.specs.declared.Walked.TheVariants.{Went}
 use Rattle.pack.proofs.JudgedRuns.{run-times, run_end}
 use Rattle.pack.proofs.PlanWalks.{leads-on, leads-end, taken-writing}
 use Rattle.pack.proofs.whole.judge_whole.Goals as goal
-
-pub loop-k-init : goal.loop-k-init
-loop-k-init c =
-    (refl, search rules)
-
-pub overflow_add-from : goal.overflow_add-from
-overflow_add-from c =
-    omega (arith, (c.takes_run.ensures c.if-takes_run.true).inside)
 
 pub overflow_mul-to : goal.overflow_mul-to
 overflow_mul-to c =
@@ -37,10 +27,6 @@ loop-k-preserved c =
       taken-writing start.words.now start.table.now start.runs.now (Went q) here.k q taken _ _ _ code many c.width-width.ensures
           here.invariant.1,
     )
-
-pub returns-else-takes_run : goal.returns-else-takes_run
-returns-else-takes_run c =
-    c.judge_rest.ensures ∙ c.loop-k.invariant.0
 
 pub returns : goal.returns
 returns c =

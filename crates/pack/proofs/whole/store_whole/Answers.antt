@@ -1,12 +1,10 @@
-use mathlib.Core.Path.{refl}
-use borrow.Author.Rules.{rules}
-use Rattle.pack.proofs.WholeStores.{at_start, none_stored, all_stored, run_wide, bytes_fit}
+use Rattle.pack.proofs.WholeStores.{at_start, none_stored, run_wide, bytes_fit}
 use Rattle.pack.proofs.WholeStores.{next-at, next-words, next-room, next-from-fits, next-to-fits, next-stored}
 use Rattle.pack.proofs.whole.store_whole.Goals as goal
 
-pub loop-k-init : goal.loop-k-init
-loop-k-init c =
-    (search none_stored, search at_start, search rules, refl)
+pub loop-run-init : goal.loop-run-init
+loop-run-init c =
+    (search none_stored, search at_start)
 
 pub overflow_mul-bytes : goal.overflow_mul-bytes
 overflow_mul-bytes c =
@@ -24,10 +22,6 @@ pub overflow_add-from : goal.overflow_add-from
 overflow_add-from c =
     search next-from-fits
 
-pub loop-k-preserved : goal.loop-k-preserved
-loop-k-preserved c =
-    (search next-stored, search next-at, search rules, search rules)
-
-pub returns : goal.returns
-returns c =
-    search all_stored
+pub loop-run-preserved : goal.loop-run-preserved
+loop-run-preserved c =
+    (search next-stored, search next-at)

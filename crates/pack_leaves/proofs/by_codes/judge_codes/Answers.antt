@@ -1,5 +1,4 @@
 use native.Mathlib.Omega.{arith}
-use borrow.Author.Rules.{rules}
 use Rattle.pack_leaves.proofs.OneMore.{none_there, none_ends, end_at, none-judged, more-judged, one-refused, all-judged, more-fits, more-ends}
 use Rattle.pack_leaves.proofs.by_codes.judge_codes.Goals as goal
 
@@ -10,11 +9,7 @@ returns-then-words-from c =
 
 pub loop-k-init : goal.loop-k-init
 loop-k-init c =
-    (none-judged _ _ _, none_ends, search rules)
-
-pub overflow_cast-code : goal.overflow_cast-code
-overflow_cast-code c =
-    record { fits = omega (arith, c.type_inv.codes c.loop-k.k) }
+    (none-judged _ _ _, none_ends)
 
 pub overflow_add-bytes : goal.overflow_add-bytes
 overflow_add-bytes c =
@@ -27,7 +22,6 @@ loop-k-preserved c =
     let below = c.loop-k-test.true in (
       more-judged _ _ _ _ _ below l i.0 _ c.allowed.ensures c.if-allowed.true,
       more-ends _ _ _ _ _ below l _ _ c.width-bytes.ensures i.1,
-      search rules,
     )
 
 pub returns-else-allowed : goal.returns-else-allowed
@@ -39,5 +33,5 @@ returns-else-allowed c =
 pub returns : goal.returns
 returns c =
     let i = c.loop-k.invariant in
-    let all = all-judged _ _ _ _ _ c.loop-k-test.false i.2 c.least-n.ensures i.0 in
-    record { count_value = all; bytes_value = end_at _ _ _ _ i.1 all }
+    let all = all-judged _ _ _ _ _ c.loop-k-test.false c.loop-k.auto.k-end c.least-n.ensures i.0 in
+    record { count_value = omega (arith, all); bytes_value = end_at _ _ _ _ i.1 all }

@@ -1,6 +1,5 @@
 -- `pack::judge_codes` meets its contract. The loop's invariant: so many words are taken, and they have so many bytes.
 -- Assumes nothing.
-use Prim.Native.Nat.{◌-◌, ◌≤◌}
 use mathlib.Core.Path.{◌≡◌}
 use lib.ListN.{take}
 use Rattle.pack_leaves.specs.Stored.{ends}
@@ -8,7 +7,4 @@ use Rattle.pack_leaves.proofs.OneMore.{So-far}
 use Rattle.pack_leaves.proofs.by_codes.judge_codes.Given as goal
 
 abbrev pub invariant-loop-k : goal.invariant-loop-k
-invariant-loop-k l = So-far l.words l.codes l.from l.k × (l.bytes ≡ ends (take l.k l.codes) 0) × (l.k ≤ l.n)
-
-abbrev pub decreases-loop-k : goal.decreases-loop-k
-decreases-loop-k l = l.n - l.k
+invariant-loop-k l = So-far l.words l.codes l.from l.k × (l.bytes ≡ ends (take l.k l.codes) 0)

@@ -1,12 +1,8 @@
 -- `pack_leaves::runs::store_each` meets its contract. The loop's invariant: so many leaves are stored.
 -- Assumes nothing.
-use Prim.Native.Nat.{◌-◌, ◌≤◌}
 use mathlib.Core.Path.{◌≡◌}
 use Rattle.pack_leaves.specs.StoredRuns.{stored_all}
 use Rattle.pack_leaves.proofs.runs.store_each.Given as goal
 
 abbrev pub invariant-loop-k : goal.invariant-loop-k
-invariant-loop-k l = (l.k ≤ l.count) × (l.out ≡ stored_all l.words l.code l.p l.k l.initial.out)
-
-abbrev pub decreases-loop-k : goal.decreases-loop-k
-decreases-loop-k l = l.count - l.k
+invariant-loop-k l = l.out ≡ stored_all l.words l.code l.p l.k l.initial.out
