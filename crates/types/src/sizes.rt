@@ -65,15 +65,13 @@ fn fill(table: &[u8], s: Sections, room: &mut [u32], n: usize, kept: bool) -> bo
     ensures value { result ≡ all_below (fits_in_size table.now s) n }
     ensures room_after { result ≡ true → take n room.new ≡ sizes table.now s n }
 {
-    let mut i = 0;
-    while i < n {
+    for i in 0..n {
         let e = type_of(table, s, i as u16, kept);
         let size = size_of(table, s, &room[..i], e, kept);
         if 65536 < size {
             return false;
         }
         room[i] = size as u32;
-        i += 1;
     }
     true
 }
@@ -100,11 +98,9 @@ fn sum(table: &[u8], s: Sections, known: &[u32], first: u16, count: u16, kept: b
     ensures { result ≡ sum_from table.now s known.now first count }
 {
     let mut total: u64 = 0;
-    let mut k: u16 = 0;
-    while k < count {
+    for k in 0..count {
         let member = member_of(table, s, first as u32 + k as u32, kept);
         total += known_at(known, member, kept) as u64;
-        k += 1;
     }
     total
 }

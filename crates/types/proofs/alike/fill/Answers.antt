@@ -4,11 +4,11 @@ use Rattle.types.proofs.alike.fill.Goals as goal
 
 pub loop-k-init : goal.loop-k-init
 loop-k-init c =
-    (search rules, search rules, λ j h. absurd (omega arith))
+    (search rules, λ j h. absurd (omega arith))
 
 pub loop-k-preserved : goal.loop-k-preserved
 loop-k-preserved c =
-    (search rules, simp length-set (search rules), search fill_alikes)
+    (simp length-set (search rules), search fill_alikes)
 
 pub returns : goal.returns
 returns c =

@@ -6,7 +6,7 @@ use Rattle.types.proofs.sizes.fill.Goals as goal
 
 pub loop-i-init : goal.loop-i-init
 loop-i-init c =
-    (search rules, search rules, search none_below, search fill_none)
+    (search rules, search none_below, search fill_none)
 
 pub type_of-e-requires : goal.type_of-e-requires
 type_of-e-requires c h =
@@ -30,7 +30,7 @@ returns-then-size-gt65536-clause-room_after c =
 
 pub loop-i-preserved : goal.loop-i-preserved
 loop-i-preserved c =
-    (search rules, simp length-set (search rules), search fits_more, search fill_more)
+    (simp length-set (search rules), search fits_more, search fill_more)
 
 pub returns-clause-value : goal.returns-clause-value
 returns-clause-value c =

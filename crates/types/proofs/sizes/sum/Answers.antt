@@ -4,7 +4,7 @@ use Rattle.types.proofs.sizes.sum.Goals as goal
 
 pub loop-k-init : goal.loop-k-init
 loop-k-init c =
-    (search rules, search sum-none, search rules)
+    (search sum-none, search rules)
 
 pub member_of-member-requires : goal.member_of-member-requires
 member_of-member-requires c h =
@@ -16,7 +16,7 @@ known_at-requires c h =
 
 pub loop-k-preserved : goal.loop-k-preserved
 loop-k-preserved c =
-    (search rules, search sum_more, search rules)
+    (search sum_more, search rules)
 
 pub returns : goal.returns
 returns c =
