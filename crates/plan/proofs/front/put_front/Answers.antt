@@ -1,11 +1,9 @@
-use borrow.Author.Rules.{rules}
-use lib.ListN.{length-set}
 use Rattle.plan.proofs.Fronts.{first_fits, in_order, first_small, many-small, index-none, index-more, front-held}
 use Rattle.plan.proofs.front.put_front.Goals as goal
 
 pub loop-k-init : goal.loop-k-init
 loop-k-init c =
-    (search rules, search rules, search rules, search index-none)
+    search index-none
 
 pub overflow_add-n-in-loop-k : goal.overflow_add-n-in-loop-k
 overflow_add-n-in-loop-k c =
@@ -21,7 +19,7 @@ index_word-requires c =
 
 pub loop-k-preserved : goal.loop-k-preserved
 loop-k-preserved c =
-    (search rules, search rules, simp length-set (search rules), search index-more)
+    search index-more
 
 pub returns : goal.returns
 returns c =

@@ -8,7 +8,7 @@ use Rattle.plan.proofs.runs.lay_runs.Goals as goal
 
 pub loop-i-init : goal.loop-i-init
 loop-i-init c =
-    (search rules, search rules, search rules, search none-held, search none_end, search no_start)
+    (search none-held, search none_end, search no_start)
 
 pub slice_bounds-lay_type-end : goal.slice_bounds-lay_type-end
 slice_bounds-lay_type-end c =
@@ -28,7 +28,7 @@ lay_type-end-requires-clause-laid c =
 
 pub loop-i-preserved : goal.loop-i-preserved
 loop-i-preserved c =
-    (search rules, search rules, simp length-set (search rules), search more-held, search more-end, search more-starts)
+    (search more-held, search more-end, search more-starts)
 
 pub returns-clause-words_after : goal.returns-clause-words_after
 returns-clause-words_after c =
