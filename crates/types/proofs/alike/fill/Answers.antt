@@ -1,14 +1,14 @@
-use Rattle.std.proofs.Common.{arith, length-set, rules}
+use Rattle.std.proofs.Common.{arith}
 use Rattle.types.proofs.Distinctness.{fill_alikes, alikes_done}
 use Rattle.types.proofs.alike.fill.Goals as goal
 
 pub loop-k-init : goal.loop-k-init
 loop-k-init c =
-    (search rules, λ j h. absurd (omega arith))
+    λ j h. absurd (omega arith)
 
 pub loop-k-preserved : goal.loop-k-preserved
 loop-k-preserved c =
-    (simp length-set (search rules), search fill_alikes)
+    search fill_alikes
 
 pub returns : goal.returns
 returns c =

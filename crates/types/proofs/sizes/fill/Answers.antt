@@ -1,4 +1,4 @@
-use Rattle.std.proofs.Common.{◌≡◌, ℕ, true, false, sym, arith, length-set, length-take-le, rules}
+use Rattle.std.proofs.Common.{◌≡◌, ℕ, true, false, sym, arith, length-take-le}
 use Rattle.wire.proofs.AllBelow.{none_below, done_below}
 use Rattle.types.proofs.SizeLaws.{fill_none, fill_more, fits_more, fits-no-more, filled}
 use Rattle.types.proofs.TypePasses.{kept_record}
@@ -6,7 +6,7 @@ use Rattle.types.proofs.sizes.fill.Goals as goal
 
 pub loop-i-init : goal.loop-i-init
 loop-i-init c =
-    (search rules, search none_below, search fill_none)
+    (search none_below, search fill_none)
 
 pub type_of-e-requires : goal.type_of-e-requires
 type_of-e-requires c h =
@@ -30,7 +30,7 @@ returns-then-size-gt65536-clause-room_after c =
 
 pub loop-i-preserved : goal.loop-i-preserved
 loop-i-preserved c =
-    (simp length-set (search rules), search fits_more, search fill_more)
+    (search fits_more, search fill_more)
 
 pub returns-clause-value : goal.returns-clause-value
 returns-clause-value c =
