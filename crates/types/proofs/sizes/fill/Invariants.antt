@@ -6,6 +6,6 @@ use Rattle.types.specs.Sizes.{sizes, fits_in_size}
 use Rattle.types.proofs.sizes.fill.Given as goal
 
 abbrev pub invariant-loop-i : goal.invariant-loop-i
-invariant-loop-i l =
+invariant-loop-i g l =
     (all_below (fits_in_size l.table l.s) l.i ≡ true)
     × (take l.i l.room ≡ sizes l.table l.s l.i)

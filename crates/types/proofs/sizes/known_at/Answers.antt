@@ -4,9 +4,9 @@ use Rattle.types.proofs.SizeLaws.{is-there, not_known}
 use Rattle.types.proofs.sizes.known_at.Goals as goal
 
 pub bounds-known-at : goal.bounds-known-at
-bounds-known-at c =
-    is-there _ _ _ c.if-kept-at.true c.requires
+bounds-known-at g c =
+    is-there _ _ _ c.if-at-known.true c.requires
 
-pub returns-else-kept-at : goal.returns-else-kept-at
-returns-else-kept-at c =
+pub returns-else-at-known : goal.returns-else-at-known
+returns-else-at-known g c =
     search not_known

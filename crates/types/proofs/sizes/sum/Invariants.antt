@@ -5,4 +5,4 @@ use Rattle.types.specs.Sizes.{sum_from}
 use Rattle.types.proofs.sizes.sum.Given as goal
 
 abbrev pub invariant-loop-k : goal.invariant-loop-k
-invariant-loop-k l = (l.total ≡ sum_from l.table l.s l.known l.first l.k) × (l.total ≤ l.k * 4294967295)
+invariant-loop-k g l = (l.total ≡ sum_from l.table l.s l.known l.first l.k) × (l.total ≤ l.k * 4294967295)
