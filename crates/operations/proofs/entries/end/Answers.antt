@@ -1,4 +1,4 @@
-use Rattle.operations.proofs.Places.{first-place, next_place, step_fits, last-place}
+use Rattle.operations.proofs.Places.{first-place, next_place, step_fits}
 use Rattle.operations.proofs.entries.end.Goals as goal
 
 pub loop-i-init : goal.loop-i-init
@@ -12,7 +12,3 @@ overflow_add-place c =
 pub loop-i-preserved : goal.loop-i-preserved
 loop-i-preserved c =
     search next_place
-
-pub returns : goal.returns
-returns c =
-    search last-place
