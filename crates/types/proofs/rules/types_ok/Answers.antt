@@ -1,5 +1,5 @@
 use Rattle.wire.proofs.AllBelow.{none_below}
-use Rattle.types.proofs.TypePasses.{quick-loose, quick-next, loose-next, not_risen, types-end, types_rise, types_compared}
+use Rattle.types.proofs.TypePasses.{quick-loose, quick-next, loose-next, not_risen, types-end, types_compared}
 use Rattle.types.proofs.rules.types_ok.Goals as goal
 
 pub loop-i-init : goal.loop-i-init
@@ -18,10 +18,6 @@ loop-i-preserved c =
 pub returns-then-not-enum_ok : goal.returns-then-not-enum_ok
 returns-then-not-enum_ok c =
     search types-end
-
-pub returns-then-rise : goal.returns-then-rise
-returns-then-rise c =
-    search types_rise
 
 pub returns-else-rise : goal.returns-else-rise
 returns-else-rise c =

@@ -1,20 +1,7 @@
 -- `types::sizes::size_of` meets its contract: the arms are the kinds.
 -- Assumes nothing.
-use Rattle.std.proofs.Common.{rules}
-use Rattle.types.proofs.SizeLaws.{unknown, base-size, enum-size, record-size, fixed-size, array_size, no_size}
+use Rattle.types.proofs.SizeLaws.{base-size, enum-size, record-size, fixed-size, array_size, no_size}
 use Rattle.types.proofs.sizes.size_of.Goals as goal
-
-pub sum-requires : goal.sum-requires
-sum-requires g c h =
-    c.requires h (search rules)
-
-pub known_at-requires : goal.known_at-requires
-known_at-requires g c h =
-    unknown _ h
-
-pub known_at-requires-in-4 : goal.known_at-requires-in-4
-known_at-requires-in-4 g c h =
-    unknown _ h
 
 pub returns-in-0 : goal.returns-in-0
 returns-in-0 g c =
