@@ -1,4 +1,4 @@
-use Rattle.plan.proofs.Rows.{row-start-end, row-start-held, part_room, part_end, part_held, row_done_end, row_done_held}
+use Rattle.plan.proofs.Rows.{row-start-end, row-start-held, part_room, part_end, part_held}
 use Rattle.plan.proofs.runs.add_row.Goals as goal
 
 pub loop-k-init : goal.loop-k-init
@@ -12,11 +12,3 @@ add_type-to-requires-clause-room c =
 pub loop-k-preserved : goal.loop-k-preserved
 loop-k-preserved c =
     (search part_held, search part_end)
-
-pub returns-clause-value : goal.returns-clause-value
-returns-clause-value c =
-    search row_done_end
-
-pub returns-clause-words_after : goal.returns-clause-words_after
-returns-clause-words_after c =
-    search row_done_held
