@@ -20,10 +20,8 @@ pub fn end(table: &[u8], at: u16, count: u16) -> usize
     ensures { result ≡ op_place table.now at count }
 {
     let mut place = at as usize;
-    let mut i: u16 = 0;
-    while i < count {
+    for _i in 0..count {
         place += width_at(table, place);
-        i += 1;
     }
     place
 }

@@ -9,13 +9,11 @@ pub fn lay_index(table: &[u8], at: u16, count: u16, index: &mut [u64])
     ensures { index.new ≡ indexed table.now at count index.old }
 {
     let mut place = at as usize;
-    let mut i: u16 = 0;
-    while i < count {
+    for i in 0..count {
         let head = entries::head_at(table, place);
         let word = head / 4294967296 * 4294967296 + place as u64;
         put_word(index, i as usize, word);
         place += entries::width_of(entries::kind_of(head));
-        i += 1;
     }
 }
 

@@ -14,20 +14,16 @@ pub fn are_good(table: &[u8], at: u16, count: u16, types: u16) -> bool
 {
     let mut place = at as usize;
     let mut last: u32 = 0;
-    let mut i: u16 = 0;
-    while i < count {
+    for i in 0..count {
         let o = entries::operation_at(table, place);
-        if (i == 0) | (last < o.id) {
-            if fields_ok(types, o) {
-                last = o.id;
-                place += entries::width_of(o.kind);
-                i += 1;
-            } else {
-                return false;
-            }
-        } else {
+        if !((i == 0) | (last < o.id)) {
             return false;
         }
+        if !fields_ok(types, o) {
+            return false;
+        }
+        last = o.id;
+        place += entries::width_of(o.kind);
     }
     true
 }
@@ -36,14 +32,12 @@ pub fn has_data(table: &[u8], at: u16, count: u16) -> bool
     ensures { result ≡ has_data table.now at count }
 {
     let mut place = at as usize;
-    let mut i: u16 = 0;
-    while i < count {
+    for _i in 0..count {
         let kind = entries::kind_at(table, place);
         if kind == VERSIONED_DATA {
             return true;
         }
         place += entries::width_of(kind);
-        i += 1;
     }
     false
 }

@@ -83,7 +83,7 @@ module _ (t : List ℕ) (s : Sections) where
   all_laid l l₀ i n e a b = let h : i ≡ n = omega arith in e ∙ ap (λ (k : ℕ). over l₀ 0 (all_runs t s k)) h
 
   pub all-started : (starts before : List ℕ) (end i n : ℕ) → take i starts ≡ starts_of t s i → end ≡ length (all_runs t s i)
-      → length starts ≡ length before → n < length before → i ≤ n → n ≤ i → take (n + 1) (set starts i end) ≡ starts_of t s (n + 1)
+      → length starts ≡ length before → n < length before → i ≤ n → n ≤ i → take (n + 1) (set starts n end) ≡ starts_of t s (n + 1)
   all-started starts before end i n e q a b c d =
       let h : i ≡ n = omega arith in
-      subst (λ (k : ℕ). take (k + 1) (set starts i end) ≡ starts_of t s (k + 1)) h (more-starts starts before end i n e q a b c)
+      subst (λ (k : ℕ). take (k + 1) (set starts k end) ≡ starts_of t s (k + 1)) h (more-starts starts before end i n e q a b c)

@@ -63,12 +63,10 @@ fn put_front(words: &mut [u64], counts: &[u16], starts: &[usize])
     ensures { words.new ≡ over words.old 0 (front_of counts.now starts.now) }
 {
     let n = counts.len();
-    let mut k = 0;
-    while k < n {
+    for (k, leaves) in counts.iter().enumerate() {
         let next = k + 1;
         let at = starts[k];
-        words[next] = index_word((1 + n + at) as u64, (starts[next] - at) as u64, counts[k]);
-        k = next;
+        words[next] = index_word((1 + n + at) as u64, (starts[next] - at) as u64, *leaves);
     }
     words[0] = n as u64;
 }

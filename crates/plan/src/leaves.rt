@@ -38,10 +38,8 @@ pub(crate) fn sum(counts: &[u16]) -> usize
     ensures { (result ≡ sum_below (λ k. get_or counts.now k 0) (length counts.now)) × (result < 2 ^ 32) }
 {
     let mut total: usize = 0;
-    let mut k = 0;
-    while k < counts.len() {
-        total += counts[k] as usize;
-        k += 1;
+    for count in counts {
+        total += *count as usize;
     }
     total
 }
@@ -51,12 +49,10 @@ pub(crate) fn fill(table: &[u8], s: Sections, room: &mut [u16], n: usize)
     requires { (n ≤ length room.old) × (n ≤ most_types) }
     ensures { take n room.new ≡ leaf_counts table.now s n }
 {
-    let mut i = 0;
-    while i < n {
+    for i in 0..n {
         let met = walk::look(table, s, i as u16);
         let count = leaves_met(table, s, &room[..i], met);
         room[i] = count;
-        i += 1;
     }
 }
 
@@ -83,15 +79,13 @@ fn row_leaves(table: &[u8], s: Sections, known: &[u16], first: u16, count: u16) 
     ensures { result ≡ row_leaves (member_leaves table.now s known.now first) count }
 {
     let mut total: u64 = 0;
-    let mut k: u16 = 0;
-    while k < count {
+    for k in 0..count {
         let member = entries::member_at(table, s, first as u32 + k as u32);
         let leaves = known_at(known, member);
         if leaves == 0 {
             return 0;
         }
         total += leaves as u64;
-        k += 1;
     }
     capped(total)
 }

@@ -81,11 +81,9 @@ fn add_all(words: &mut [u64], from: usize, end: usize, at: usize, stop: usize) -
         ≡ over words.old from (add_all (between from end words.old) (between at stop words.old)) }
 {
     let mut to = end;
-    let mut k = at;
-    while k < stop {
+    for k in at..stop {
         let run = words[k];
         to = add(words, from, to, run);
-        k += 1;
     }
     to
 }
@@ -123,11 +121,9 @@ fn add_row(
         ≡ over words.old from (row_runs (part_runs table.now s e is_record words.old starts.now i) e.count) }
 {
     let mut to = from;
-    let mut k: u16 = 0;
-    while k < e.count {
+    for k in 0..e.count {
         let part = part_at(table, s, e, is_record, k);
         to = add_type(words, starts, i, part, from, to);
-        k += 1;
     }
     to
 }
@@ -204,12 +200,9 @@ pub(crate) fn lay_runs(
     ensures starts_after { take (length counts.now + 1) starts.new ≡ starts_of table.now s (length counts.now + 1) }
 {
     let mut end = 0;
-    let mut i = 0;
-    while i < counts.len() {
+    for (i, count) in counts.iter().enumerate() {
         starts[i] = end;
-        let next = i + 1;
-        end = lay_type(table, s, i, counts[i], words, &starts[..next], end);
-        i = next;
+        end = lay_type(table, s, i, *count, words, &starts[..i + 1], end);
     }
-    starts[i] = end;
+    starts[counts.len()] = end;
 }

@@ -1,6 +1,6 @@
 -- What the last value alike says: the values of an enum are distinct exactly if for none it is the enum's too.
 -- Assumes nothing.
-use Rattle.std.proofs.Common.{◌≡◌, ℕ, zero, suc, ◌+◌, ◌-◌, ◌<◌, ◌≤◌, Bool, true, false, not, ◌&&◌, eqb, leb, List, length, get_or, set, sym, refl, ap, ◌∙◌, subst, ⊎_elim, eq-or-lt_of_le, arith, get_or-set_other, get_or-set_same, eq-eqb, ne_eqb, le-leb}
+use Rattle.std.proofs.Common.{◌≡◌, ℕ, zero, suc, ◌+◌, ◌-◌, ◌<◌, ◌≤◌, Bool, true, false, not, ◌&&◌, eqb, leb, List, length, get_or, set, sym, refl, ap, ◌∙◌, subst, ⊎_elim, eq-or-lt_of_le, arith, get_or-set_other, get_or-set_same, take, drop, length-take, length-drop, get_or-take, get_or-drop, eq-eqb, ne_eqb, le-leb}
 use borrow.Author.Tests.{lt-leb}
 use Rattle.table.specs.declared.Sections.{Sections}
 use Rattle.table.specs.declared.Entry.{Entry}
@@ -9,7 +9,9 @@ use Rattle.table.specs.Layout.{most_values}
 use Rattle.table.specs.Entries.{type_at, value_at}
 use Rattle.types.specs.Values.{value_of, unlike, unlike_before, distinct}
 use Rattle.types.specs.Alike.{last_equal, last_alike, Alikes, unlike_in, values_apart, enum_apart, all_apart}
-use Rattle.wire.proofs.AllBelow.{next-below, stop-below}
+use Rattle.std.specs.List.{list_all}
+use Rattle.types.proofs.AllOf.{all_of_list}
+pub use Rattle.types.proofs.AllOf.{same_below}
 
 -- looking for the last one alike from behind
 module _ (t : List ℕ) (s : Sections) (k word : ℕ) (is : word ≡ value_at t s k) where
@@ -25,11 +27,11 @@ module _ (t : List ℕ) (s : Sections) (k word : ℕ) (is : word ≡ value_at t 
     stepped : 0 < j → last_equal (value_at t s) word (suc (j - 1)) ≡ last_alike t s k
     stepped h = let e : j ≡ suc (j - 1) = omega arith in subst (λ (n : ℕ). last_equal (value_at t s) word n ≡ last_alike t s k) e so_far
 
-    pub alike-here : 0 < j → v ≡ value_at t s (j - 1) → v ≡ word → j ≡ last_alike t s k
+    pub alike-here : 0 < j → v ≡ value_at t s (j - 1) → v ≡ word → j - 1 + 1 ≡ last_alike t s k
     unfolding last_equal
     alike-here h p q =
         let a : eqb (value_at t s (j - 1)) word ≡ true = eq-eqb (value_at t s (j - 1)) word (sym p ∙ q) in
-        let e : j ≡ suc (j - 1) = omega arith in
+        let e : j - 1 + 1 ≡ suc (j - 1) = omega arith in
         e ∙ rw a at (stepped h)
 
     pub not-here : 0 < j → v ≡ value_at t s (j - 1) → (v ≡ word → ⊥) → last_equal (value_at t s) word (j - 1) ≡ last_alike t s k
@@ -76,11 +78,6 @@ unlike_since f word first (suc k) =
     go false p false h = rw p h
 
 -- an enum's values, one after the other
-pub same_below : (f g : ℕ → Bool) (n : ℕ) → ((k : ℕ) → k < n → f k ≡ g k) → all_below f n ≡ all_below g n
-unfolding all_below
-same_below f g zero h = refl
-same_below f g (suc n) h = rw (same_below f g n (λ k l. h k (omega arith)), h n (omega arith)) refl
-
 pub room_distinct : (t : List ℕ) (s : Sections) (e : Entry) (room : List ℕ) → Alikes t s s.values.count room
     → e.first + e.count ≤ s.values.count → all_below (unlike_in room e.first) e.count ≡ distinct t s e
 unfolding distinct unlike_in unlike_before unlike last_alike
@@ -112,12 +109,17 @@ module _ (t : List ℕ) (s : Sections) where
   unfolding all_apart
   many-values h = rw (lt-leb s.values.count most_values h) refl
 
--- the room's numbers, one after the other
-module _ (room : List ℕ) (first k v : ℕ) (is : v ≡ get_or room (first + k) 0) where
-  pub unlike-next : v ≤ first → all_below (unlike_in room first) k ≡ true → all_below (unlike_in room first) (k + 1) ≡ true
-  unfolding unlike_in
-  unlike-next h a = next-below (unlike_in room first) k true a (rw (← is, le-leb v first h) refl) refl
-
-  pub unlike-ends : (n : ℕ) → first < v → k < n → false ≡ all_below (unlike_in room first) n
-  unfolding unlike_in
-  unlike-ends n h l = stop-below (unlike_in room first) n k false (rw (← is, lt-leb v first h) refl) refl l
+-- the room's numbers from first on
+pub unlike_part : (room : List ℕ) (first n : ℕ) → first + n ≤ length room
+    → list_all (λ (x : ℕ). leb x first) (take (first + n - first) (drop first room)) ≡ all_below (unlike_in room first) n
+unfolding unlike_in
+unlike_part room first n h =
+    let part : List ℕ = take (first + n - first) (drop first room) in
+    let many : length part ≡ n = simp (length-take, length-drop) (omega arith) in
+    all_of_list (λ (x : ℕ). leb x first) part
+    ∙ ap (all_below (λ (k : ℕ). leb (get_or part k 0) first)) many
+    ∙ same_below (λ (k : ℕ). leb (get_or part k 0) first) (λ (k : ℕ). leb (get_or room (first + k) 0) first) n
+    (λ k l. ap (λ (x : ℕ). leb x first) (at_part k l))
+  where
+    at_part : (k : ℕ) → k < n → get_or (take (first + n - first) (drop first room)) k 0 ≡ get_or room (first + k) 0
+    at_part k l = let m : k < first + n - first = omega arith in rw (get_or-take, get_or-drop) refl

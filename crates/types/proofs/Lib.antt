@@ -1,3 +1,4 @@
+pub mod AllOf
 pub mod Insides
 pub mod TypeRules
 pub mod ValueRules

@@ -9,7 +9,7 @@ use Rattle.table.specs.Layout.{most_values}
 use Rattle.table.specs.Entries.{type_at, member_at}
 use Rattle.types.specs.Values.{value_ok, distinct, values_ok}
 use Rattle.types.specs.Alike.{values_apart, enum_apart, all_apart}
-use Rattle.types.proofs.Distinctness.{same_below}
+use Rattle.types.proofs.AllOf.{same_below}
 use Rattle.types.specs.Rules.{member_ok, members_ok, pointed_ok, type_ok}
 use Rattle.table.specs.Fields.{fields_ok}
 use Rattle.types.specs.Inside.{Lying}

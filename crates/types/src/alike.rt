@@ -31,11 +31,8 @@ fn fill(table: &[u8], s: Sections, room: &mut [u16])
     requires { s.values.count ≤ length room.old }
     ensures { Alikes table.now s s.values.count room.new }
 {
-    let count = s.values.count;
-    let mut k: u16 = 0;
-    while k < count {
+    for k in 0..s.values.count {
         room[k as usize] = last_alike(table, s, k);
-        k += 1;
     }
 }
 
@@ -44,12 +41,10 @@ fn last_alike(table: &[u8], s: Sections, k: u16) -> u16
     ensures { result ≡ last_alike table.now s k }
 {
     let word = entries::value_at(table, s, k as u32);
-    let mut j = k;
-    while 0 < j {
-        if entries::value_at(table, s, j as u32 - 1) == word {
-            return j;
+    for j in (0..k).rev() {
+        if entries::value_at(table, s, j as u32) == word {
+            return j + 1;
         }
-        j -= 1;
     }
     0
 }
@@ -58,16 +53,7 @@ fn enums_distinct(table: &[u8], s: Sections, room: &[u16]) -> bool
     requires { (s.values.count ≤ length room.now) × Alikes table.now s s.values.count room.now }
     ensures { result ≡ all_below (enum_apart table.now s) s.types.count }
 {
-    let count = s.types.count;
-    let mut i: u16 = 0;
-    while i < count {
-        if enum_distinct(table, s, room, i) {
-            i += 1;
-        } else {
-            return false;
-        }
-    }
-    true
+    (0..s.types.count).all(|i| enum_distinct(table, s, room, i))
 }
 
 fn enum_distinct(table: &[u8], s: Sections, room: &[u16], i: u16) -> bool
@@ -90,13 +76,8 @@ fn unlike_in(room: &[u16], first: u16, count: u16) -> bool
     requires { first + count ≤ length room.now }
     ensures { result ≡ all_below (unlike_in room.now first) count }
 {
-    let mut k: u16 = 0;
-    while k < count {
-        if room[first as usize + k as usize] <= first {
-            k += 1;
-        } else {
-            return false;
-        }
-    }
-    true
+    let from = first as usize;
+    room[from..from + count as usize]
+        .iter()
+        .all(|last| *last <= first)
 }

@@ -10,16 +10,7 @@ use table::{Entry, Sections, entries};
 pub(crate) fn values_allowed(table: &[u8], s: Sections, e: Entry) -> bool
     ensures { result ≡ all_below (value_ok table.now s e) e.count }
 {
-    let count = e.count;
-    let mut k: u16 = 0;
-    while k < count {
-        if value_ok(table, s, e, k) {
-            k += 1;
-        } else {
-            return false;
-        }
-    }
-    true
+    (0..e.count).all(|k| value_ok(table, s, e, k))
 }
 
 fn value_ok(table: &[u8], s: Sections, e: Entry, k: u16) -> bool

@@ -15,18 +15,15 @@ pub(crate) fn types_ok(table: &[u8], s: Sections) -> bool
     requires { Lying table.now s }
     ensures { result ≡ all_below (type_ok table.now s) s.types.count }
 {
-    let count = s.types.count;
     let mut rise = true;
-    let mut i: u16 = 0;
-    while i < count {
+    for i in 0..s.types.count {
         if quick_ok(table, s, i) {
-            i += 1;
-        } else if enum_ok(table, s, i) {
-            rise = false;
-            i += 1;
-        } else {
+            continue;
+        }
+        if !enum_ok(table, s, i) {
             return false;
         }
+        rise = false;
     }
     if rise {
         true
@@ -70,12 +67,8 @@ fn members_ok(table: &[u8], s: Sections, i: u16, e: Entry) -> bool
     requires { Lying table.now s × (e.first + e.count ≤ s.members.count) }
     ensures { result ≡ members_ok table.now s i e }
 {
-    let count = e.count;
-    let mut k: u16 = 0;
-    while k < count {
-        if inside::member_in(table, s, e.first as u32 + k as u32) < i {
-            k += 1;
-        } else {
+    for k in 0..e.count {
+        if i <= inside::member_in(table, s, e.first as u32 + k as u32) {
             return false;
         }
     }

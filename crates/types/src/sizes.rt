@@ -29,7 +29,7 @@ pub(crate) fn all_fit(table: &[u8], s: Sections) -> bool
 {
     let n = s.types.count as usize;
     let mut room = [0u32; 256];
-    fill(table, s, &mut room, n, true)
+    fill::<true>(table, s, &mut room, n)
 }
 
 // From the sizes of the types below i, where none is too large.
@@ -39,9 +39,9 @@ fn largest_below(table: &[u8], s: Sections, i: u16) -> Option<u32>
 {
     let n = i as usize;
     let mut room = [0u32; 256];
-    if fill(table, s, &mut room, n, false) {
+    if fill::<false>(table, s, &mut room, n) {
         let e = entries::type_at(table, s, i);
-        bytes_up_to(size_of(table, s, &room[..n], e, false))
+        bytes_up_to(size_of::<false>(table, s, &room[..n], e))
     } else {
         None
     }
@@ -58,73 +58,69 @@ fn bytes_up_to(size: u64) -> Option<u32>
 }
 
 // Writes the largest sizes of the types below n, up to the first that is too large; whether none is. Where those types are
-// known to keep their rules, nothing is tested to read them.
-fn fill(table: &[u8], s: Sections, room: &mut [u32], n: usize, kept: bool) -> bool
+// KEPT, known to keep their rules, nothing is tested to read them.
+fn fill<const KEPT: bool>(table: &[u8], s: Sections, room: &mut [u32], n: usize) -> bool
     requires n_in_bounds { (n ≤ length room.old) × (n ≤ most_types) }
-    requires lawful { kept ≡ true → Lawful table.now s n }
+    requires lawful { KEPT ≡ true → Lawful table.now s n }
     ensures value { result ≡ all_below (fits_in_size table.now s) n }
     ensures room_after { result ≡ true → take n room.new ≡ sizes table.now s n }
 {
-    let mut i = 0;
-    while i < n {
-        let e = type_of(table, s, i as u16, kept);
-        let size = size_of(table, s, &room[..i], e, kept);
+    for i in 0..n {
+        let e = type_of::<KEPT>(table, s, i as u16);
+        let size = size_of::<KEPT>(table, s, &room[..i], e);
         if 65536 < size {
             return false;
         }
         room[i] = size as u32;
-        i += 1;
     }
     true
 }
 
 // The largest size of an entry, from the sizes of the types before it. In 64 bits it cannot wrap.
-fn size_of(table: &[u8], s: Sections, known: &[u32], e: Entry, kept: bool) -> u64
-    requires { kept ≡ true → e.kind ≡ 2 → Smaller table.now s (length known.now) e.first e.count }
+fn size_of<const KEPT: bool>(table: &[u8], s: Sections, known: &[u32], e: Entry) -> u64
+    requires { KEPT ≡ true → e.kind ≡ 2 → Smaller table.now s (length known.now) e.first e.count }
     ensures { result ≡ size_of table.now s known.now e }
 {
     let kind = e.kind;
     match kind {
         0 => leaf::width(e.of) as u64,
         1 => leaf::width(e.of) as u64,
-        2 => sum(table, s, known, e.first, e.count, kept),
-        3 => times(e.count, known_at(known, e.of, false)),
-        4 => times(e.count, known_at(known, e.of, false)) + 4,
+        2 => sum::<KEPT>(table, s, known, e.first, e.count),
+        3 => times(e.count, known_at::<false>(known, e.of)),
+        4 => times(e.count, known_at::<false>(known, e.of)) + 4,
         _ => 0,
     }
 }
 
 // The sum over a record's members. Not of the entry: an entry that is passed on twice is copied through memory.
-fn sum(table: &[u8], s: Sections, known: &[u32], first: u16, count: u16, kept: bool) -> u64
-    requires { kept ≡ true → Smaller table.now s (length known.now) first count }
+fn sum<const KEPT: bool>(table: &[u8], s: Sections, known: &[u32], first: u16, count: u16) -> u64
+    requires { KEPT ≡ true → Smaller table.now s (length known.now) first count }
     ensures { result ≡ sum_from table.now s known.now first count }
 {
     let mut total: u64 = 0;
-    let mut k: u16 = 0;
-    while k < count {
-        let member = member_of(table, s, first as u32 + k as u32, kept);
-        total += known_at(known, member, kept) as u64;
-        k += 1;
+    for k in 0..count {
+        let member = member_of::<KEPT>(table, s, first as u32 + k as u32);
+        total += known_at::<KEPT>(known, member) as u64;
     }
     total
 }
 
-fn type_of(table: &[u8], s: Sections, i: u16, kept: bool) -> Entry
-    requires { kept ≡ true → Lying table.now s × (i < s.types.count) }
+fn type_of<const KEPT: bool>(table: &[u8], s: Sections, i: u16) -> Entry
+    requires { KEPT ≡ true → Lying table.now s × (i < s.types.count) }
     ensures { result ≡ type_at table.now s i }
 {
-    if kept {
+    if KEPT {
         inside::type_in(table, s, i)
     } else {
         entries::type_at(table, s, i)
     }
 }
 
-fn member_of(table: &[u8], s: Sections, i: u32, kept: bool) -> u16
-    requires { kept ≡ true → Lying table.now s × (i < s.members.count) }
+fn member_of<const KEPT: bool>(table: &[u8], s: Sections, i: u32) -> u16
+    requires { KEPT ≡ true → Lying table.now s × (i < s.members.count) }
     ensures { result ≡ member_at table.now s i }
 {
-    if kept {
+    if KEPT {
         inside::member_in(table, s, i)
     } else {
         entries::member_at(table, s, i)
@@ -132,12 +128,12 @@ fn member_of(table: &[u8], s: Sections, i: u32, kept: bool) -> u16
 }
 
 // The largest size of a type, as far as it is known.
-fn known_at(known: &[u32], i: u16, kept: bool) -> u32
-    requires { kept ≡ true → i < length known.now }
+fn known_at<const KEPT: bool>(known: &[u32], i: u16) -> u32
+    requires { KEPT ≡ true → i < length known.now }
     ensures { result ≡ slice_index known.now i }
 {
     let at = i as usize;
-    if kept | (at < known.len()) {
+    if KEPT | (at < known.len()) {
         known[at]
     } else {
         0

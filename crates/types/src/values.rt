@@ -11,18 +11,15 @@ pub(crate) fn in_order(table: &[u8], s: Sections, e: Entry) -> bool
     requires { Lying table.now s × (e.first + e.count ≤ s.values.count) }
     ensures { result ≡ in_order table.now s e }
 {
-    let count = e.count;
     let range = leaf::range_of(e.of);
     let zero = range.below;
     let most = range.last;
     let mut last: u64 = 0;
-    let mut k: u16 = 0;
-    while k < count {
+    for k in 0..e.count {
         let value = inside::value_in(table, s, e.first as u32 + k as u32);
         let next = std::num::wrapping_add_u64(value, zero);
         if ((k == 0) | (last < next)) & (next <= most) {
             last = next;
-            k += 1;
         } else {
             return false;
         }

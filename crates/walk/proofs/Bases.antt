@@ -1,12 +1,12 @@
 -- Laws of a base that a walk meets: its entry is a leaf's, which takes all that its code allows.
 -- Assumes nothing.
 use Prim.Native.Nat.{ℕ, ◌<◌, ◌≤◌}
-use mathlib.Core.Path.{◌≡◌, refl, sym, ap, subst, ◌∙◌}
-use mathlib.Core.Bool.{Bool, true, false, ◌&&◌, cond}
+use mathlib.Core.Path.{◌≡◌, refl, sym, ap, ◌∙◌}
+use mathlib.Core.Bool.{Bool, true, false, ◌&&◌}
 use mathlib.Core.List.{List}
 use native.Mathlib.Omega.{arith}
-use borrow.Author.Tests.{ltb-true, eqb-true, le-leb, eq-eqb, ne_eqb}
-use lib.Dec.{ltb, leb, eqb}
+use borrow.Author.Tests.{ltb-true, eqb-true, le-leb}
+use lib.Dec.{ltb, eqb}
 use Rattle.wire.specs.Bytes.{written}
 use Rattle.wire.proofs.Cond.{yes-if, no-if, yes_lt, no_lt, both}
 use Rattle.table.specs.declared.Sections.{Sections}
@@ -16,9 +16,8 @@ use Rattle.table.specs.Leaf.{base, is_value, allowed}
 use Rattle.table.specs.Fields.{fields_ok}
 use Rattle.leaf.specs.Choice.{choice}
 use Rattle.walk.specs.declared.Place.{Place}
-use Rattle.walk.specs.declared.Met.{Met}
-use Rattle.walk.specs.declared.Met.TheVariants.{Leaf, Broken}
-use Rattle.walk.specs.Tree.{by_kind, look, meet, tree_of, base_of, base_at}
+use Rattle.walk.specs.declared.Met.TheVariants.{Leaf}
+use Rattle.walk.specs.Tree.{meet, tree_of, base_of, base_at}
 use Rattle.walk.specs.Walk.{on, Codec, item, walk}
 use Rattle.walk.specs.Planned.{tree_by, child_by}
 use Rattle.walk.proofs.Trees.{a_leaf, looked, met, child_met}

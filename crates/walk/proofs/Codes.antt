@@ -53,6 +53,9 @@ module _ (f : ℕ → ℕ) where
   pub all_of : (n k : ℕ) → all_bases f k ≡ true → k ≤ n → n ≤ k → k ≡ leading f n
   all_of n k a l g = sym (all-lead k a) ∙ ap (leading f) (omega arith)
 
+  pub they-all-lead : (n k : ℕ) → all_bases f k ≡ true → k ≤ n → n ≤ k → n ≡ leading f n
+  they-all-lead n k a l g = let e : n ≡ k = omega arith in e ∙ all_of n k a l g
+
   pub leading-most : (n : ℕ) → leading f n ≤ n
   unfolding leading
   leading-most zero = omega arith

@@ -1,33 +1,28 @@
 -- What the returns of the walks come to, whatever is read and written.
 -- Assumes nothing.
-use Prim.Native.Nat.{ℕ, zero, suc, ◌+◌, ◌*◌, ◌^◌, ◌≤◌, ◌<◌}
+use Prim.Native.Nat.{ℕ, ◌+◌, ◌≤◌, ◌<◌}
 use mathlib.Core.Path.{◌≡◌, refl, sym, ap, subst, ◌∙◌}
-use mathlib.Core.Bool.{Bool, true, false, ◌&&◌, cond}
+use mathlib.Core.Bool.{Bool, true, false, ◌&&◌}
 use mathlib.Core.List.{List, [], ◌∷◌}
 use native.Mathlib.Omega.{arith}
-use borrow.Author.Tests.{le-leb, lt-leb, lt-ltb}
-use mir.Syntax.{w64}
-use mir.Val.{Fits}
-use lib.Dec.{ltb, leb, eqb}
+use lib.Dec.{eqb}
 use lib.ListN.{length, set}
-use Rattle.wire.specs.Bytes.{number, written}
+use Rattle.wire.specs.Bytes.{written}
 use Rattle.wire.proofs.Cond.{yes-if, no-if, yes-eq, no_eq}
-use Rattle.wire.proofs.Runs.{held, set_over, written_in, written_out}
+use Rattle.wire.proofs.Runs.{set_over, written_in, written_out}
 use Rattle.table.specs.declared.Sections.{Sections}
 use Rattle.table.specs.declared.Entry.{Entry}
 use Rattle.table.specs.Entries.{member_at}
-use Rattle.table.specs.Leaf.{base, bytes_of, is_value, width, allowed}
-use Rattle.leaf.specs.Forms.{word_of, word_at}
-use Rattle.leaf.specs.Choice.{choice, takes}
+use Rattle.table.specs.Leaf.{allowed}
 use Rattle.walk.specs.declared.Place.{Place}
 use Rattle.walk.specs.declared.Met.{Met}
 use Rattle.walk.specs.declared.Met.TheVariants.{Leaf, Members, Elements, Broken}
 use Rattle.walk.specs.declared.Walked.{Walked}
 use Rattle.walk.specs.declared.Walked.TheVariants.{Went, Stopped}
-use Rattle.walk.specs.Tree.{Tree, look, tree_of, elements_of, row, array, broken}
+use Rattle.walk.specs.Tree.{Tree, look, tree_of, elements_of}
 use Rattle.walk.specs.Walk.{Step, on, stop, answer, left, next, through, Codec, item, counted, count_code, walk, begun, times, leaf_walk}
 use Rattle.walk.specs.Planned.{is_planned, plan_tree, tree_by, trees_by, type_by, child_by, walk_by}
-use Rattle.walk.proofs.Walks.{went, stopped, through-none, through-more, through-stop, through-done, Holds}
+use Rattle.walk.proofs.Walks.{went, stopped, through-more, through-stop, through-done, Holds}
 
 -- what a function did is what the step says
 abbrev pub Did : Step → Walked → List ℕ → Type 0

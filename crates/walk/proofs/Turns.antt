@@ -22,7 +22,7 @@ use Rattle.walk.specs.declared.Met.TheVariants.{Leaf, Members, Elements, Broken}
 use Rattle.walk.specs.declared.Walked.{Walked}
 use Rattle.walk.specs.declared.Walked.TheVariants.{Went, Stopped}
 use Rattle.walk.specs.Tree.{Tree, meet}
-use Rattle.walk.specs.Walk.{Step, on, answer, left, through, Codec, item, counted, count_code, walk, begun, times, leaf_walk, Goes, Going}
+use Rattle.walk.specs.Walk.{Step, on, left, through, Codec, item, counted, count_code, walk, begun, times, leaf_walk, Going}
 use Rattle.walk.specs.Planned.{is_planned, tree_by, trees_by, child_by, walk_by}
 use Rattle.walk.proofs.Walks.{went, through-none, Holds, walk-holds, begun-holds}
 use Rattle.walk.proofs.Trees.{child_met}

@@ -67,8 +67,7 @@ fn codes_in(types: &[u8], members: &[u8], i: u16, n: usize, codes: &mut [u8]) ->
         ≡ over codes.old 0
         (firsts (part_code types.now members.now i) (leading (part_code types.now members.now i) n)) }
 {
-    let mut k: usize = 0;
-    while k < n {
+    for k in 0..n {
         let child = wire::whole_u16(members, MEMBER_BYTES * k);
         if i <= child {
             return k;
@@ -79,9 +78,8 @@ fn codes_in(types: &[u8], members: &[u8], i: u16, n: usize, codes: &mut [u8]) ->
             return k;
         }
         codes[k] = code as u8;
-        k += 1;
     }
-    k
+    n
 }
 
 // The four numbers of an entry as one, with its halves exchanged. Those of a base are 0 but for the second, its code: so they

@@ -1,10 +1,9 @@
-use borrow.Author.Rules.{rules}
-use Rattle.operations.proofs.Places.{first-place, next_place, step_fits, last-place}
+use Rattle.operations.proofs.Places.{first-place, next_place, step_fits}
 use Rattle.operations.proofs.entries.end.Goals as goal
 
 pub loop-i-init : goal.loop-i-init
 loop-i-init c =
-    (search rules, search first-place)
+    search first-place
 
 pub overflow_add-place : goal.overflow_add-place
 overflow_add-place c =
@@ -12,8 +11,4 @@ overflow_add-place c =
 
 pub loop-i-preserved : goal.loop-i-preserved
 loop-i-preserved c =
-    (search rules, search next_place)
-
-pub returns : goal.returns
-returns c =
-    search last-place
+    search next_place

@@ -1,12 +1,11 @@
-use borrow.Author.Rules.{rules}
 use Rattle.operations.proofs.Places.{first-place, step-by-kind}
 use Rattle.operations.proofs.Heads.{next-by-head}
-use Rattle.operations.proofs.Laying.{none_laid, laid-length, one-laid, all_laid, word_fits}
+use Rattle.operations.proofs.Laying.{none_laid, one-laid, word_fits}
 use Rattle.operations.proofs.index.lay_index.Goals as goal
 
 pub loop-i-init : goal.loop-i-init
 loop-i-init c =
-    (search rules, (search none_laid, search first-place))
+    (search none_laid, search first-place)
 
 pub overflow_add-word : goal.overflow_add-word
 overflow_add-word c =
@@ -18,12 +17,4 @@ overflow_add-place c =
 
 pub loop-i-preserved : goal.loop-i-preserved
 loop-i-preserved c =
-    (search rules, (search one-laid, search next-by-head))
-
-pub shape_of-index : goal.shape_of-index
-shape_of-index c =
-    search laid-length
-
-pub returns : goal.returns
-returns c =
-    search all_laid
+    (search one-laid, search next-by-head)

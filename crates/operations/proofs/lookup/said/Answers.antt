@@ -1,5 +1,4 @@
 use borrow.Author.Rules.{rules}
-use lib.ListN.{length-drop}
 use Rattle.operations.proofs.Looking.{all_left, all-ends, goes_on, ends_on, unlaid, last-told, none_said}
 use Rattle.operations.proofs.lookup.said.Goals as goal
 
@@ -14,10 +13,6 @@ loop-size-init c =
 pub returns-then-index-middle : goal.returns-then-index-middle
 returns-then-index-middle c =
     search unlaid
-
-pub word_at-here-requires : goal.word_at-here-requires
-word_at-here-requires c =
-    search (rules, length-drop)
 
 pub loop-size-preserved : goal.loop-size-preserved
 loop-size-preserved c =

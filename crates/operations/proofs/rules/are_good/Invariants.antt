@@ -1,6 +1,5 @@
 -- `operations::rules::are_good` meets its contract: the first i operations have passed, and the last ID is carried along.
 -- Assumes nothing.
-use Prim.Native.Nat.{◌-◌, ◌≤◌}
 use mathlib.Core.Path.{◌≡◌}
 use mathlib.Core.Bool.{true}
 use Rattle.wire.specs.All.{all_below}
@@ -11,7 +10,4 @@ use Rattle.operations.proofs.rules.are_good.Given as goal
 
 abbrev pub invariant-loop-i : goal.invariant-loop-i
 invariant-loop-i l =
-    (l.i ≤ l.count) × ((all_below (operation_ok l.table l.at l.types) l.i ≡ true) × (Carried (id_at l.table l.at) l.i l.last × (l.place ≡ op_place l.table l.at l.i)))
-
-abbrev pub decreases-loop-i : goal.decreases-loop-i
-decreases-loop-i l = l.count - l.i
+    (all_below (operation_ok l.table l.at l.types) l.i ≡ true) × Carried (id_at l.table l.at) l.i l.last × (l.place ≡ op_place l.table l.at l.i)

@@ -1,11 +1,10 @@
-use borrow.Author.Rules.{rules}
 use Rattle.operations.proofs.Places.{first-place, next-by-kind, step-by-kind}
 use Rattle.operations.proofs.Passing.{no-data-yet, never-data, some-data, not-data}
 use Rattle.operations.proofs.rules.has_data.Goals as goal
 
 pub loop-i-init : goal.loop-i-init
 loop-i-init c =
-    (search rules, (search no-data-yet, search first-place))
+    (search no-data-yet, search first-place)
 
 pub returns-then-kind-eq-VERSIONED_DATA : goal.returns-then-kind-eq-VERSIONED_DATA
 returns-then-kind-eq-VERSIONED_DATA c =
@@ -17,7 +16,7 @@ overflow_add-place c =
 
 pub loop-i-preserved : goal.loop-i-preserved
 loop-i-preserved c =
-    (search rules, (search not-data, search next-by-kind))
+    (search not-data, search next-by-kind)
 
 pub returns : goal.returns
 returns c =

@@ -1,6 +1,5 @@
 -- `operations::rules::has_data` meets its contract: none of the first i operations is versioned data.
 -- Assumes nothing.
-use Prim.Native.Nat.{◌-◌, ◌≤◌}
 use mathlib.Core.Path.{◌≡◌}
 use mathlib.Core.Bool.{true}
 use Rattle.wire.specs.All.{all_below}
@@ -9,7 +8,4 @@ use Rattle.operations.specs.Rules.{not_data}
 use Rattle.operations.proofs.rules.has_data.Given as goal
 
 abbrev pub invariant-loop-i : goal.invariant-loop-i
-invariant-loop-i l = (l.i ≤ l.count) × ((all_below (not_data l.table l.at) l.i ≡ true) × (l.place ≡ op_place l.table l.at l.i))
-
-abbrev pub decreases-loop-i : goal.decreases-loop-i
-decreases-loop-i l = l.count - l.i
+invariant-loop-i l = (all_below (not_data l.table l.at) l._i ≡ true) × (l.place ≡ op_place l.table l.at l._i)

@@ -5,7 +5,7 @@ use Rattle.plan.proofs.leaves.row_leaves.Goals as goal
 
 pub loop-k-init : goal.loop-k-init
 loop-k-init c =
-    (search rules, search sum-none, search none_below, search rules)
+    (search sum-none, search none_below, search rules)
 
 pub returns-then-leaves-eq0 : goal.returns-then-leaves-eq0
 returns-then-leaves-eq0 c =
@@ -13,7 +13,7 @@ returns-then-leaves-eq0 c =
 
 pub loop-k-preserved : goal.loop-k-preserved
 loop-k-preserved c =
-    (search rules, search row_more, search row-some, search rules)
+    (search row_more, search row-some, search rules)
 
 pub returns : goal.returns
 returns c =

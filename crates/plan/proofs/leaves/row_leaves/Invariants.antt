@@ -1,6 +1,6 @@
 -- `plan::leaves::row_leaves` meets its contract: the total is the sum over the first k members, each of which has some.
 -- Assumes nothing.
-use Prim.Native.Nat.{◌-◌, ◌*◌, ◌≤◌}
+use Prim.Native.Nat.{◌*◌, ◌≤◌}
 use mathlib.Core.Path.{◌≡◌}
 use mathlib.Core.Bool.{true}
 use Rattle.wire.specs.All.{all_below}
@@ -10,8 +10,5 @@ use Rattle.plan.proofs.leaves.row_leaves.Given as goal
 
 abbrev pub invariant-loop-k : goal.invariant-loop-k
 invariant-loop-k l =
-    (l.k ≤ l.count) × (l.total ≡ sum_below (member_leaves l.table l.s l.known l.first) l.k)
+    (l.total ≡ sum_below (member_leaves l.table l.s l.known l.first) l.k)
     × (all_below (has_leaves (member_leaves l.table l.s l.known l.first)) l.k ≡ true) × (l.total ≤ l.k * 65535)
-
-abbrev pub decreases-loop-k : goal.decreases-loop-k
-decreases-loop-k l = l.count - l.k

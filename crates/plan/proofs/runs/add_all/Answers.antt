@@ -1,10 +1,9 @@
-use borrow.Author.Rules.{rules}
-use Rattle.plan.proofs.Adding.{start-end, start-held, turn-room, turn_end, turn-held, all_end, all_held}
+use Rattle.plan.proofs.Adding.{start-end, start-held, turn-room, turn_end, turn-held}
 use Rattle.plan.proofs.runs.add_all.Goals as goal
 
 pub loop-k-init : goal.loop-k-init
 loop-k-init c =
-    (search rules, search rules, search rules, search start-held, search start-end)
+    (search start-held, search start-end)
 
 pub add-to-requires : goal.add-to-requires
 add-to-requires c =
@@ -12,12 +11,4 @@ add-to-requires c =
 
 pub loop-k-preserved : goal.loop-k-preserved
 loop-k-preserved c =
-    (search rules, search rules, search rules, search turn-held, search turn_end)
-
-pub returns-clause-value : goal.returns-clause-value
-returns-clause-value c =
-    search all_end
-
-pub returns-clause-words_after : goal.returns-clause-words_after
-returns-clause-words_after c =
-    search all_held
+    (search turn-held, search turn_end)

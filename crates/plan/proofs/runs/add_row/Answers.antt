@@ -1,10 +1,9 @@
-use borrow.Author.Rules.{rules}
-use Rattle.plan.proofs.Rows.{row-start-end, row-start-held, part_room, part_end, part_held, row_done_end, row_done_held}
+use Rattle.plan.proofs.Rows.{row-start-end, row-start-held, part_room, part_end, part_held}
 use Rattle.plan.proofs.runs.add_row.Goals as goal
 
 pub loop-k-init : goal.loop-k-init
 loop-k-init c =
-    (search rules, search rules, search row-start-held, search row-start-end)
+    (search row-start-held, search row-start-end)
 
 pub add_type-to-requires-clause-room : goal.add_type-to-requires-clause-room
 add_type-to-requires-clause-room c =
@@ -12,12 +11,4 @@ add_type-to-requires-clause-room c =
 
 pub loop-k-preserved : goal.loop-k-preserved
 loop-k-preserved c =
-    (search rules, search rules, search part_held, search part_end)
-
-pub returns-clause-value : goal.returns-clause-value
-returns-clause-value c =
-    search row_done_end
-
-pub returns-clause-words_after : goal.returns-clause-words_after
-returns-clause-words_after c =
-    search row_done_held
+    (search part_held, search part_end)

@@ -1,11 +1,7 @@
 -- `plan::runs::add_type` meets its contract: a type before, or none.
 -- Assumes nothing.
-use Rattle.plan.proofs.Rows.{type-order, type-below, type-room, type-end, type-held, none_end, none-held}
+use Rattle.plan.proofs.Rows.{type-room, type-end, type-held, none_end, none-held}
 use Rattle.plan.proofs.runs.add_type.Goals as goal
-
-pub add_all-requires-clause-at_le_stop : goal.add_all-requires-clause-at_le_stop
-add_all-requires-clause-at_le_stop c =
-    (search type-order, search type-below)
 
 pub add_all-requires-clause-room : goal.add_all-requires-clause-room
 add_all-requires-clause-room c =

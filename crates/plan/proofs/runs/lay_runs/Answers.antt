@@ -1,22 +1,10 @@
 use borrow.Author.Rules.{rules}
-use mathlib.Core.Path.{sym}
-use native.Mathlib.Omega.{arith}
-use lib.ListN.{length-set}
-use lib.Seq.{length-take-le}
-use Rattle.plan.proofs.AllTypes.{none-held, none_end, no_start, its-count, more-laid, more-end, more-held, more-starts, all_laid, all-started}
+use Rattle.plan.proofs.AllTypes.{none-held, none_end, no_start, its-count, more-laid, more-end, more-held, more-starts, all-started}
 use Rattle.plan.proofs.runs.lay_runs.Goals as goal
 
 pub loop-i-init : goal.loop-i-init
 loop-i-init c =
-    (search rules, search rules, search rules, search none-held, search none_end, search no_start)
-
-pub slice_bounds-lay_type-end : goal.slice_bounds-lay_type-end
-slice_bounds-lay_type-end c =
-    simp length-set (search rules)
-
-pub slice_bounds-lay_type-end-in-loop-i : goal.slice_bounds-lay_type-end-in-loop-i
-slice_bounds-lay_type-end-in-loop-i c =
-    sym (length-take-le _ _ (simp length-set (omega arith)))
+    (search none-held, search none_end, search no_start)
 
 pub lay_type-end-requires-clause-i_lt_most_types : goal.lay_type-end-requires-clause-i_lt_most_types
 lay_type-end-requires-clause-i_lt_most_types c =
@@ -28,11 +16,7 @@ lay_type-end-requires-clause-laid c =
 
 pub loop-i-preserved : goal.loop-i-preserved
 loop-i-preserved c =
-    (search rules, search rules, simp length-set (search rules), search more-held, search more-end, search more-starts)
-
-pub returns-clause-words_after : goal.returns-clause-words_after
-returns-clause-words_after c =
-    search all_laid
+    (search more-held, search more-end, search more-starts)
 
 pub returns-clause-starts_after : goal.returns-clause-starts_after
 returns-clause-starts_after c =

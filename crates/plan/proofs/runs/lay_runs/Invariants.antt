@@ -1,6 +1,5 @@
 -- `plan::runs::lay_runs` meets its contract: the runs of the first i types are laid out.
 -- Assumes nothing.
-use Prim.Native.Nat.{◌-◌, ◌≤◌}
 use mathlib.Core.Path.{◌≡◌}
 use lib.ListN.{length, take}
 use Rattle.wire.specs.Bytes.{over}
@@ -10,8 +9,5 @@ use Rattle.plan.proofs.runs.lay_runs.Given as goal
 
 abbrev pub invariant-loop-i : goal.invariant-loop-i
 invariant-loop-i l =
-    (l.i ≤ length l.counts) × (length l.words ≡ length l.initial.words) × (length l.starts ≡ length l.initial.starts) × (l.words ≡ over l.initial.words 0 (all_runs l.table l.s l.i))
+    (l.words ≡ over l.initial.words 0 (all_runs l.table l.s l.i))
     × (l.end ≡ length (all_runs l.table l.s l.i)) × (take l.i l.starts ≡ starts_of l.table l.s l.i)
-
-abbrev pub decreases-loop-i : goal.decreases-loop-i
-decreases-loop-i l = length l.counts - l.i

@@ -1,11 +1,7 @@
 -- `types::alike::fill` meets its contract: the room holds the last ones alike of the first k values.
 -- Assumes nothing.
-use Rattle.std.proofs.Common.{◌≡◌, ◌-◌, ◌≤◌, length}
 use Rattle.types.specs.Alike.{Alikes}
 use Rattle.types.proofs.alike.fill.Given as goal
 
 abbrev pub invariant-loop-k : goal.invariant-loop-k
-invariant-loop-k l = (l.k ≤ l.s.values.count) × (length l.room ≡ length l.initial.room) × Alikes l.table l.s l.k l.room
-
-abbrev pub decreases-loop-k : goal.decreases-loop-k
-decreases-loop-k l = l.s.values.count - l.k
+invariant-loop-k l = Alikes l.table l.s l.k l.room

@@ -1,10 +1,9 @@
-use Rattle.std.proofs.Common.{rules}
 use Rattle.types.proofs.Distinctness.{from-behind, alike-here, not-here, none_left}
 use Rattle.types.proofs.alike.last_alike.Goals as goal
 
 pub loop-j-init : goal.loop-j-init
 loop-j-init c =
-    (search rules, search from-behind)
+    search from-behind
 
 pub returns-then-value_at-word : goal.returns-then-value_at-word
 returns-then-value_at-word c =
@@ -12,7 +11,7 @@ returns-then-value_at-word c =
 
 pub loop-j-preserved : goal.loop-j-preserved
 loop-j-preserved c =
-    (search rules, search not-here)
+    search not-here
 
 pub returns : goal.returns
 returns c =

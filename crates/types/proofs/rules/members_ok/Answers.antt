@@ -1,4 +1,3 @@
-use Rattle.std.proofs.Common.{rules}
 use Rattle.types.specs.Rules.{members_ok}
 use Rattle.wire.proofs.AllBelow.{none_below, done_below}
 use Rattle.types.proofs.TypeRules.{member-next, member-ends}
@@ -7,16 +6,16 @@ use Rattle.types.proofs.rules.members_ok.Goals as goal
 pub loop-k-init : goal.loop-k-init
 unfolding members_ok
 loop-k-init c =
-    (search rules, search none_below)
+    search none_below
 
 pub loop-k-preserved : goal.loop-k-preserved
 unfolding members_ok
 loop-k-preserved c =
-    (search rules, search member-next)
+    search member-next
 
-pub returns-else-member_in-i : goal.returns-else-member_in-i
+pub returns-then-i-member_in : goal.returns-then-i-member_in
 unfolding members_ok
-returns-else-member_in-i c =
+returns-then-i-member_in c =
     search member-ends
 
 pub returns : goal.returns

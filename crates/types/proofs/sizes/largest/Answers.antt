@@ -1,11 +1,7 @@
 -- `types::sizes::largest` meets its contract: a type of the table, and one that the room holds.
 -- Assumes nothing.
-use Rattle.types.proofs.SizeLaws.{is_known, is-unknown, below_limit}
+use Rattle.types.proofs.SizeLaws.{is_known, is-unknown}
 use Rattle.types.proofs.sizes.largest.Goals as goal
-
-pub largest_below-requires : goal.largest_below-requires
-largest_below-requires c =
-    search below_limit
 
 pub returns-then-is_type-i : goal.returns-then-is_type-i
 returns-then-is_type-i c =

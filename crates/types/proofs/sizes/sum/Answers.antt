@@ -1,23 +1,11 @@
-use Rattle.std.proofs.Common.{arith, rules}
-use Rattle.types.proofs.SizeLaws.{known_member, sum-none, sum_more, sum_done}
+use Rattle.std.proofs.Common.{rules}
+use Rattle.types.proofs.SizeLaws.{sum-none, sum_more}
 use Rattle.types.proofs.sizes.sum.Goals as goal
 
 pub loop-k-init : goal.loop-k-init
-loop-k-init c =
-    (search rules, search sum-none, search rules)
-
-pub member_of-member-requires : goal.member_of-member-requires
-member_of-member-requires c h =
-    let p = c.requires h in (p.lie, omega (arith, p.there))
-
-pub known_at-requires : goal.known_at-requires
-known_at-requires c h =
-    known_member _ _ _ _ _ _ _ (c.requires h) c.loop-k-test.true c.member_of-member.ensures
+loop-k-init g c =
+    (search sum-none, search rules)
 
 pub loop-k-preserved : goal.loop-k-preserved
-loop-k-preserved c =
-    (search rules, search sum_more, search rules)
-
-pub returns : goal.returns
-returns c =
-    search sum_done
+loop-k-preserved g c =
+    (search sum_more, search rules)

@@ -1,4 +1,3 @@
-use Rattle.std.proofs.Common.{rules}
 use Rattle.wire.proofs.AllBelow.{none_below}
 use Rattle.wire.proofs.Rising.{carried_none}
 use Rattle.types.proofs.ValueRules.{order-next, order-carried, order-ends, order_done}
@@ -6,11 +5,11 @@ use Rattle.types.proofs.values.in_order.Goals as goal
 
 pub loop-k-init : goal.loop-k-init
 loop-k-init c =
-    (search rules, search none_below, search carried_none)
+    (search none_below, search carried_none)
 
 pub loop-k-preserved : goal.loop-k-preserved
 loop-k-preserved c =
-    (search rules, search order-next, search order-carried)
+    (search order-next, search order-carried)
 
 pub returns-else-k-last : goal.returns-else-k-last
 returns-else-k-last c =

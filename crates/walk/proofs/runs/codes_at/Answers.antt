@@ -1,7 +1,7 @@
 -- `walk::runs::codes_at` meets its contract: what is read from the parts stands in the table, and there are no codes where one
 -- of them does not lie within it.
 -- Assumes nothing.
-use Rattle.walk.proofs.Parts.{types-end, members-end, parts-there, counted_in, stored-in, not_there, none-placed}
+use Rattle.walk.proofs.Parts.{types-end, members-end, counted_in, stored-in, not_there, none-placed}
 use Rattle.walk.proofs.runs.codes_at.Goals as goal
 
 pub slice_bounds-codes_in-end : goal.slice_bounds-codes_in-end
@@ -11,10 +11,6 @@ slice_bounds-codes_in-end c =
 pub slice_bounds-codes_in-end-then-are_there : goal.slice_bounds-codes_in-end-then-are_there
 slice_bounds-codes_in-end-then-are_there c =
     search members-end
-
-pub codes_in-requires : goal.codes_in-requires
-codes_in-requires c =
-    search parts-there
 
 pub returns-then-are_there-clause-value : goal.returns-then-are_there-clause-value
 returns-then-are_there-clause-value c =

@@ -1,11 +1,10 @@
-use borrow.Author.Rules.{rules}
-use Rattle.walk.proofs.Codes.{none-lead, one-leads, all_of, none_stored, one-stored, so-many}
+use Rattle.walk.proofs.Codes.{none-lead, one-leads, all_of, they-all-lead, none_stored, one-stored, so-many}
 use Rattle.walk.proofs.Parts.{base-part, other-stops, own-stops}
 use Rattle.walk.proofs.runs.codes_in.Goals as goal
 
 pub loop-k-init : goal.loop-k-init
 loop-k-init c =
-    (search rules, search rules, search rules, search none-lead, search none_stored)
+    (search none-lead, search none_stored)
 
 pub returns-then-i-child-clause-value : goal.returns-then-i-child-clause-value
 returns-then-i-child-clause-value c =
@@ -25,11 +24,11 @@ returns-then-code-clause-codes_after c =
 
 pub loop-k-preserved : goal.loop-k-preserved
 loop-k-preserved c =
-    (search rules, search rules, search rules, search (one-leads, base-part), search (one-stored, base-part))
+    (search (one-leads, base-part), search (one-stored, base-part))
 
 pub returns-clause-value : goal.returns-clause-value
 returns-clause-value c =
-    search all_of
+    search they-all-lead
 
 pub returns-clause-codes_after : goal.returns-clause-codes_after
 returns-clause-codes_after c =
