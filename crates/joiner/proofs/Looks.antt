@@ -4,18 +4,23 @@ use Prim.Native.Nat.{ℕ, ◌+◌, ◌≤◌, ◌<◌}
 use Rattle.std.specs.Prelude.{Option, Some, None, Ok, Err}
 use Rattle.refusal.specs.declared.Refusal.TheVariants.{NoJoiner}
 use mathlib.Core.Path.{◌≡◌, refl, sym, ap, ◌∙◌}
-use mathlib.Core.Bool.{Bool, true, false, ◌&&◌, cond}
+use mathlib.Core.Bool.{Bool, true, false, ◌&&◌, ◌||◌, cond}
 use mathlib.Core.List.{List}
+use native.Mathlib.Nat.{zero-add}
 use native.Mathlib.Omega.{arith}
 use borrow.Author.Count.{below_more}
-use borrow.Author.Tests.{ltb-true, leb-true, lt-ltb, le-ltb}
+use borrow.Author.Tests.{ltb-true, ltb-false, leb-true, lt-ltb, le-ltb}
 use mir.Syntax.{w16}
 use mir.Val.{Fits}
 use lib.Bits.{bit_or}
 use lib.Dec.{leb, ltb}
 use lib.ListN.{length, get_or}
-use Rattle.wire.proofs.Cond.{and_left, and_right, and_true}
-use Rattle.wire.proofs.AllBelow.{at-below, all-below}
+use Rattle.wire.proofs.Cond.{and_left, and_right, and_true, neither}
+use Rattle.std.specs.Bool.{MatchBool}
+use Rattle.std.specs.List.{range_with_len, AllWithin, HoldsAt}
+use Rattle.std.proofs.lemmas.List.FromFn.{length-range_with_len, get_or-range_with_len}
+use Rattle.wire.specs.All.{all_below}
+use Rattle.wire.proofs.AllBelow.{at-below, all-below, stop-below}
 use Rattle.wire.proofs.Bits.{or_left, or_right}
 use Rattle.binding.specs.Header.{senders, counters}
 use Rattle.channel.specs.Record.{channel_limit, good_channel}
@@ -29,32 +34,31 @@ use Rattle.joiner.specs.Records.{Sized, stored_in, senders_in, good_record, good
 use Rattle.joiner.proofs.Stored.{stored-length, stored_at, kept-says, says-kept, stored_joiner, is-joiner, well-joiner, good-well}
 
 -- `find` and `are_distinct`
-module _ (ws : List ℕ) (z : Sized ws) {n : ℕ} (en : n ≡ get_or ws 0 0) where
-  sender-is : (k : ℕ) → k < n → (channel_at (stored_in ws) k).sender ≡ get_or ws (record_at k) 0
-  sender-is k h = ap sender_of (stored_at ws z.few k (omega arith))
+module _ (ws : List ℕ) (z : Sized ws) where
+  sender-is : (k : ℕ) → k < get_or ws 0 0 → (channel_at (stored_in ws) k).sender ≡ get_or ws (record_at k) 0
+  sender-is k h = ap sender_of (stored_at ws z.few k h)
 
   module _ (x i : ℕ) (none : (k : ℕ) → k < i → get_or ws (record_at k) 0 ≡ x → ⊥) where
-    none_before : i ≤ n → (k : ℕ) → k < i → (channel_at (stored_in ws) k).sender ≡ x → ⊥
+    none_before : i ≤ get_or ws 0 0 → (k : ℕ) → k < i → (channel_at (stored_in ws) k).sender ≡ x → ⊥
     none_before l k h e = none k h (sym (sender-is k (omega arith)) ∙ e)
 
-    pub found_first : i < n → get_or ws (record_at i) 0 ≡ x → i ≡ place_of (senders_in ws) x
+    pub found_first : i < get_or ws 0 0 → get_or ws (record_at i) 0 ≡ x → i ≡ place_of (senders_in ws) x
     found_first l e = found_here (stored_in ws) z.few (stored-length ws z.few) x i (none_before (omega arith)) (omega arith) (sender-is i l ∙ e)
 
-    pub found_none : i ≤ n → n ≤ i → i ≡ place_of (senders_in ws) x
-    found_none l m = found_nowhere (stored_in ws) z.few (stored-length ws z.few) x i (none_before l) (omega arith) (omega arith)
+    pub found_none : i ≤ get_or ws 0 0 → get_or ws 0 0 ≤ i → get_or ws 0 0 ≡ place_of (senders_in ws) x
+    found_none l m =
+        let e : get_or ws 0 0 ≡ i = omega arith in
+        e ∙ found_nowhere (stored_in ws) z.few (stored-length ws z.few) x i (none_before l) (omega arith) (omega arith)
 
-  pub stands-twice : {p : ℕ} (i : ℕ) → i < n → p ≡ place_of (senders_in ws) (get_or ws (record_at i) 0) → p < i → false ≡ distinct (senders_in ws)
+  pub stands-twice : {p : ℕ} (i : ℕ) → i < get_or ws 0 0 → p ≡ place_of (senders_in ws) (get_or ws (record_at i) 0) → p < i → false ≡ distinct (senders_in ws)
   stands-twice i l e h =
       twice (stored_in ws) z.few (stored-length ws z.few) i (omega arith) (e ∙ ap (place_of (senders_in ws)) (sym (sender-is i l))) h
 
-  pub stands-once : (i : ℕ) → ((k : ℕ) → k < i → k ≤ place_of (senders_in ws) (get_or ws (record_at k) 0)) → i ≤ n → n ≤ i → true ≡ distinct (senders_in ws)
+  pub stands-once : (i : ℕ) → ((k : ℕ) → k < i → k ≤ place_of (senders_in ws) (get_or ws (record_at k) 0)) → i ≤ get_or ws 0 0 → get_or ws 0 0 ≤ i → true ≡ distinct (senders_in ws)
   stands-once i f l m = never-twice (stored_in ws) z.few (stored-length ws z.few) i go (omega arith)
     where
       go : (k : ℕ) → k < i → k ≤ place_of (senders_in ws) (channel_at (stored_in ws) k).sender
       go k h = rw (sender-is k (omega arith)) (f k h)
-
-pub none_earlier : {p : ℕ} (l : List ℕ) (x i : ℕ) → p ≡ place_of l x → i ≤ p → i ≤ place_of l x
-none_earlier l x i e h = omega arith
 
 -- `rise`
 -- what is known of the first i records: their IDs rise and are below `next`, and each word is within what they were put
@@ -86,9 +90,9 @@ module _ (ws : List ℕ) (i : ℕ) where
   abbrev lastIt : ℕ
   lastIt = get_or ws (record_at i + 2) 0
 
-  pub risen-more : (next seens lasts : ℕ) {R : ℕ} → R ≡ get_or ws 1 0 → Risen ws i next seens lasts
-      → (leb next id && leb (get_or ws (record_at i + 3) 0) R) ≡ true → Risen ws (i + 1) (id + 1) (bit_or seens seenIt) (bit_or lasts lastIt)
-  risen-more next seens lasts {R} er old e =
+  pub risen-more : (next seens lasts : ℕ) → Risen ws i next seens lasts → (ltb id next || ltb (get_or ws 1 0) (get_or ws (record_at i + 3) 0)) ≡ false
+      → Risen ws (i + 1) (id + 1) (bit_or seens seenIt) (bit_or lasts lastIt)
+  risen-more next seens lasts old e =
       record {
         below = below_more (λ k. get_or ws (record_at k) 0 < id + 1) i (λ k h. omega (arith, rises k h)) (omega arith);
         pairs = λ a b h l. below_more (λ m. a < m → get_or ws (record_at a) 0 < get_or ws (record_at m) 0) i (λ m k g. old.pairs a m g k) (λ g. rises a g) b l h;
@@ -100,18 +104,18 @@ module _ (ws : List ℕ) (i : ℕ) where
       }
     where
       this : next ≤ id
-      this = leb-true next id (and_left (leb next id) (leb (get_or ws (record_at i + 3) 0) R) e)
+      this = ltb-false id next (neither (ltb id next) (ltb (get_or ws 1 0) (get_or ws (record_at i + 3) 0)) e).0
 
       rises : (a : ℕ) → a < i → get_or ws (record_at a) 0 < id
       rises a h = omega (arith, this, old.below a h)
 
       fits : get_or ws (record_at i + 3) 0 ≤ get_or ws 1 0
-      fits = omega (arith, leb-true (get_or ws (record_at i + 3) 0) R (and_right (leb next id) (leb (get_or ws (record_at i + 3) 0) R) e))
+      fits = ltb-false (get_or ws 1 0) (get_or ws (record_at i + 3) 0) (neither (ltb id next) (ltb (get_or ws 1 0) (get_or ws (record_at i + 3) 0)) e).1
 
-pub risen_all : (ws : List ℕ) (i next seens lasts : ℕ) {n : ℕ} → Sized ws → n ≡ get_or ws 0 0 → i ≤ n → n ≤ i → Risen ws i next seens lasts
+pub risen_all : (ws : List ℕ) (i next seens lasts : ℕ) → Sized ws → get_or ws 0 0 ≤ i → Risen ws i next seens lasts
     → (leb next senders && (ltb seens seen_limit && ltb lasts counters)) ≡ true → are_good ws ≡ true
 unfolding are_good
-risen_all ws i next seens lasts {n} z en l m r e = and_true (good_records ws (get_or ws 0 0)) (distinct (senders_in ws))
+risen_all ws i next seens lasts z m r e = and_true (good_records ws (get_or ws 0 0)) (distinct (senders_in ws))
     (all-below (good_record ws) (get_or ws 0 0) kept) (is_distinct (senders_in ws) once)
   where
     rest : (ltb seens seen_limit && ltb lasts counters) ≡ true
@@ -147,9 +151,6 @@ risen_all ws i next seens lasts {n} z en l m r e = and_true (good_records ws (ge
         let y : get_or (senders_in ws) b 0 ≡ get_or ws (record_at b) 0 = senders-at (stored_in ws) z.few w b c ∙ ap sender_of (stored_at ws z.few b c) in
         omega arith
 
-pub never_so : (ws : List ℕ) → false ≡ true → are_good ws ≡ true
-never_so ws e = let z : ◌≡◌ {A = ℕ} 0 1 = cc in absurd (omega arith)
-
 -- `record_in` and `found`
 module _ (ws : List ℕ) (k : ℕ) where
   pub id_fits : good_record ws k ≡ true → Fits w16 (get_or ws (record_at k) 0)
@@ -167,6 +168,17 @@ module _ (ws : List ℕ) (k : ℕ) where
     pub found-no-one : n ≤ k → None ≡ found_at ws k
     unfolding found_at
     found-no-one h = let l : get_or ws 0 0 ≤ k = omega arith in rw (le-ltb k (get_or ws 0 0) l)
+
+-- `each_is_good`: what `all` over the records' places answers
+pub each-good : (t : Bool) (f : ℕ → Bool) (n : ℕ) →
+    MatchBool t (AllWithin (λ k. f k ≡ true) (range_with_len 0 n) 0 (length (range_with_len 0 n)))
+    ((k : ℕ) × (k < length (range_with_len 0 n)) × HoldsAt (λ k. f k ≡ false) (range_with_len 0 n) k)
+    → t ≡ all_below f n
+each-good true f n h =
+    sym (all-below f n (λ i l. rw (get_or-range_with_len 0 n i 0 l ∙ zero-add i) at (h i 0 (omega arith) (omega (arith, length-range_with_len 0 n)))))
+each-good false f n h =
+    let l : h.0 < n = omega (arith, h.1, length-range_with_len 0 n) in
+    stop-below f n h.0 false (sym (rw (get_or-range_with_len 0 n h.0 0 l ∙ zero-add h.0) at (h.2 0))) refl l
 
 -- `are_good` and `are_each_good`
 pub good_rising : {t : Bool} (ws : List ℕ) → (t ≡ true → are_good ws ≡ true) → t ≡ true → true ≡ are_good ws

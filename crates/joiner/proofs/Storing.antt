@@ -7,6 +7,7 @@ use mathlib.Core.List.{List, [], ◌∷◌, ◌++◌, append-nil}
 use native.Mathlib.Omega.{arith}
 use native.Mathlib.Numerals.{add-one}
 use borrow.Author.Tests.{le-leb, lt-leb}
+use mir.Val.{bool_byte}
 use lib.Dec.{ltb, eqb}
 use lib.ListN.{length, get_or, set, take, drop, replicate, length-append}
 use lib.Seq.{take-suc, take_all, drop-length, length-take-le}
@@ -17,6 +18,11 @@ use Rattle.channel.specs.declared.Channel.{Channel}
 use Rattle.joiner.specs.declared.Joiner.{Joiner}
 use Rattle.joiner.specs.JoinerWords.{record_at, joiner_words, seen_limit, record_words, records_words, words_of}
 
+-- seen, as a word
+as-word : (b : Bool) → bool_byte b ≡ cond b 1 0
+as-word true = refl
+as-word false = refl
+
 -- one record, word by word
 behind : (ws : List ℕ) (p : ℕ) (r : List ℕ) (x q : ℕ) → q ≡ p + length r → q < length ws → set (over ws p r) q x ≡ over ws p (r ++ (x ∷ []))
 behind ws p r x q e h =
@@ -24,7 +30,7 @@ behind ws p r x q e h =
     let m : length (r ++ (x ∷ [])) ≡ length r + 1 = length-append r (x ∷ []) in
     set_over (over ws p r) q x (omega arith) ∙ ap (λ (k : ℕ). over (over ws p r) k (x ∷ [])) e ∙ over_over ws p r (x ∷ []) (omega arith)
 
-pub put_record : {b : ℕ} (ws : List ℕ) (k : ℕ) (ch : Channel) → length ws ≡ joiner_words → k < channel_limit → b ≡ cond ch.seen 1 0 →
+pub put_record : {b : ℕ} (ws : List ℕ) (k : ℕ) (ch : Channel) → length ws ≡ joiner_words → k < channel_limit → b ≡ bool_byte ch.seen →
     set (set (set (set ws (record_at k) ch.sender) (record_at k + 1) b) (record_at k + 2) ch.last) (record_at k + 3) ch.held
     ≡ written ws (record_at k) (record_words ch)
 put_record {b} ws k ch w l e =
@@ -34,14 +40,14 @@ put_record {b} ws k ch w l e =
     ∙ ap (λ (u : List ℕ). set (set u (p + 2) ch.last) (p + 3) ch.held) (behind ws p (ch.sender ∷ []) b (p + 1) refl (omega arith))
     ∙ ap (λ (u : List ℕ). set u (p + 3) ch.held) (behind ws p (ch.sender ∷ b ∷ []) ch.last (p + 2) refl (omega arith))
     ∙ behind ws p (ch.sender ∷ b ∷ ch.last ∷ []) ch.held (p + 3) refl (omega arith)
-    ∙ ap (λ (u : ℕ). over ws p (ch.sender ∷ u ∷ ch.last ∷ ch.held ∷ [])) e
+    ∙ ap (λ (u : ℕ). over ws p (ch.sender ∷ u ∷ ch.last ∷ ch.held ∷ [])) (e ∙ as-word ch.seen)
     ∙ sym (written_in ws p (record_words ch) (omega arith))
 
 -- the sizes, and no record yet
 abbrev pub sized : ℕ → ℕ → List ℕ
 sized n R = n ∷ R ∷ replicate (4 * channel_limit) 0
 
--- seen, as a word
+-- the word, read back
 pub seen_back : (b : Bool) → eqb (cond b 1 0) 1 ≡ b
 seen_back true = refl
 seen_back false = refl

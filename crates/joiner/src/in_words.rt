@@ -1,5 +1,5 @@
 // A joiner into its words.
-ghost use Rattle.std.specs.Prelude.{◌≡◌, cond};
+ghost use Rattle.std.specs.Prelude.{◌≡◌};
 ghost use Rattle.wire.specs.Bytes.{written};
 ghost use Rattle.joiner.specs.JoinerWords.{record_at, record_words, words_of};
 
@@ -16,11 +16,8 @@ pub(crate) fn words_of(joiner: Joiner) -> [u32; JOINER_WORDS]
     if count <= CHANNELS {
         words[0] = count as u32;
         words[1] = joiner.room;
-        let mut i = 0;
-        while i < CHANNELS {
-            let channel = joiner.channels[i];
-            put_record(&mut words, i, channel);
-            i += 1;
+        for (i, channel) in joiner.channels.iter().enumerate() {
+            put_record(&mut words, i, *channel);
         }
         return words;
     }
@@ -35,14 +32,8 @@ pub(crate) fn put_record(state: &mut [u32; JOINER_WORDS], at: usize, channel: Ch
     if at < CHANNELS {
         let start = FIRST_RECORD + RECORD_WORDS * at;
         words[start] = channel.sender as u32;
-        words[start + 1] = bit(channel.seen);
+        words[start + 1] = u32::from(channel.seen);
         words[start + 2] = channel.last;
         words[start + 3] = channel.held;
     }
-}
-
-fn bit(seen: bool) -> u32
-    ensures { result ≡ cond seen 1 0 }
-{
-    if seen { 1 } else { 0 }
 }

@@ -45,18 +45,15 @@ fn rise(state: &[u32]) -> bool
     let mut next: u64 = 0;
     let mut seens: u32 = 0;
     let mut lasts: u32 = 0;
-    let mut i = 0;
-    while i < count {
+    for i in 0..count {
         let start = FIRST_RECORD + RECORD_WORDS * i;
         let id = state[start] as u64;
-        seens = seens | state[start + 1];
-        lasts = lasts | state[start + 2];
-        if (next <= id) & (state[start + 3] <= room) {
-            next = id + 1;
-            i += 1;
-        } else {
+        seens |= state[start + 1];
+        lasts |= state[start + 2];
+        if (id < next) | (room < state[start + 3]) {
             return false;
         }
+        next = id + 1;
     }
     (next <= SENDERS as u64) & ((seens < SEEN_LIMIT) & (lasts < COUNTERS))
 }
@@ -66,15 +63,7 @@ fn each_is_good(state: &[u32]) -> bool
     ensures { result ≡ good_records state.now (get_or state.now 0 0) }
 {
     let count = state[0] as usize;
-    let mut i = 0;
-    while i < count {
-        if is_good(state, i) {
-            i += 1;
-        } else {
-            return false;
-        }
-    }
-    true
+    (0..count).all(|i| is_good(state, i))
 }
 
 fn is_good(state: &[u32], at: usize) -> bool
@@ -92,12 +81,10 @@ fn are_distinct(state: &[u32]) -> bool
     ensures { result ≡ distinct (senders_in state.now) }
 {
     let count = state[0] as usize;
-    let mut i = 0;
-    while i < count {
+    for i in 0..count {
         if find(state, state[FIRST_RECORD + RECORD_WORDS * i]) < i {
             return false;
         }
-        i += 1;
     }
     true
 }
@@ -108,14 +95,12 @@ pub(crate) fn find(state: &[u32], id: u32) -> usize
     ensures { result ≡ place_of (senders_in state.now) id }
 {
     let count = state[0] as usize;
-    let mut i = 0;
-    while i < count {
+    for i in 0..count {
         if state[FIRST_RECORD + RECORD_WORDS * i] == id {
             return i;
         }
-        i += 1;
     }
-    i
+    count
 }
 
 // The record at that place, where there is one.

@@ -33,10 +33,8 @@ fn fresh(ids: &[u16], room: u32) -> Joiner
     ensures { result ≡ fresh_of ids.now room }
 {
     let mut channels = [new_channel(0); CHANNELS];
-    let mut i = 0;
-    while i < ids.len() {
-        channels[i] = new_channel(ids[i]);
-        i += 1;
+    for (i, id) in ids.iter().enumerate() {
+        channels[i] = new_channel(*id);
     }
     Joiner {
         channels,

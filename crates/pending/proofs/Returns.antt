@@ -42,13 +42,6 @@ module _ (l : List ℕ) where
       let e : 64 - k ≡ 0 = omega arith in
       sym (ap (λ (m : ℕ). bearing l n m k) e) ∙ left
 
-  -- d places further
-  module _ (n k d x : ℕ) (h : k + d < 64) (p : x ≡ number_at l (k + d)) (left : bearing l n (64 - (k + d)) (k + d) ≡ first_bearing l n) where
-    pub next-bears-another : (x ≡ n → ⊥) → bearing l n (64 - (k + (d + 1))) (k + (d + 1)) ≡ first_bearing l n
-    next-bears-another e =
-        let q : k + d + 1 ≡ k + (d + 1) = omega arith in
-        subst (λ (j : ℕ). bearing l n (64 - j) j ≡ first_bearing l n) q (bears-another n (k + d) h x p left e)
-
   -- a list that has all its places
   pub in_whole : (k : ℕ) (w : Bool) → w ≡ leb 64 (length l) → w ≡ true → k < 64 → k < length l
   in_whole k w e t h =
@@ -97,24 +90,24 @@ module _ (l : List ℕ) where
   asked-this k id target i t p q = rw (p, q)
 
   -- a number that is looked for, one draw after the other
-  module _ (n x m : ℕ) (b : Bool) (p : b ≡ blocked l x) (left : free_within l m x ≡ next_free l n) (h : 0 < m) where
-    one-draw : free_within l m x ≡ cond (blocked l x) (free_within l (m - 1) (drawn x)) x
+  module _ (n x i : ℕ) (b : Bool) (p : b ≡ blocked l x) (left : free_within l (65 - i) x ≡ next_free l n) (h : i < 65) where
+    one-draw : free_within l (65 - i) x ≡ cond (blocked l x) (free_within l (65 - (i + 1)) (drawn x)) x
     unfolding free_within
     one-draw =
-        let e : m ≡ suc (m - 1) = omega arith in
+        let e : 65 - i ≡ suc (65 - (i + 1)) = omega arith in
         ap (λ (k : ℕ). free_within l k x) e
 
-    pub drawn-on : (y : ℕ) → b ≡ true → y ≡ drawn x → free_within l (m - 1) y ≡ next_free l n
+    pub drawn-on : (y : ℕ) → b ≡ true → y ≡ drawn x → free_within l (65 - (i + 1)) y ≡ next_free l n
     drawn-on y t e =
-        ap (free_within l (m - 1)) e ∙ sym (yes-if (free_within l (m - 1) (drawn x)) x (sym p ∙ t)) ∙ sym one-draw ∙ left
+        ap (free_within l (65 - (i + 1))) e ∙ sym (yes-if (free_within l (65 - (i + 1)) (drawn x)) x (sym p ∙ t)) ∙ sym one-draw ∙ left
 
     pub is_free : b ≡ false → x ≡ next_free l n
-    is_free t = sym (no-if (free_within l (m - 1) (drawn x)) x (sym p ∙ t)) ∙ sym one-draw ∙ left
+    is_free t = sym (no-if (free_within l (65 - (i + 1)) (drawn x)) x (sym p ∙ t)) ∙ sym one-draw ∙ left
 
-  pub last-draw : (n x m : ℕ) → m ≤ 0 → free_within l m x ≡ next_free l n → x ≡ next_free l n
+  pub last-draw : (n x i : ℕ) → 65 ≤ i → free_within l (65 - i) x ≡ next_free l n → x ≡ next_free l n
   unfolding free_within
-  last-draw n x m h left =
-      let e : m ≡ 0 = omega arith in
+  last-draw n x i h left =
+      let e : 65 - i ≡ 0 = omega arith in
       sym (ap (λ (k : ℕ). free_within l k x) e) ∙ left
 
   -- what was found under a number is a place of the list

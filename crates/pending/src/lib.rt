@@ -42,14 +42,11 @@ pub fn next_free(list: &[u64], number: u32) -> u32
     ensures { result ≡ next_free list.now number }
 {
     let mut free = number;
-    let mut left = PLACES + 1;
-    while 0 < left {
-        if is_blocked(list, free) {
-            free = drawn(free);
-            left -= 1;
-        } else {
+    for _ in 0..PLACES + 1 {
+        if !is_blocked(list, free) {
             return free;
         }
+        free = drawn(free);
     }
     free
 }
@@ -125,10 +122,8 @@ fn is_borne(list: &[u64], number: u32) -> bool
     ensures { result ≡ is_at (first_bearing list.now number) }
 {
     let mut found = false;
-    let mut k = 0;
-    while k < PLACES {
-        found = found | (number_at(list, k) == number);
-        k += 1;
+    for k in 0..PLACES {
+        found |= number_at(list, k) == number;
     }
     found
 }
@@ -139,21 +134,12 @@ fn first_bearing(list: &[u64], number: u32) -> Option<usize>
     ensures { result ≡ first_bearing list.now number }
 {
     let whole = PLACES <= list.len();
-    let mut k: usize = 0;
-    while k < PLACES {
-        if number_in(list, k, whole) == number {
-            return Some(k);
+    for start in (0..PLACES).step_by(4) {
+        for k in start..start + 4 {
+            if number_in(list, k, whole) == number {
+                return Some(k);
+            }
         }
-        if number_in(list, k + 1, whole) == number {
-            return Some(k + 1);
-        }
-        if number_in(list, k + 2, whole) == number {
-            return Some(k + 2);
-        }
-        if number_in(list, k + 3, whole) == number {
-            return Some(k + 3);
-        }
-        k += 4;
     }
     None
 }

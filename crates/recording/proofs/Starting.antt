@@ -1,8 +1,7 @@
 -- How a recording starts: the cases of `opened_in`.
 -- Assumes nothing.
-use Rattle.std.proofs.Common.{◌≡◌, ℕ, ◌+◌, ◌*◌, ◌<◌, ◌≤◌, Bool, true, false, cond, ◌&&◌, ltb, leb, List, [], ◌∷◌, ◌++◌, length, take, set, replicate, sym, refl, ap, ◌∙◌, ap₂, add-one, arith, length-take-le, take-suc-set, ltb-true, leb-true}
+use Rattle.std.proofs.Common.{◌≡◌, ℕ, ◌+◌, ◌*◌, ◌<◌, ◌≤◌, Bool, true, false, cond, ◌&&◌, ltb, leb, List, [], length, take, replicate, sym, refl, ap, ◌∙◌, ap₂, arith, length-take-le, ltb-true, leb-true}
 use mathlib.Core.Path.{subst⁻¹}
-use Rattle.wire.specs.Bytes.{number}
 use Rattle.wire.proofs.Cond.{yes_lt, no_lt, yes-if, no-if, and_left, and_right}
 use Rattle.channel.specs.Record.{channel_limit, bad_setup, new_channel, largest_room, room_start}
 use Rattle.channel.specs.declared.Channel.{Channel}
@@ -39,14 +38,6 @@ module _ (n R : ℕ) where
   wrong-count e = rw e
 
 -- the IDs, one after the other
-pub ids_more : {x : ℕ} (s ids : List ℕ) (i n : ℕ) → length ids ≡ channel_limit → i < n → n ≤ channel_limit → take i ids ≡ ids_in s i → x
-    ≡ number 1 s (6 + 2 * i) → take (i + 1) (set ids i x) ≡ ids_in s (i + 1)
-ids_more {x} s ids i n l h m e f =
-    rw (add-one i) (take-suc-set ids i x (omega arith) ∙ ap (λ (u : List ℕ). u ++ (x ∷ [])) e ∙ ap (λ (y : ℕ). ids_in s i ++ (y ∷ [])) f)
-
-pub ids_read : (s ids : List ℕ) (i n : ℕ) → i ≤ n → n ≤ i → take i ids ≡ ids_in s i → take n ids ≡ ids_in s n
-ids_read s ids i n h l e = let q : i ≡ n = omega arith in rw q at e
-
 pub ids_count : (ids : List ℕ) (n : ℕ) → length ids ≡ channel_limit → n ≤ channel_limit → n ≡ length (take n ids)
 ids_count ids n l h = sym (length-take-le n ids (omega arith))
 

@@ -10,11 +10,7 @@ pub fn keep(buffer: &mut [u8], from: usize, count: usize) -> usize
     ensures buffer_after { buffer.new ≡ over buffer.old 0 (part buffer.old from count) }
 {
     if wire::has_room(buffer.len(), from, count) {
-        let mut i = 0;
-        while i < count {
-            buffer[i] = buffer[from + i];
-            i += 1;
-        }
+        buffer.copy_within(from..from + count, 0);
         return count;
     }
     0

@@ -70,10 +70,8 @@ fn read_ids(input: &[u8], count: usize) -> [u16; 32]
     ensures { (length result ≡ channel_limit) × (take count result ≡ ids_in input.now count) }
 {
     let mut ids = [0u16; 32];
-    let mut i = 0;
-    while i < count {
+    for i in 0..count {
         ids[i] = wire::u16_at(input, SIZES + 2 * i);
-        i += 1;
     }
     ids
 }

@@ -170,7 +170,7 @@ fn play_in(
 }
 
 // Plays what is filled, and reads on, until nothing more comes. A proved loop has to end, and nothing says that a file
-// does: so it counts its turns down, from a number that no run uses up.
+// does: so it counts its turns, up to a number that no run reaches.
 fn play_all(
     rt: &(impl Print + Eprint),
     from: &mut impl Read,
@@ -187,9 +187,7 @@ fn play_all(
 {
     let mut run = run;
     let mut filled = filled;
-    let mut turns = u64::MAX;
-    while turns > 0 {
-        turns -= 1;
+    for _ in 0..u64::MAX {
         run = recording::play(run, rooms, &input[..filled], output);
         match read_on(from, input, filled, run.at, waits & (run.made > 0)) {
             Next::Write => {

@@ -1,10 +1,9 @@
-use Rattle.std.proofs.Common.{rules}
 use Rattle.pending.proofs.Returns.{borne-on, borne-all}
 use Rattle.pending.proofs.is_borne.Goals as goal
 
 pub loop-k-preserved : goal.loop-k-preserved
 loop-k-preserved c =
-    (search borne-on, search rules)
+    search borne-on
 
 pub returns : goal.returns
 returns c =

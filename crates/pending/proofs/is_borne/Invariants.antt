@@ -1,12 +1,9 @@
 -- `pending::is_borne` meets its contract. The loop's invariant: what was found, or a place from k on, tells what all places do.
 -- Assumes nothing.
-use Rattle.std.proofs.Common.{◌≡◌, ◌-◌, ◌≤◌, ◌||◌}
+use Rattle.std.proofs.Common.{◌≡◌, ◌-◌, ◌||◌}
 use Rattle.pending.specs.Places.{bearing, first_bearing}
 use Rattle.pending.specs.Free.{is_at}
 use Rattle.pending.proofs.is_borne.Given as goal
 
 abbrev pub invariant-loop-k : goal.invariant-loop-k
-invariant-loop-k l = ((l.found || is_at (bearing l.list l.number (64 - l.k) l.k)) ≡ is_at (first_bearing l.list l.number)) × (l.k ≤ 64)
-
-abbrev pub decreases-loop-k : goal.decreases-loop-k
-decreases-loop-k l = 64 - l.k
+invariant-loop-k l = (l.found || is_at (bearing l.list l.number (64 - l.k) l.k)) ≡ is_at (first_bearing l.list l.number)

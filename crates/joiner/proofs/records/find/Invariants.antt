@@ -1,14 +1,8 @@
 -- `joiner::records::find` meets its contract. The loop's invariant: no record before i bears the ID.
 -- Assumes nothing.
-use Prim.Native.Nat.{ℕ, ◌-◌, ◌≤◌, ◌<◌}
-use mathlib.Core.Path.{◌≡◌}
-use lib.ListN.{get_or}
+use Rattle.std.proofs.Common.{◌≡◌, ℕ, ◌<◌, get_or}
 use Rattle.joiner.specs.JoinerWords.{record_at}
-use Rattle.joiner.specs.Records.{Sized}
 use Rattle.joiner.proofs.records.find.Given as goal
 
 abbrev pub invariant-loop-i : goal.invariant-loop-i
-invariant-loop-i l = (l.i ≤ l.count) × Sized l.state × (l.count ≡ get_or l.state 0 0) × ((k : ℕ) → k < l.i → get_or l.state (record_at k) 0 ≡ l.id → ⊥)
-
-abbrev pub decreases-loop-i : goal.decreases-loop-i
-decreases-loop-i l = l.count - l.i
+invariant-loop-i l = (k : ℕ) → k < l.i → get_or l.state (record_at k) 0 ≡ l.id → ⊥

