@@ -52,7 +52,7 @@ module _ (b : List ℕ) (x i : ℕ) (n : i ≤ service_place b x) where
       λ q. true≢false (sym (at_place b x (omega arith)) ∙ ap (λ (k : ℕ). is_place_for (get_or b k 0) x) q ∙ sym e ∙ t) in
       omega arith
 
-  pub found_nowhere : length b ≤ i → i ≡ service_place b x
+  pub found_nowhere : length b ≤ i → length b ≡ service_place b x
   found_nowhere h =
       let p : service_place b x ≤ length b = place_le b x in
       omega arith
