@@ -69,6 +69,3 @@ module _ (b s : List ℕ) where
     pub all_have : all_below (has_place b s) i ≡ true → true ≡ all_have_places b s
     unfolding all_have_places
     all_have a = done_below (has_place b s) (pairs_in s) i a (omega arith) (omega arith)
-
-    pub all_told : {block : List ℕ} → block ≡ pairs_told b s i → block ≡ pairs_told b s (pairs_in s)
-    all_told e = e ∙ ap (pairs_told b s) (omega arith)

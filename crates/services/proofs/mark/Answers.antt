@@ -1,3 +1,4 @@
+-- `services::mark`: its loop and its returns, by the laws of `Marking`.
 use Rattle.services.proofs.Marking.{stops-here, goes_on, all-marked}
 use Rattle.services.proofs.mark.Goals as goal
 

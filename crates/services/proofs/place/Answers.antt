@@ -1,9 +1,6 @@
-use Rattle.services.proofs.Places.{from_start, found_here, not-here, found_nowhere}
+-- `services::place`: its loop and its returns, by the laws of `Places`.
+use Rattle.services.proofs.Places.{found_here, not-here, found_nowhere}
 use Rattle.services.proofs.place.Goals as goal
-
-pub loop-i-init : goal.loop-i-init
-loop-i-init c =
-    search from_start
 
 pub returns-then-is_place_for : goal.returns-then-is_place_for
 returns-then-is_place_for c =

@@ -1,3 +1,4 @@
+-- `services::tell_all`: its loop and its returns, by the laws of `Telling`.
 use Rattle.services.proofs.Telling.{none_told, none-asked, more-told, one_more, not_all, all_have}
 use Rattle.services.proofs.tell_all.Goals as goal
 
