@@ -3,8 +3,7 @@
 // block of services, one behind another in the order of their numbers.
 #![tactic(auto)]
 
-ghost use Rattle.std.specs.Prelude.{◌≡◌, min};
-ghost use Rattle.message.specs.Refusal.{platforms};
+ghost use Rattle.std.specs.Prelude.{◌≡◌};
 ghost use Rattle.states.specs.States.{mask};
 ghost use Rattle.partners.specs.Threes.{bit_in, is_three, with_three, three_set, threes_before, block_start};
 
@@ -31,16 +30,13 @@ pub fn set(words: &mut [u64], k: u32, three: bool)
     }
 }
 
-// How many platforms below k speak Issue 3.
+// How many platforms below k speak Issue 3; above 255 there is none.
 pub fn before(words: &[u64], k: u32) -> usize
     ensures { result ≡ threes_before words.now k }
 {
-    let end = end_of(k);
-    let mut count: usize = 0;
-    let mut j: u32 = 0;
-    while j < end {
+    let mut count = 0;
+    for j in 0..k.min(Own::PLATFORMS) {
         count += bit_in(words, j) as usize;
-        j += 1;
     }
     count
 }
@@ -73,15 +69,4 @@ fn mask(k: u32) -> u64
     ensures { result ≡ mask k }
 {
     1 << (k % WORD_BITS)
-}
-
-// There is none above 255.
-fn end_of(k: u32) -> u32
-    ensures { result ≡ min k platforms }
-{
-    if k <= Own::PLATFORMS {
-        k
-    } else {
-        Own::PLATFORMS
-    }
 }

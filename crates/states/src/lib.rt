@@ -96,29 +96,9 @@ fn with_word(s: States, i: u32, x: u64) -> States
     ensures { result ≡ with_word s i x }
 {
     match i {
-        0 => States {
-            w0: x,
-            w1: s.w1,
-            w2: s.w2,
-            w3: s.w3,
-        },
-        1 => States {
-            w0: s.w0,
-            w1: x,
-            w2: s.w2,
-            w3: s.w3,
-        },
-        2 => States {
-            w0: s.w0,
-            w1: s.w1,
-            w2: x,
-            w3: s.w3,
-        },
-        _ => States {
-            w0: s.w0,
-            w1: s.w1,
-            w2: s.w2,
-            w3: x,
-        },
+        0 => States { w0: x, ..s },
+        1 => States { w1: x, ..s },
+        2 => States { w2: x, ..s },
+        _ => States { w3: x, ..s },
     }
 }
