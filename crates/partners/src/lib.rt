@@ -4,12 +4,10 @@
 #![tactic(auto)]
 
 ghost use Rattle.std.specs.Prelude.{◌≡◌};
-ghost use Rattle.states.specs.States.{mask};
 ghost use Rattle.partners.specs.Threes.{bit_in, is_three, with_three, three_set, threes_before, block_start};
 
 use message::Own;
-
-const WORD_BITS: u32 = 64;
+use states::WORD_BITS;
 
 // Whether platform k speaks Issue 3; a number above 255 does not.
 pub fn is_three(words: &[u64], k: u32) -> bool
@@ -23,10 +21,8 @@ pub fn set(words: &mut [u64], k: u32, three: bool)
     ensures { words.new ≡ three_set words.old k three }
 {
     let at = (k / WORD_BITS) as usize;
-    if k < Own::PLATFORMS {
-        if at < words.len() {
-            words[at] = with_three(words[at], k, three);
-        }
+    if k < Own::PLATFORMS && at < words.len() {
+        words[at] = with_three(words[at], k, three);
     }
 }
 
@@ -59,14 +55,8 @@ fn with_three(word: u64, k: u32, three: bool) -> u64
     ensures { result ≡ with_three word k three }
 {
     if three {
-        word | mask(k)
+        word | states::mask(k)
     } else {
-        (word | mask(k)) ^ mask(k)
+        (word | states::mask(k)) ^ states::mask(k)
     }
-}
-
-fn mask(k: u32) -> u64
-    ensures { result ≡ mask k }
-{
-    1 << (k % WORD_BITS)
 }
