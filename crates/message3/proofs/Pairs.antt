@@ -1,35 +1,19 @@
--- Whether a status of services is as long as it says, whether its states are known, and the arms of `has_table_4_length`.
+-- Whether its states are known, which a status of services tells, and the arms of `has_table_4_length`.
 -- Assumes nothing.
-use Prim.Native.Nat.{ℕ, ◌-◌, ◌/◌, ◌%◌, ◌≤◌, ◌<◌}
+use Prim.Native.Nat.{ℕ, ◌<◌}
 use mathlib.Core.Path.{◌≡◌, refl, sym, ap, ◌∙◌}
 use mathlib.Core.Bool.{Bool, true, false}
 use mathlib.Core.List.{List}
 use native.Mathlib.Omega.{arith}
-use borrow.Author.Tests.{eqb-true, eqb-false, eq-eqb, ne_eqb}
 use lib.Dec.{eqb}
-use lib.ListN.{length}
+use lib.ListN.{length, get_or}
+use Rattle.std.specs.Bool.{MatchBool}
+use Rattle.std.specs.List.{range_with_len, AllWithin, HoldsAt}
+use Rattle.std.proofs.lemmas.List.FromFn.{length-range_with_len, get_or-range_with_len}
 use Rattle.wire.specs.All.{all_below}
-use Rattle.wire.proofs.AllBelow.{stop-below, done_below}
+use Rattle.wire.proofs.AllBelow.{all-below, stop-below}
 use Rattle.wire.proofs.Cond.{no_eq}
-use Rattle.message3.specs.Platform.{platform_status3, platform_status_request3, availability_status, first_in, services_length, payload_length3, known_state}
-
-module _ (payload : List ℕ) where
-  pub too_few : length payload < 4 → false ≡ eqb (length payload) (services_length (first_in payload))
-  too_few h = sym (ne_eqb (length payload) (services_length (first_in payload)) (λ e. omega arith))
-
-  module _ (long : 4 ≤ length payload) where
-    pub half-pair : ((length payload - 4) % 8 ≡ 0 → ⊥) → false ≡ eqb (length payload) (services_length (first_in payload))
-    half-pair h = sym (ne_eqb (length payload) (services_length (first_in payload)) (λ e. h (omega arith)))
-
-    pub pairs-counted : (n : ℕ) → (length payload - 4) % 8 ≡ 0 → n ≡ first_in payload
-        → eqb ((length payload - 4) / 8) n ≡ eqb (length payload) (services_length (first_in payload))
-    pairs-counted n h e = go (eqb ((length payload - 4) / 8) n) refl
-      where
-        go : (b : Bool) → eqb ((length payload - 4) / 8) n ≡ b → b ≡ eqb (length payload) (services_length (first_in payload))
-        go true t = sym (eq-eqb (length payload) (services_length (first_in payload)) (omega (arith, eqb-true ((length payload - 4) / 8) n t)))
-        go false t =
-            let d : (length payload - 4) / 8 ≡ n → ⊥ = eqb-false ((length payload - 4) / 8) n t in
-            sym (ne_eqb (length payload) (services_length (first_in payload)) (λ k. d (omega arith)))
+use Rattle.message3.specs.Platform.{platform_status3, platform_status_request3, availability_status, payload_length3}
 
 -- the arms, by the ID
 pub length_arm : (n id : ℕ) (payload : List ℕ) {r : Bool} → r ≡ eqb (length payload) (payload_length3 n payload) → id ≡ n → r
@@ -41,10 +25,20 @@ pub one_field : (id : ℕ) (payload : List ℕ) → (id ≡ platform_status3 →
 one_field id payload a b c =
     ap (eqb (length payload)) (sym (no_eq _ _ id platform_status3 a ∙ no_eq _ _ id platform_status_request3 b ∙ no_eq _ _ id availability_status c))
 
--- the ends of `are_known`, whose loop goes to what was read as how many
-module _ (payload : List ℕ) (count : ℕ) (n : count ≡ first_in payload) where
-  pub stopped : (i : ℕ) (r : Bool) → r ≡ known_state payload i → r ≡ false → i < count → false ≡ all_below (known_state payload) (first_in payload)
-  stopped i r e f h = stop-below (known_state payload) count i r e f h ∙ ap (all_below (known_state payload)) n
+-- what `all` answers of the numbers below n
+pub all-asked : (f : ℕ → Bool) (n : ℕ) {r : Bool} → MatchBool r (AllWithin (λ (i : ℕ). f i ≡ true) (range_with_len 0 n) 0 (length (range_with_len 0 n)))
+    ((k : ℕ) × (k < length (range_with_len 0 n)) × HoldsAt (λ (i : ℕ). f i ≡ false) (range_with_len 0 n) k) → r ≡ all_below f n
+all-asked f n {r} h = go r h
+  where
+    long : length (range_with_len 0 n) ≡ n
+    long = length-range_with_len 0 n
 
-  pub all_known : (i : ℕ) → all_below (known_state payload) i ≡ true → i ≤ count → count ≤ i → true ≡ all_below (known_state payload) (first_in payload)
-  all_known i a h l = done_below (known_state payload) count i a h l ∙ ap (all_below (known_state payload)) n
+    the_number : (i : ℕ) → i < n → get_or (range_with_len 0 n) i 0 ≡ i
+    the_number i l = omega (arith, get_or-range_with_len 0 n i 0 l)
+
+    go : (b : Bool) → MatchBool b (AllWithin (λ (i : ℕ). f i ≡ true) (range_with_len 0 n) 0 (length (range_with_len 0 n)))
+        ((k : ℕ) × (k < length (range_with_len 0 n)) × HoldsAt (λ (i : ℕ). f i ≡ false) (range_with_len 0 n) k) → b ≡ all_below f n
+    go true h = sym (all-below f n (λ i l. ap f (sym (the_number i l)) ∙ h i 0 (omega arith) (omega (arith, long))))
+    go false h =
+        let l : h.0 < n = omega (arith, long, h.1) in
+        stop-below f n h.0 (f h.0) refl (ap f (sym (the_number h.0 l)) ∙ h.2 0) l

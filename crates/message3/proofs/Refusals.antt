@@ -4,11 +4,9 @@
 use Prim.Native.Nat.{ℕ, ◌-◌, ◌≤◌, ◌<◌}
 use mathlib.Core.Path.{◌≡◌, sym, ap, ◌∙◌}
 use mathlib.Core.Bool.{Bool, true, false, not, cond, ◌&&◌}
-use mathlib.Core.List.{List, []}
-use native.Mathlib.Omega.{arith}
+use mathlib.Core.List.{List}
 use lib.Dec.{eqb, leb}
-use lib.ListN.{length, take, drop, length-drop, drop_of_length-le}
-use lib.Seq.{take_all}
+use lib.ListN.{length}
 use Rattle.wire.specs.All.{all_below}
 use Rattle.wire.proofs.Cond.{yes-if, no-if, yes_lt, no_lt, yes_le, no_le, yes-ne, no-ne, yes-eq, no_eq}
 use Rattle.message.specs.Header.{the_mark, mark_in, platform_domain, reserved_domains}
@@ -108,10 +106,3 @@ module _ (id : ℕ) (payload : List ℕ) where
   pub of-status : {has : Bool} {field : ℕ} → (id ≡ availability_status → ⊥) → has ≡ has_status id → field ≡ first_in payload
       → (has && leb reserved_states field) ≡ reserved_in id payload
   of-status i e f = (λ t. e t && leb reserved_states (f t)) ∙ sym (no_eq _ _ id availability_status i)
-
--- what stands behind the header
-pub behind : (s : List ℕ) → take (length s - header_length3) (drop header_length3 s) ≡ payload_in3 s
-behind s = take_all (length s - header_length3) (drop header_length3 s) (omega (arith, length-drop header_length3 s))
-
-pub nothing_behind : (s : List ℕ) → length s < header_length3 → [] ≡ payload_in3 s
-nothing_behind s h = sym (drop_of_length-le s {i = header_length3} (omega arith))
