@@ -1,11 +1,7 @@
 pub mod Accepted
-mod Answers
 mod Refusals
-mod Pairs
-mod Readings
-mod Messages
+mod AllAsked
 mod Written
-mod WriteRefusals
 pub mod RoundTrip
 pub mod Told
 pub mod NeverBoth

@@ -122,20 +122,12 @@ fn has_status(id: u32) -> bool
 fn payload_length(message: &[u8]) -> usize
     ensures { result ≡ length message.now - header_length3 }
 {
-    if Header3::LENGTH <= message.len() {
-        message.len() - Header3::LENGTH
-    } else {
-        0
-    }
+    message.len().saturating_sub(Header3::LENGTH)
 }
 
 // What stands behind the header; empty where the message is shorter.
 pub(crate) fn behind_header(message: &[u8]) -> &[u8]
     ensures { result.now ≡ payload_in3 message.now }
 {
-    if Header3::LENGTH <= message.len() {
-        &message[Header3::LENGTH..]
-    } else {
-        &message[..0]
-    }
+    &message[Header3::LENGTH.min(message.len())..]
 }

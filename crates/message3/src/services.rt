@@ -23,27 +23,14 @@ pub(crate) fn are_whole(payload: &[u8]) -> bool
         return false;
     }
     let pairs = payload.len() - COUNT;
-    if pairs % PAIR == 0 {
-        pairs / PAIR == wire::u32_at(payload, Message3::FIRST_AT) as usize
-    } else {
-        false
-    }
+    pairs % PAIR == 0 && pairs / PAIR == wire::u32_at(payload, Message3::FIRST_AT) as usize
 }
 
 // Whether no state is reserved.
 pub(crate) fn are_known(payload: &[u8]) -> bool
     ensures { result ≡ all_below (known_state payload.now) (first_in payload.now) }
 {
-    let count = wire::u32_at(payload, Message3::FIRST_AT);
-    let mut i: u32 = 0;
-    while i < count {
-        if is_known(payload, i) {
-            i += 1;
-        } else {
-            return false;
-        }
-    }
-    true
+    (0..wire::u32_at(payload, Message3::FIRST_AT)).all(|i| is_known(payload, i))
 }
 
 fn is_known(payload: &[u8], i: u32) -> bool

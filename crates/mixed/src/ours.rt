@@ -9,13 +9,8 @@ use services::{AVAILABLE, STATE};
 pub(crate) fn is_available(ours: &[u64], id: u32) -> bool
     ensures { result ≡ ours_available ours.now id }
 {
-    let mut left = ours.len();
-    while 0 < left {
-        left -= 1;
-        let word = wire::word_at(ours, left);
-        if word % STATE == id as u64 {
-            return word / STATE == AVAILABLE;
-        }
-    }
-    false
+    ours.iter()
+        .rev()
+        .find(|word| **word % STATE == id as u64)
+        .is_some_and(|word| *word / STATE == AVAILABLE)
 }

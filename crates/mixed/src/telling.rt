@@ -65,10 +65,8 @@ fn put_pairs(ours: &[u64], out: &mut [u8])
     requires { head_length + pair_length * length ours.now ≤ length out.old }
     ensures { out.new ≡ over out.old head_length (pair_bytes (pairs_of ours.now)) }
 {
-    let mut i = 0;
-    while i < ours.len() {
-        put_service(wire::word_at(ours, i), HEAD + PAIR * i, out);
-        i += 1;
+    for (i, word) in ours.iter().enumerate() {
+        put_service(*word, HEAD + PAIR * i, out);
     }
 }
 
@@ -90,5 +88,5 @@ fn put_pair(id: u32, available: bool, at: usize, out: &mut [u8])
 fn state_told(available: bool) -> u32
     ensures { result ≡ state_told available }
 {
-    if available { 1 } else { 0 }
+    u32::from(available)
 }

@@ -4,6 +4,7 @@ use Prim.Native.Nat.{ℕ, min, ◌+◌, ◌*◌, ◌/◌, ◌%◌, ◌^◌, ◌�
 use mathlib.Core.Path.{◌≡◌, refl, sym, ap, ap₂, ◌∙◌}
 use mathlib.Core.Bool.{Bool, true, false, ◌&&◌}
 use mathlib.Core.List.{List}
+use mathlib.Core.Logic.{◌⊎◌, inl, inr}
 use native.Mathlib.Omega.{arith}
 use native.Mathlib.Numerals.{add-one}
 use native.Mathlib.Nat.{mod-lt, zero-lt-suc}
@@ -44,13 +45,11 @@ module _ (w : List ℕ) (k : ℕ) (three : Bool) where
   unfolding three_set
   one_set l e = ap (set w (k / word_bits)) e ∙ sym (yes_lt _ _ k platforms l)
 
-  pub no_word : k < platforms → length w ≤ k / word_bits → w ≡ three_set w k three
+  -- there is no word, or no platform
+  pub not-set : ((k < platforms) × (length w ≤ k / word_bits)) ⊎ (platforms ≤ k) → w ≡ three_set w k three
   unfolding three_set
-  no_word l h = sym (yes_lt _ _ k platforms l ∙ set_out w (k / word_bits) _ h)
-
-  pub no-platform : platforms ≤ k → w ≡ three_set w k three
-  unfolding three_set
-  no-platform l = sym (no_lt _ _ k platforms l)
+  not-set (inl h) = sym (yes_lt _ _ k platforms h.0 ∙ set_out w (k / word_bits) _ h.1)
+  not-set (inr l) = sym (no_lt _ _ k platforms l)
 
 -- `before`
 module _ (w : List ℕ) where

@@ -3,14 +3,11 @@
 // block of services, one behind another in the order of their numbers.
 #![tactic(auto)]
 
-ghost use Rattle.std.specs.Prelude.{◌≡◌, min};
-ghost use Rattle.message.specs.Refusal.{platforms};
-ghost use Rattle.states.specs.States.{mask};
+ghost use Rattle.std.specs.Prelude.{◌≡◌};
 ghost use Rattle.partners.specs.Threes.{bit_in, is_three, with_three, three_set, threes_before, block_start};
 
 use message::Own;
-
-const WORD_BITS: u32 = 64;
+use states::WORD_BITS;
 
 // Whether platform k speaks Issue 3; a number above 255 does not.
 pub fn is_three(words: &[u64], k: u32) -> bool
@@ -24,23 +21,18 @@ pub fn set(words: &mut [u64], k: u32, three: bool)
     ensures { words.new ≡ three_set words.old k three }
 {
     let at = (k / WORD_BITS) as usize;
-    if k < Own::PLATFORMS {
-        if at < words.len() {
-            words[at] = with_three(words[at], k, three);
-        }
+    if k < Own::PLATFORMS && at < words.len() {
+        words[at] = with_three(words[at], k, three);
     }
 }
 
-// How many platforms below k speak Issue 3.
+// How many platforms below k speak Issue 3; above 255 there is none.
 pub fn before(words: &[u64], k: u32) -> usize
     ensures { result ≡ threes_before words.now k }
 {
-    let end = end_of(k);
-    let mut count: usize = 0;
-    let mut j: u32 = 0;
-    while j < end {
+    let mut count = 0;
+    for j in 0..k.min(Own::PLATFORMS) {
         count += bit_in(words, j) as usize;
-        j += 1;
     }
     count
 }
@@ -63,25 +55,8 @@ fn with_three(word: u64, k: u32, three: bool) -> u64
     ensures { result ≡ with_three word k three }
 {
     if three {
-        word | mask(k)
+        word | states::mask(k)
     } else {
-        (word | mask(k)) ^ mask(k)
-    }
-}
-
-fn mask(k: u32) -> u64
-    ensures { result ≡ mask k }
-{
-    1 << (k % WORD_BITS)
-}
-
-// There is none above 255.
-fn end_of(k: u32) -> u32
-    ensures { result ≡ min k platforms }
-{
-    if k <= Own::PLATFORMS {
-        k
-    } else {
-        Own::PLATFORMS
+        (word | states::mask(k)) ^ states::mask(k)
     }
 }

@@ -1,25 +1,12 @@
--- A block noted whole or not at all, by way of a trial; and words copied.
+-- A block noted whole or not at all, by way of a trial.
 -- Assumes nothing.
-use Prim.Native.Nat.{ℕ, ◌+◌, ◌≤◌, ◌<◌}
+use Prim.Native.Nat.{ℕ}
 use mathlib.Core.Path.{◌≡◌, refl, sym, ap, ◌∙◌}
 use mathlib.Core.Bool.{Bool, true, false}
-use mathlib.Core.List.{List, [], ◌∷◌, ◌++◌}
-use native.Mathlib.Omega.{arith}
-use native.Mathlib.Numerals.{add-one}
+use mathlib.Core.List.{List}
 use borrow.Author.Tests.{eq-eqb, ne_eqb}
-use lib.ListN.{length, take, get_or, set}
-use lib.Seq.{take_all, take-suc, take-suc-set}
+use lib.ListN.{length}
 use Rattle.services.specs.Block.{services, services_full, pairs_in, pairs_told, all_have_places, status_fits, note_refusal, status_noted}
-
--- `copy`: the first i words are copied
-module _ (to from : List ℕ) (i : ℕ) (l : length to ≡ length from) (e : take i to ≡ take i from) where
-  pub one-copied : i < length from → take (i + 1) (set to i (get_or from i 0)) ≡ take (i + 1) from
-  one-copied h =
-      rw (add-one i) (take-suc-set to i (get_or from i 0) (omega arith)
-      ∙ ap (λ (x : List ℕ). x ++ (get_or from i 0 ∷ [])) e ∙ sym (take-suc from i 0 h))
-
-  pub all-copied : length from ≤ i → to ≡ from
-  all-copied h = sym (take_all i to (omega arith)) ∙ e ∙ take_all i from h
 
 -- `note`
 module _ (b s : List ℕ) where

@@ -37,9 +37,6 @@ place_first (w ∷ ws) x i h e = go (is_place_for w x) refl (place_first ws x) i
     go false f r (suc j) k g = omega (arith, r j (omega arith) g)
 
 -- `place`: none before i is one for x
-pub from_start : (b : List ℕ) (x : ℕ) → 0 ≤ service_place b x
-from_start b x = omega arith
-
 module _ (b : List ℕ) (x i : ℕ) (n : i ≤ service_place b x) where
   pub found_here : {r : Bool} → i < length b → r ≡ is_place_for (get_or b i 0) x → r ≡ true → i ≡ service_place b x
   found_here h e t =
@@ -52,7 +49,7 @@ module _ (b : List ℕ) (x i : ℕ) (n : i ≤ service_place b x) where
       λ q. true≢false (sym (at_place b x (omega arith)) ∙ ap (λ (k : ℕ). is_place_for (get_or b k 0) x) q ∙ sym e ∙ t) in
       omega arith
 
-  pub found_nowhere : length b ≤ i → i ≡ service_place b x
+  pub found_nowhere : length b ≤ i → length b ≡ service_place b x
   found_nowhere h =
       let p : service_place b x ≤ length b = place_le b x in
       omega arith

@@ -1,18 +1,10 @@
--- What a word says of its service, the word that says it, and what a block says of one.
+-- What a word says of its service, and the word that says it.
 -- Assumes nothing.
 use Prim.Native.Nat.{ℕ, ◌+◌, ◌*◌, ◌/◌, ◌^◌}
-use mathlib.Core.Path.{◌≡◌, ap, ◌∙◌}
-use mathlib.Core.List.{List}
+use mathlib.Core.Path.{◌≡◌}
 use borrow.Author.Tests.{eq-eqb, ne_eqb}
-use lib.ListN.{get_or}
-use Rattle.services.specs.declared.Availability.{Availability}
 use Rattle.services.specs.declared.Availability.TheVariants.{Unheard, Unavailable, Available}
 use Rattle.services.specs.Word.{says, word_for}
-use Rattle.services.specs.Block.{service_place, availability_in}
-
--- `state`
-pub state_is : (b : List ℕ) (x : ℕ) {at w : ℕ} {r : Availability} → at ≡ service_place b x → w ≡ get_or b at 0 → r ≡ says w → r ≡ availability_in b x
-state_is b x p q f = f ∙ ap says (q ∙ ap (λ (k : ℕ). get_or b k 0) p)
 
 -- `said`
 module _ (w : ℕ) where

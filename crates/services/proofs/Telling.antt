@@ -65,10 +65,7 @@ module _ (b s : List ℕ) where
   unfolding pairs_told
   more-told i e q = q ∙ rw (add-one i, e) refl
 
-  module _ (i : ℕ) (h : i ≤ pairs_in s) {count : ℕ} (n : count ≡ pairs_in s) (l : count ≤ i) where
+  module _ (i : ℕ) {count : ℕ} (n : count ≡ pairs_in s) (h : i ≤ count) (l : count ≤ i) where
     pub all_have : all_below (has_place b s) i ≡ true → true ≡ all_have_places b s
     unfolding all_have_places
-    all_have a = done_below (has_place b s) (pairs_in s) i a h (omega arith)
-
-    pub all_told : {block : List ℕ} → block ≡ pairs_told b s i → block ≡ pairs_told b s (pairs_in s)
-    all_told e = e ∙ ap (pairs_told b s) (omega arith)
+    all_have a = done_below (has_place b s) (pairs_in s) i a (omega arith) (omega arith)

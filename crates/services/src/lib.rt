@@ -3,7 +3,7 @@
 // what stands behind the first free one is not looked at.
 #![tactic(auto)]
 
-ghost use Rattle.std.specs.Prelude.{◌≡◌, true, ◌<◌, length};
+ghost use Rattle.std.specs.Prelude.{◌≡◌, true, ◌<◌};
 ghost use Rattle.services.specs.Word.{is_free, is_place_for, says, word_for, unavailable_of};
 ghost use Rattle.services.specs.Block.{service_place, availability_in, pairs_in, pair_has_place, pair_told, pairs_told, all_have_places};
 ghost use Rattle.services.specs.Block.{note_refusal, status_noted, marked};
@@ -48,9 +48,9 @@ pub fn note(block: &mut [u64], payload: &[u8]) -> u32
         return SERVICES_FULL;
     }
     let mut trial = [0u64; SERVICES];
-    copy(&mut trial, block);
+    trial.copy_from_slice(block);
     if tell_all(&mut trial, payload) {
-        copy(block, &trial);
+        block.copy_from_slice(&trial);
         0
     } else {
         SERVICES_FULL
@@ -68,14 +68,11 @@ pub fn state(block: &[u64], id: u32) -> Availability
 pub fn mark(block: &mut [u64])
     ensures { block.new ≡ marked block.old }
 {
-    let mut i = 0;
-    while i < block.len() {
-        let word = block[i];
-        if is_free(word) {
+    for word in block.iter_mut() {
+        if is_free(*word) {
             return;
         }
-        block[i] = unavailable(word);
-        i += 1;
+        *word = unavailable(*word);
     }
 }
 
@@ -84,12 +81,8 @@ fn tell_all(block: &mut [u64], payload: &[u8]) -> bool
     ensures answer { result ≡ all_have_places block.old payload.now }
     ensures block { result ≡ true → block.new ≡ pairs_told block.old payload.now (pairs_in payload.now) }
 {
-    let count = pairs(payload);
-    let mut i = 0;
-    while i < count {
-        if tell(block, payload, i) {
-            i += 1;
-        } else {
+    for i in 0..pairs(payload) {
+        if !tell(block, payload, i) {
             return false;
         }
     }
@@ -116,31 +109,25 @@ fn tell(block: &mut [u64], payload: &[u8], i: usize) -> bool
 fn pairs(payload: &[u8]) -> usize
     ensures { result ≡ pairs_in payload.now }
 {
-    if FIRST_ID <= payload.len() {
-        (payload.len() - FIRST_ID) / PAIR_BYTES
-    } else {
-        0
-    }
+    payload.len().saturating_sub(FIRST_ID) / PAIR_BYTES
 }
 
 // The first word that bears the ID or is free; past the last where there is none.
 fn place(block: &[u64], id: u32) -> usize
     ensures { result ≡ service_place block.now id }
 {
-    let mut i = 0;
-    while i < block.len() {
-        if is_place_for(block[i], id) {
+    for (i, word) in block.iter().enumerate() {
+        if is_place_for(*word, id) {
             return i;
         }
-        i += 1;
     }
-    i
+    block.len()
 }
 
 fn is_place_for(word: u64, id: u32) -> bool
     ensures { result ≡ is_place_for word id }
 {
-    (word / STATE == 0) | (word % STATE == id as u64)
+    is_free(word) | (word % STATE == id as u64)
 }
 
 fn is_free(word: u64) -> bool
@@ -173,15 +160,4 @@ fn unavailable(word: u64) -> u64
     ensures { result ≡ unavailable_of word }
 {
     UNAVAILABLE * STATE + word % STATE
-}
-
-fn copy(to: &mut [u64], from: &[u64])
-    requires { length to.old ≡ length from.now }
-    ensures { to.new ≡ from.now }
-{
-    let mut i = 0;
-    while i < from.len() {
-        to[i] = from[i];
-        i += 1;
-    }
 }

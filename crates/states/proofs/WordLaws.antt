@@ -1,15 +1,12 @@
--- What the functions of `words` come to at their returns.
+-- What the functions come to at their returns.
 -- Assumes nothing.
 use Prim.Native.Nat.{ℕ, zero, suc, ◌+◌, ◌/◌, ◌%◌, ◌^◌, ◌≤◌, ◌<◌}
 use mathlib.Core.Path.{◌≡◌, refl, sym, ap, ◌∙◌}
 use mathlib.Core.Bool.{Bool, cond, ◌&&◌, ◌||◌}
-use native.Mathlib.Omega.{arith}
-use mir.Syntax.{w32, w64}
-use mir.Val.{Fits}
 use borrow.Author.Tests.{lt-ltb, le-ltb}
 use lib.Dec.{eqb, ltb}
 use lib.Bits.{bit_or, bit_xor}
-use lib.Count.{ones, ones-le}
+use lib.Count.{ones}
 use Rattle.message.specs.Refusal.{platforms}
 use Rattle.states.specs.declared.States.{States}
 use Rattle.states.specs.States.{word_of, with_word, mask, bit_of, stands_up, turned, with_own, sum_of_ones, how_many_up}
@@ -59,16 +56,6 @@ module _ (s : States) (i : ℕ) where
         go (suc zero) a b c = absurd (b refl)
         go (suc (suc zero)) a b c = absurd (c refl)
         go (suc (suc (suc n))) a b c = refl
-
--- a word has no more than 64 ones
-pub two_fit : (a b : ℕ) → Fits w64 a → Fits w64 b → Fits w32 (ones a + ones b)
-two_fit a b p q = record { fits = omega (arith, ones-le 64 a p.fits, ones-le 64 b q.fits) }
-
-pub three_fit : (a b c : ℕ) → Fits w64 a → Fits w64 b → Fits w64 c → Fits w32 (ones a + ones b + ones c)
-three_fit a b c p q r = record { fits = omega (arith, ones-le 64 a p.fits, ones-le 64 b q.fits, ones-le 64 c r.fits) }
-
-pub four_fit : (a b c d : ℕ) → Fits w64 a → Fits w64 b → Fits w64 c → Fits w64 d → Fits w32 (ones a + ones b + ones c + ones d)
-four_fit a b c d p q r t = record { fits = omega (arith, ones-le 64 a p.fits, ones-le 64 b q.fits, ones-le 64 c r.fits, ones-le 64 d t.fits) }
 
 pub the_sum : (s : States) → ones s.w0 + ones s.w1 + ones s.w2 + ones s.w3 ≡ sum_of_ones s
 unfolding sum_of_ones

@@ -15,7 +15,8 @@ pub struct States {
     pub w3: u64,
 }
 
-const WORD_BITS: u32 = 64;
+// How many platforms a word holds.
+pub const WORD_BITS: u32 = 64;
 
 // All others are DOWN.
 pub fn fresh(own: Own) -> States
@@ -56,6 +57,13 @@ pub fn turned(s: States, k: u32) -> States
     }
 }
 
+// Platform k's bit in its word.
+pub fn mask(k: u32) -> u64
+    ensures { result ≡ mask k }
+{
+    1 << (k % WORD_BITS)
+}
+
 fn with_own(own: Own, s: States) -> States
     ensures { result ≡ with_own own.platform s }
 {
@@ -66,19 +74,13 @@ fn with_own(own: Own, s: States) -> States
 fn sum_of_ones(s: States) -> u32
     ensures { result ≡ sum_of_ones s }
 {
-    u64::count_ones(s.w0) + u64::count_ones(s.w1) + u64::count_ones(s.w2) + u64::count_ones(s.w3)
+    s.w0.count_ones() + s.w1.count_ones() + s.w2.count_ones() + s.w3.count_ones()
 }
 
 fn bit_of(s: States, k: u32) -> u64
     ensures { result ≡ bit_of s k }
 {
     (word_of(s, k / WORD_BITS) >> (k % WORD_BITS)) % 2
-}
-
-fn mask(k: u32) -> u64
-    ensures { result ≡ mask k }
-{
-    1 << (k % WORD_BITS)
 }
 
 fn word_of(s: States, i: u32) -> u64
@@ -96,29 +98,9 @@ fn with_word(s: States, i: u32, x: u64) -> States
     ensures { result ≡ with_word s i x }
 {
     match i {
-        0 => States {
-            w0: x,
-            w1: s.w1,
-            w2: s.w2,
-            w3: s.w3,
-        },
-        1 => States {
-            w0: s.w0,
-            w1: x,
-            w2: s.w2,
-            w3: s.w3,
-        },
-        2 => States {
-            w0: s.w0,
-            w1: s.w1,
-            w2: x,
-            w3: s.w3,
-        },
-        _ => States {
-            w0: s.w0,
-            w1: s.w1,
-            w2: s.w2,
-            w3: x,
-        },
+        0 => States { w0: x, ..s },
+        1 => States { w1: x, ..s },
+        2 => States { w2: x, ..s },
+        _ => States { w3: x, ..s },
     }
 }

@@ -1,4 +1,4 @@
-use borrow.Author.Rules.{rules}
+-- `services::mark`: its loop and its returns, by the laws of `Marking`.
 use Rattle.services.proofs.Marking.{stops-here, goes_on, all-marked}
 use Rattle.services.proofs.mark.Goals as goal
 
@@ -6,9 +6,9 @@ pub returns-then-is_free : goal.returns-then-is_free
 returns-then-is_free c =
     search stops-here
 
-pub loop-i-preserved : goal.loop-i-preserved
-loop-i-preserved c =
-    (search goes_on, search rules, search rules)
+pub loop-word-preserved : goal.loop-word-preserved
+loop-word-preserved c =
+    search goes_on
 
 pub returns : goal.returns
 returns c =

@@ -1,10 +1,6 @@
-use borrow.Author.Rules.{rules}
-use Rattle.services.proofs.Places.{from_start, found_here, not-here, found_nowhere}
+-- `services::place`: its loop and its returns, by the laws of `Places`.
+use Rattle.services.proofs.Places.{found_here, not-here, found_nowhere}
 use Rattle.services.proofs.place.Goals as goal
-
-pub loop-i-init : goal.loop-i-init
-loop-i-init c =
-    (search rules, search from_start)
 
 pub returns-then-is_place_for : goal.returns-then-is_place_for
 returns-then-is_place_for c =
@@ -12,7 +8,7 @@ returns-then-is_place_for c =
 
 pub loop-i-preserved : goal.loop-i-preserved
 loop-i-preserved c =
-    (search rules, search not-here)
+    search not-here
 
 pub returns : goal.returns
 returns c =

@@ -1,11 +1,7 @@
 -- `message3::refusal::read_refusal` meets its contract: the first of the three that is not 0.
 -- Assumes nothing.
-use Rattle.message3.proofs.Refusals.{frame-first, address-first, contents-last}
+use Rattle.message3.proofs.Refusals.{frame-first, address-first}
 use Rattle.message3.proofs.refusal.read_refusal.Goals as goal
-
-pub returns-then-address-eq0 : goal.returns-then-address-eq0
-returns-then-address-eq0 c =
-    search contents-last
 
 pub returns-else-address-eq0 : goal.returns-else-address-eq0
 returns-else-address-eq0 c =

@@ -1,20 +1,19 @@
+-- `message3::services::are_known` meets its contract: `all` asks of each state that it says is there.
+-- Assumes nothing.
+use mathlib.Core.Path.{◌≡◌, refl, ap, ◌∙◌}
+use mathlib.Core.Bool.{true, false}
+use native.Mathlib.Omega.{arith}
 use borrow.Author.Rules.{rules}
-use Rattle.wire.proofs.AllBelow.{none_below, next-below}
-use Rattle.message3.proofs.Pairs.{stopped, all_known}
+use Rattle.std.proofs.lemmas.Iterator.{cases_from_all, YieldsList-from_range}
+use Rattle.wire.specs.All.{all_below}
+use Rattle.message3.specs.Platform.{known_state}
+use Rattle.message3.proofs.AllAsked.{all-asked}
 use Rattle.message3.proofs.services.are_known.Goals as goal
-
-pub loop-i-init : goal.loop-i-init
-loop-i-init c =
-    (search rules, search none_below)
-
-pub loop-i-preserved : goal.loop-i-preserved
-loop-i-preserved c =
-    (search rules, search next-below)
-
-pub returns-else-is_known : goal.returns-else-is_known
-returns-else-is_known c =
-    search stopped
 
 pub returns : goal.returns
 returns c =
-    search all_known
+    let known = known_state c.args.payload.now in
+    all-asked known c.u32_at.result c.all.result
+    (cases_from_all _ _ _ (λ i. known i ≡ true) (λ i. known i ≡ false) c.all.ensures.ran (YieldsList-from_range 0 c.u32_at.result c.u32_at.result refl (omega arith))
+    (λ x q k. search rules) (λ x q k. search rules))
+    ∙ ap (all_below known) c.u32_at.ensures

@@ -1,14 +1,14 @@
-use borrow.Author.Rules.{rules}
+-- `mixed::telling::put_pairs`: its loop and its return, by the laws of `ToldLaws`.
 use Rattle.mixed.proofs.ToldLaws.{none_yet, one_more, all_there}
 use Rattle.mixed.proofs.telling.put_pairs.Goals as goal
 
 pub loop-i-init : goal.loop-i-init
 loop-i-init c =
-    (search none_yet, search rules, search rules)
+    search none_yet
 
 pub loop-i-preserved : goal.loop-i-preserved
 loop-i-preserved c =
-    (search one_more, search rules, search rules)
+    search one_more
 
 pub returns : goal.returns
 returns c =

@@ -1,8 +1,0 @@
--- `message3::Header3::of_bytes` meets its contract: each field is the number at its place.
--- Assumes nothing.
-use Rattle.message3.proofs.Answers.{fields_read}
-use Rattle.message3.proofs.Header3.of_bytes.Goals as goal
-
-pub returns : goal.returns
-returns c =
-    search fields_read

@@ -1,8 +1,0 @@
--- `states::mask` meets its contract: a shift by less than 64 is exact.
--- Assumes nothing.
-use Rattle.states.proofs.Bits.{one_shifted}
-use Rattle.states.proofs.mask.Goals as goal
-
-pub returns : goal.returns
-returns c =
-    search one_shifted
