@@ -1,6 +1,6 @@
 -- Bytes moved to the front of their own buffer: each is read before anything is written over it.
 -- Assumes nothing.
-use Rattle.std.proofs.Common.{◌≡◌, ℕ, ◌+◌, ◌-◌, ◌<◌, ◌≤◌, Bool, false, leb, List, [], length, get_or, take, drop, set, sym, ap, ◌∙◌, zero-add, arith, length-drop, length-take-le, get_or-drop, take_all, get_or-take}
+use Rattle.std.proofs.Common.{◌≡◌, ℕ, ◌+◌, ◌<◌, ◌≤◌, Bool, false, leb, List, [], length, get_or, take, drop, set, sym, ap, ◌∙◌, zero-add, arith, length-drop, length-take-le, get_or-drop, take_all, get_or-take}
 use Rattle.wire.specs.Bytes.{over, part}
 use Rattle.wire.proofs.Numbers.{read_behind}
 use Rattle.wire.proofs.Runs.{failed, part_in, part_out, over_none, over_more}
