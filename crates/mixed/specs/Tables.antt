@@ -11,6 +11,7 @@ use Rattle.platform.specs.declared.reactions.Standing.{Standing}
 use Rattle.platform.specs.Receiving.{index_of}
 use Rattle.mixed.specs.declared.AnyReceived.{AnyReceived}
 use Rattle.mixed.specs.Receiving.{refused_any, any_outcome, any_output, any_list, any_words}
+use Rattle.refusal.specs.Refusal.{number_of}
 
 -- on sections: 30 where these don't lie in the bytes
 unfoldable pub sections_answer : ℕ → List ℕ → List ℕ → List ℕ → Sections → List ℕ → Standing → List ℕ → List ℕ → List ℕ → ℕ → AnyReceived
@@ -27,7 +28,7 @@ sections_words own i ours t s index p ws m room = cond (within t s) (any_words o
 
 -- on table bytes, by an index of its own
 unfoldable pub answer_if : Result Sections Refusal → ℕ → List ℕ → List ℕ → List ℕ → Standing → List ℕ → List ℕ → List ℕ → ℕ → AnyReceived
-answer_if (Err n) own i ours t p l ws m room = refused_any p n
+answer_if (Err e) own i ours t p l ws m room = refused_any p (number_of e)
 answer_if (Ok s) own i ours t p l ws m room = any_outcome own i ours t s (index_of t s) p l ws m room
 
 unfoldable pub out_if : Result Sections Refusal → ℕ → Stamp → ℕ → List ℕ → List ℕ → List ℕ → Standing → List ℕ → List ℕ → List ℕ → List ℕ

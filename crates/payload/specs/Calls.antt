@@ -18,6 +18,7 @@ use Rattle.walk.specs.Tree.{Tree, tree}
 use Rattle.walk.specs.Walk.{Codec, start, left_over, answer, left, walk, type_walk}
 use Rattle.unpack.specs.Reading.{reader}
 use Rattle.pack.specs.Writing.{writer}
+use Rattle.refusal.specs.Refusal.{number_of}
 
 abbrev pub no_such_type : ℕ
 no_such_type = 44
@@ -71,7 +72,7 @@ left_over_in c n t s i x = left_over_by (answered_in c n t s i (length x)) x (le
 
 -- the same, by what checking the table bytes answers
 unfoldable pub answered_if : Result Sections Refusal → Codec → ℕ → List ℕ → ℕ → ℕ → Answer
-answered_if (Err k) c n t i room = Refused k
+answered_if (Err e) c n t i room = Refused (number_of e)
 answered_if (Ok s) c n t i room = answered_in c n t s i room
 
 unfoldable pub left_if : Result Sections Refusal → Codec → ℕ → List ℕ → ℕ → List ℕ → List ℕ

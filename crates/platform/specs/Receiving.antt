@@ -25,6 +25,7 @@ use Rattle.platform.specs.declared.reactions.Reaction.{Reaction}
 use Rattle.states.specs.States.{fresh_states}
 use Rattle.platform.specs.Replies.{first_number, owed_length, owed_bytes}
 use Rattle.platform.specs.Reaction.{operation_in, reaction_to}
+use Rattle.refusal.specs.Refusal.{number_of}
 
 -- at the start: the other 255 are DOWN, and own numbers start at 0
 abbrev pub fresh_standing : ℕ → Standing
@@ -106,7 +107,7 @@ abbrev pub index_of : List ℕ → Sections → List ℕ
 index_of t s = indexed t s.operations.at s.operations.count (replicate 1024 0)
 
 unfoldable pub received_by : Result Sections Refusal → ℕ → List ℕ → Standing → List ℕ → List ℕ → ℕ → Received
-received_by (Err n) own t p l m room = refused p n
+received_by (Err e) own t p l m room = refused p (number_of e)
 received_by (Ok s) own t p l m room = outcome_in own t s (index_of t s) p l m room
 
 unfoldable pub received_of : ℕ → List ℕ → Standing → List ℕ → List ℕ → ℕ → Received

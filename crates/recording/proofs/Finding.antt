@@ -1,7 +1,7 @@
 -- What stands next in a recording: the cases of `next_in`, and that more bytes behind it change nothing of a datagram that
 -- was found.
 -- Assumes nothing.
-use Rattle.std.proofs.Common.{◌≡◌, ℕ, ◌+◌, ◌-◌, ◌^◌, ◌<◌, ◌≤◌, Bool, true, false, leb, List, ◌++◌, length, sym, refl, ap, ◌∙◌, arith, length-append, w64, Fits, leb-false, leb-true}
+use Rattle.std.proofs.Common.{◌≡◌, ℕ, ◌+◌, ◌^◌, ◌<◌, ◌≤◌, Bool, true, false, leb, List, ◌++◌, length, sym, refl, ap, ◌∙◌, arith, length-append, w64, Fits, leb-false, leb-true}
 use Rattle.wire.specs.Bytes.{number, Octets}
 use Rattle.wire.proofs.Numbers.{number_lt, number_front}
 use Rattle.wire.proofs.Cond.{yes_le, no_le}

@@ -1,9 +1,10 @@
 -- What the functions that make a line ask at their returns: its words are put one behind another, and what they make
 -- together is the line.
 -- Assumes nothing.
-use Rattle.std.proofs.Common.{◌≡◌, ℕ, ◌+◌, ◌≤◌, List, [], ◌∷◌, ◌++◌, length, refl, ap, ◌∙◌, arith, length-append}
+use Rattle.std.proofs.Common.{◌≡◌, ℕ, ◌+◌, ◌≤◌, List, ◌∷◌, ◌++◌, length, refl, ap, ◌∙◌, arith, length-append}
 use Rattle.std.specs.Prelude.{Result, Ok, Err}
 use Rattle.refusal.specs.declared.Refusal.{Refusal}
+use Rattle.refusal.specs.Refusal.{number_of}
 use Rattle.wire.specs.Bytes.{written, part}
 use Rattle.channel.specs.Outcomes.{name_of, missed_in, bytes_in}
 use Rattle.channel.specs.declared.Outcome.{Outcome}
@@ -16,26 +17,12 @@ use Rattle.recording.specs.Line.{line_limit, line_feed, line_of, setup_refused, 
 use Rattle.recording.specs.Words.{refusal_words, count_words, value_words}
 use Rattle.recording.specs.declared.lines.Ending.{Ending}
 
--- the name of the outcome that was met, and its values
-module _ {x o : Result Outcome Refusal} (h : o ≡ x) where
-  pub name-end : {r : ℕ} (k at : ℕ) → r ≡ behind k at (spaced (name_of x)) → r ≡ behind k at (spaced (name_of o))
-  name-end k at e = rw h e
-
-  pub name-put : {u : List ℕ} (w : List ℕ) (at : ℕ) → u ≡ written w at (spaced (name_of x)) → u ≡ written w at (spaced (name_of o))
-  name-put w at e = rw h e
-
-  pub value-end : {r : ℕ} (w : List ℕ) (at : ℕ) → r ≡ end_all (value_words x) w at → r ≡ end_all (value_words o) w at
-  value-end w at e = rw h e
-
-  pub value-put : {u : List ℕ} (w : List ℕ) (at : ℕ) → u ≡ put_all (value_words x) w at → u ≡ put_all (value_words o) w at
-  value-put w at e = rw h e
-
 -- any outcome but a refusal
-module _ {m b : ℕ} (o : Result Outcome Refusal) (t : (n : ℕ) → o ≡ Err n → ⊥) (e : m ≡ missed_in o) (f : b ≡ bytes_in o) where
+module _ {m b : ℕ} (o : Result Outcome Refusal) (t : (n : Refusal) → o ≡ Err n → ⊥) (e : m ≡ missed_in o) (f : b ≡ bytes_in o) where
   counted : count_words m b ≡ value_words o
   counted = go o t e f
     where
-      go : (x : Result Outcome Refusal) → ((n : ℕ) → x ≡ Err n → ⊥) → m ≡ missed_in x → b ≡ bytes_in x → count_words m b ≡ value_words x
+      go : (x : Result Outcome Refusal) → ((n : Refusal) → x ≡ Err n → ⊥) → m ≡ missed_in x → b ≡ bytes_in x → count_words m b ≡ value_words x
       go (Err n) s g h = absurd (s n refl)
       go (Ok Repeated) s g h = rw (g, h)
       go (Ok (Delivered x y)) s g h = rw (g, h)
@@ -61,7 +48,7 @@ counts_short m b =
     omega (arith, length-append (spaced (decimal m)) (spaced (decimal b) ++ line_feed), length-append (spaced (decimal b)) line_feed, few m, few b)
 
 values_short : (o : Result Outcome Refusal) → length (spaced (name_of o)) + length (joined (value_words o)) ≤ 53
-values_short (Err k) = omega (arith, refusal_short k)
+values_short (Err e) = omega (arith, refusal_short (number_of e))
 values_short (Ok Repeated) = omega (arith, counts_short (missed_in (Ok Repeated)) (bytes_in (Ok Repeated)))
 values_short (Ok (Delivered m p)) = omega (arith, counts_short (missed_in (Ok (Delivered m p))) (bytes_in (Ok (Delivered m p))))
 values_short (Ok (Held m n)) = omega (arith, counts_short (missed_in (Ok (Held m n))) (bytes_in (Ok (Held m n))))

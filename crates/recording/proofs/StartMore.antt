@@ -1,11 +1,10 @@
 -- How a recording starts stays as it is when more bytes come: only what was unfinished can become something else.
 -- Assumes nothing.
 use Rattle.std.proofs.Common.{◌≡◌, ℕ, zero, suc, ◌+◌, ◌≤◌, Bool, true, false, ltb, List, [], ◌∷◌, ◌++◌, length, sym, refl, ap, ◌∙◌, arith, length-append, ltb-false, ltb-true}
+use Rattle.std.specs.Prelude.{None, Ok}
 use Rattle.wire.specs.Bytes.{number}
 use Rattle.wire.proofs.Numbers.{number_front}
-use Rattle.recording.specs.Opening.{sizes_length, count_in, room_in, id_place, ids_in, good_start, closed, ready_in, opened_in}
-use Rattle.recording.specs.declared.start.Opened.{Opened}
-use Rattle.recording.specs.declared.start.Opening.TheVariants as opening
+use Rattle.recording.specs.Opening.{sizes_length, count_in, room_in, id_place, ids_in, good_start, ready_in, opened_in}
 use Rattle.recording.proofs.Starting.{no_sizes, bad-start, no-ids, all_ids}
 
 module _ (s more : List ℕ) where
@@ -19,7 +18,7 @@ module _ (s more : List ℕ) where
       ap (λ (u : List ℕ). u ++ (number 1 (s ++ more) (id_place n) ∷ [])) (ids_more n (omega arith))
       ∙ ap (λ (x : ℕ). ids_in s n ++ (x ∷ [])) e
 
-  pub opened-more : ((opened_in s).opening ≡ opening.Unfinished → ⊥) → opened_in (s ++ more) ≡ opened_in s
+  pub opened-more : (opened_in s ≡ Ok None → ⊥) → opened_in (s ++ more) ≡ opened_in s
   opened-more z = go (ltb (length s) sizes_length) refl (good_start n R) refl (ltb (length s) (id_place n)) refl
     where
       n : ℕ
@@ -28,12 +27,9 @@ module _ (s more : List ℕ) where
       R : ℕ
       R = room_in s
 
-      unfinished : closed opening.Unfinished ≡ opened_in s → ⊥
-      unfinished e = z (ap (λ (o : Opened). o.opening) (sym e))
-
       go : (t : Bool) → ltb (length s) sizes_length ≡ t → (u : Bool) → good_start n R ≡ u → (v : Bool) → ltb (length s) (id_place n) ≡ v
           → opened_in (s ++ more) ≡ opened_in s
-      go true h u i v j = absurd (unfinished (no_sizes s (ltb-true (length s) sizes_length h) refl))
+      go true h u i v j = absurd (z (sym (no_sizes s (ltb-true (length s) sizes_length h))))
       go false h u i v j = judged u i v j
         where
           l : sizes_length ≤ length s
@@ -50,9 +46,9 @@ module _ (s more : List ℕ) where
 
           judged : (u : Bool) → good_start n R ≡ u → (v : Bool) → ltb (length s) (id_place n) ≡ v → opened_in (s ++ more) ≡ opened_in s
           judged false i v j =
-              sym (bad-start (s ++ more) n R reaches same_count same_room (sym i) refl refl)
-              ∙ bad-start s n R l refl refl (sym i) refl refl
-          judged true i true j = absurd (unfinished (no-ids s n R l refl refl (sym i) refl (ltb-true (length s) (id_place n) j) refl))
+              sym (bad-start (s ++ more) n R reaches same_count same_room (sym i) refl)
+              ∙ bad-start s n R l refl refl (sym i) refl
+          judged true i true j = absurd (z (sym (no-ids s n R l refl refl (sym i) refl (ltb-true (length s) (id_place n) j))))
           judged true i false j =
               let f : id_place n ≤ length s = ltb-false (length s) (id_place n) j in
               let g : id_place n ≤ length (s ++ more) = omega (arith, longer, f) in

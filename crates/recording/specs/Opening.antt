@@ -3,7 +3,7 @@
 use Rattle.std.specs.Prelude.{ℕ, zero, suc, ◌+◌, ◌*◌, Bool, cond, ◌&&◌, List, [], ◌∷◌, ◌++◌, length, nat_le, nat_lt, Option, Some, None, Result, Ok, Err}
 use Rattle.wire.specs.Bytes.{number}
 use Rattle.channel.specs.Record.{channel_limit, largest_room, room_start}
-use Rattle.joiner.specs.Setup.{fresh_of, setup_of, smallest_room}
+use Rattle.joiner.specs.Setup.{setup_of, smallest_room}
 use Rattle.joiner.specs.declared.Joiner.{Joiner}
 use Rattle.refusal.specs.declared.Refusal.{Refusal}
 use Rattle.refusal.specs.declared.Refusal.TheVariants.{NoJoiner}

@@ -1,6 +1,6 @@
 -- The lines of a recording as a whole, and a run that takes it in blocks: it plays what has come, writes its lines and reads
 -- on, in any order.
-use Rattle.std.specs.Prelude.{◌≡◌, ℕ, zero, suc, ◌+◌, ◌-◌, List, [], ◌∷◌, ◌++◌, length, take, drop, ◌≢◌}
+use Rattle.std.specs.Prelude.{ℕ, zero, suc, ◌+◌, ◌-◌, List, [], ◌∷◌, ◌++◌, length, take, drop, ◌≢◌}
 use Rattle.wire.specs.Bytes.{part}
 use Rattle.joiner.specs.declared.Joiner.{Joiner}
 use Rattle.joiner.specs.Take.{taken_of, rooms_after}

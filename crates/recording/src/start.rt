@@ -50,6 +50,7 @@ fn is_good_start(count: usize, room: u32) -> bool
     false
 }
 
+#[tactic(auto, unfolding(crate::specs::Opening::opened_by))]
 fn set_up(input: &[u8], count: usize, room: u32) -> Result<Option<Opened>, Refusal>
     requires { count ≤ channel_limit }
     ensures { result ≡ ready_in input.now count room }
