@@ -1,11 +1,7 @@
 -- Bytes moved to the front of their own buffer.
 -- Assumes nothing.
-<<<<<<< HEAD
 use Rattle.std.proofs.Common.{◌≡◌, ℕ, ◌+◌, ◌-◌, ◌≤◌, Bool, true, false, leb, List, [], ◌++◌, length, take, drop, sym, ap, ◌∙◌, arith, length-drop, length-take-le}
 use Rattle.std.specs.List.{copy_within}
-=======
-use Rattle.std.proofs.Common.{◌≡◌, ℕ, ◌+◌, ◌<◌, ◌≤◌, Bool, false, leb, List, [], length, get_or, take, drop, set, sym, ap, ◌∙◌, zero-add, arith, length-drop, length-take-le, get_or-drop, take_all, get_or-take}
->>>>>>> 3ac5b3d8a295b7c382cbc7f2ec3e1bb7becd8167
 use Rattle.wire.specs.Bytes.{over, part}
 use Rattle.wire.proofs.Runs.{held, failed, part_in, part_out, over_none}
 

@@ -1,13 +1,9 @@
 -- How a recording starts: the cases of `opened_in`.
 -- Assumes nothing.
-<<<<<<< HEAD
 use Rattle.std.proofs.Common.{◌≡◌, ℕ, ◌+◌, ◌*◌, ◌<◌, ◌≤◌, Bool, true, false, cond, ◌&&◌, ltb, leb, List, [], length, take, replicate, sym, refl, ap, ◌∙◌, ap₂, arith, length-take-le, ltb-true, leb-true}
-=======
-use Rattle.std.proofs.Common.{◌≡◌, ℕ, ◌+◌, ◌*◌, ◌<◌, ◌≤◌, Bool, true, false, cond, ◌&&◌, ltb, leb, List, [], ◌∷◌, ◌++◌, length, take, set, sym, refl, ap, ◌∙◌, add-one, arith, length-take-le, take-suc-set, ltb-true, leb-true}
 use Rattle.std.specs.Prelude.{Option, Some, None, Result, Ok, Err}
 use Rattle.refusal.specs.declared.Refusal.{Refusal}
 use Rattle.refusal.specs.declared.Refusal.TheVariants.{NoJoiner}
->>>>>>> 3ac5b3d8a295b7c382cbc7f2ec3e1bb7becd8167
 use mathlib.Core.Path.{subst⁻¹}
 use Rattle.wire.proofs.Cond.{yes_lt, no_lt, yes-if, no-if, and_left, and_right}
 use Rattle.channel.specs.Record.{channel_limit, largest_room, room_start}
