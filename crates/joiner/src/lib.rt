@@ -116,12 +116,9 @@ fn refusal(heading: Heading) -> u32
 pub(crate) fn write_piece(rooms: &mut [u8], place: Option<usize>, datagram: &[u8])
     ensures { rooms.new ≡ put_by rooms.old place datagram.now }
 {
-    match place {
-        None => {}
-        Some(at) => {
-            if BindingHeader::LENGTH <= datagram.len() {
-                wire::put_run(rooms, at, &datagram[BindingHeader::LENGTH..]);
-            }
+    if let Some(at) = place {
+        if BindingHeader::LENGTH <= datagram.len() {
+            wire::put_run(rooms, at, &datagram[BindingHeader::LENGTH..]);
         }
     }
 }

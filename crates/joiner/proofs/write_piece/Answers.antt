@@ -3,8 +3,8 @@
 use Rattle.joiner.proofs.Taking.{put_nowhere, put_at, put_none}
 use Rattle.joiner.proofs.write_piece.Goals as goal
 
-pub returns-in-None : goal.returns-in-None
-returns-in-None c =
+pub returns-in_default : goal.returns-in_default
+returns-in_default c =
     search put_nowhere
 
 pub returns-then-datagram-ge-LENGTH : goal.returns-then-datagram-ge-LENGTH
