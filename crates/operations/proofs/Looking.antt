@@ -116,14 +116,6 @@ module _ (index : List ℕ) (count id : ℕ) where
         go false f g =
             record { some = omega arith; below = omega (arith, ends.below); its_word = g ∙ ends.its_word ∙ ap (λ (k : ℕ). get_or index k 0) (sym f) }
 
--- what the index says, held against the bytes
-module _ (t index : List ℕ) (count id : ℕ) (r : Sought) (says : Says index count id r) where
-  pub held-there : (x : Sought) (m p : ℕ) → r ≡ At m p → x ≡ borne t id m p → x ≡ sought_in t index count id
-  held-there x m p is e = e ∙ ap (held_to t id) (sym is) ∙ says t
-
-  pub held_none : r ≡ Nowhere → Nowhere ≡ sought_in t index count id
-  held_none is = ap (held_to t id) (sym is) ∙ says t
-
 -- what a word says
 module _ (word id m : ℕ) where
   pub is_told : word / half ≡ id → At m (word % half) ≡ said_by word id m
@@ -135,12 +127,6 @@ module _ (word id m : ℕ) where
 module _ (index : List ℕ) (id m : ℕ) (r : Sought) where
   pub told-there : (word : ℕ) → word ≡ get_or index m 0 → r ≡ said_by word id m → r ≡ told_by index id m
   told-there word is e = e ∙ ap (λ (w : ℕ). said_by w id m) is
-
-  pub told-zero : length index ≤ m → r ≡ said_by 0 id m → r ≡ told_by index id m
-  told-zero h e = e ∙ ap (λ (w : ℕ). said_by w id m) (sym (get_or-eq_default index 0 h))
-
-pub no_first : (index : List ℕ) → length index ≤ 0 → 0 ≡ get_or index 0 0
-no_first index h = sym (get_or-eq_default index 0 h)
 
 -- held against the bytes: 8 of them are not there
 pub too_short : (t : List ℕ) (id m p : ℕ) (b : Bool) → b ≡ leb (p + 8) (length t) → b ≡ false → Nowhere ≡ borne t id m p
