@@ -14,9 +14,6 @@ module _ (types n : ℕ) where
   pub a_type : n < types → true ≡ type_or_none types n
   a_type h = rw (lt-ltb n types h) refl
 
-  pub else-none : types ≤ n → eqb n no_type ≡ type_or_none types n
-  else-none h = rw (le-ltb n types h) refl
-
 module _ (types : ℕ) (o : Operation) where
   pub id-of-none : no_id ≤ o.id → false ≡ fields_ok types o
   unfolding fields_ok

@@ -11,7 +11,7 @@ use lib.ListN.{length, get_or, take, drop}
 use mir.Syntax.{w8}
 use mir.Val.{Fits}
 use Rattle.wire.specs.Bytes.{number, whole}
-use Rattle.wire.proofs.Numbers.{number_lt, whole_in, read_in, past}
+use Rattle.wire.proofs.Numbers.{number_lt, whole_in, read_in}
 use Rattle.wire.proofs.Runs.{held}
 use Rattle.operations.specs.declared.Operation.{Operation}
 use Rattle.operations.specs.Entries.{width_of, kind_at, op_place, response_at, operation_at}
@@ -35,15 +35,9 @@ module _ (t : List ℕ) (p w : ℕ) (known : (k : ℕ) → Fits w8 (get_or t k 0
       parts (number 2 t p) (number 1 t (p + 4)) (number 1 t (p + 6)) w (below (p + 4)) (below (p + 6))
       (omega (arith, ap (number 1 t) (add_assoc p 4 2)))
 
-  pub head-id : w / half ≡ number 2 t p
-  head-id = its-parts.0
-
   pub head-kind : w / 65536 % 65536 ≡ kind_at t p
   unfolding kind_at
   head-kind = its-parts.1.0
-
-  pub head-type : w % 65536 ≡ number 1 t (p + 6)
-  head-type = its-parts.1.1
 
 -- the entry, by its head
 module _ (t : List ℕ) (p w k : ℕ) (kind : w / 65536 % 65536 ≡ kind_at t p) (is : k ≡ w / 65536 % 65536) where
@@ -64,6 +58,3 @@ two_in t p q k e h g = read_in 1 t p k (omega arith) (g ∙ ap (λ (n : ℕ). wh
 
 pub ends_in : (t : List ℕ) (q k : ℕ) → 2 ≤ q → q ≤ length t → k ≡ whole 1 (take (q - (q - 2)) (drop (q - 2) t)) 0 → k ≡ number 1 t (q - 2)
 ends_in t q k l h g = two_in t (q - 2) q k (omega arith) h g
-
-pub behind_past : (t : List ℕ) (p : ℕ) → length t ≤ p → 0 ≡ number 1 t (p + 8)
-behind_past t p h = past 1 t (p + 8) (omega arith)

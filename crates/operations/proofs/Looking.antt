@@ -128,12 +128,6 @@ module _ (index : List ℕ) (id m : ℕ) (r : Option (ℕ × ℕ)) where
   pub told-there : (word : ℕ) → word ≡ get_or index m 0 → r ≡ said_by word id m → r ≡ told_by index id m
   told-there word is e = e ∙ ap (λ (w : ℕ). said_by w id m) is
 
-  pub told-zero : length index ≤ m → r ≡ said_by 0 id m → r ≡ told_by index id m
-  told-zero h e = e ∙ ap (λ (w : ℕ). said_by w id m) (sym (get_or-eq_default index 0 h))
-
-pub no_first : (index : List ℕ) → length index ≤ 0 → 0 ≡ get_or index 0 0
-no_first index h = sym (get_or-eq_default index 0 h)
-
 -- held against the bytes: 8 of them are not there
 pub too_short : (t : List ℕ) (id m p : ℕ) (b : Bool) → b ≡ leb (p + 8) (length t) → b ≡ false → None ≡ borne t id m p
 unfolding borne

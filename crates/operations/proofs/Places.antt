@@ -107,9 +107,6 @@ module _ (t : List ℕ) (first : ℕ) where
   unfolding op_place
   entry-within i n h = place-up-to (suc i) n (omega arith)
 
-  pub last-place : (i n p : ℕ) → p ≡ op_place t first i → i ≤ n → n ≤ i → p ≡ op_place t first n
-  last-place i n p e a b = e ∙ ap (op_place t first) (omega arith)
-
   -- one entry further
   module _ (i p : ℕ) (here : p ≡ op_place t first i) where
     pub next_place : (w : ℕ) → w ≡ op_width t p → p + w ≡ op_place t first (i + 1)

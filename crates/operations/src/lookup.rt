@@ -27,6 +27,7 @@ fn said(index: &[u64], count: u16, id: u32) -> Option<(u16, usize)>
     let mut base: usize = 0;
     let mut size = count as usize;
     let mut word = first_word(index);
+    // By hand: the size halves, and nothing counts up or down that a `for` could go over.
     while 1 < size {
         let half = size / 2;
         let middle = base + half;

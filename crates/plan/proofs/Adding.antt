@@ -168,11 +168,3 @@ module _ (l₀ : List ℕ) (from end at stop : ℕ) (below : stop ≤ from) (roo
         e ∙ ap (over l from) z ∙ ap (λ (v : List ℕ). over v from (add so_far x)) held
         ∙ over_again from l₀ so_far (add so_far x) (omega (arith, length_add so_far x, short, room.fits)) (add_longer so_far x)
         ∙ ap (over l₀ from) (sym z ∙ its-sum)
-
--- and at the end
-module _ (l₀ : List ℕ) (from at stop : ℕ) (xs : List ℕ) (k : ℕ) (a : k ≤ stop) (b : stop ≤ k) where
-  pub all_end : (to : ℕ) → to ≡ from + length (add_all xs (between at k l₀)) → to ≡ from + length (add_all xs (between at stop l₀))
-  all_end to e = let i : k ≡ stop = omega arith in e ∙ ap (λ (n : ℕ). from + length (add_all xs (between at n l₀))) i
-
-  pub all_held : (l : List ℕ) → l ≡ over l₀ from (add_all xs (between at k l₀)) → l ≡ over l₀ from (add_all xs (between at stop l₀))
-  all_held l e = let i : k ≡ stop = omega arith in e ∙ ap (λ (n : ℕ). over l₀ from (add_all xs (between at n l₀))) i

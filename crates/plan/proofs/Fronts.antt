@@ -7,7 +7,7 @@ use native.Mathlib.Numerals.{add-one}
 use native.Mathlib.Omega.{arith}
 use mir.Syntax.{w64}
 use mir.Val.{Fits}
-use lib.ListN.{length, get_or, set, drop, length-append}
+use lib.ListN.{length, get_or, set, length-append}
 use Rattle.wire.specs.Bytes.{over}
 use Rattle.table.specs.Layout.{most_types}
 use Rattle.plan.specs.Layout.{index_word}
@@ -30,12 +30,6 @@ module _ (starts : List ℕ) (n k : ℕ) (few : n ≤ most_types) (before : Befo
 
   pub in_order : get_or starts k 0 ≤ get_or starts (k + 1) 0
   in_order = before.order k h
-
-  pub first_small : 1 + n + get_or starts k 0 < 16777216
-  first_small = omega (arith, before.order k h, before.below k h)
-
-  pub many-small : get_or starts (k + 1) 0 - get_or starts k 0 < 16777216
-  many-small = omega (arith, before.order k h, before.below k h)
 
 -- the index word by word
 module _ (counts starts : List ℕ) (before : ℕ) where
@@ -66,16 +60,3 @@ module _ (counts starts : List ℕ) (before : ℕ) where
       ∙ over_over l₀ 1 xs (x ∷ []) (omega (arith, length-append xs (x ∷ [])))
       ∙ ap (λ (i : ℕ). over l₀ 1 (xs ++ (i ∷ []))) is
       ∙ ap (λ (j : ℕ). over l₀ 1 (index_of counts starts before j)) (sym (add-one k))
-
-  pub front-held : (l₀ l : List ℕ) (k n : ℕ) → l ≡ over l₀ 1 (index_of counts starts before k) → n < length l₀ → k ≤ n → n ≤ k
-      → set l 0 n ≡ over l₀ 0 (n ∷ index_of counts starts before n)
-  front-held l₀ l k n held a b c =
-      let i : k ≡ n = omega arith in
-      ap (λ (u : List ℕ). set u 0 n) (held ∙ ap (λ (j : ℕ). over l₀ 1 (index_of counts starts before j)) i)
-      ∙ set_first l₀ n (index_of counts starts before n) (omega arith)
-    where
-      set_first : (ws : List ℕ) (x : ℕ) (xs : List ℕ) → 0 < length ws → set (over ws 1 xs) 0 x ≡ over ws 0 (x ∷ xs)
-      set_first [] x xs h = absurd (omega arith)
-      set_first (w ∷ ws) x xs h =
-          let e : 1 + length xs ≡ 0 + suc (length xs) = omega arith in
-          ap (λ (j : ℕ). x ∷ (xs ++ drop j (w ∷ ws))) e

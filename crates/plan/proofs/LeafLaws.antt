@@ -12,7 +12,7 @@ use native.Mathlib.Omega.{arith}
 use borrow.Author.Tests.{leb-true, lt-ltb, le-ltb}
 use mir.Syntax.{w16, w64}
 use mir.Val.{Fits}
-use lib.ListN.{length, get_or, set, take, length-take, get_or-eq_default}
+use lib.ListN.{length, get_or, set, take, get_or-eq_default}
 use lib.Seq.{take-suc-set}
 use Rattle.table.specs.declared.Sections.{Sections}
 use Rattle.table.specs.declared.Entry.{Entry}
@@ -46,9 +46,6 @@ many n h = sym (no_le n 0 n 512 h)
 
 pub not_known : (l : List ℕ) (i : ℕ) → length l ≤ i → 0 ≡ get_or l i 0
 not_known l i h = sym (get_or-eq_default l 0 h)
-
-pub few_taken : (n : ℕ) (l : List ℕ) → n ≤ most_types → length (take n l) ≤ most_types
-few_taken n l h = omega (arith, length-take n l)
 
 -- sums of what comes before a place
 module _ (f : ℕ → ℕ) where

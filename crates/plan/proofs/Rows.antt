@@ -31,12 +31,6 @@ module _ (l starts : List ℕ) (i c from end : ℕ) (before : Before starts i fr
     unfolding runs_from
     its-runs = yes_lt _ _ c i h
 
-    pub type-order : get_or starts c 0 ≤ get_or starts (c + 1) 0
-    type-order = before.order c h
-
-    pub type-below : get_or starts (c + 1) 0 ≤ from
-    type-below = before.below c h
-
     pub type-room : Room l from end (get_or starts (c + 1) 0 - get_or starts c 0) (many_of (between (get_or starts c 0) (get_or starts (c + 1) 0) l))
     type-room =
         let n : get_or starts c 0 + length (between (get_or starts c 0) (get_or starts (c + 1) 0) l) ≡ get_or starts (c + 1) 0 =
@@ -146,12 +140,6 @@ module _ (f : ℕ → List ℕ) (n from : ℕ) (l₀ : List ℕ) (parts : Parts 
         ∙ over_again from l₀ (row_runs f k) (add_all (row_runs f k) ys)
         (omega (arith, length_add_all (row_runs f k) ys, in_room, parts.thin k b, ap length is)) (add_all_longer (row_runs f k) ys)
         ∙ ap (over l₀ from) (sym z ∙ its-sum)
-
-pub row_done_end : (f : ℕ → List ℕ) (n k from to : ℕ) → to ≡ from + length (row_runs f k) → k ≤ n → n ≤ k → to ≡ from + length (row_runs f n)
-row_done_end f n k from to e a b = let i : k ≡ n = omega arith in e ∙ ap (λ (m : ℕ). from + length (row_runs f m)) i
-
-pub row_done_held : (f : ℕ → List ℕ) (n k from : ℕ) (l l₀ : List ℕ) → l ≡ over l₀ from (row_runs f k) → k ≤ n → n ≤ k → l ≡ over l₀ from (row_runs f n)
-row_done_held f n k from l l₀ e a b = let i : k ≡ n = omega arith in e ∙ ap (λ (m : ℕ). over l₀ from (row_runs f m)) i
 
 -- of a table's entry
 module _ (t : List ℕ) (s : Sections) (e : Entry) (is_record : Bool) where

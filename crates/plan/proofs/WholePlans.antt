@@ -70,9 +70,6 @@ module _ (a : ℕ) (ws : List ℕ) where
   back last =
       ap (λ (u : List ℕ). take a ws ++ (last ++ u)) (drop_of_length-le (drop a ws) behind) ∙ ap (λ (u : List ℕ). take a ws ++ u) (append-nil last)
 
-  pub lent-room : (n : ℕ) → a + n ≤ length ws → n ≤ length (take (length ws - a) (drop a ws))
-  lent-room n h = omega (arith, ap length lent, length-drop a ws)
-
   -- what stands before them, and they
   pub front-back : (f r last : List ℕ) → length f ≡ a → a + length r ≤ length ws → last ≡ over (take (length ws - a) (drop a ws)) 0 r
       → over (put_mid a (length ws - a) ws last) 0 f ≡ over ws 0 (f ++ r)
@@ -90,16 +87,6 @@ module _ (a : ℕ) (ws : List ℕ) where
 
 module _ (t : List ℕ) (s : Sections) (counts ws : List ℕ) (is : length counts ≡ s.types.count) (all : counts ≡ leaf_counts t s (length counts))
     (room : 1 + length counts + sum_below (leaves t s) (length counts) ≤ length ws) where
-  pub out-room : sum_below (leaves t s) (length counts) ≤ length (take (length ws - (length counts + 1)) (drop (length counts + 1) ws))
-  out-room = lent-room (length counts + 1) ws (sum_below (leaves t s) (length counts)) (omega arith)
-
-  pub out-long : (last : List ℕ) → last ≡ over (take (length ws - (length counts + 1)) (drop (length counts + 1) ws)) 0 (all_runs t s (length counts))
-      → length counts < length (put_mid (length counts + 1) (length ws - (length counts + 1)) ws last)
-  out-long last e =
-      let n : ℕ = length counts + 1 in
-      let m : length (take n ws) ≡ n = length-take-le n ws (omega arith) in
-      omega (arith, ap length (back n ws last), length-append (take n ws) last)
-
   pub out-held : (starts last u : List ℕ) → take (length counts + 1) starts ≡ starts_of t s (length counts + 1)
       → last ≡ over (take (length ws - (length counts + 1)) (drop (length counts + 1) ws)) 0 (all_runs t s (length counts))
       → u ≡ over (put_mid (length counts + 1) (length ws - (length counts + 1)) ws last) 0 (front_of counts (take (length counts + 1) starts))
@@ -153,9 +140,6 @@ module _ (t : List ℕ) (s : Sections) (ws : List ℕ) where
       module _ (long : s.types.count ≤ length room) where
         pub counts-long : length (take s.types.count room) ≡ s.types.count
         counts-long = length-take-le s.types.count room long
-
-        pub counts_all : take s.types.count room ≡ leaf_counts t s (length (take s.types.count room))
-        counts_all = filled ∙ ap (leaf_counts t s) (sym counts-long)
 
         pub counts-room : 1 + length (take s.types.count room) + sum_below (leaves t s) (length (take s.types.count room)) ≤ length ws
         counts-room =

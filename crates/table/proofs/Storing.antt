@@ -19,9 +19,6 @@ use Rattle.table.specs.Words.{word_limit, is_section, section_in, are_sections, 
 
 -- one section
 module _ (ws : List ℕ) (k : ℕ) where
-  pub is-section : {a b : ℕ} → a ≡ get_or ws k 0 → b ≡ get_or ws (k + 1) 0 → (ltb a word_limit && ltb b word_limit) ≡ is_section ws k
-  is-section e f = rw (e, f)
-
   pub first_fits : {a : ℕ} → is_section ws k ≡ true → a ≡ get_or ws k 0 → Fits w16 a
   first_fits t e =
       let h : get_or ws k 0 < word_limit = ltb-true (get_or ws k 0) word_limit (and_left (ltb (get_or ws k 0) word_limit) (ltb (get_or ws (k + 1) 0) word_limit) t) in
@@ -33,15 +30,8 @@ module _ (ws : List ℕ) (k : ℕ) where
       (and_right (ltb (get_or ws k 0) word_limit) (ltb (get_or ws (k + 1) 0) word_limit) t) in
       record { fits = omega arith }
 
-  pub section-in : {a b : ℕ} → a ≡ get_or ws k 0 → b ≡ get_or ws (k + 1) 0 → record { at = a; count = b } ≡ section_in ws k
-  section-in e f = rw (e, f)
-
 -- the four of them
 module _ (ws : List ℕ) where
-  pub are-sections : {a b c d : Bool} → a ≡ is_section ws 0 → b ≡ is_section ws 2 → c ≡ is_section ws 4 → d ≡ is_section ws 6
-      → (a && (b && (c && d))) ≡ are_sections ws
-  are-sections ea eb ec ed = rw (ea, eb, ec, ed)
-
   module _ {t : Bool} (e : t ≡ are_sections ws) where
     pub no-sections : t ≡ false → outside ≡ sections_in ws
     unfolding sections_in

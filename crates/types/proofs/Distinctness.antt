@@ -1,6 +1,6 @@
 -- What the last value alike says: the values of an enum are distinct exactly if for none it is the enum's too.
 -- Assumes nothing.
-use Rattle.std.proofs.Common.{◌≡◌, ℕ, zero, suc, ◌+◌, ◌-◌, ◌<◌, ◌≤◌, Bool, true, false, not, ◌&&◌, eqb, leb, List, length, get_or, set, sym, refl, ap, ◌∙◌, subst, ⊎_elim, eq-or-lt_of_le, arith, get_or-set_other, get_or-set_same, take, drop, length-take, length-drop, get_or-take, get_or-drop, eq-eqb, ne_eqb, le-leb}
+use Rattle.std.proofs.Common.{◌≡◌, ℕ, zero, suc, ◌+◌, ◌-◌, ◌<◌, ◌≤◌, Bool, true, false, not, ◌&&◌, eqb, leb, List, length, get_or, sym, refl, ap, ◌∙◌, subst, arith, take, drop, length-take, length-drop, get_or-take, get_or-drop, eq-eqb, ne_eqb, le-leb}
 use borrow.Author.Tests.{lt-leb}
 use Rattle.table.specs.declared.Sections.{Sections}
 use Rattle.table.specs.declared.Entry.{Entry}
@@ -37,19 +37,6 @@ module _ (t : List ℕ) (s : Sections) (k word : ℕ) (is : word ≡ value_at t 
     pub not-here : 0 < j → v ≡ value_at t s (j - 1) → (v ≡ word → ⊥) → last_equal (value_at t s) word (j - 1) ≡ last_alike t s k
     unfolding last_equal
     not-here h p d = rw (ne_eqb (value_at t s (j - 1)) word (λ q. d (p ∙ q))) at (stepped h)
-
--- filling the room
-pub fill_alikes : (t : List ℕ) (s : Sections) (room before : List ℕ) (k n v : ℕ) → Alikes t s k room → length room ≡ length before
-    → n ≤ length before → k < n → v ≡ last_alike t s k → Alikes t s (k + 1) (set room k v)
-fill_alikes t s room before k n v a l m h e j g =
-    let b : j ≤ k = omega arith in
-    ⊎_elim
-    (λ (q : j ≡ k). subst (λ (x : ℕ). get_or (set room k v) x 0 ≡ last_alike t s x) (sym q) (get_or-set_same room k v 0 (omega arith) ∙ e))
-    (λ (q : j < k). get_or-set_other room k j v 0 (omega arith) ∙ a j q)
-    (eq-or-lt_of_le b)
-
-pub alikes_done : (t : List ℕ) (s : Sections) (room : List ℕ) (k n : ℕ) → Alikes t s k room → n ≤ k → Alikes t s n room
-alikes_done t s room k n a h j l = a j (omega arith)
 
 -- the last one alike stands before first exactly if none is alike from first on
 last_le : (f : ℕ → ℕ) (word n : ℕ) → last_equal f word n ≤ n

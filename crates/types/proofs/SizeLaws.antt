@@ -1,6 +1,6 @@
 -- Laws of the largest sizes: what the returns come to, that nothing wraps, and what filling the room does.
 -- Assumes nothing.
-use Rattle.std.proofs.Common.{◌≡◌, ℕ, zero, suc, ◌+◌, ◌*◌, ◌^◌, ◌<◌, ◌≤◌, Bool, true, false, ◌&&◌, ◌||◌, ltb, List, [], ◌∷◌, ◌++◌, length, get_or, take, set, sym, refl, ap, ◌∙◌, subst, ⊎_elim, mul-le-mul, eq-or-lt_of_le, add-one, arith, length-append, take-suc-set, w16, w32, w64, Fits, ltb-false, ltb-true, eq-eqb, ne_eqb, le-leb}
+use Rattle.std.proofs.Common.{◌≡◌, ℕ, zero, suc, ◌+◌, ◌*◌, ◌<◌, ◌≤◌, Bool, true, false, ◌&&◌, ◌||◌, ltb, List, [], ◌∷◌, ◌++◌, length, get_or, take, set, sym, refl, ap, ◌∙◌, subst, ⊎_elim, mul-le-mul, eq-or-lt_of_le, add-one, arith, length-append, take-suc-set, w16, w32, w64, Fits, ltb-false, ltb-true, eq-eqb, ne_eqb, le-leb}
 use Rattle.std.specs.Prelude.{Option, Some, None}
 use borrow.Author.Tests.{lt-leb}
 use lib.ListN.{get_or-eq_default, get_or-append}
@@ -10,9 +10,7 @@ use Rattle.table.specs.declared.Entry.{Entry}
 use Rattle.wire.specs.All.{all_below}
 use Rattle.table.specs.Leaf.{width}
 use Rattle.table.specs.Entries.{type_at, member_at, is_type}
-use Rattle.types.specs.Lawful.{Smaller}
 use Rattle.types.specs.Sizes.{most_bytes, sum_of, sum_from, size_of, sizes, largest, fits_in_size, bytes_up_to, largest_below, largest_of}
-use Rattle.wire.proofs.Cond.{and_right}
 use Rattle.wire.proofs.AllBelow.{next-below, stop-below}
 
 -- where nothing is known nothing is asked
@@ -29,9 +27,6 @@ product n z a b =
 pub times_fits : (n z : ℕ) → Fits w16 n → Fits w32 z → Fits w64 (n * z)
 times_fits n z a b = record { fits = omega (arith, product n z a b) }
 
-pub times_small : (n z : ℕ) → Fits w16 n → Fits w32 z → n * z < 2 ^ 48
-times_small n z a b = omega (arith, product n z a b)
-
 pub up_to : (z : ℕ) → z ≤ most_bytes → Some z ≡ bytes_up_to z
 unfolding bytes_up_to
 up_to z h = rw (le-leb z most_bytes h) refl
@@ -47,9 +42,6 @@ is-there false n i h k = ltb-true i n h
 pub not_known : (b : Bool) (l : List ℕ) (i : ℕ) → (b || ltb i (length l)) ≡ false → 0 ≡ get_or l i 0
 not_known true l i h = unknown (0 ≡ get_or l i 0) (sym h)
 not_known false l i h = sym (get_or-eq_default l 0 (ltb-false i (length l) h))
-
-pub known_member : (t : List ℕ) (s : Sections) (n first count k m : ℕ) → Smaller t s n first count → k < count → m ≡ member_at t s (first + k) → m < n
-known_member t s n first count k m p h e = omega (arith, p.smaller k h)
 
 -- the sum over a record's members, member by member
 module _ (t : List ℕ) (s : Sections) (known : List ℕ) (first : ℕ) where
@@ -149,9 +141,6 @@ module _ (t : List ℕ) (s : Sections) where
   pub is-unknown : (i : ℕ) (x : Bool) → x ≡ is_type s i → (x && ltb i 256) ≡ false → None ≡ largest_of t s i
   unfolding largest_of
   is-unknown i x p h = rw (← p, h) refl
-
-pub below_limit : (x : Bool) (i n : ℕ) → (x && ltb i n) ≡ true → i < n
-below_limit x i n h = ltb-true i n (and_right x (ltb i n) h)
 
 -- the sizes below n are the largest sizes of the types below n
 module _ (t : List ℕ) (s : Sections) where

@@ -187,7 +187,3 @@ types_compared t s i r l a h g q =
 
 pub not_risen : (t : List ℕ) (s : Sections) (n : ℕ) → false ≡ true → all_below (type_ok t s) n ≡ true
 not_risen t s n h = absurd (let z : ◌≡◌ {A = ℕ} 0 1 = cc in omega arith)
-
-pub types_rise : (t : List ℕ) (s : Sections) (i n : ℕ) (b : Bool) → (b ≡ true → all_below (type_ok t s) i ≡ true) → b ≡ true → i ≤ n → n ≤ i
-    → true ≡ all_below (type_ok t s) n
-types_rise t s i n b a g h l = done_below (type_ok t s) n i (a g) h l

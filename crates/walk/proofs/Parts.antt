@@ -7,10 +7,9 @@ use mathlib.Core.List.{List}
 use native.Mathlib.Nat.{add_assoc, add-sub_cancel_left}
 use native.Mathlib.Omega.{arith}
 use borrow.Author.Tests.{ltb-true, leb-true, eq-eqb, lt-ltb}
-use mir.Syntax.{w8, w64}
+use mir.Syntax.{w8}
 use mir.Val.{Fits}
 use lib.Dec.{ltb, leb}
-use lib.Arith.{digits_lt}
 use lib.ListN.{length, get_or, take, drop, length-drop}
 use lib.Seq.{length-take-le}
 use Rattle.wire.specs.Bytes.{number, whole, over, Octets}
@@ -21,7 +20,7 @@ use Rattle.table.specs.declared.Entry.{Entry}
 use Rattle.table.specs.Layout.{type_place, member_place}
 use Rattle.table.specs.Entries.{type_at, member_at}
 use Rattle.walk.specs.Tree.{no_base, base_of, base_at}
-use Rattle.walk.specs.Codes.{Parts, all_bases, leading, firsts, code_at, are_there, code_count, codes_of, turned}
+use Rattle.walk.specs.Codes.{all_bases, leading, firsts, code_at, are_there, code_count, codes_of, turned}
 use Rattle.walk.specs.Codes.{placed, placed_code, placed_count, placed_codes, alone, part_code}
 use Rattle.walk.proofs.Bases.{Plain, Fields, fields, a_base, no-base, base-met, no-base-met}
 use Rattle.walk.proofs.Codes.{up_to, leading-most, leading-same, firsts_same, none_stored, few-codes}
@@ -36,12 +35,6 @@ abbrev as_one_word : Entry → ℕ
 as_one_word e = (e.kind * 65536 + e.of) * 4294967296 + (e.first * 65536 + e.count)
 
 -- an entry as one number, and that with its halves exchanged
-pub turned_fits : (w : ℕ) → Fits w64 w → Fits w64 (w % 4294967296 * 4294967296 + w / 4294967296)
-turned_fits w f =
-    let h : w / 4294967296 < 4294967296 = omega (arith, f.fits) in
-    let l : w % 4294967296 < 4294967296 = omega arith in
-    record { fits = digits_lt l h }
-
 pub turned_here : (w : ℕ) → w % 4294967296 * 4294967296 + w / 4294967296 ≡ turned w
 unfolding turned
 turned_here w = refl
@@ -203,14 +196,6 @@ module _ (t : List ℕ) (a b i n : ℕ) where
     pub members-end : b + 2 * n ≤ length t
     unfolding are_there
     members-end = leb-true (b + 2 * n) (length t) (and_right (leb (a + 8 * i) (length t)) (leb (b + 2 * n) (length t)) (sym test ∙ yes))
-
-    pub parts-there : (codes : List ℕ) → n ≤ length codes → Parts (slice t a (8 * i)) (slice t b (2 * n)) i n codes
-    parts-there codes h =
-        record {
-          types_there = length-slice t a (8 * i) types-end;
-          members_there = length-slice t b (2 * n) members-end;
-          room = h;
-        }
 
     pub counted_in : (r : ℕ) → r ≡ leading in_parts n → r ≡ placed_count t a b i n
     unfolding placed_count

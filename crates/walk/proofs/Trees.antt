@@ -90,9 +90,6 @@ pub an_entry : (w : ℕ) → ◌≡◌ {A = Entry}
 unfolding entry_in
 an_entry w = refl
 
-pub met_word : {m x : Met} (w : ℕ) → m ≡ met_in w → met_in w ≡ x → m ≡ x
-met_word w p q = p ∙ q
-
 module _ (t : List ℕ) (s : Sections) where
   pub good-word : (i : ℕ) (e : Entry) (b : Bool) (w : ℕ) → e ≡ type_at t s i → b ≡ fields_ok s i e → b ≡ true → entry_in w ≡ e → met_in w ≡ look t s i
   unfolding look
