@@ -54,7 +54,8 @@ module _ (ws : List ℕ) (z : Sized ws) where
   stands-twice i l e h =
       twice (stored_in ws) z.few (stored-length ws z.few) i (omega arith) (e ∙ ap (place_of (senders_in ws)) (sym (sender-is i l))) h
 
-  pub stands-once : (i : ℕ) → ((k : ℕ) → k < i → k ≤ place_of (senders_in ws) (get_or ws (record_at k) 0)) → i ≤ get_or ws 0 0 → get_or ws 0 0 ≤ i → true ≡ distinct (senders_in ws)
+  pub stands-once : (i : ℕ) → ((k : ℕ) → k < i → k ≤ place_of (senders_in ws) (get_or ws (record_at k) 0)) → i ≤ get_or ws 0 0
+      → get_or ws 0 0 ≤ i → true ≡ distinct (senders_in ws)
   stands-once i f l m = never-twice (stored_in ws) z.few (stored-length ws z.few) i go (omega arith)
     where
       go : (k : ℕ) → k < i → k ≤ place_of (senders_in ws) (channel_at (stored_in ws) k).sender

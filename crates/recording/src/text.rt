@@ -54,6 +54,7 @@ fn number_before(line: &mut [u8], end: usize, n: u64) -> usize
 {
     let mut at = end;
     let mut rest = n;
+    // By hand: only the digits that are left tell how many turns there are, so a `for` would be no plainer.
     while rest >= 10 {
         at -= 1;
         line[at] = b'0' + (rest % 10) as u8;

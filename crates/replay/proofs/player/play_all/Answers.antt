@@ -8,8 +8,11 @@ slice_bounds-play-end-in-loop g c =
     search filled-part
 
 pub loop-preserved : goal.loop-preserved
-loop-preserved g c =
-    (search rules, elim c.match-read_on.branch [ in-Write+then-flush w ↦ omega arith | in-Filled w ↦ omega (arith, next-filled c.read_on.ensures.next_within _ w.in-Filled.is) ])
+loop-preserved g c = (
+  search rules,
+  elim c.match-read_on.branch
+      [ in-Write+then-flush w ↦ omega arith | in-Filled w ↦ omega (arith, next-filled c.read_on.ensures.next_within _ w.in-Filled.is) ],
+)
 
 pub finish-requires : goal.finish-requires
 finish-requires g c =
