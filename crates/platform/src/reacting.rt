@@ -19,8 +19,7 @@ pub(crate) fn look_up(table: &[u8], s: Sections, index: &[u64], reading: Reading
         Reading::Read {
             header,
             message,
-            start: _,
-            length: _,
+            ..
         } => looked_for(table, s, index, header, message),
     }
 }
@@ -58,11 +57,9 @@ fn looked_for(table: &[u8], s: Sections, index: &[u64], header: Header, message:
     ensures { result ≡ operation_for table.now s index.now header message }
 {
     match message {
-        Message::PlatformStatus(_) => Sought::Nowhere,
-        Message::PlatformStatusRequest => Sought::Nowhere,
-        Message::UnknownOperation(_) => Sought::Nowhere,
         Message::VersionedDataPull(id) => operations::find(table, index, s.operations.count, id),
         Message::Operation => operations::find(table, index, s.operations.count, header.id),
+        _ => Sought::Nowhere,
     }
 }
 
