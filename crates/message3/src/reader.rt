@@ -23,12 +23,7 @@ pub fn payload(message: &[u8], reading: Reading3) -> &[u8]
     ensures { result.now ≡ payload_of3 message.now reading }
 {
     match reading {
-        Reading3::Read {
-            header: _,
-            message: _,
-            start,
-            length,
-        } => wire::part(message, start, length),
+        Reading3::Read { start, length, .. } => wire::part(message, start, length),
         Reading3::Refused(_) => &message[..0],
     }
 }

@@ -32,17 +32,16 @@ use Rattle.platform.specs.Reaction.{on_state, on_status, not_versioned, on_pull_
 
 -- what is looked up
 module _ (t : List ℕ) (s : Sections) (index : List ℕ) (h : Header) (m : Message) where
-  pub none-for-status : (x : Status) → m ≡ message.PlatformStatus x → None ≡ operation_for t s index h m
+  pub none-for-other : ((id : ℕ) → m ≡ message.VersionedDataPull id → ⊥) → (m ≡ message.Operation → ⊥) → None ≡ operation_for t s index h m
   unfolding operation_for
-  none-for-status x e = rw e refl
-
-  pub none-for-request : m ≡ message.PlatformStatusRequest → None ≡ operation_for t s index h m
-  unfolding operation_for
-  none-for-request e = rw e refl
-
-  pub none-for-unknown : (id : ℕ) → m ≡ message.UnknownOperation id → None ≡ operation_for t s index h m
-  unfolding operation_for
-  none-for-unknown id e = rw e refl
+  none-for-other k o = go m k o
+    where
+      go : (m : Message) → ((id : ℕ) → m ≡ message.VersionedDataPull id → ⊥) → (m ≡ message.Operation → ⊥) → None ≡ operation_for t s index h m
+      go (message.PlatformStatus x) k o = refl
+      go message.PlatformStatusRequest k o = refl
+      go (message.UnknownOperation id) k o = refl
+      go (message.VersionedDataPull id) k o = absurd (k id refl)
+      go message.Operation k o = absurd (o refl)
 
   pub for-pull : (id : ℕ) (f : Option (ℕ × ℕ)) → m ≡ message.VersionedDataPull id → f ≡ sought_in t index s.operations.count id
       → f ≡ operation_for t s index h m

@@ -132,11 +132,7 @@ pub fn payload(message: &[u8], heard: Heard) -> &[u8]
     ensures { result.now ≡ payload_heard message.now heard }
 {
     match heard {
-        Heard::Operation {
-            entry: _,
-            start,
-            length,
-        } => wire::part(message, start, length),
+        Heard::Operation { start, length, .. } => wire::part(message, start, length),
         _ => &message[..0],
     }
 }

@@ -23,8 +23,7 @@ pub(crate) fn look_up(
         Reading::Read {
             header,
             message,
-            start: _,
-            length: _,
+            ..
         } => looked_for(table, s, index, header, message),
     }
 }
@@ -68,11 +67,9 @@ fn looked_for(
     ensures { result ≡ operation_for table.now s index.now header message }
 {
     match message {
-        Message::PlatformStatus(_) => None,
-        Message::PlatformStatusRequest => None,
-        Message::UnknownOperation(_) => None,
         Message::VersionedDataPull(id) => operations::find(table, index, s.operations.count, id),
         Message::Operation => operations::find(table, index, s.operations.count, header.id),
+        _ => None,
     }
 }
 

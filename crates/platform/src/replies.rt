@@ -77,9 +77,7 @@ fn number_of(reply: Reply) -> u32
     ensures { result ≡ reply_number reply }
 {
     match reply {
-        Reply::StatusUp(number) => number,
-        Reply::PullAll(number) => number,
-        Reply::Unknown(number, _) => number,
+        Reply::StatusUp(number) | Reply::PullAll(number) | Reply::Unknown(number, _) => number,
     }
 }
 
