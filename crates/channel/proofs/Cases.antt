@@ -45,7 +45,11 @@ pub data Stepped (room : Room) (ch : Channel) (c n : ℕ) : MessagePart → Step
   long : {p : MessagePart} → repeated ch c ≡ false → Stepped room ch c n p (too_long (noted_of ch c) (missed_of ch c))
   goes_on : repeated ch c ≡ false → (keeping ch c ≡ 0 → ⊥) → keeping ch c + n ≤ room.size
       → Stepped room ch c n Middle
-      (record { outcome = Held (missed_of ch c) (keeping ch c + n); channel = holding (noted_of ch c) (keeping ch c + n); put = Some (room.start + keeping ch c) })
+      (record {
+        outcome = Held (missed_of ch c) (keeping ch c + n);
+        channel = holding (noted_of ch c) (keeping ch c + n);
+        put = Some (room.start + keeping ch c);
+      })
   ends : repeated ch c ≡ false → (keeping ch c ≡ 0 → ⊥) → keeping ch c + n ≤ room.size
       → Stepped room ch c n End
       (record {

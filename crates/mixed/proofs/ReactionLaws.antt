@@ -139,23 +139,14 @@ module _ (t : List ℕ) (f : Option (ℕ × ℕ)) (id : ℕ) where
     pub is-pulled : k ≡ data_kind → heard.PullOfOne id i ≡ one_heard t f id
     unfolding is_data
     is-pulled z =
-        sym (ap (λ (x : Option (ℕ × ℕ)). one_heard t x id) e ∙ yes-eq {A = Heard} (heard.PullOfOne id i) (heard.NotVersionedData id) (kind_at t q) data_kind (sym ek ∙ z))
+        sym (ap (λ (x : Option (ℕ × ℕ)). one_heard t x id) e
+        ∙ yes-eq {A = Heard} (heard.PullOfOne id i) (heard.NotVersionedData id) (kind_at t q) data_kind (sym ek ∙ z))
 
     pub no-pull : (k ≡ data_kind → ⊥) → heard.NotVersionedData id ≡ one_heard t f id
     unfolding is_data
     no-pull z =
         sym (ap (λ (x : Option (ℕ × ℕ)). one_heard t x id) e
         ∙ no_eq {A = Heard} (heard.PullOfOne id i) (heard.NotVersionedData id) (kind_at t q) data_kind (λ (y : kind_at t q ≡ data_kind). z (ek ∙ y)))
-
-  pub nowhere-pulled : f ≡ None → heard.NotVersionedData id ≡ one_heard t f id
-  nowhere-pulled e = rw e refl
-
-module _ (f : Option (ℕ × ℕ)) (id start len : ℕ) where
-  pub operation-there : (i q : ℕ) → f ≡ Some (i, q) → heard.Operation i start len ≡ operation_heard f id start len
-  operation-there i q e = rw e refl
-
-  pub operation-absent : f ≡ None → heard.NotInTable id ≡ operation_heard f id start len
-  operation-absent e = rw e refl
 
 -- and that this is what Issue 6's words say
 module _ (own : ℕ) (t : List ℕ) (s : Sections) (f : Option (ℕ × ℕ)) (p : Standing) (h : Header3) (start len : ℕ) where

@@ -60,7 +60,8 @@ module _ (index : List ℕ) (count id : ℕ) where
 
   module _ (base size : ℕ) (left : Left index count id base size) (word : ℕ) (ends : Ends index count base size word) where
     -- the middle's word is not there
-    pub unlaid : (r : Option (ℕ × ℕ)) (m : ℕ) → 1 < size → m ≡ base + size / 2 → length index ≤ m → r ≡ told_by index id (base + size - 1) → Says index count id r
+    pub unlaid : (r : Option (ℕ × ℕ)) (m : ℕ) → 1 < size → m ≡ base + size / 2 → length index ≤ m → r ≡ told_by index id (base + size - 1)
+        → Says index count id r
     unlaid r m several em h e t =
         ap (held_to t id) e ∙ sym (left.1.1 t ∙ none_there t index id left.0 base size ends.some left.1.0 (omega arith))
 

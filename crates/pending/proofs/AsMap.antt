@@ -164,7 +164,8 @@ module _ (l : List ℕ) (m : Map) (like : LikeMap l m) where
         here : awaited_of new n ≡ Some (id, target)
         here =
             ap (asked_at new) (stands new n new-once k there.below new-number not_zero)
-            ∙ ap₂ (λ (a b : ℕ). Some (a, b)) (ap (λ (y : ℕ). y % 2 ^ 32) new_word ∙ id-in n id id-small) (target-here l k (n * 2 ^ 32 + id) target there.below like.whole)
+            ∙ ap₂ (λ (a b : ℕ). Some (a, b)) (ap (λ (y : ℕ). y % 2 ^ 32) new_word ∙ id-in n id id-small)
+            (target-here l k (n * 2 ^ 32 + id) target there.below like.whole)
 
         go : (s : Bool) → eqb x n ≡ s → awaited_of new x ≡ cond (eqb x n) (Some (id, target)) (m.under x)
         go true s = ap (awaited_of new) (eqb-true x n s) ∙ here ∙ sym (yes-if (Some (id, target)) (m.under x) s)

@@ -41,10 +41,10 @@ pub(crate) fn response_to(
 pub fn is_sent(table: &[u8], found: Option<(u16, usize)>) -> bool
     ensures { result ≡ is_sent table.now found }
 {
-    match found {
-        Some((_, place)) => operations::kind_at(table, place) == operations::REQUEST_SENT,
-        None => false,
-    }
+    let Some((_, place)) = found else {
+        return false;
+    };
+    operations::kind_at(table, place) == operations::REQUEST_SENT
 }
 
 fn delivered(

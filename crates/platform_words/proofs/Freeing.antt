@@ -1,17 +1,16 @@
--- What a request given up, and one asked for, show at their returns.
+-- What a request given up shows at its return.
 -- Assumes nothing.
 use Prim.Native.Nat.{ℕ, ◌-◌}
-use Rattle.std.specs.Prelude.{Option, Some, None}
 use mathlib.Core.Path.{◌≡◌, sym, ap, ◌∙◌}
 use mathlib.Core.Bool.{Bool, true, false}
-use mathlib.Core.List.{List, [], ◌∷◌}
+use mathlib.Core.List.{List}
 use borrow.Rule.Slice.PartMut.{put_mid}
 use lib.ListN.{length, take, drop}
 use Rattle.wire.proofs.Cond.{yes-if, no-if}
 use Rattle.pending.specs.Free.{is_pending}
-use Rattle.pending.specs.Answers.{awaited_of, cancelled}
+use Rattle.pending.specs.Answers.{cancelled}
 use Rattle.platform_words.specs.Words.{standing_length, pending_in}
-use Rattle.platform_words.specs.PendingCalls.{cancel_count, cancel_words, asked_words, awaited_words}
+use Rattle.platform_words.specs.PendingCalls.{cancel_count, cancel_words}
 use Rattle.platform_words.proofs.Behind.{lent-behind, back_by}
 
 module _ (ws : List ℕ) (n : ℕ) where
@@ -29,14 +28,3 @@ module _ (ws : List ℕ) (n : ℕ) where
 
     pub none-freed : r ≡ false → 0 ≡ cancel_count ws n
     none-freed f = sym (no-if 1 0 (sym e ∙ f))
-
-  -- `awaited`
-  module _ {a : Option (ℕ × ℕ)} (e : a ≡ awaited_of (take (length ws - 5) (drop 5 ws)) n) where
-    as-told : asked_words a ≡ awaited_words ws n
-    as-told = ap asked_words (e ∙ ap (λ (l : List ℕ). awaited_of l n) (lent-behind standing_length ws))
-
-    pub one-awaited : (id target : ℕ) → a ≡ Some (id, target) → 1 ∷ id ∷ target ∷ [] ≡ awaited_words ws n
-    one-awaited id target f = ap asked_words (sym f) ∙ as-told
-
-    pub none-awaited : a ≡ None → 0 ∷ 0 ∷ 0 ∷ [] ≡ awaited_words ws n
-    none-awaited f = ap asked_words (sym f) ∙ as-told

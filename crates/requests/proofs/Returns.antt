@@ -1,18 +1,14 @@
--- What `send` comes to at its returns.
+-- What `send_at` and `write_for` come to at their returns.
 -- Assumes nothing.
 use Prim.Native.Nat.{ℕ, zero, suc}
-use Rattle.std.specs.Prelude.{Option, Some, None}
-use mathlib.Core.Path.{◌≡◌, refl, sym, ap, ap₂, ◌∙◌}
+use mathlib.Core.Path.{◌≡◌, refl, sym, ap, ◌∙◌}
 use mathlib.Core.List.{List}
 use native.Mathlib.Omega.{arith}
 use lib.ListN.{length}
-use Rattle.wire.specs.Bytes.{over}
-use Rattle.wire.proofs.Cond.{yes-ne, no-ne}
 use Rattle.message.specs.declared.Writing.{Writing}
 use Rattle.message.specs.declared.Writing.TheVariants as writing
 use Rattle.message.specs.Writing.{answered, write_of, output_after}
-use Rattle.message.specs.Writing as writes
-use Rattle.pending.specs.Places.{free_place, entered, entered_at}
+use Rattle.pending.specs.Places.{entered}
 use Rattle.pending.specs.Free.{drawn, next_free}
 use Rattle.message3.specs.declared.Stamp.{Stamp}
 use Rattle.message3.specs.Writing.{write_of3, output_after3}
@@ -20,9 +16,8 @@ use Rattle.requests.specs.declared.Issue.{Issue}
 use Rattle.requests.specs.declared.Issue.TheVariants.{Six, Three}
 use Rattle.requests.specs.declared.Sending.{Sending}
 use Rattle.requests.specs.declared.Sent.TheVariants.{Under}
-use Rattle.requests.specs.Sending.{operation_domain, write_refusal_for, length_for, bytes_for, no_request, unless_full, send_refusal_for, refused_with, answered_by}
-use Rattle.requests.specs.Sending.{left_over_by, sent_for, list_sent_for}
-use Rattle.requests.specs.Sending.{output_sent_for, write_for, output_for, written_of, list_written, output_written}
+use Rattle.requests.specs.Sending.{operation_domain, write_refusal_for, length_for, refused_with, answered_by, left_over_by}
+use Rattle.requests.specs.Sending.{write_for, output_for, written_of, list_written, output_written}
 
 -- what an answer of `write` says of the number that refuses
 wrote : (r all n : ℕ) → answered r all ≡ writing.Written n → (r ≡ 0) × (n ≡ all)
@@ -46,11 +41,6 @@ stays zero all n next m was new e =
     let z : ◌≡◌ {A = ℕ} 0 1 = cc in
     absurd (omega arith)
 stays (suc r) all n next m was new e = refl
-
--- what writing leaves, and what sending does
-left_alike : (r all next m : ℕ) (was new : List ℕ) → writes.left_over_by (answered r all) was new ≡ left_over_by (answered_by r next m all).answer was new
-left_alike zero all next m was new = refl
-left_alike (suc r) all next m was new = refl
 
 -- the message is written in the target's issue
 module _ {issue : Issue} (id : ℕ) (payload out : List ℕ) where
@@ -94,80 +84,3 @@ module _ (issue : Issue) (next id room : ℕ) (l payload : List ℕ) (w : Writin
 pub sent_output : (issue : Issue) (own next id : ℕ) (l payload out r : List ℕ) (x : ℕ) → x ≡ next_free l next → r ≡ output_for issue own id x payload out
     → r ≡ output_written issue own next l id payload out
 sent_output issue own next id l payload out r x q e = e ∙ ap (λ (n : ℕ). output_for issue own id n payload out) q
-
--- the kind is right, and a place is free
-module _ (issue : Issue) (next kind id : ℕ) (l payload : List ℕ) (s : Option ℕ) (p : s ≡ free_place l) (right : kind ≡ 2) where
-  -- 62 is not given
-  asked : (room : ℕ) → send_refusal_for issue l kind id payload room ≡ unless_full s (write_refusal_for issue id payload room)
-  asked room =
-      no-ne no_request (unless_full (free_place l) (write_refusal_for issue id payload room)) kind 2 right
-      ∙ ap (λ (x : Option ℕ). unless_full x (write_refusal_for issue id payload room)) (sym p)
-
-  module _ (k : ℕ) (e : s ≡ Some k) where
-    as_written : (room : ℕ) → send_refusal_for issue l kind id payload room ≡ write_refusal_for issue id payload room
-    as_written room = asked room ∙ ap (λ (x : Option ℕ). unless_full x (write_refusal_for issue id payload room)) e
-
-    pub tried-answer : (room : ℕ) (r : Sending) → r ≡ written_of issue next l id payload room → r ≡ sent_for issue next l kind id payload room
-    tried-answer room r f = f ∙ sym (ap (λ (n : ℕ). answered_by n next (next_free l next) (length_for issue payload)) (as_written room))
-
-    pub tried-list : (room target : ℕ) (r : List ℕ) → r ≡ list_written issue next l k id target payload room
-        → r ≡ list_sent_for issue next l kind id target payload room
-    tried-list room target r f =
-        f
-        ∙ sym (ap₂
-        (λ (n : ℕ) (x : Option ℕ).
-        left_over_by (answered_by n next (next_free l next) (length_for issue payload)).answer l (entered_at l x (next_free l next) id target))
-        (as_written room) (sym p ∙ e))
-
-    pub tried-output : (own : ℕ) (out r : List ℕ) → r ≡ output_written issue own next l id payload out → r ≡ output_sent_for issue own next l kind id payload out
-    tried-output own out r f =
-        let new = over out 0 (bytes_for issue own id (next_free l next) payload) in
-        f
-        ∙ left_alike (write_refusal_for issue id payload (length out)) (length_for issue payload) next (next_free l next) out new
-        ∙ sym (ap (λ (n : ℕ). left_over_by (answered_by n next (next_free l next) (length_for issue payload)).answer out new) (as_written (length out)))
-
-  -- 60
-  pub full : s ≡ None → (room : ℕ) → send_refusal_for issue l kind id payload room ≡ 60
-  full e room = asked room ∙ ap (λ (x : Option ℕ). unless_full x (write_refusal_for issue id payload room)) e
-
--- 62
-pub no-request : (issue : Issue) (kind id : ℕ) (l payload : List ℕ) → (kind ≡ 2 → ⊥) → (room : ℕ) → send_refusal_for issue l kind id payload room ≡ 62
-no-request issue kind id l payload h room = yes-ne no_request (unless_full (free_place l) (write_refusal_for issue id payload room)) kind 2 h
-
--- a number refuses: nothing changes
-module _ (issue : Issue) (next kind id room : ℕ) (l payload : List ℕ) (n : ℕ) (e : send_refusal_for issue l kind id payload room ≡ suc n) where
-  pub refused-answer : (r : Sending) → r ≡ refused_with next (suc n) → r ≡ sent_for issue next l kind id payload room
-  refused-answer r f = f ∙ sym (ap (λ (x : ℕ). answered_by x next (next_free l next) (length_for issue payload)) e)
-
-  pub refused-list : (target : ℕ) → l ≡ list_sent_for issue next l kind id target payload room
-  refused-list target =
-      sym (ap
-      (λ (x : ℕ). left_over_by (answered_by x next (next_free l next) (length_for issue payload)).answer l
-      (entered_at l (free_place l) (next_free l next) id target)) e)
-
-pub refused_output : (issue : Issue) (own next kind id : ℕ) (l payload out : List ℕ) (n : ℕ) → send_refusal_for issue l kind id payload (length out) ≡ suc n
-    → out ≡ output_sent_for issue own next l kind id payload out
-refused_output issue own next kind id l payload out n e =
-    sym (ap
-    (λ (x : ℕ). left_over_by (answered_by x next (next_free l next) (length_for issue payload)).answer out
-    (over out 0 (bytes_for issue own id (next_free l next) payload))) e)
-
-module _ (issue : Issue) (next kind id : ℕ) (l payload : List ℕ) (s : Option ℕ) (p : s ≡ free_place l) (right : kind ≡ 2) (e : s ≡ None) where
-  pub full-answer : (room : ℕ) (r : Sending) → r ≡ refused_with next 60 → r ≡ sent_for issue next l kind id payload room
-  full-answer room = refused-answer issue next kind id room l payload 59 (full issue next kind id l payload s p right e room)
-
-  pub full-list : (room target : ℕ) → l ≡ list_sent_for issue next l kind id target payload room
-  full-list room = refused-list issue next kind id room l payload 59 (full issue next kind id l payload s p right e room)
-
-  pub full-output : (own : ℕ) (out : List ℕ) → out ≡ output_sent_for issue own next l kind id payload out
-  full-output own out = refused_output issue own next kind id l payload out 59 (full issue next kind id l payload s p right e (length out))
-
-module _ (issue : Issue) (next kind id : ℕ) (l payload : List ℕ) (h : kind ≡ 2 → ⊥) where
-  pub kind-answer : (room : ℕ) (r : Sending) → r ≡ refused_with next 62 → r ≡ sent_for issue next l kind id payload room
-  kind-answer room = refused-answer issue next kind id room l payload 61 (no-request issue kind id l payload h room)
-
-  pub kind-list : (room target : ℕ) → l ≡ list_sent_for issue next l kind id target payload room
-  kind-list room = refused-list issue next kind id room l payload 61 (no-request issue kind id l payload h room)
-
-  pub kind-output : (own : ℕ) (out : List ℕ) → out ≡ output_sent_for issue own next l kind id payload out
-  kind-output own out = refused_output issue own next kind id l payload out 61 (no-request issue kind id l payload h (length out))

@@ -1,6 +1,6 @@
 -- `mixed::reacting::one_heard` meets its contract: versioned data, or not.
 -- Assumes nothing.
-use Rattle.mixed.proofs.ReactionLaws.{is-pulled, no-pull, nowhere-pulled}
+use Rattle.mixed.proofs.ReactionLaws.{is-pulled, no-pull}
 use Rattle.mixed.proofs.reacting.one_heard.Goals as goal
 
 pub returns-then-kind_at-eq-VERSIONED_DATA : goal.returns-then-kind_at-eq-VERSIONED_DATA
@@ -10,7 +10,3 @@ returns-then-kind_at-eq-VERSIONED_DATA c =
 pub returns-else-kind_at-eq-VERSIONED_DATA : goal.returns-else-kind_at-eq-VERSIONED_DATA
 returns-else-kind_at-eq-VERSIONED_DATA c =
     search no-pull
-
-pub returns-in-None : goal.returns-in-None
-returns-in-None c =
-    search nowhere-pulled

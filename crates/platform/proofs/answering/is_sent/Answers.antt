@@ -3,10 +3,10 @@
 use Rattle.platform.proofs.ResponseLaws.{sent_found, none_found}
 use Rattle.platform.proofs.answering.is_sent.Goals as goal
 
-pub returns-in-Some : goal.returns-in-Some
-returns-in-Some c =
+pub returns : goal.returns
+returns c =
     search sent_found
 
-pub returns-in-None : goal.returns-in-None
-returns-in-None c =
+pub returns-in_default : goal.returns-in_default
+returns-in_default c =
     search none_found
