@@ -1,7 +1,10 @@
 -- That every part of a buffer that the program lends lies in the buffer.
 -- Assumes nothing.
 use Prim.Native.Nat.{ℕ, ◌+◌, ◌-◌, ◌≤◌, ◌<◌}
-use mathlib.Core.Path.{◌≡◌, refl, sym, subst}
+use Rattle.std.specs.Prelude.{Option, Result}
+use Rattle.refusal.specs.Refusal.{number_of}
+use Rattle.refusal.specs.declared.Refusal.{Refusal}
+use mathlib.Core.Path.{◌≡◌, refl, sym, ap, subst}
 use mathlib.Core.Bool.{Bool, true, false}
 use mathlib.Core.List.{List}
 use native.Mathlib.Omega.{arith}
@@ -13,12 +16,10 @@ use lib.Seq.{length-take-le}
 use Rattle.wire.specs.Bytes.{part}
 use Rattle.wire.proofs.Cond.{clash}
 use Rattle.wire.proofs.Numbers.{octets_take}
-use Rattle.channel.specs.Record.{bad_setup}
 use Rattle.recording.specs.Datagrams.{next_in}
 use Rattle.recording.specs.Opening.{opened_in}
 use Rattle.recording.specs.declared.Coming.{Coming}
 use Rattle.recording.specs.declared.Coming.TheVariants.{Unfinished}
-use Rattle.recording.specs.declared.start.Opening.TheVariants as opening
 use Rattle.recording.specs.declared.start.Opened.{Opened}
 use Rattle.recording.proofs.Finding.{left-starts, left-short}
 use Rattle.recording.proofs.Starting.{open-rooms, refused-by-20}
@@ -57,11 +58,11 @@ module _ (s : List ℕ) (n : ℕ) (l : length s ≡ input_length) (h : n ≤ inp
   pub filled-part : n ≡ length (take n s)
   filled-part = sym (length-take-le n s (omega arith))
 
-  pub rooms-fit : {o : Opened} → o ≡ opened_in (take n s) → RoomsFit o
-  rooms-fit e p b g = open-rooms (take n s) e p b g
+  pub rooms-fit : {r : Result (Option Opened) Refusal} → r ≡ opened_in (take n s) → RoomsFit r
+  rooms-fit e o g = open-rooms (take n s) e o g
 
-  pub refusal-is-20 : {o : Opened} → o ≡ opened_in (take n s) → RefusalIs20 o
-  refusal-is-20 e k g = refused-by-20 (take n s) e k g
+  pub refusal-is-20 : {r : Result (Option Opened) Refusal} → r ≡ opened_in (take n s) → RefusalIs20 r
+  refusal-is-20 e k g = ap number_of (refused-by-20 (take n s) e k g)
 
   -- what is left of a datagram leaves room for the rest
   pub left-within : {f : Coming} (at : ℕ) → f ≡ next_in (take n s) at → f ≡ Unfinished → at ≤ n
@@ -75,12 +76,6 @@ module _ (s : List ℕ) (n : ℕ) (l : length s ≡ input_length) (h : n ≤ inp
 -- the rooms of a recording are a part of the program's
 pub rooms_part : (s : List ℕ) (n : ℕ) → rooms_length ≡ length s → n ≤ rooms_length → n ≡ length (take n s)
 rooms_part s n l h = sym (length-take-le n s (omega arith))
-
-pub rooms_in : (o : Opened) (p b : ℕ) → RoomsFit o → o.opening ≡ opening.Open p b → b ≤ rooms_length
-rooms_in o p b h e = h p b e
-
-pub numbered_20 : (o : Opened) (k : ℕ) → RefusalIs20 o → o.opening ≡ opening.Refused k → k ≡ bad_setup
-numbered_20 o k h e = h k e
 
 -- what is to be done next, by what was met
 module _ {next : Next} (h : NextWithin next) where

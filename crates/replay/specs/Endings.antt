@@ -1,6 +1,6 @@
 -- How a replay may end. 01, What is built: a set-up is refused with 20, and with no other number.
 use Prim.{Unit}
-use Rattle.std.specs.Prelude.{ℕ, ◌≤◌, ◌≡◌, Option, Result, Err}
+use Rattle.std.specs.Prelude.{◌≤◌, ◌≡◌, Option, Result, Err}
 use Rattle.refusal.specs.Refusal.{number_of}
 use Rattle.refusal.specs.declared.Refusal.{Refusal}
 use Rattle.recording.specs.declared.lines.Ending.{Ending}

@@ -29,3 +29,7 @@ returns-in-Failed g c =
 pub returns-in_default : goal.returns-in_default
 returns-in_default g c =
     (search rules, search rooms-fit, search refusal-is-20)
+
+pub returns-in_default-2 : goal.returns-in_default-2
+returns-in_default-2 g c =
+    (search rules, search rooms-fit, search refusal-is-20)

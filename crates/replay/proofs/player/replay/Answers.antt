@@ -1,13 +1,10 @@
--- `replay::replay` meets its contract: every part that it lends lies in its buffer, and a set-up is refused with its own number.
+-- `replay::replay` meets its contract: every part that it lends lies in its buffer.
 -- Assumes nothing.
-use borrow.Author.Rules.{rules}
-use Rattle.replay.proofs.Bounds.{rooms_in, numbered_20}
+use Rattle.std.proofs.Common.{◌≡◌, ap, ◌∙◌, rules}
+use Rattle.std.specs.Prelude.{Some, Ok}
 use Rattle.replay.proofs.player.replay.Goals as goal
 
 pub play_in-requires : goal.play_in-requires
 play_in-requires g c =
-    (search rules, search rules, search rooms_in)
-
-pub finish-requires : goal.finish-requires
-finish-requires g c =
-    search numbered_20
+    let e : c.in-Ok-Some.field-0 ≡ Some c.in-Ok-Some.opened = search rules in
+    (search rules, search rules, c.begin-begun.ensures.1 c.in-Ok-Some.opened (c.in-Ok-Some.is ∙ ap Ok e))
