@@ -1,6 +1,7 @@
 -- A channel's view steps as the machine of `Machine` does.
 -- Assumes nothing.
 use Prim.Native.Nat.{ℕ, ◌+◌}
+use Rattle.std.specs.Prelude.{Ok}
 use mathlib.Core.Path.{◌≡◌, refl, sym, ap, ap₂, ◌∙◌}
 use mathlib.Core.Bool.{Bool, true, false, cond}
 use mathlib.Core.List.{List, [], ◌∷◌, ◌++◌, map}
@@ -32,11 +33,11 @@ Matched v = v.channel.held ≡ length v.bytes
 -- what is tested is rewritten once in both
 module _ (v : View) (lead q : List ℕ) where
   abbrev heldAfter : Step → List ℕ
-  heldAfter s = held_by v.bytes (lead ++ q) s.outcome
+  heldAfter s = held_by v.bytes (lead ++ q) (Ok s.outcome)
 
   pub record Alike (s : Step) (x : Passage) : Type 0 where
     pub channel : machine (record { channel = s.channel; bytes = heldAfter s }) ≡ x.channel
-    pub delivered : given s.outcome (given_by q (lead ++ q) s.outcome) ≡ x.delivered
+    pub delivered : given (Ok s.outcome) (given_by q (lead ++ q) (Ok s.outcome)) ≡ x.delivered
     pub matched : s.channel.held ≡ length (heldAfter s)
 
 abbrev pub Agrees : Room → View → MessagePart → ℕ → List ℕ → Type 0

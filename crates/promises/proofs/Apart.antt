@@ -73,11 +73,11 @@ handed_given (Ok (TooLong m)) d rooms = refl
 
 abbrev pub view_delivers : Room → View → List Datagram → List (List ℕ)
 view_delivers room v [] = []
-view_delivers room v (d ∷ ds) = given (view_step room v d).outcome (view_given room v d) ++ view_delivers room (view_after room v d) ds
+view_delivers room v (d ∷ ds) = given (Ok (view_step room v d).outcome) (view_given room v d) ++ view_delivers room (view_after room v d) ds
 
 abbrev pub view_outcomes : Room → View → List Datagram → List (Result Outcome Refusal)
 view_outcomes room v [] = []
-view_outcomes room v (d ∷ ds) = (view_step room v d).outcome ∷ view_outcomes room (view_after room v d) ds
+view_outcomes room v (d ∷ ds) = Ok (view_step room v d).outcome ∷ view_outcomes room (view_after room v d) ds
 
 abbrev pub view_left : Room → View → List Datagram → View
 view_left room v [] = v
@@ -106,14 +106,16 @@ module _ (ids : List ℕ) (R k : ℕ) (known : k < length ids) where
     own : is_of ids k d ≡ true → Addressed (senders_of j) k d
     own e = here (is_addressed ids k d e)
 
-    its-outcome : is_of ids k d ≡ true → (taken_of j rooms d).outcome ≡ (view_step room (view_of j rooms k) d).outcome
-    its-outcome e = own-outcome j rooms d u.stands k (own e) ∙ ap (λ (r : ℕ). (view_step (room_of r k) (view_of j rooms k) d).outcome) u.size
+    its-outcome : is_of ids k d ≡ true → (taken_of j rooms d).outcome ≡ Ok (view_step room (view_of j rooms k) d).outcome
+    its-outcome e =
+        let f : ℕ → Result Outcome Refusal = λ r. Ok (view_step (room_of r k) (view_of j rooms k) d).outcome in
+        own-outcome j rooms d u.stands k (own e) ∙ ap f u.size
 
     its_view : is_of ids k d ≡ true → view_of (taken_of j rooms d).joiner (rooms_after j rooms d) k ≡ view_after room (view_of j rooms k) d
     its_view e = own_view j rooms d u.stands k (own e) ∙ ap (λ (r : ℕ). view_after (room_of r k) (view_of j rooms k) d) u.size
 
     its-message : is_of ids k d ≡ true → handed_back (taken_of j rooms d).outcome d (rooms_after j rooms d)
-        ≡ given (view_step room (view_of j rooms k) d).outcome (view_given room (view_of j rooms k) d)
+        ≡ given (Ok (view_step room (view_of j rooms k) d).outcome) (view_given room (view_of j rooms k) d)
     unfolding delivered_of
     its-message e =
         handed_given (taken_of j rooms d).outcome d (rooms_after j rooms d)

@@ -99,6 +99,18 @@ numbers f e z none = subst (Answers (λ n. n) 0 []) (sym z) none
 numbers f e z (this {c} {cs} a) = subst (Answers (λ n. n) 0 (c ∷ cs)) (sym (e c.refusal)) (this a)
 numbers f e z (next n a) = next n (numbers f e z a)
 
+-- of each of these checks, what f makes of its refusal
+abbrev pub EachMade : {R A B : Type 0} → (R → A) → (R → B) → (A → B) → List (CheckOf R) → Type 0
+EachMade refused refused' f [] = Unit {0}
+EachMade refused refused' f (c ∷ cs) = (f (refused c.refusal) ≡ refused' c.refusal) × EachMade refused refused' f cs
+
+-- the number that an answer gives back, where f gives back each number of the checks
+pub numbers-back : {A : Type 0} {refused : ℕ → A} {good : A} (f : A → ℕ) → f good ≡ 0
+    → {cs : List Check} {x : A} → EachMade refused (λ n. n) f cs → Answers refused good cs x → Gives cs (f x)
+numbers-back f z b none = subst (Answers (λ n. n) 0 []) (sym z) none
+numbers-back f z b (this {c} {cs} a) = subst (Answers (λ n. n) 0 (c ∷ cs)) (sym b.0) (this a)
+numbers-back f z b (next n a) = next n (numbers-back f z b.1 a)
+
 -- what is made of an answer goes on with further checks where it was good: of the same refusals, and of what g makes of them
 module _ {R A B : Type 0} (refused : R → A) (good : A) where
   pub then : (refused' : R → B) (good' : B) (f : A → B) → ((n : R) → f (refused n) ≡ refused' n) → {cs ds : List (CheckOf R)} {x : A}
@@ -113,3 +125,18 @@ module _ {R A B : Type 0} (refused : R → A) (good : A) where
   then-as g refused' good' f e none k = k refl
   then-as g refused' good' f e (this {c} {cs} a) k = subst (Answers refused' good' (_ ∷ _)) (sym (e c.refusal)) (this a)
   then-as g refused' good' f e (next n a) k = next n (then-as g refused' good' f e a k)
+
+-- the same where f makes the other refusal of each of the checks
+module _ {R A B : Type 0} (refused : R → A) (good : A) (refused' : R → B) (good' : B) (f : A → B) where
+  pub then-each : {cs ds : List (CheckOf R)} {x : A} → EachMade refused refused' f cs
+      → Answers refused good cs x → (x ≡ good → Answers refused' good' ds (f good)) → Answers refused' good' (cs ++ ds) (f x)
+  then-each b none k = k refl
+  then-each b (this {c} {cs} a) k = subst (Answers refused' good' (_ ∷ _)) (sym b.0) (this a)
+  then-each b (next n a) k = next n (then-each b.1 a k)
+
+module _ {R S A B : Type 0} (refused : R → A) (good : A) (g : R → S) (refused' : S → B) (good' : B) (f : A → B) where
+  pub then-as-each : {cs : List (CheckOf R)} {ds : List (CheckOf S)} {x : A} → EachMade refused (λ n. refused' (g n)) f cs
+      → Answers refused good cs x → (x ≡ good → Answers refused' good' ds (f good)) → Answers refused' good' (refusing g cs ++ ds) (f x)
+  then-as-each b none k = k refl
+  then-as-each b (this {c} {cs} a) k = subst (Answers refused' good' (_ ∷ _)) (sym b.0) (this a)
+  then-as-each b (next n a) k = next n (then-as-each b.1 a k)

@@ -63,8 +63,8 @@ cut_keeps : (x : Result ℕ Refusal) (out new : List ℕ) → Keeps (cut_number 
 cut_keeps (Err n) out new k = refl
 cut_keeps (Ok n) out new k = absurd (k refl)
 
-taken_refused : (x : Result Outcome Refusal) → ¬ (take_number x ≡ 0) → x ≡ Err (take_number x)
-taken_refused (Err n) k = refl
+taken_refused : (x : Result Outcome Refusal) → ¬ (take_number x ≡ 0) → (e : Refusal) × (x ≡ Err e)
+taken_refused (Err e) k = (e, refl)
 taken_refused (Ok outcome.Repeated) k = absurd (k refl)
 taken_refused (Ok (outcome.Delivered m p)) k = absurd (k refl)
 taken_refused (Ok (outcome.Held m n)) k = absurd (k refl)
@@ -121,8 +121,8 @@ changes_nothing =
           (over out 0 (message_bytes own domain id seq payload));
       cut_output = λ msg s sender counter i out. cut_keeps (made_of msg s sender counter i (length out)) out
           (over out 0 (datagram_of msg s sender counter i));
-      take_joiner = λ j rooms d k. refusal-keeps-joiner j rooms d _ (taken_refused (taken_of j rooms d).outcome k);
-      take-rooms = λ j rooms d k. refusal-keeps-rooms j rooms d _ (taken_refused (taken_of j rooms d).outcome k);
+      take_joiner = λ j rooms d k. let r = taken_refused (taken_of j rooms d).outcome k in refusal-keeps-joiner j rooms d r.0 r.1;
+      take-rooms = λ j rooms d k. let r = taken_refused (taken_of j rooms d).outcome k in refusal-keeps-rooms j rooms d r.0 r.1;
       unpack_words = λ t i b words. if_keeps (checked t) (reader b) (length b) t i words;
       unpack_in_words = λ t s i b words. in_keeps (reader b) (length b) t s i words;
       pack_output = λ t i ws out. if_keeps (checked t) (writer ws) (length ws) t i out;

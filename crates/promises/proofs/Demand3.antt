@@ -1,7 +1,9 @@
 -- Demand 3.
 -- Assumes nothing.
 use Prim.Native.Nat.{ℕ, ◌<◌}
-use mathlib.Core.Path.{◌≡◌, refl, sym, ap, ap₂, ◌∙◌}
+use Rattle.std.specs.Prelude.{Ok}
+use mathlib.Core.Path.{◌≡◌, refl, sym, ap, ap₂, subst, ◌∙◌}
+use Rattle.joiner.proofs.Standing.{Standing}
 use mathlib.Core.Logic.{inr}
 use mathlib.Core.List.{List, []}
 use lib.ListN.{length, get_or}
@@ -10,9 +12,9 @@ use Rattle.channel.specs.Record.{new_channel}
 use Rattle.joiner.specs.declared.Joiner.{Joiner}
 use Rattle.joiner.specs.Setup.{senders_of, fresh_of, setup_of}
 use Rattle.joiner.specs.View.{View, view_of}
-use Rattle.joiner.proofs.Accepted.{accepted, accepted-joiner, accepted-standing, fresh-senders, fresh-view}
+use Rattle.joiner.proofs.Accepted.{accepted, accepted-standing, fresh-senders, fresh-view}
 use Rattle.promises.specs.Senders.{Sender, Genuine, sent_by, arrives, complete_of}
-use Rattle.promises.specs.Traffic.{Datagram, of_channel, fresh, delivered_on, AreBytes}
+use Rattle.promises.specs.Traffic.{Datagram, given, of_channel, fresh, delivered_on, AreBytes}
 use Rattle.promises.specs.Demand3.{Demand3, MixMakesNoDifference}
 use Rattle.promises.proofs.Machine.{deliveries}
 use Rattle.promises.proofs.Complete.{messages}
@@ -29,7 +31,7 @@ module _ (ids : List ℕ) (R : ℕ) (rooms : List ℕ) (ok : setup_of ids R (len
   unfolding fresh_of
   underway =
       record {
-        stands = accepted-standing ids R (length rooms) ok;
+        stands = subst (λ (j : Joiner). Standing j (length rooms)) (sym joiner) (accepted-standing ids R (length rooms) ok);
         senders = ap senders_of joiner ∙ fresh-senders ids R (accepted ids R (length rooms) ok).few;
         size = ap (λ (j : Joiner). j.room) joiner;
       }

@@ -1,6 +1,7 @@
 -- What the user grants in 01's numbers is what demand 3 is proved for.
 -- Assumes nothing.
 use Prim.Native.Nat.{ℕ, zero, suc, ◌+◌, ◌-◌, ◌*◌, ◌/◌, ◌%◌, ◌≤◌, ◌<◌}
+use Rattle.std.specs.Prelude.{Ok}
 use mathlib.Core.Path.{◌≡◌, refl, sym, ap, ◌∙◌}
 use mathlib.Core.Bool.{Bool, true, false, cond, not, ◌&&◌, ◌||◌, true≢false}
 use mathlib.Core.Logic.{inl, inr, ⊎_elim}
@@ -13,7 +14,7 @@ use Rattle.wire.proofs.Cond.{and_left, and_right, and_true, either}
 use Rattle.binding.specs.declared.MessagePart.{MessagePart}
 use Rattle.binding.specs.declared.MessagePart.TheVariants.{Begin, Middle, End, Whole}
 use Rattle.binding.specs.Header.{header_of, header_bytes}
-use Rattle.joiner.specs.Setup.{setup_of, Acceptable}
+use Rattle.joiner.specs.Setup.{setup_of, Acceptable, fresh_of}
 use Rattle.joiner.proofs.Accepted.{accepts, accepted}
 use Rattle.promises.specs.Order.{CanSetUp}
 use Rattle.promises.specs.Senders.{Piece, Message, Sender, Sent, Genuine, sent_by, arrived, losses_within, together, good_pieces, good_message, good_messages}

@@ -169,3 +169,4 @@ mod MixedRequestsAlong
 mod OneMixedRun
 pub mod MixedRequestRuns
 pub mod WrongMixedListings
+mod UniqueMessages

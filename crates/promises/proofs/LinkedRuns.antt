@@ -2,7 +2,8 @@
 -- Assumes nothing.
 use Prim.Native.Nat.{ℕ, ◌+◌, ◌*◌, ◌≤◌, ◌<◌}
 use Rattle.std.specs.Prelude.{Result, Ok, Err}
-use Rattle.refusal.specs.Refusal.{refused}
+use Rattle.refusal.proofs.Numbers.{name-back}
+use Rattle.refusal.specs.Refusal.{refused, number_of}
 use Rattle.refusal.specs.declared.Refusal.{Refusal}
 use mathlib.Core.Path.{◌≡◌, refl, sym, ap, ◌∙◌}
 use mathlib.Core.Bool.{Bool, true, false, cond, not, ◌&&◌}
@@ -43,14 +44,14 @@ use Rattle.promises.proofs.Apart.{Underway}
 
 -- a refusal has a number
 abbrev pub numbered : Result Outcome Refusal → Bool
-numbered (Err n) = not (eqb n 0)
+numbered (Err e) = not (eqb (number_of e) 0)
 numbered (Ok Repeated) = true
 numbered (Ok (Delivered m p)) = true
 numbered (Ok (Held m n)) = true
 numbered (Ok (Stray m)) = true
 numbered (Ok (TooLong m)) = true
 
-step_numbered : {room : Room} {ch : Channel} {c n : ℕ} {p : _} {s : Step} → Stepped room ch c n p s → numbered s.outcome ≡ true
+step_numbered : {room : Room} {ch : Channel} {c n : ℕ} {p : _} {s : Step} → Stepped room ch c n p s → numbered (Ok s.outcome) ≡ true
 step_numbered (again r) = refl
 step_numbered (whole r) = refl
 step_numbered (begins r f) = refl
@@ -98,7 +99,7 @@ refused_back x y n e = go (eqb n 0) e
     go true q = let z : ◌≡◌ {A = ℕ} 0 1 = cc in absurd (omega arith)
 
 outcome_back : (o : Result Outcome Refusal) (out : List ℕ) → numbered o ≡ true → outcome_from (number_given o) (outcome_words o out) ≡ o
-outcome_back (Err n) out e = refused_back _ (Err n) n e
+outcome_back (Err r) out e = refused_back _ (refused (number_of r)) (number_of r) e ∙ ap Err (name-back r)
 outcome_back (Ok Repeated) out e = refl
 outcome_back (Ok (Delivered m (slice.Datagram p n))) out e = refl
 outcome_back (Ok (Delivered m (slice.Rooms p n))) out e = refl
@@ -115,7 +116,7 @@ no_message s x n e = go (eqb n 0) e
 
 message_back : (o : Result Outcome Refusal) (out d rooms : List ℕ) → numbered o ≡ true → message_in (number_given o) (outcome_words o out) d rooms ≡ handed_back o d rooms
 unfolding message_of
-message_back (Err n) out d rooms e = no_message _ _ n e
+message_back (Err r) out d rooms e = no_message _ _ (number_of r) e
 message_back (Ok Repeated) out d rooms e = refl
 message_back (Ok (Delivered m (slice.Datagram p n))) out d rooms e = refl
 message_back (Ok (Delivered m (slice.Rooms p n))) out d rooms e = refl

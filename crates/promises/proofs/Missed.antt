@@ -1,6 +1,7 @@
 -- Every outcome carries missed, by step 2's formula.
 -- Assumes nothing.
 use Prim.Native.Nat.{ℕ, zero, suc, ◌+◌, ◌-◌, ◌%◌}
+use Rattle.refusal.specs.Refusal.{number_of}
 use Rattle.std.specs.Prelude.{Result, Ok, Err}
 use Rattle.refusal.specs.declared.Refusal.{Refusal}
 use mathlib.Core.Path.{◌≡◌, refl, sym, ap, subst, ◌∙◌}
@@ -52,7 +53,7 @@ module _ (ch : Channel) (c : ℕ) where
         nothing_seen = λ s. no-if ((c + 65536 - (ch.last + 1)) % 65536) 0 s;
       }
 
-missing : {room : Room} {ch : Channel} {c n : ℕ} {p : MessagePart} {s : Step} → Stepped room ch c n p s → Missing ch c (missed_in s.outcome)
+missing : {room : Room} {ch : Channel} {c n : ℕ} {p : MessagePart} {s : Step} → Stepped room ch c n p s → Missing ch c (missed_in (Ok s.outcome))
 missing {ch = ch} {c = c} (again r) = repeats ch c r
 missing {ch = ch} {c = c} (whole r) = moves ch c r
 missing {ch = ch} {c = c} (begins r f) = moves ch c r
@@ -71,11 +72,11 @@ unfolding taken_of taken_by
 carried j rooms d z = go (judged_of j (length rooms) d) refl
   where
     go : (x : Result (ℕ × Step) Refusal) → judged_of j (length rooms) d ≡ x → Missing (its_record j d) (counter_in d) (missed_in (taken_of j rooms d).outcome)
-    go (Err n) e =
-        let o : (taken_of j rooms d).outcome ≡ Err n = ap (λ (x : Result (ℕ × Step) Refusal). (taken_by j x).outcome) e in
-        absurd (not_zero n (sym (ap numbered o) ∙ taken_numbered j rooms d) (sym (ap number_given o) ∙ z))
+    go (Err r) e =
+        let o : (taken_of j rooms d).outcome ≡ Err r = ap (λ (x : Result (ℕ × Step) Refusal). (taken_by j x).outcome) e in
+        absurd (not_zero (number_of r) (sym (ap numbered o) ∙ taken_numbered j rooms d) (sym (ap number_given o) ∙ z))
     go (Ok (k, s)) e =
-        let o : (taken_of j rooms d).outcome ≡ s.outcome = ap (λ (x : Result (ℕ × Step) Refusal). (taken_by j x).outcome) e in
+        let o : (taken_of j rooms d).outcome ≡ Ok s.outcome = ap (λ (x : Result (ℕ × Step) Refusal). (taken_by j x).outcome) e in
         let m : Moved j (length rooms) d k s = judged-moved j (length rooms) d k s e in
         let t : Stepped (room_of j.room k) (channel_at j k) (counter_in d) (length (piece_in d)) (part_carried d) s =
         rw m.step (step-cases (room_of j.room k) (channel_at j k) (counter_in d) (length (piece_in d)) (part_carried d)) in
@@ -84,7 +85,7 @@ carried j rooms d z = go (judged_of j (length rooms) d) refl
 
 -- in an answer's words
 word : (o : Result Outcome Refusal) (out : List ℕ) → numbered o ≡ true → number_given o ≡ 0 → get_or (outcome_words o out) 1 0 ≡ missed_in o
-word (Err n) out h z = absurd (not_zero n h z)
+word (Err e) out h z = absurd (not_zero (number_of e) h z)
 word (Ok Repeated) out h z = refl
 word (Ok (Delivered m p)) out h z = refl
 word (Ok (Held m n)) out h z = refl

@@ -2,6 +2,7 @@
 -- changes; or the sections that its operations are looked up in lie in the table's bytes.
 -- Assumes nothing.
 use Prim.Native.Nat.{ℕ}
+use Rattle.refusal.specs.Refusal.{number_of}
 use Rattle.std.specs.Prelude.{Result, Ok, Err}
 use Rattle.refusal.specs.declared.Refusal.{Refusal}
 use mathlib.Core.Path.{◌≡◌, refl, sym, ap, ◌∙◌}
@@ -49,10 +50,10 @@ pub data Way (g : TableGiven) : Type 0 where
 
 on_bytes : (t : List ℕ) (x : Result Sections Refusal) → checked t ≡ x → TableNumbered x → Way (bytes t)
 unfolding answer_if out_if pending_if words_if
-on_bytes t (Err n) e h =
-    refused n (record {
+on_bytes t (Err k) e h =
+    refused (number_of k) (record {
       bad = λ (f : checked t ≡ Ok (sections_in t)).
-          let q : Err n ≡ Ok (sections_in t) = sym e ∙ f in
+          let q : Err k ≡ Ok (sections_in t) = sym e ∙ f in
           let z : ◌≡◌ {A = ℕ} 0 1 = cc in
           omega arith;
       number = λ z. omega (arith, h.0);

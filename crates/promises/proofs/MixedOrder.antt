@@ -2,6 +2,7 @@
 -- message has.
 -- Assumes nothing.
 use Prim.Native.Nat.{ℕ, ◌+◌, ◌<◌, ◌≤◌}
+use Rattle.refusal.specs.Refusal.{refused}
 use Rattle.std.specs.Prelude.{Result, Ok, Err}
 use Rattle.refusal.specs.declared.Refusal.{Refusal}
 use Rattle.std.specs.Prelude.{Option}
@@ -53,9 +54,9 @@ use Rattle.promises.specs.AnyOrder.{ThreeForm, any_checks, its_reading}
 use Rattle.promises.specs.Services.{pair_count, named_by, KemptBlock}
 use Rattle.promises.specs.MixedCalls.{TableGiven, bytes, sections, answer_on}
 use Rattle.promises.specs.MixedOrder.{found_on, Kind2On, NoWords, sender_block, FindsNoPlace, NeedsMore, behind_reading, mixed_checks, MixedOrder}
-use Rattle.promises.proofs.Checks.{Decides, not_decides, decides_same, then}
+use Rattle.promises.proofs.Checks.{Decides, not_decides, decides_same, then, then-each}
 use Rattle.promises.proofs.Order.{above_decides}
-use Rattle.promises.proofs.TableOrder.{table_in_order}
+use Rattle.promises.proofs.TableOrder.{table_in_order, table_made}
 use Rattle.promises.proofs.PayloadOrder.{lie_decides}
 use Rattle.promises.proofs.Kind2.{found_decides, answer_decides}
 use Rattle.promises.proofs.ByID.{looked}
@@ -124,8 +125,8 @@ module _ (own : ℕ) (i ours : List ℕ) (p : Standing) (l ws m : List ℕ) (roo
   on_bytes : (t : List ℕ) → Gives (mixed_checks (bytes t) own i ours p l ws m room Full) (number_given (answer_on (bytes t) own i ours p l ws m room).answer)
   unfolding answer_if
   on_bytes t =
-      then Err (Ok (sections_in t)) (λ n. n) 0 (λ (x : Result Sections Refusal). number_given (answer_if x own i ours t p l ws m room).answer)
-      (λ n. refl) (table_in_order t)
+      let f = λ (x : Result Sections Refusal). number_given (answer_if x own i ours t p l ws m room).answer in
+      then-each refused (Ok (sections_in t)) (λ n. n) 0 f (table_made f (λ n. n) t refl refl refl refl) (table_in_order t)
       (λ e. message-in-order own i ours t (sections_in t) (index_of t (sections_in t)) p l ws m room (found_on (bytes t)) (looked t (sections_in t) e)
       (Kind2On (bytes t))
       (by_table t e) Full full)

@@ -3,7 +3,7 @@
 -- Assumes nothing.
 use Prim.{Unit}
 use Rattle.std.specs.Prelude.{Result, Ok, Err}
-use Rattle.refusal.specs.Refusal.{refused}
+use Rattle.refusal.specs.Refusal.{refused, number_of}
 use Rattle.refusal.specs.declared.Refusal.{Refusal}
 use Prim.Native.Nat.{ℕ, zero, suc, ◌≤◌}
 use mathlib.Core.Path.{◌≡◌, refl}
@@ -32,12 +32,12 @@ use Rattle.promises.proofs.TableOrder.{table_in_order}
 
 -- a table's refusal
 abbrev pub TableNumbered : Result Sections Refusal → Type 0
-TableNumbered (Err n) = (30 ≤ n) × (n ≤ 33)
+TableNumbered (Err e) = (30 ≤ number_of e) × (number_of e ≤ 33)
 TableNumbered (Ok s) = Unit {0}
 
 abbrev AllNumbered : List Check → Type 0
 AllNumbered [] = Unit {0}
-AllNumbered (c ∷ cs) = ((30 ≤ c.refusal) × (c.refusal ≤ 33)) × AllNumbered cs
+AllNumbered (c ∷ cs) = TableNumbered (refused c.refusal) × AllNumbered cs
 
 by_checks : {s : Sections} {cs : List Check} {x : Result Sections Refusal} → AllNumbered cs → Answers refused (Ok s) cs x → TableNumbered x
 by_checks a none = tt

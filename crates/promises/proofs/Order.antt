@@ -118,8 +118,8 @@ version_decides d = not_decides (eqb (version_of d) 0) (eq_decides (version_of d
 
 pub header_in_order : (d : List ℕ) → Answers refused (Ok (header_in d)) (header_checks d) (heading_in d)
 header_in_order d =
-    unless Err (Ok (header_in d)) (leb 5 (length d) && leb (length d) 65507) 21 (inside 5 65507 (length d))
-    (unless Err (Ok (header_in d)) (eqb (version_of d) 0) 22 (version_decides d) none)
+    unless refused (Ok (header_in d)) (leb 5 (length d) && leb (length d) 65507) 21 (inside 5 65507 (length d))
+    (unless refused (Ok (header_in d)) (eqb (version_of d) 0) 22 (version_decides d) none)
 
 -- not below, and not up to
 pub below_decides : (m n : ℕ) → Decides (not (ltb m n)) (n ≤ m)
@@ -164,7 +164,7 @@ both_decide false b d f = record { yes_is = λ e. inl (d.yes_is refl); no_is = �
 
 pub pieces_in_order : (m s : ℕ)
     → Answers refused (Ok (piece_count m s)) (50 when (Outside 1 65560 m ⊎ Outside 1 65503 s) ∷ []) (counted_of m s)
-pieces_in_order m s = unless Err (Ok (piece_count m s)) (can_cut m s) 50 (cut_decides m s) none
+pieces_in_order m s = unless refused (Ok (piece_count m s)) (can_cut m s) 50 (cut_decides m s) none
 
 pub cut_in_order : (msg : List ℕ) (s sender counter i room : ℕ)
     → Answers refused (Ok (length (datagram_of msg s sender counter i))) (cut_checks msg s sender counter i room)
@@ -172,7 +172,7 @@ pub cut_in_order : (msg : List ℕ) (s sender counter i room : ℕ)
 cut_in_order msg s sender counter i room =
     let n : ℕ = length (datagram_of msg s sender counter i) in
     let good : Result ℕ Refusal = Ok n in
-    unless Err good (can_cut (length msg) s && can_head sender counter) 50
+    unless refused good (can_cut (length msg) s && can_head sender counter) 50
     (both_decide (can_cut (length msg) s) (can_head sender counter) (cut_decides (length msg) s) (head_decides sender counter))
-    (unless Err good (ltb i (piece_count (length msg) s)) 51 (below_decides i (piece_count (length msg) s))
-    (unless Err good (leb n room) 52 (above_decides n room) none))
+    (unless refused good (ltb i (piece_count (length msg) s)) 51 (below_decides i (piece_count (length msg) s))
+    (unless refused good (leb n room) 52 (above_decides n room) none))

@@ -1,6 +1,7 @@
 -- With our deeds the frame of the wrong calls (specs/WrongMixed) is our call: number and words, on every input.
 -- Assumes nothing.
 use Prim.Native.Nat.{ℕ}
+use Rattle.refusal.specs.Refusal.{number_of}
 use Rattle.std.specs.Prelude.{Result, Ok, Err}
 use Rattle.refusal.specs.declared.Refusal.{Refusal}
 use Rattle.std.specs.Prelude.{Option}
@@ -196,8 +197,8 @@ module _ (own : ℕ) (i ours : List ℕ) (p : Standing) (l ws m : List ℕ) (roo
 
   on_bytes : (t : List ℕ) (x : Result Sections Refusal) → checked t ≡ x → TableNumbered x → Same (bytes t)
   unfolding answer_if words_if
-  on_bytes t (Err n) e h =
-      let z : eqb n 0 ≡ false = ne_eqb n 0 (λ q. omega (arith, h.0, q)) in
+  on_bytes t (Err k) e h =
+      let z : eqb (number_of k) 0 ≡ false = ne_eqb (number_of k) 0 (λ q. omega (arith, h.0, q)) in
       (rw (e, z) refl, rw (e, z) refl)
   on_bytes t (Ok s) e h = (
     rw e (read_number own i ours t s (index_of t s) p l ws m room (any_of i own m)),

@@ -1,6 +1,7 @@
 -- The order of checks for payloads.
 -- Assumes nothing.
 use Prim.Native.Nat.{ℕ, zero, suc, ◌+◌, ◌<◌}
+use Rattle.refusal.specs.Refusal.{refused}
 use Rattle.std.specs.Prelude.{Result, Ok, Err}
 use Rattle.refusal.specs.declared.Refusal.{Refusal}
 use mathlib.Core.Path.{◌≡◌, refl, sym, ap, subst, ◌∙◌}
@@ -30,9 +31,9 @@ use Rattle.promises.specs.TableOrder.{sections_in, table_checks}
 use Rattle.walk.specs.declared.Place.{Place}
 use Rattle.promises.specs.PayloadOrder.{Reached, at_start, spot_of, Stretch, item_met, behind, in_turn, met, whole_of, walk_checks}
 use Rattle.promises.specs.PayloadOrder.{AnswersBehind, LiesIn, LieIn, PayloadInOrder}
-use Rattle.promises.proofs.Checks.{Decides, lt_decides, le_decides, and_decides, decides_same, by, unless, then-as}
+use Rattle.promises.proofs.Checks.{Decides, lt_decides, le_decides, and_decides, decides_same, by, unless, then-as, then-as-each}
 use Rattle.promises.proofs.Order.{below_decides}
-use Rattle.promises.proofs.TableOrder.{table_in_order}
+use Rattle.promises.proofs.TableOrder.{table_in_order, table_made}
 
 -- sections that lie in the bytes
 lies_decides : (width most : ℕ) (t : List ℕ) (x : Section) → Decides (lies_in width most (length t) x) (LiesIn width most t x)
@@ -205,8 +206,9 @@ bytes_in_order : (c : Codec) → Counts c → c.leaves start ≡ 0 → (n : ℕ)
     → AnswersBehind (refusing Refused (table_checks t)) c n t (sections_in t) i room (answered_if (checked t) c n t i room)
 unfolding answered_if answered_in
 bytes_in_order c one z n t i room =
-    then-as Err (Ok (sections_in t)) Refused (λ r. r) (all c one z n t (sections_in t) i room)
-    (λ (x : Result Sections Refusal). answered_if x c n t i room) (λ k. refl) (table_in_order t)
+    let f = λ (x : Result Sections Refusal). answered_if x c n t i room in
+    then-as-each refused (Ok (sections_in t)) Refused (λ r. r) (all c one z n t (sections_in t) i room) f
+    (table_made f Refused t refl refl refl refl) (table_in_order t)
     (λ e. rw (is_within t (sections_in t) (accepted t (sections_in t) e)) (known-in-order c one z n t (sections_in t) i room))
 
 -- reading, a leaf is a word, and writing, a word is a leaf

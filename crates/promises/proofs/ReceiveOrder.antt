@@ -1,6 +1,7 @@
 -- Demand 1 for one call for one message: its number is that of the first of its checks that applies.
 -- Assumes nothing.
 use Prim.Native.Nat.{ℕ, ◌*◌, ◌^◌, ◌<◌}
+use Rattle.refusal.specs.Refusal.{refused as refused_by}
 use Rattle.std.specs.Prelude.{Result, Ok, Err}
 use Rattle.refusal.specs.declared.Refusal.{Refusal}
 use Rattle.std.specs.Prelude.{Option}
@@ -40,9 +41,9 @@ use Rattle.promises.specs.Reports.{IsKind2}
 use Rattle.promises.specs.Platforms.{OwedReply, owed_for, reply_length, Receives}
 use Rattle.promises.specs.Responses.{IsAwaited}
 use Rattle.promises.specs.Demand1.{its_message, NotAwaited, receive_checks, ReceiveInOrder, FindsKind2, owed_in, checked_checks, ReceiveCheckedInOrder}
-use Rattle.promises.proofs.Checks.{Decides, by, then, lt_decides}
+use Rattle.promises.proofs.Checks.{Decides, by, then, lt_decides, then-each}
 use Rattle.promises.proofs.Order.{read_in_order}
-use Rattle.promises.proofs.TableOrder.{table_in_order}
+use Rattle.promises.proofs.TableOrder.{table_in_order, table_made}
 use Rattle.promises.proofs.PayloadOrder.{lie_decides}
 use Rattle.promises.proofs.ByID.{there}
 use Rattle.promises.proofs.Kind2.{awaited-decides, not_operation, found_decides, answer_decides}
@@ -186,8 +187,8 @@ module _ (own : ℕ) (t : List ℕ) (p : Standing) (l m : List ℕ) (room : ℕ)
   received-in-order : Answers (λ (n : ℕ). n) 0 (receive_checks own t p l m room) (receive_number (received_of own t p l m room).answer)
   unfolding received_of received_by
   received-in-order =
-      then Err (Ok s) (λ n. n) 0 (λ (x : Result Sections Refusal). receive_number (received_by x own t p l m room).answer)
-      (λ n. refl) (table_in_order t) message-in-order
+      let f = λ (x : Result Sections Refusal). receive_number (received_by x own t p l m room).answer in
+      then-each refused_by (Ok s) (λ n. n) 0 f (table_made f (λ n. n) t refl refl refl refl) (table_in_order t) message-in-order
 
 pub receive_in_order : ReceiveInOrder
 receive_in_order own t p l m room ho hn o = received-in-order own t p l m room ho hn o

@@ -28,7 +28,7 @@ use Rattle.wire.proofs.AllBelow.{at-below}
 use Rattle.promises.specs.Checks.{Check, ◌when◌, Answers, Outside, none, this, next, below, above}
 use Rattle.promises.specs.Rules32.{operation_place, operation_kind}
 use Rattle.promises.specs.TableOrder.{sections_in, section_checks, IsCutShort, a_request, table_end, BreaksARule, IsTooLarge, table_checks, TableInOrder}
-use Rattle.promises.proofs.Checks.{Decides, lt_decides, eq_decides, or_decides, decides_same, by, unless, then}
+use Rattle.promises.proofs.Checks.{Decides, lt_decides, eq_decides, or_decides, decides_same, by, unless, then, EachMade}
 use Rattle.promises.proofs.OperationRules.{place_is, operation-decides}
 use Rattle.promises.proofs.Rules32.{some_below, type-decides}
 
@@ -66,9 +66,9 @@ module _ (width least most : ℕ) (t : List ℕ) (p : ℕ) (go_on : Section → 
       → Answers refused good (section_checks width least most t p ++ rest) (after (section_at width least most t p) go_on)
   section-in-order good rest a =
       subst (Answers refused good (section_checks width least most t p ++ rest)) (sym section-shape)
-      (by Err good (ltb (length t) (p + 2)) 30 (lt_decides (length t) (p + 2))
-      (by Err good (ltb (counted t p).count least || ltb most (counted t p).count) 31 (outside_decides least most (counted t p).count)
-      (by Err good (ltb (length t) (section_end width (counted t p))) 30 (lt_decides (length t) (section_end width (counted t p))) a)))
+      (by refused good (ltb (length t) (p + 2)) 30 (lt_decides (length t) (p + 2))
+      (by refused good (ltb (counted t p).count least || ltb most (counted t p).count) 31 (outside_decides least most (counted t p).count)
+      (by refused good (ltb (length t) (section_end width (counted t p))) 30 (lt_decides (length t) (section_end width (counted t p))) a)))
 
 module _ (t : List ℕ) (s : Sections) where
   abbrev operation-ok : ℕ → Bool
@@ -115,7 +115,7 @@ module _ (t : List ℕ) (s : Sections) where
 
   judged-in-order : Answers refused (Ok s) (32 when BreaksARule t s ∷ 33 when IsTooLarge t s ∷ []) (judged t s)
   unfolding judged
-  judged-in-order = unless Err (Ok s) (entries_ok t s) 32 entries-decide (unless Err (Ok s) (sizes_ok t s) 33 sizes-decide none)
+  judged-in-order = unless refused (Ok s) (entries_ok t s) 32 entries-decide (unless refused (Ok s) (sizes_ok t s) 33 sizes-decide none)
 
 -- the operations: an entry is cut short just where the last one ends past the bytes
 module _ (t : List ℕ) (s : Sections) where
@@ -224,7 +224,7 @@ operations_in_order t p types members values =
     go false e =
         let l : p + 2 ≤ length t = ltb-false (length t) (p + 2) e in
         next (λ (h : length t < p + 2). omega arith)
-        (by Err (Ok s) (ltb (counted t p).count 0 || ltb most_operations (counted t p).count) 31 too_many (ended-in-order t s l))
+        (by refused (Ok s) (ltb (counted t p).count 0 || ltb most_operations (counted t p).count) 31 too_many (ended-in-order t s l))
 
 -- the sections, before what is in them is looked at
 abbrev layout_checks : List ℕ → List Check
@@ -247,4 +247,11 @@ sections_in_order t =
 pub table_in_order : TableInOrder
 unfolding checked judging table_checks
 table_in_order t =
-    then Err (Ok (sections_in t)) Err (Ok (sections_in t)) (judging t) (λ n. refl) (sections_in_order t) (λ e. judged-in-order t (sections_in t))
+    then refused (Ok (sections_in t)) refused (Ok (sections_in t)) (judging t) (λ n. refl) (sections_in_order t) (λ e. judged-in-order t (sections_in t))
+
+-- what is made of a table's refusal, by its four numbers
+pub table_made : {B : Type 0} (f : Result Sections Refusal → B) (made : ℕ → B) (t : List ℕ)
+    → f (refused 30) ≡ made 30 → f (refused 31) ≡ made 31 → f (refused 32) ≡ made 32 → f (refused 33) ≡ made 33
+    → EachMade refused made f (table_checks t)
+unfolding table_checks
+table_made f made t a b c d = (a, (b, (a, (a, (b, (a, (a, (b, (a, (a, (b, (a, (a, (c, (d, tt)))))))))))))))

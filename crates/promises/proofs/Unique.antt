@@ -71,7 +71,6 @@ joiner =
       setup = λ k a z z' e e' p q. p ∙ sym q;
       take = λ k a z z' e e' p q. p.0 ∙ sym q.0;
       take-rooms = λ k a z z' e e' p q. p.1 ∙ sym q.1;
-      message = λ k a z z' e e' p q. p ∙ sym q;
       words_setup = λ k a z z' e e' p q. p.0 ∙ sym q.0;
       setup_state = λ k a z z' e e' p q. p.1 ∙ sym q.1;
       words_take = λ k a z z' e e' p q. p.0 ∙ sym q.0;

@@ -1,6 +1,7 @@
 -- Wrong checks: each differs from ours on a small table, computed.
 -- Assumes nothing.
 use Prim.Native.Nat.{ℕ, ◌≤◌}
+use Rattle.refusal.specs.Refusal.{number_of, numbered, refused}
 use Rattle.std.specs.Prelude.{Result, Ok, Err}
 use Rattle.refusal.specs.declared.Refusal.{Refusal}
 use mathlib.Core.Path.{◌≡◌, refl, sym, ap, ◌∙◌}
@@ -23,10 +24,10 @@ use Rattle.promises.proofs.TableOrder.{table_in_order}
 use Rattle.promises.proofs.Demand1.{demand_1}
 
 only_ours : (C : List ℕ → Result Sections Refusal) → TableInOrderBy C → (t : List ℕ) → C t ≡ checked t
-only_ours C f t = demand_1.one_answer Err (Ok (sections_in t)) (table_checks t) (C t) (checked t) (f t) (table_in_order t)
+only_ours C f t = demand_1.one_answer refused (Ok (sections_in t)) (table_checks t) (C t) (checked t) (f t) (table_in_order t)
 
 abbrev refusal : Result Sections Refusal → ℕ
-refusal (Err n) = n
+refusal (Err e) = number_of e
 refusal (Ok s) = 0
 
 -- 01's table, and the one with operations of four kinds, are accepted
@@ -34,11 +35,11 @@ accepted : refusal (checked whole_table) ≡ 0
 accepted = ap refusal numbers.0.accepted
 
 -- a table that is accepted, and does not pass the further test
-stricter_differs : (n : ℕ) (ok : List ℕ → Sections → Bool) (t : List ℕ) (s : Sections) → checked t ≡ Ok s → ok t s ≡ false → 1 ≤ n
+stricter_differs : (n : ℕ) (ok : List ℕ → Sections → Bool) (t : List ℕ) (s : Sections) → checked t ≡ Ok s → ok t s ≡ false → 1 ≤ number_of (numbered n)
     → TableInOrderBy (stricter n ok) → ⊥
 stricter_differs n ok t s a e l f =
-    let here : stricter n ok t ≡ Err n = ap (only_where n ok t) a ∙ ap (λ (b : Bool). cond b (Ok s) (Err n)) e in
-    let both : n ≡ 0 = ap refusal (sym here ∙ only_ours (stricter n ok) f t ∙ a) in
+    let here : stricter n ok t ≡ refused n = ap (only_where n ok t) a ∙ ap (λ (b : Bool). cond b (Ok s) (refused n)) e in
+    let both : number_of (numbered n) ≡ 0 = ap refusal (sym here ∙ only_ours (stricter n ok) f t ∙ a) in
     omega arith
 
 records_refused : TableInOrderBy (stricter 32 no_record) → ⊥

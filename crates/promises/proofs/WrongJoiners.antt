@@ -15,7 +15,6 @@ use borrow.Author.Tests.{le-leb}
 use lib.ListN.{length, take, replicate}
 use Rattle.binding.specs.Header.{counters, heading_in}
 use Rattle.binding.specs.declared.MessagePart.TheVariants.{End, Whole}
-use Rattle.channel.specs.Record.{bad_setup}
 use Rattle.channel.specs.Channel.{missed_of, keeping, noted_of, begun_of, followed_of, placed_of, stepped_of}
 use Rattle.channel.specs.declared.Slice.{Slice}
 use Rattle.channel.specs.declared.Outcome.{Outcome}

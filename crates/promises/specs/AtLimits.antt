@@ -13,7 +13,7 @@ use Rattle.message.specs.declared.Reading.TheVariants.{Read}
 use Rattle.message.specs.Reading.{read_of}
 use Rattle.binding.specs.declared.MessagePart.{MessagePart}
 use Rattle.binding.specs.Header.{header_of, header_bytes, heading_in}
-use Rattle.joiner.specs.Setup.{setup_of}
+use Rattle.joiner.specs.Setup.{setup_of, fresh_of}
 use Rattle.states.specs.declared.States.{States}
 use Rattle.states.specs.States.{stands_up, how_many_up, count_below, Words}
 use Rattle.platform.specs.declared.reactions.Standing.{Standing}

@@ -1,10 +1,10 @@
 -- Demand 3: what the user grants, in 01's own numbers. That it is what `Granted` says (Demand3) is shown in
 -- proofs/InNumbers.antt.
-use Rattle.std.specs.Prelude.{ℕ, ◌+◌, ◌-◌, ◌*◌, ◌/◌, ◌%◌, ◌≤◌, ◌<◌, ◌≡◌, ◌⊎◌, List, [], ◌∷◌, length, get_or}
+use Rattle.std.specs.Prelude.{ℕ, ◌+◌, ◌-◌, ◌*◌, ◌/◌, ◌%◌, ◌≤◌, ◌<◌, ◌≡◌, ◌⊎◌, List, [], ◌∷◌, length, get_or, Ok}
 use Rattle.binding.specs.declared.MessagePart.{MessagePart}
 use Rattle.binding.specs.declared.MessagePart.TheVariants.{Begin, Middle, End, Whole}
 use Rattle.binding.specs.Header.{header_of, header_bytes}
-use Rattle.joiner.specs.Setup.{setup_of}
+use Rattle.joiner.specs.Setup.{setup_of, fresh_of}
 use Rattle.promises.specs.Order.{CanSetUp}
 use Rattle.promises.specs.Senders.{Piece, Message, Sender, Sent, Genuine, sent_by, after, arrives, together}
 use Rattle.promises.specs.Traffic.{Datagram, of_channel, AreBytes}

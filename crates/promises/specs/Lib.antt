@@ -105,3 +105,4 @@ pub mod WrongLinkedMixed
 pub mod MixedRequestCalls
 pub mod MixedRequestRuns
 pub mod WrongMixedListings
+pub mod UniqueMessages

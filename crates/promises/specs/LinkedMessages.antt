@@ -1,8 +1,8 @@
 -- Demand 2 for messages and pieces, of the calls as programs in C have them (include/nyrkovash.h), over their very contracts, in
 -- the papers' numbers. The theorems are in proofs/LinkedMessages.antt.
-use Rattle.std.specs.Prelude.{ℕ, suc, ◌+◌, ◌-◌, ◌^◌, ◌≤◌, ◌<◌, ◌≡◌, cond, List, [], ◌∷◌, ◌⊎◌, eqb, length, get_or, take, drop}
+use Rattle.std.specs.Prelude.{ℕ, suc, ◌+◌, ◌-◌, ◌^◌, ◌≤◌, ◌<◌, ◌≡◌, cond, List, [], ◌∷◌, ◌⊎◌, eqb, length, get_or, take, drop, Ok}
 use Rattle.wire.specs.Bytes.{Octets, number, bytes, over}
-use Rattle.joiner.specs.Setup.{setup_of}
+use Rattle.joiner.specs.Setup.{setup_of, fresh_of}
 use Rattle.nyrkovash.proofs.nyr_pieces.Reads.{Post as nyr-pieces}
 use Rattle.nyrkovash.proofs.nyr_cut.Reads.{Post as nyr-cut}
 use Rattle.nyrkovash.proofs.nyr_read.Reads.{Post as nyr-read}

@@ -1,6 +1,7 @@
 -- Demand 1, "a fixed order of checks": 01, "Numbers given back", in 01's words, for messages (1 to 10), datagrams (20 to 23) and
 -- cutting (50 to 52). The theorems are in proofs/Order.antt.
-use Rattle.std.specs.Prelude.{ℕ, ◌+◌, ◌-◌, ◌*◌, ◌^◌, ◌≤◌, ◌<◌, ◌≡◌, cond, ◌⊎◌, List, [], ◌∷◌, ◌++◌, eqb, length, get_or}
+use Rattle.std.specs.Prelude.{ℕ, ◌+◌, ◌-◌, ◌*◌, ◌^◌, ◌≤◌, ◌<◌, ◌≡◌, cond, ◌⊎◌, List, [], ◌∷◌, ◌++◌, eqb, length, get_or, Result}
+use Rattle.refusal.specs.declared.Refusal.{Refusal}
 use Rattle.std.specs.Prelude.{Ok, Err}
 use Rattle.refusal.specs.Refusal.{refused}
 use Rattle.wire.specs.Bytes.{number}

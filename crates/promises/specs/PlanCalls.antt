@@ -1,7 +1,7 @@
 -- 02, request 13, over the very contracts: what `plan::lay` leaves, where it answers 0, are plans by which the calls go as the walk; and
 -- a call by a plan alone, which asks for no sections, is the one with sections wherever there is a plan. The theorem is in
 -- proofs/PlanCalls.antt.
-use Rattle.std.specs.Prelude.{ℕ, ◌≡◌, true, length}
+use Rattle.std.specs.Prelude.{ℕ, ◌≡◌, true, length, Ok}
 use Rattle.table.specs.declared.Sections.{Sections}
 use Rattle.walk.specs.Planned.{is_planned}
 use Rattle.plan.proofs.lay.Reads.{Post as plan-lay}
@@ -18,7 +18,7 @@ Always {K} {A} {E} {B} post so = (k : K) (a : A k) (r : B) (e : E k) → post k 
 -- Wrong programs that this rules out: plans laid out for other sections, or for one table and never again; a call by a plan alone that
 -- asks other leaves of a payload than the one with sections
 pub record PlanCalls : Type 0 where
-  pub lays : (i : ℕ) → Always plan-lay (λ k a n e. n ≡ 0 → AsTheWalk e.1.1.0.now a.0.now a.1.0 i)
+  pub lays : (i : ℕ) → Always plan-lay (λ k a n e. n ≡ Ok tt → AsTheWalk e.1.1.0.now a.0.now a.1.0 i)
   pub unpacks : (s : Sections) → Always payload-unpack-plan (λ k a r e.
       is_planned a.1.0.now a.1.1.0 ≡ true
       → (r ≡ unpacked_by a.1.0.now a.0.now s a.1.1.0 a.1.1.1.0.now (length a.1.1.1.1.0.now))

@@ -29,7 +29,7 @@ of_channel ids k (d ∷ ds) = cond (is_of ids k d) (d ∷ []) [] ++ of_channel i
 
 -- what `message` hands back after `take` answered with this outcome: one message where it delivered
 abbrev pub handed_back : Result Outcome Refusal → Datagram → List ℕ → List (List ℕ)
-handed_back (Ok (Delivered m p)) d rooms = message_of (Ok (Delivered m p)) d rooms ∷ []
+handed_back (Ok (Delivered m p)) d rooms = message_of {E = Refusal} (Ok (Delivered m p)) d rooms ∷ []
 handed_back (Err n) d rooms = []
 handed_back (Ok Repeated) d rooms = []
 handed_back (Ok (Held m n)) d rooms = []

@@ -47,7 +47,6 @@ use Rattle.channel.proofs.room_start.Reads.{Post as channel-room-start}
 use Rattle.channel.proofs.moved.Reads.{Post as channel-moved}
 use Rattle.joiner.proofs.setup.Reads.{Post as joiner-setup}
 use Rattle.joiner.proofs.take.Reads.{Post as joiner-take}
-use Rattle.joiner.proofs.message.Reads.{Post as joiner-message}
 use Rattle.joiner.proofs.words.setup.Reads.{Post as joiner-words-setup}
 use Rattle.joiner.proofs.words.take.Reads.{Post as joiner-words-take}
 use Rattle.table.proofs.entries.type_at.Reads.{Post as table-entries-type-at}
@@ -154,7 +153,6 @@ pub record JoinerUnique : Type 0 where
   pub setup : Answer joiner-setup
   pub take : Answer joiner-take
   pub take-rooms : Lent joiner-take (λ k e. e.1.0.now)
-  pub message : Same joiner-message (λ k z e. z.now)
   pub words_setup : Answer joiner-words-setup
   pub setup_state : Lent joiner-words-setup (λ k e. e.0.now)
   pub words_take : Answer joiner-words-take

@@ -13,8 +13,8 @@ use Rattle.promises.specs.Rules32.{kind_of, operation_kind, operation_type, resp
 
 -- as ours, but a table that does not pass a further test gets n
 abbrev pub only_where : ℕ → (List ℕ → Sections → Bool) → List ℕ → Result Sections Refusal → Result Sections Refusal
-only_where n ok t (Err k) = Err k
-only_where n ok t (Ok s) = cond (ok t s) (Ok s) (Err n)
+only_where n ok t (Err e) = Err e
+only_where n ok t (Ok s) = cond (ok t s) (Ok s) (refused n)
 
 abbrev pub stricter : ℕ → (List ℕ → Sections → Bool) → List ℕ → Result Sections Refusal
 stricter n ok t = only_where n ok t (checked t)
