@@ -3,6 +3,7 @@
 use Rattle.std.specs.Prelude.{ℕ, Bool, false, cond, List, ltb, eqb, length, replicate}
 use Rattle.std.specs.Prelude.{Result, Ok, Err}
 use Rattle.refusal.specs.declared.Refusal.{Refusal}
+use Rattle.refusal.specs.Refusal.{number_of}
 use Rattle.std.specs.Prelude.{Option, Some, None}
 use Rattle.wire.specs.Bytes.{over}
 use Rattle.table.specs.declared.Sections.{Sections}
@@ -106,21 +107,21 @@ abbrev pub index_of : List ℕ → Sections → List ℕ
 index_of t s = indexed t s.operations.at s.operations.count (replicate 1024 0)
 
 unfoldable pub received_by : Result Sections Refusal → ℕ → List ℕ → Standing → List ℕ → List ℕ → ℕ → Received
-received_by (Err n) own t p l m room = refused p n
+received_by (Err e) own t p l m room = refused p (number_of e)
 received_by (Ok s) own t p l m room = outcome_in own t s (index_of t s) p l m room
 
 unfoldable pub received_of : ℕ → List ℕ → Standing → List ℕ → List ℕ → ℕ → Received
 received_of own t p l m room = received_by (checked t) own t p l m room
 
 unfoldable pub left_if : Result Sections Refusal → ℕ → List ℕ → Standing → List ℕ → List ℕ → List ℕ
-left_if (Err n) own t p m out = out
+left_if (Err e) own t p m out = out
 left_if (Ok s) own t p m out = output_in own t s (index_of t s) p m out
 
 unfoldable pub left_of : ℕ → List ℕ → Standing → List ℕ → List ℕ → List ℕ
 left_of own t p m out = left_if (checked t) own t p m out
 
 unfoldable pub list_if : Result Sections Refusal → ℕ → List ℕ → List ℕ → List ℕ → List ℕ
-list_if (Err n) own t l m = l
+list_if (Err e) own t l m = l
 list_if (Ok s) own t l m = list_in own t s (index_of t s) l m
 
 unfoldable pub list_after : ℕ → List ℕ → List ℕ → List ℕ → List ℕ
