@@ -1,21 +1,18 @@
 -- What the calls for one message on sections and on table bytes come to at their returns.
 -- Assumes nothing.
 use Prim.Native.Nat.{ℕ}
-use Rattle.std.specs.Prelude.{Result, Ok, Err}
-use Rattle.refusal.specs.declared.Refusal.{Refusal}
 use mathlib.Core.Path.{◌≡◌, sym, ap, ◌∙◌}
 use mathlib.Core.Bool.{Bool, true, false}
 use mathlib.Core.List.{List}
 use Rattle.wire.proofs.Cond.{yes-if, no-if}
 use Rattle.table.specs.declared.Sections.{Sections}
 use Rattle.table.specs.Layout.{cut_short, within}
-use Rattle.types.specs.Table.{checked}
 use Rattle.message3.specs.declared.Stamp.{Stamp}
 use Rattle.platform.specs.declared.reactions.Standing.{Standing}
 use Rattle.platform.specs.Receiving.{index_of}
 use Rattle.mixed.specs.declared.AnyReceived.{AnyReceived}
 use Rattle.mixed.specs.Receiving.{refused_any, any_outcome, any_output, any_list, any_words}
-use Rattle.mixed.specs.Tables.{sections_answer, sections_out, sections_pending, sections_words, answer_if, out_if, pending_if, words_if}
+use Rattle.mixed.specs.Tables.{sections_answer, sections_out, sections_pending, sections_words}
 
 -- on sections
 module _ (own : ℕ) (i ours t : List ℕ) (s : Sections) (index : List ℕ) (p : Standing) (ws m : List ℕ) (b : Bool) (e : b ≡ within t s) where
@@ -71,42 +68,3 @@ module _ (own : ℕ) (i ours t : List ℕ) (s : Sections) (index : List ℕ) (p 
   pub by-index-words : (room : ℕ) (a : List ℕ) → a ≡ any_words own i ours t s index p ws m room
       → a ≡ any_words own i ours t s (index_of t s) p ws m room
   by-index-words room a d = d ∙ ap (λ (y : List ℕ). any_words own i ours t s y p ws m room) e
-
--- on table bytes
-module _ (own : ℕ) (i ours t : List ℕ) (p : Standing) (ws m : List ℕ) (k : Result Sections Refusal) (e : k ≡ checked t) where
-  module _ (n : ℕ) (z : k ≡ Err n) where
-    pub bad-table : (l : List ℕ) (room : ℕ) (r : AnyReceived) → r ≡ refused_any p n → r ≡ answer_if (checked t) own i ours t p l ws m room
-    unfolding answer_if
-    bad-table l room r d = d ∙ ap (λ (y : Result Sections Refusal). answer_if y own i ours t p l ws m room) (sym z ∙ e)
-
-    pub bad-table-output : (st : Stamp) (c : ℕ) (out : List ℕ) → out ≡ out_if (checked t) own st c i ours t p ws m out
-    unfolding out_if
-    bad-table-output st c out = ap (λ (y : Result Sections Refusal). out_if y own st c i ours t p ws m out) (sym z ∙ e)
-
-    pub bad-table-list : (l : List ℕ) → l ≡ pending_if (checked t) own i t l m
-    unfolding pending_if
-    bad-table-list l = ap (λ (y : Result Sections Refusal). pending_if y own i t l m) (sym z ∙ e)
-
-    pub bad-table-words : (room : ℕ) → ws ≡ words_if (checked t) own i ours t p ws m room
-    unfolding words_if
-    bad-table-words room = ap (λ (y : Result Sections Refusal). words_if y own i ours t p ws m room) (sym z ∙ e)
-
-  module _ (s : Sections) (z : k ≡ Ok s) where
-    pub good-table : (l : List ℕ) (room : ℕ) (r : AnyReceived) → r ≡ any_outcome own i ours t s (index_of t s) p l ws m room
-        → r ≡ answer_if (checked t) own i ours t p l ws m room
-    unfolding answer_if
-    good-table l room r d = d ∙ ap (λ (y : Result Sections Refusal). answer_if y own i ours t p l ws m room) (sym z ∙ e)
-
-    pub good-table-output : (st : Stamp) (c : ℕ) (out o : List ℕ) → o ≡ any_output own st c i ours t s (index_of t s) p ws m out
-        → o ≡ out_if (checked t) own st c i ours t p ws m out
-    unfolding out_if
-    good-table-output st c out o d = d ∙ ap (λ (y : Result Sections Refusal). out_if y own st c i ours t p ws m out) (sym z ∙ e)
-
-    pub good-table-list : (l a : List ℕ) → a ≡ any_list own i t s (index_of t s) l m → a ≡ pending_if (checked t) own i t l m
-    unfolding pending_if
-    good-table-list l a d = d ∙ ap (λ (y : Result Sections Refusal). pending_if y own i t l m) (sym z ∙ e)
-
-    pub good-table-words : (room : ℕ) (a : List ℕ) → a ≡ any_words own i ours t s (index_of t s) p ws m room
-        → a ≡ words_if (checked t) own i ours t p ws m room
-    unfolding words_if
-    good-table-words room a d = d ∙ ap (λ (y : Result Sections Refusal). words_if y own i ours t p ws m room) (sym z ∙ e)

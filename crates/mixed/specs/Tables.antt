@@ -3,9 +3,9 @@
 use Rattle.std.specs.Prelude.{ℕ, cond, List}
 use Rattle.std.specs.Prelude.{Result, Ok, Err}
 use Rattle.refusal.specs.declared.Refusal.{Refusal}
+use Rattle.refusal.specs.Refusal.{number_of}
 use Rattle.table.specs.declared.Sections.{Sections}
 use Rattle.table.specs.Layout.{cut_short, within}
-use Rattle.types.specs.Table.{checked}
 use Rattle.message3.specs.declared.Stamp.{Stamp}
 use Rattle.platform.specs.declared.reactions.Standing.{Standing}
 use Rattle.platform.specs.Receiving.{index_of}
@@ -32,13 +32,13 @@ answer_if (Err e) own i ours t p l ws m room = refused_any p (number_of e)
 answer_if (Ok s) own i ours t p l ws m room = any_outcome own i ours t s (index_of t s) p l ws m room
 
 unfoldable pub out_if : Result Sections Refusal → ℕ → Stamp → ℕ → List ℕ → List ℕ → List ℕ → Standing → List ℕ → List ℕ → List ℕ → List ℕ
-out_if (Err n) own st c i ours t p ws m out = out
+out_if (Err e) own st c i ours t p ws m out = out
 out_if (Ok s) own st c i ours t p ws m out = any_output own st c i ours t s (index_of t s) p ws m out
 
 unfoldable pub pending_if : Result Sections Refusal → ℕ → List ℕ → List ℕ → List ℕ → List ℕ → List ℕ
-pending_if (Err n) own i t l m = l
+pending_if (Err e) own i t l m = l
 pending_if (Ok s) own i t l m = any_list own i t s (index_of t s) l m
 
 unfoldable pub words_if : Result Sections Refusal → ℕ → List ℕ → List ℕ → List ℕ → Standing → List ℕ → List ℕ → ℕ → List ℕ
-words_if (Err n) own i ours t p ws m room = ws
+words_if (Err e) own i ours t p ws m room = ws
 words_if (Ok s) own i ours t p ws m room = any_words own i ours t s (index_of t s) p ws m room

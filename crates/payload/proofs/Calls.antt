@@ -1,8 +1,6 @@
--- What the returns of the calls come to, handed table bytes and over any tree.
+-- What the returns of the calls come to, over any tree.
 -- Assumes nothing.
 use Prim.Native.Nat.{ℕ, ◌≤◌, ◌<◌}
-use Rattle.std.specs.Prelude.{Result, Ok, Err}
-use Rattle.refusal.specs.declared.Refusal.{Refusal}
 use mathlib.Core.Path.{◌≡◌, refl, sym, ap, ◌∙◌}
 use mathlib.Core.Bool.{Bool, true, false, cond}
 use mathlib.Core.List.{List, []}
@@ -10,8 +8,6 @@ use borrow.Author.Tests.{le-leb, lt-leb, ltb-true, ltb-false}
 use lib.Dec.{ltb, eqb}
 use lib.ListN.{length}
 use Rattle.wire.proofs.Cond.{yes-eq, no_eq, yes_lt, no_lt}
-use Rattle.table.specs.declared.Sections.{Sections}
-use Rattle.types.specs.Table.{checked}
 use Rattle.walk.specs.declared.Place.{Place}
 use Rattle.walk.specs.declared.Walked.{Walked}
 use Rattle.walk.specs.declared.Walked.TheVariants as walked
@@ -20,7 +16,7 @@ use Rattle.payload.specs.declared.Answer.TheVariants.{Refused, Stopped, Gave}
 use Rattle.walk.specs.Tree.{Tree}
 use Rattle.walk.specs.Walk.{Codec, start, answer, left, walk}
 use Rattle.walk.specs.Whole.{fits, is_whole, all_or_nothing}
-use Rattle.payload.specs.Calls.{spot, stopped_at, went_to, answered, answered_tree, answered_in, left_over_by, left_over_in, answered_if, left_if}
+use Rattle.payload.specs.Calls.{spot, stopped_at, went_to, answered, answered_tree, left_over_by}
 
 -- a walk that stopped
 module _ (k : ℕ) (q : Place) (l : ℕ) where
@@ -87,14 +83,3 @@ tree_answered c n tr x y w a first is h =
       is ∙ left_by c.leaves n (length x) (answer (walk c tr start [])) x (left (walk c tr start x))
           ∙ ap (λ (o : Answer). left_over_by o x (left (walk c tr start x))) (sym e),
     )
-
--- the calls handed table bytes
-module _ (c : Codec) (n : ℕ) (t : List ℕ) (i : ℕ) (x : List ℕ) (r : Result Sections Refusal) (p : r ≡ checked t) where
-  pub bad-table : (k : ℕ) → r ≡ Err k → (Refused k ≡ answered_if (checked t) c n t i (length x)) × (x ≡ left_if (checked t) c n t i x)
-  unfolding answered_if left_if
-  bad-table k h = rw (← p, h) (refl, refl)
-
-  pub good-table : (s : Sections) (a : Answer) (y : List ℕ) → r ≡ Ok s → a ≡ answered_in c n t s i (length x) → y
-      ≡ left_over_in c n t s i x → (a ≡ answered_if (checked t) c n t i (length x)) × (y ≡ left_if (checked t) c n t i x)
-  unfolding answered_if left_if
-  good-table s a y h d e = rw (← p, h) (d, e)

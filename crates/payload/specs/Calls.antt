@@ -4,6 +4,7 @@
 use Rattle.std.specs.Prelude.{ℕ, cond, List, [], ltb, eqb, length}
 use Rattle.std.specs.Prelude.{Result, Ok, Err}
 use Rattle.refusal.specs.declared.Refusal.{Refusal}
+use Rattle.refusal.specs.Refusal.{number_of}
 use Rattle.table.specs.declared.Sections.{Sections}
 use Rattle.table.specs.Layout.{cut_short, within}
 use Rattle.table.specs.Entries.{is_type}
@@ -76,7 +77,7 @@ answered_if (Err e) c n t i room = Refused (number_of e)
 answered_if (Ok s) c n t i room = answered_in c n t s i room
 
 unfoldable pub left_if : Result Sections Refusal → Codec → ℕ → List ℕ → ℕ → List ℕ → List ℕ
-left_if (Err k) c n t i x = x
+left_if (Err e) c n t i x = x
 left_if (Ok s) c n t i x = left_over_in c n t s i x
 
 -- the calls: a payload b unpacked into words, and words packed into bytes; on sections, and handed table bytes

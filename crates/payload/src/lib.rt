@@ -34,6 +34,7 @@ pub enum Answer {
 }
 
 // Unpacks a payload of the table's type of that number into the words.
+#[tactic(auto, unfolding(crate::specs::Calls::answered_if, crate::specs::Calls::left_if))]
 pub fn unpack(table: &[u8], number: u16, payload: &[u8], words: &mut [u64]) -> Answer
     ensures value { result ≡ unpacked table.now number payload.now (length words.old) }
     ensures words_after { words.new ≡ words_after table.now number payload.now words.old }
@@ -59,6 +60,7 @@ pub fn unpack_in(
 }
 
 // Packs the words as a payload of the table's type of that number into the output.
+#[tactic(auto, unfolding(crate::specs::Calls::answered_if, crate::specs::Calls::left_if))]
 pub fn pack(table: &[u8], number: u16, words: &[u64], out: &mut [u8]) -> Answer
     ensures value { result ≡ packed table.now number words.now (length out.old) }
     ensures out_after { out.new ≡ bytes_after table.now number words.now out.old }

@@ -33,7 +33,6 @@ use Rattle.platform.specs.declared.reactions.Heard.TheVariants as heard
 use Rattle.platform.specs.declared.reactions.Reply.{Reply}
 use Rattle.platform.specs.declared.reactions.Reply.TheVariants.{StatusUp, PullAll, Unknown}
 use Rattle.platform.specs.declared.reactions.Owed.{Owed}
-use Rattle.platform.specs.declared.reactions.Owed.TheVariants as owed
 use Rattle.platform.specs.declared.reactions.Reaction.{Reaction}
 use Rattle.states.specs.States.{stands_up}
 use Rattle.platform.specs.Replies.{all_data, reply_id, reply_number, reply_field, reply_bytes, reply_header, meant, Wide}

@@ -1,8 +1,6 @@
 -- What the calls for one message come to at their returns.
 -- Assumes nothing.
 use Prim.Native.Nat.{ℕ, ◌+◌}
-use Rattle.std.specs.Prelude.{Result, Ok, Err}
-use Rattle.refusal.specs.declared.Refusal.{Refusal}
 use Rattle.std.specs.Prelude.{Option}
 use mathlib.Core.Path.{◌≡◌, refl, sym, ap, ◌∙◌}
 use mathlib.Core.Bool.{Bool, true, false, cond}
@@ -13,7 +11,6 @@ use Rattle.wire.specs.Bytes.{part}
 use Rattle.wire.proofs.Cond.{yes-if, no-if}
 use Rattle.table.specs.declared.Sections.{Sections}
 use Rattle.table.specs.Layout.{cut_short, within}
-use Rattle.types.specs.Table.{checked}
 use Rattle.message.specs.declared.Header.{Header}
 use Rattle.message.specs.declared.Message.{Message}
 use Rattle.message.specs.declared.Reading.{Reading}
@@ -26,7 +23,7 @@ use Rattle.platform.specs.declared.Received.{Received}
 use Rattle.platform.specs.declared.reactions.Reaction.{Reaction}
 use Rattle.platform.specs.Reaction.{operation_in, reaction_to}
 use Rattle.platform.specs.Receiving.{refused, answered, laid_out, is_answer, list_answered, response_to, outcome_of, output_of, list_of}
-use Rattle.platform.specs.Receiving.{outcome_in, output_in, list_in, index_of, received_by, received_of, left_if, left_of, list_if, list_after}
+use Rattle.platform.specs.Receiving.{outcome_in, output_in, list_in, index_of}
 use Rattle.platform.specs.Receiving.{sections_outcome, sections_output, sections_list}
 use Rattle.platform.specs.Heard.{payload_heard}
 
@@ -124,34 +121,6 @@ module _ (own : ℕ) (t : List ℕ) (s : Sections) (index : List ℕ) (p : Stand
     pub outside-list : l ≡ sections_list own t s index l m
     unfolding sections_list
     outside-list = sym (no-if (list_in own t s index l m) l (sym e ∙ no))
-
--- on table bytes
-module _ (own : ℕ) (t : List ℕ) (p : Standing) (l m out : List ℕ) (k : Result Sections Refusal) (e : k ≡ checked t) where
-  module _ (n : ℕ) (z : k ≡ Err n) where
-    pub bad-table : (r : Received) → r ≡ refused p n → r ≡ received_of own t p l m (length out)
-    unfolding received_of received_by
-    bad-table r d = rw (← e, z) d
-
-    pub bad-table-output : out ≡ left_of own t p m out
-    unfolding left_of left_if
-    bad-table-output = rw (← e, z) refl
-
-    pub bad-table-list : l ≡ list_after own t l m
-    unfolding list_after list_if
-    bad-table-list = rw (← e, z) refl
-
-  module _ (s : Sections) (z : k ≡ Ok s) where
-    pub good-table : (r : Received) → r ≡ outcome_in own t s (index_of t s) p l m (length out) → r ≡ received_of own t p l m (length out)
-    unfolding received_of received_by
-    good-table r d = rw (← e, z) d
-
-    pub good-table-output : (o : List ℕ) → o ≡ output_in own t s (index_of t s) p m out → o ≡ left_of own t p m out
-    unfolding left_of left_if
-    good-table-output o d = rw (← e, z) d
-
-    pub good-table-list : (u : List ℕ) → u ≡ list_in own t s (index_of t s) l m → u ≡ list_after own t l m
-    unfolding list_after list_if
-    good-table-list u d = rw (← e, z) d
 
 -- the payload of an operation, and of anything else
 pub operation_payload : (m u : List ℕ) (x : Heard) (i start len : ℕ) → x ≡ heard.Operation i start len → u ≡ part m start len → u ≡ payload_heard m x

@@ -3,6 +3,7 @@
 use Rattle.std.specs.Prelude.{ℕ, Bool, false, cond, List, ltb, eqb, length, replicate}
 use Rattle.std.specs.Prelude.{Result, Ok, Err}
 use Rattle.refusal.specs.declared.Refusal.{Refusal}
+use Rattle.refusal.specs.Refusal.{number_of}
 use Rattle.std.specs.Prelude.{Option, Some, None}
 use Rattle.wire.specs.Bytes.{over}
 use Rattle.table.specs.declared.Sections.{Sections}
@@ -114,14 +115,14 @@ unfoldable pub received_of : ℕ → List ℕ → Standing → List ℕ → List
 received_of own t p l m room = received_by (checked t) own t p l m room
 
 unfoldable pub left_if : Result Sections Refusal → ℕ → List ℕ → Standing → List ℕ → List ℕ → List ℕ
-left_if (Err n) own t p m out = out
+left_if (Err e) own t p m out = out
 left_if (Ok s) own t p m out = output_in own t s (index_of t s) p m out
 
 unfoldable pub left_of : ℕ → List ℕ → Standing → List ℕ → List ℕ → List ℕ
 left_of own t p m out = left_if (checked t) own t p m out
 
 unfoldable pub list_if : Result Sections Refusal → ℕ → List ℕ → List ℕ → List ℕ → List ℕ
-list_if (Err n) own t l m = l
+list_if (Err e) own t l m = l
 list_if (Ok s) own t l m = list_in own t s (index_of t s) l m
 
 unfoldable pub list_after : ℕ → List ℕ → List ℕ → List ℕ → List ℕ

@@ -1,37 +1,13 @@
 -- `mixed::receive` meets its contract: the table is refused, or its sections are taken.
 -- Assumes nothing.
-use Rattle.mixed.proofs.OnTables.{bad-table, bad-table-output, bad-table-list, bad-table-words}
-use Rattle.mixed.proofs.OnTables.{good-table, good-table-output, good-table-list, good-table-words}
+use Rattle.std.proofs.Common.{rules}
+use Rattle.mixed.specs.Tables.{answer_if, out_if, pending_if, words_if}
 use Rattle.mixed.proofs.receive.Goals as goal
 
-pub returns-in-Refused-clause-answer : goal.returns-in-Refused-clause-answer
-returns-in-Refused-clause-answer c =
-    search bad-table
+pub returns-in-Err : goal.returns-in-Err
+unfolding answer_if out_if pending_if words_if
+returns-in-Err c = search rules
 
-pub returns-in-Refused-clause-output : goal.returns-in-Refused-clause-output
-returns-in-Refused-clause-output c =
-    search bad-table-output
-
-pub returns-in-Refused-clause-list : goal.returns-in-Refused-clause-list
-returns-in-Refused-clause-list c =
-    search bad-table-list
-
-pub returns-in-Refused-clause-blocks : goal.returns-in-Refused-clause-blocks
-returns-in-Refused-clause-blocks c =
-    search bad-table-words
-
-pub returns-in-Table-clause-answer : goal.returns-in-Table-clause-answer
-returns-in-Table-clause-answer c =
-    search good-table
-
-pub returns-in-Table-clause-output : goal.returns-in-Table-clause-output
-returns-in-Table-clause-output c =
-    search good-table-output
-
-pub returns-in-Table-clause-list : goal.returns-in-Table-clause-list
-returns-in-Table-clause-list c =
-    search good-table-list
-
-pub returns-in-Table-clause-blocks : goal.returns-in-Table-clause-blocks
-returns-in-Table-clause-blocks c =
-    search good-table-words
+pub returns-in-Ok : goal.returns-in-Ok
+unfolding answer_if out_if pending_if words_if
+returns-in-Ok c = search rules
