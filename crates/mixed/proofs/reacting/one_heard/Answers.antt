@@ -10,7 +10,3 @@ returns-then-kind_at-eq-VERSIONED_DATA c =
 pub returns-else-kind_at-eq-VERSIONED_DATA : goal.returns-else-kind_at-eq-VERSIONED_DATA
 returns-else-kind_at-eq-VERSIONED_DATA c =
     search no-pull
-
-pub returns-in-Nowhere : goal.returns-in-Nowhere
-returns-in-Nowhere c =
-    search nowhere-pulled
