@@ -29,11 +29,7 @@ pub(crate) fn room_for(ours: &[u64], deed: Deed, room: usize) -> Room
                 fitting(telling::HEAD + telling::PAIR * ours.len(), room)
             }
         }
-        Deed::TellOne {
-            number: _,
-            id: _,
-            available: _,
-        } => fitting(telling::HEAD + telling::PAIR, room),
+        Deed::TellOne { .. } => fitting(telling::HEAD + telling::PAIR, room),
         _ => Room::Enough(0),
     }
 }

@@ -36,18 +36,8 @@ pub fn payload(message: &[u8], reading: AnyReading) -> &[u8]
     ensures { result.now ≡ payload_of message.now reading }
 {
     match reading {
-        AnyReading::Six {
-            header: _,
-            message: _,
-            start,
-            length,
-        } => wire::part(message, start, length),
-        AnyReading::Three {
-            header: _,
-            message: _,
-            start,
-            length,
-        } => wire::part(message, start, length),
+        AnyReading::Six { start, length, .. } => wire::part(message, start, length),
+        AnyReading::Three { start, length, .. } => wire::part(message, start, length),
         AnyReading::Refused(_) => &message[..0],
     }
 }

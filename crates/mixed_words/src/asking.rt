@@ -33,8 +33,7 @@ fn block_at(words: &[u64], start: usize) -> &[u64]
         return &words[..0];
     }
     let left = words.len() - start;
-    let end = start + wire::least(SERVICES, left);
-    &words[start..end]
+    &words[start..start + SERVICES.min(left)]
 }
 
 fn number_of(known: Availability) -> u32

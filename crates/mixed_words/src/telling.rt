@@ -31,11 +31,7 @@ pub(crate) fn kind_of(heard: Heard) -> u64
         Heard::PullOfAll => platform_words::PULL_OF_ALL,
         Heard::PullOfOne(_, _) => platform_words::PULL_OF_ONE,
         Heard::NotVersionedData(_) => platform_words::NOT_VERSIONED_DATA,
-        Heard::Operation {
-            entry: _,
-            start: _,
-            length: _,
-        } => platform_words::OPERATION,
+        Heard::Operation { .. } => platform_words::OPERATION,
         Heard::NotInTable(_) => platform_words::NOT_IN_TABLE,
     }
 }
@@ -50,11 +46,7 @@ pub(crate) fn value_of(id: u32, heard: Heard) -> u64
         Heard::PullOfAll => 0,
         Heard::PullOfOne(pulled, _) => pulled as u64,
         Heard::NotVersionedData(pulled) => pulled as u64,
-        Heard::Operation {
-            entry: _,
-            start: _,
-            length: _,
-        } => id as u64,
+        Heard::Operation { .. } => id as u64,
         Heard::NotInTable(unknown) => unknown as u64,
     }
 }
@@ -63,18 +55,9 @@ pub(crate) fn entry_of(heard: Heard) -> u64
     ensures { result ≡ entry_in heard }
 {
     match heard {
-        Heard::Status(_) => 0,
-        Heard::Request => 0,
-        Heard::UnknownOperation(_) => 0,
-        Heard::PullOfAll => 0,
         Heard::PullOfOne(_, entry) => entry as u64,
-        Heard::NotVersionedData(_) => 0,
-        Heard::Operation {
-            entry,
-            start: _,
-            length: _,
-        } => entry as u64,
-        Heard::NotInTable(_) => 0,
+        Heard::Operation { entry, .. } => entry as u64,
+        _ => 0,
     }
 }
 
@@ -82,18 +65,8 @@ pub(crate) fn start_of(heard: Heard) -> u64
     ensures { result ≡ start_in heard }
 {
     match heard {
-        Heard::Status(_) => 0,
-        Heard::Request => 0,
-        Heard::UnknownOperation(_) => 0,
-        Heard::PullOfAll => 0,
-        Heard::PullOfOne(_, _) => 0,
-        Heard::NotVersionedData(_) => 0,
-        Heard::Operation {
-            entry: _,
-            start,
-            length: _,
-        } => start as u64,
-        Heard::NotInTable(_) => 0,
+        Heard::Operation { start, .. } => start as u64,
+        _ => 0,
     }
 }
 
@@ -101,18 +74,8 @@ pub(crate) fn length_of(heard: Heard) -> u64
     ensures { result ≡ length_in heard }
 {
     match heard {
-        Heard::Status(_) => 0,
-        Heard::Request => 0,
-        Heard::UnknownOperation(_) => 0,
-        Heard::PullOfAll => 0,
-        Heard::PullOfOne(_, _) => 0,
-        Heard::NotVersionedData(_) => 0,
-        Heard::Operation {
-            entry: _,
-            start: _,
-            length,
-        } => length as u64,
-        Heard::NotInTable(_) => 0,
+        Heard::Operation { length, .. } => length as u64,
+        _ => 0,
     }
 }
 
@@ -149,12 +112,7 @@ pub(crate) fn entry_three(heard: Heard3) -> u64
 {
     match heard {
         Heard3::Common(common) => entry_of(common),
-        Heard3::Status(_, _) => 0,
-        Heard3::Services(_) => 0,
-        Heard3::ServicesRequest(_) => 0,
-        Heard3::ServiceNotAvailable(_) => 0,
-        Heard3::CompositeChange(_) => 0,
-        Heard3::CompositeAnswer(_) => 0,
+        _ => 0,
     }
 }
 
@@ -163,12 +121,8 @@ pub(crate) fn start_three(heard: Heard3) -> u64
 {
     match heard {
         Heard3::Common(common) => start_of(common),
-        Heard3::Status(_, _) => 0,
         Heard3::Services(_) => Header3::LENGTH as u64,
-        Heard3::ServicesRequest(_) => 0,
-        Heard3::ServiceNotAvailable(_) => 0,
-        Heard3::CompositeChange(_) => 0,
-        Heard3::CompositeAnswer(_) => 0,
+        _ => 0,
     }
 }
 
@@ -177,12 +131,8 @@ pub(crate) fn length_three(size: u32, heard: Heard3) -> u64
 {
     match heard {
         Heard3::Common(common) => length_of(common),
-        Heard3::Status(_, _) => 0,
         Heard3::Services(_) => size as u64,
-        Heard3::ServicesRequest(_) => 0,
-        Heard3::ServiceNotAvailable(_) => 0,
-        Heard3::CompositeChange(_) => 0,
-        Heard3::CompositeAnswer(_) => 0,
+        _ => 0,
     }
 }
 
@@ -191,13 +141,8 @@ pub(crate) fn composite_three(heard: Heard3) -> u64
     ensures { result ≡ composite_heard3 heard }
 {
     match heard {
-        Heard3::Common(_) => 0,
         Heard3::Status(_, composite) => composite as u64,
-        Heard3::Services(_) => 0,
-        Heard3::ServicesRequest(_) => 0,
-        Heard3::ServiceNotAvailable(_) => 0,
-        Heard3::CompositeChange(_) => 0,
-        Heard3::CompositeAnswer(_) => 0,
+        _ => 0,
     }
 }
 

@@ -20,11 +20,3 @@ module _ (ws : List ℕ) (n : ℕ) where
 
   pub place-freed : {last : List ℕ} → last ≡ cancelled (take (length ws - 5) (drop 5 ws)) n → put_mid 5 (length ws - 5) ws last ≡ cancel_words ws n
   place-freed e = back_by standing_length ws (λ (l : List ℕ). cancelled l n) e
-
-  -- `cancel`
-  module _ {r : Bool} (e : r ≡ is_pending (pending_in ws) n) where
-    pub one-freed : r ≡ true → 1 ≡ cancel_count ws n
-    one-freed f = sym (yes-if 1 0 (sym e ∙ f))
-
-    pub none-freed : r ≡ false → 0 ≡ cancel_count ws n
-    none-freed f = sym (no-if 1 0 (sym e ∙ f))

@@ -29,13 +29,6 @@ module _ (ws : List ℕ) where
     pub up-states : {r : ℕ} → r ≡ how_many_up own s → r ≡ how_many_up own (states_in ws)
     up-states e = e ∙ ap (how_many_up own) es
 
-    module _ {t : Bool} (k : ℕ) (e : t ≡ stands_up own s k) where
-      pub is_up : t ≡ true → 1 ≡ up_number own ws k
-      is_up f = rw (← es, ← e, f)
-
-      pub is_down : t ≡ false → 0 ≡ up_number own ws k
-      is_down f = rw (← es, ← e, f)
-
 -- the first words written, one by one
 pub put_words : (ws : List ℕ) (a b c d e : ℕ) → standing_length ≤ length ws
     → set (set (set (set (set ws 0 a) 1 b) 2 c) 3 d) 4 e ≡ a ∷ b ∷ c ∷ d ∷ e ∷ pending_in ws

@@ -19,13 +19,8 @@ pub fn cancel(platform: &mut [u64; PLATFORM_WORDS], number: u32, cancelled: &mut
     ensures cancelled_after { cancelled.new ≡ cancel_count platform.old number }
 {
     let words: &mut [u64] = platform;
-    if cancel_in(words, number) {
-        *cancelled = 1;
-        0
-    } else {
-        *cancelled = 0;
-        0
-    }
+    *cancelled = usize::from(cancel_in(words, number));
+    0
 }
 
 // What is pending under a number.
@@ -38,16 +33,11 @@ pub fn awaited(
     ensures awaited_after { awaited.new ≡ awaited_words platform.now number }
 {
     let words: &[u64] = platform;
-    match pending::awaited(&words[PENDING_AT..], number) {
-        Some((id, target)) => {
-            *awaited = [AWAITED, id as u64, target];
-            0
-        }
-        None => {
-            *awaited = [0, 0, 0];
-            0
-        }
-    }
+    *awaited = match pending::awaited(&words[PENDING_AT..], number) {
+        Some((id, target)) => [AWAITED, id as u64, target],
+        None => [0; AWAITED_WORDS],
+    };
+    0
 }
 
 fn cancel_in(words: &mut [u64], number: u32) -> bool

@@ -37,11 +37,7 @@ pub fn fresh(own: u8, platform: &mut [u64; PLATFORM_WORDS]) -> u32
 pub fn is_up(own: u8, platform: &[u64; PLATFORM_WORDS], number: u32) -> u32
     ensures { result ≡ up_number own platform.now number }
 {
-    if states::is_up(Own { platform: own }, states_in(platform), number) {
-        1
-    } else {
-        0
-    }
+    u32::from(states::is_up(Own { platform: own }, states_in(platform), number))
 }
 
 // How many of the 256 are UP, this one counted.
@@ -55,9 +51,8 @@ pub fn how_many_up(own: u8, platform: &[u64; PLATFORM_WORDS]) -> u32
 pub fn standing_in(words: &[u64]) -> Standing
     ensures { result ≡ standing_in words.now }
 {
-    let states = states_in(words);
     Standing {
-        states,
+        states: states_in(words),
         next: next_in(words),
     }
 }

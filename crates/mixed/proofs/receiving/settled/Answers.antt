@@ -3,10 +3,6 @@
 use Rattle.mixed.proofs.Receipts.{enough-room, short, short-output, short-words, all-kept, all_laid, enough-words, not-kept, not-laid}
 use Rattle.mixed.proofs.receiving.settled.Goals as goal
 
-pub lay-requires : goal.lay-requires
-lay-requires c =
-    search enough-room
-
 pub returns-in-Short-clause-answer : goal.returns-in-Short-clause-answer
 returns-in-Short-clause-answer c =
     search short

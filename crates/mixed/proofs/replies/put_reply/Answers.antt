@@ -3,18 +3,6 @@
 use Rattle.mixed.proofs.LaidReplies.{room-for-status, room-for-pull, room-for-unknown, is-status, is-pull, is-unknown}
 use Rattle.mixed.proofs.replies.put_reply.Goals as goal
 
-pub put_status-requires : goal.put_status-requires
-put_status-requires c =
-    search room-for-status
-
-pub put_field-requires : goal.put_field-requires
-put_field-requires c =
-    search room-for-pull
-
-pub put_field-requires-in-Unknown : goal.put_field-requires-in-Unknown
-put_field-requires-in-Unknown c =
-    search room-for-unknown
-
 pub returns-in-StatusUp : goal.returns-in-StatusUp
 returns-in-StatusUp c =
     search is-status

@@ -9,7 +9,3 @@ loop-i-init c =
 pub loop-i-preserved : goal.loop-i-preserved
 loop-i-preserved c =
     search one_more
-
-pub returns : goal.returns
-returns c =
-    search all_there

@@ -3,10 +3,6 @@
 use Rattle.mixed_words.proofs.ServiceAsked.{no_block, part-of-block}
 use Rattle.mixed_words.proofs.asking.block_at.Goals as goal
 
-pub returns-then-words-start : goal.returns-then-words-start
-returns-then-words-start c =
-    search no_block
-
 pub returns : goal.returns
 returns c =
     search part-of-block

@@ -3,14 +3,6 @@
 use Rattle.platform.proofs.ReplyBytes.{room-for-first, room-for-second, lay-not, lay-none, lay-one, lay-two}
 use Rattle.platform.proofs.replies.lay.Goals as goal
 
-pub lay_reply-requires : goal.lay_reply-requires
-lay_reply-requires c =
-    search room-for-first
-
-pub lay_reply-requires-in-Two : goal.lay_reply-requires-in-Two
-lay_reply-requires-in-Two c =
-    search room-for-second
-
 pub returns-in-Nothing : goal.returns-in-Nothing
 returns-in-Nothing c =
     search lay-none

@@ -37,15 +37,3 @@ returns-else-kind-eq-NOTHING-clause-out_after c =
 pub returns-else-kind-eq-NOTHING-clause-heard_after : goal.returns-else-kind-eq-NOTHING-clause-heard_after
 returns-else-kind-eq-NOTHING-clause-heard_after c =
     search straight-heard
-
-pub returns-in-None-clause-value : goal.returns-in-None-clause-value
-returns-in-None-clause-value c =
-    search answered-number
-
-pub returns-in-None-clause-words_after : goal.returns-in-None-clause-words_after
-returns-in-None-clause-words_after c =
-    search answered-words
-
-pub returns-in-None-clause-heard_after : goal.returns-in-None-clause-heard_after
-returns-in-None-clause-heard_after c =
-    search answered-heard

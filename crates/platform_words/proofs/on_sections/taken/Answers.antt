@@ -11,7 +11,3 @@ returns-clause-value c =
 pub returns-clause-words_after : goal.returns-clause-words_after
 returns-clause-words_after c =
     search taken-list
-
-pub returns-clause-out_after : goal.returns-clause-out_after
-returns-clause-out_after c =
-    search taken-output

@@ -1,9 +1,0 @@
--- `platform_words::tell_straight` meets its contract.
--- Assumes nothing.
-use borrow.Author.Rules.{rules}
-use Rattle.platform_words.proofs.Straight.{standing_again}
-use Rattle.platform_words.proofs.on_sections.tell_straight.Goals as goal
-
-pub returns-clause-words_after : goal.returns-clause-words_after
-returns-clause-words_after c =
-    search standing_again
