@@ -7,14 +7,14 @@ use native.Mathlib.Nat.{add_assoc, add-zero, add-sub_cancel_left, one-le-pow, ze
 use native.Mathlib.Omega.{arith}
 use mathlib.Core.Bool.{Bool, true, false}
 use borrow.Author.Tests.{ltb-true, ltb-false}
-use lib.Dec.{ltb, leb}
+use lib.Dec.{ltb}
 use lib.Arith.{digits_lt, digits_div, digits_mod}
 use lib.Pow.{pow-add}
 use lib.ListN.{length, get_or, take, drop, length-append, length-take, length-drop, get_or-eq_default, get_or-append}
 use lib.Seq.{length-take-le, get_or-append-add, get_or-take, get_or-drop, take-add, drop-drop, drop-cons}
 use Rattle.wire.specs.Bytes.{span, number, whole, bytes, over, written, part, Octets}
 use Rattle.wire.proofs.Cond.{yes_le, no_le}
-use Rattle.wire.proofs.Runs.{failed, written_in, written_out, part_in}
+use Rattle.wire.proofs.Runs.{written_in, part_in}
 
 -- 2 ^ suc k bytes are twice 2 ^ k bytes
 pub twice : (k : ℕ) → 2 ^ suc k ≡ 2 ^ k + 2 ^ k
@@ -99,10 +99,6 @@ pub length_bytes : (k x : ℕ) → length (bytes k x) ≡ 2 ^ k
 length_bytes zero x = refl
 length_bytes (suc k) x =
     rw (length-append (bytes k (x / span k)) (bytes k (x % span k)), length_bytes k (x / span k), length_bytes k (x % span k)) (sym (twice k))
-
--- a number that does not fit changes nothing
-pub no_number : (k : ℕ) {r : Bool} (s : List ℕ) (p x : ℕ) → r ≡ leb (p + 2 ^ k) (length s) → r ≡ false → s ≡ written s p (bytes k x)
-no_number k s p x f t = sym (written_out s p (bytes k x) (omega (arith, length_bytes k x, failed (p + 2 ^ k) (length s) f t)))
 
 pub number_bytes : (k x : ℕ) (ys : List ℕ) → x < span k → number k (bytes k x ++ ys) 0 ≡ x
 number_bytes zero x ys h = refl

@@ -9,19 +9,16 @@ use native.Mathlib.Omega.{arith}
 use borrow.Author.Tests.{ltb-true, ltb-false}
 use lib.Dec.{ltb, leb}
 use lib.ListN.{length, get_or, take, drop, replicate, length-drop, get_or-eq_default, get_or-append}
-use lib.Seq.{take_all, get_or-append-add, get_or-drop}
+use lib.Seq.{take_all, take_at, get_or-append-add, get_or-drop}
 use Rattle.std.specs.Prelude.{min}
 use Rattle.std.proofs.lemmas.List.{get_or-replicate}
 use Rattle.std.proofs.Math.Nat.{min-eq_left, min-eq_right}
-use Rattle.wire.specs.Bytes.{number, whole}
-use Rattle.wire.proofs.Numbers.{number_take, number_drop, past_end, whole_out}
+use Rattle.wire.specs.Bytes.{number, whole, bytes, written, padded}
+use Rattle.wire.proofs.Numbers.{number_take, number_drop, past_end, whole_out, length_bytes}
 use Rattle.wire.proofs.Runs.{failed}
 
 abbrev zeros : List ℕ
 zeros = replicate 8 0
-
-abbrev padded : List ℕ → List ℕ
-padded b = b ++ drop (length b) zeros
 
 all_zero : (i : ℕ) → get_or zeros i 0 ≡ 0
 all_zero i = go (ltb i 8) refl
@@ -79,3 +76,10 @@ read_cut k {r} {q} {b} s p h e f =
 -- and none of them
 pub read_none : (k : ℕ) {r : ℕ} {t : Bool} (s : List ℕ) (p : ℕ) → t ≡ leb (p + 2 ^ k) (length s) → t ≡ false → r ≡ number k zeros 0 → r ≡ whole k s p
 read_none k s p e t f = f ∙ number_padded k [] ∙ past_end k [] 0 (omega arith) ∙ sym (whole_out k s p (failed (p + 2 ^ k) (length s) e t))
+
+-- a number's bytes are the first of them
+pub put_whole : (k : ℕ) {w : ℕ} {b e : List ℕ} (s : List ℕ) (p x : ℕ) → w ≡ 2 ^ k → b ≡ padded (bytes k x) → e ≡ written s p (take w b)
+    → e ≡ written s p (bytes k x)
+put_whole k {w} {b} {e} s p x h f g =
+    g ∙ ap (λ (u : List ℕ). written s p (take w u)) f
+    ∙ ap (written s p) (take_at (bytes k x) (drop (length (bytes k x)) zeros) w (length_bytes k x ∙ sym h))

@@ -2,8 +2,8 @@
 // or a copy that does not fit changes nothing.
 #![tactic(auto)]
 
-ghost use Rattle.std.specs.Prelude.{◌≡◌, min, ◌+◌, ◌^◌, ◌<◌, ◌≤◌, ◌++◌, leb, length, drop, replicate};
-ghost use Rattle.wire.specs.Bytes.{number, whole, bytes, written, part};
+ghost use Rattle.std.specs.Prelude.{◌≡◌, min, ◌+◌, ◌^◌, ◌<◌, ◌≤◌, leb, length};
+ghost use Rattle.wire.specs.Bytes.{number, whole, bytes, padded, written, part};
 ghost use Rattle.wire.specs.LowFirst.{swapped};
 
 mod order;
@@ -48,9 +48,7 @@ pub fn swapped_u64(s: &[u8], at: usize) -> u64
 pub fn put_number<T: Number>(s: &mut [u8], at: usize, x: T)
     ensures { s.new ≡ written s.old at (bytes T.exponent (T.value x)) }
 {
-    if is_whole::<T>(s, at) {
-        s[at..at + T::width()].copy_from_slice(&x.to_bytes()[..T::width()]);
-    }
+    put_run(s, at, &x.to_bytes()[..T::width()]);
 }
 
 // Writes the whole of `run` at `at`.
@@ -116,7 +114,7 @@ fn cut_at<T: Number>(s: &[u8], at: usize) -> T
 // The bytes, with zeros behind them.
 fn padded(bytes: &[u8]) -> [u8; WIDEST]
     requires { length bytes.now ≤ 8 }
-    ensures { result ≡ bytes.now ++ drop (length bytes.now) (replicate 8 0) }
+    ensures { result ≡ padded bytes.now }
 {
     let mut all = [0; WIDEST];
     all[..bytes.len()].copy_from_slice(bytes);

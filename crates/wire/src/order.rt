@@ -1,8 +1,8 @@
 // Numbers in the byte order of the wire: the most significant byte comes first. The compiler makes one load, or one store, and one swap of
 // each, and vectors of loops over them.
-ghost use Rattle.std.specs.Prelude.{◌≡◌, ◌^◌, ◌≤◌, ℕ, take};
+ghost use Rattle.std.specs.Prelude.{◌≡◌, ◌^◌, ◌≤◌, ℕ};
 ghost use Rattle.std.proofs.Common.{rules};
-ghost use Rattle.wire.specs.Bytes.{number, bytes};
+ghost use Rattle.wire.specs.Bytes.{number, bytes, padded};
 ghost use Rattle.wire.specs.LowFirst.{swapped};
 
 // The bytes of the widest number.
@@ -22,9 +22,9 @@ pub trait Number: Copy {
     fn of_bytes(bytes: [u8; WIDEST]) -> Self
         ensures { value result ≡ number exponent bytes 0 };
 
-    // Its bytes, and others behind them.
+    // Its bytes, with zeros behind them.
     fn to_bytes(self) -> [u8; WIDEST]
-        ensures { take (2 ^ exponent) result ≡ bytes exponent (value self) };
+        ensures { result ≡ padded (bytes exponent (value self)) };
 
     ghost widest: { 2 ^ exponent ≤ 8 };
 }

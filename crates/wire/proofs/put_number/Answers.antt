@@ -1,8 +1,8 @@
--- `wire::put_number` meets its contract: a number that there is no room for changes nothing.
+-- `wire::put_number` meets its contract: the first bytes of what is written are the number's.
 -- Assumes nothing.
-use Rattle.wire.proofs.Numbers.{no_number}
+use Rattle.wire.proofs.ZerosBehind.{put_whole}
 use Rattle.wire.proofs.put_number.Goals as goal
 
-pub returns-else-is_whole : goal.returns-else-is_whole
-returns-else-is_whole g c =
-    search (no_number g.T.Number.exponent)
+pub returns : goal.returns
+returns g c =
+    search (put_whole g.T.Number.exponent)
