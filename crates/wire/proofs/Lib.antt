@@ -2,7 +2,7 @@ pub mod Cond
 pub mod Numbers
 pub mod Runs
 pub mod Swaps
-mod Writes
+mod ZerosBehind
 pub mod MetCases
 pub mod AllBelow
 pub mod Rising

@@ -7,14 +7,14 @@ use native.Mathlib.Nat.{add_assoc, add-zero, add-sub_cancel_left, one-le-pow, ze
 use native.Mathlib.Omega.{arith}
 use mathlib.Core.Bool.{Bool, true, false}
 use borrow.Author.Tests.{ltb-true, ltb-false}
-use lib.Dec.{ltb, leb}
+use lib.Dec.{ltb}
 use lib.Arith.{digits_lt, digits_div, digits_mod}
 use lib.Pow.{pow-add}
 use lib.ListN.{length, get_or, take, drop, length-append, length-take, length-drop, get_or-eq_default, get_or-append}
 use lib.Seq.{length-take-le, get_or-append-add, get_or-take, get_or-drop, take-add, drop-drop, drop-cons}
 use Rattle.wire.specs.Bytes.{span, number, whole, bytes, over, written, part, Octets}
 use Rattle.wire.proofs.Cond.{yes_le, no_le}
-use Rattle.wire.proofs.Runs.{held, failed, written_in, part_in}
+use Rattle.wire.proofs.Runs.{written_in, part_in}
 
 -- 2 ^ suc k bytes are twice 2 ^ k bytes
 pub twice : (k : ℕ) → 2 ^ suc k ≡ 2 ^ k + 2 ^ k
@@ -46,10 +46,6 @@ past_end (suc k) s p h = rw (past_end k s p h, past_end k s (p + 2 ^ k) (omega a
 
 pub past : (k : ℕ) (s : List ℕ) (p : ℕ) → length s ≤ p → 0 ≡ number k s p
 past k s p h = sym (past_end k s p h)
-
--- of two bytes that do not both fit, the second is past the end
-pub first_byte : {r : Bool} {x : ℕ} (s : List ℕ) (p : ℕ) → r ≡ leb (p + 2) (length s) → r ≡ false → x ≡ number 0 s p → x * 256 ≡ number 1 s p
-first_byte s p e f b = omega (arith, past_end 0 s (p + 1) (omega (arith, failed (p + 2) (length s) e f)))
 
 pub number_lt : (k : ℕ) (s : List ℕ) (p : ℕ) → Octets s → number k s p < span k
 number_lt zero s p o = o p
@@ -97,13 +93,6 @@ read_in k s p r h e =
     ∙ ap (λ (u : List ℕ). whole k u 0) (sym (part_in s p (2 ^ k) h))
     ∙ whole_part k s p (2 ^ k) 0 h (omega arith)
     ∙ ap (number k s) (add-zero p)
-
--- what a reader of a whole number found: all of it there, or not
-pub whole_read : (k : ℕ) {t : Bool} {r : ℕ} (s : List ℕ) (p : ℕ) → t ≡ leb (p + 2 ^ k) (length s) → t ≡ true → r ≡ number k s p → r ≡ whole k s p
-whole_read k s p e t r = r ∙ sym (whole_in k s p (held (p + 2 ^ k) (length s) e t))
-
-pub whole_none : (k : ℕ) {t : Bool} (s : List ℕ) (p : ℕ) → t ≡ leb (p + 2 ^ k) (length s) → t ≡ false → 0 ≡ whole k s p
-whole_none k s p e t = sym (whole_out k s p (failed (p + 2 ^ k) (length s) e t))
 
 -- the bytes of a number, and the number of its bytes
 pub length_bytes : (k x : ℕ) → length (bytes k x) ≡ 2 ^ k

@@ -9,7 +9,7 @@ use native.Mathlib.Omega.{arith}
 use borrow.Author.Tests.{ne_eqb, eqb-false, ltb-true}
 use lib.Dec.{ltb, eqb}
 use Rattle.wire.specs.All.{all_below, above}
-use Rattle.wire.proofs.AllBelow.{at-below, next-below, stop-below}
+use Rattle.wire.proofs.AllBelow.{at-below}
 
 -- the test of one entry, with what it is compared with carried along
 abbrev pub Carried : (ℕ → ℕ) → ℕ → ℕ → Type 0
@@ -28,13 +28,6 @@ carried_test r k last next c h = go (eqb k 0) refl
     go : (b : Bool) → eqb k 0 ≡ b → (eqb k 0 || ltb last next) ≡ above r k
     go true e = rw e refl
     go false e = rw (e, c (eqb-false k 0 e), h) refl
-
-module _ (r : ℕ → ℕ) (k last next : ℕ) (carried : Carried r k last) (is : next ≡ r k) where
-  pub rises_next : (eqb k 0 || ltb last next) ≡ true → all_below (above r) k ≡ true → all_below (above r) (k + 1) ≡ true
-  rises_next h a = next-below (above r) k (eqb k 0 || ltb last next) a (carried_test r k last next carried is) h
-
-  pub rises-no-more : (n : ℕ) → (eqb k 0 || ltb last next) ≡ false → k < n → false ≡ all_below (above r) n
-  rises-no-more n h l = stop-below (above r) n k (eqb k 0 || ltb last next) (carried_test r k last next carried is) h l
 
 -- an entry that is not the first is above the one before it
 step : (r : ℕ → ℕ) (k : ℕ) → above r (suc k) ≡ true → r k < r (suc k)

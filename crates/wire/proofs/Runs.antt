@@ -1,10 +1,10 @@
 -- Laws of `over`, `written` and `part`: a run of bytes in a list.
 -- Assumes nothing.
-use Prim.Native.Nat.{ℕ, ◌+◌, ◌-◌, ◌^◌, ◌≤◌, ◌<◌}
+use Prim.Native.Nat.{ℕ, ◌+◌, ◌^◌, ◌≤◌, ◌<◌}
 use mathlib.Core.Path.{◌≡◌, refl, sym, ap, ◌∙◌}
 use mathlib.Core.Bool.{Bool, true, false}
 use mathlib.Core.List.{List, [], ◌∷◌, ◌++◌, append_assoc}
-use native.Mathlib.Nat.{add_assoc, add-zero, zero-add, add-sub_cancel_left}
+use native.Mathlib.Nat.{add_assoc, add-zero, zero-add}
 use native.Mathlib.Numerals.{add-one}
 use native.Mathlib.Omega.{arith}
 use borrow.Author.Tests.{le-leb, lt-leb, leb-true, leb-false}
@@ -100,29 +100,12 @@ over_more s p r j e h i =
     ∙ over_over s p (take j r) (get_or r j 0 ∷ []) (simp length-append (omega arith))
     ∙ ap (over s p) (sym (take-suc r j 0 i) ∙ ap (λ (n : ℕ). take n r) (sym (add-one j)))
 
--- with k within n, what starts at p fits exactly where p leaves k of n
-pub room_left : (n p k : ℕ) → k ≤ n → leb p (n - k) ≡ leb (p + k) n
-room_left n p k h = go (leb p (n - k)) refl
-  where
-    go : (t : Bool) → leb p (n - k) ≡ t → leb p (n - k) ≡ leb (p + k) n
-    go true e = e ∙ sym (le-leb (p + k) n (omega (arith, leb-true p (n - k) e)))
-    go false e = e ∙ sym (lt-leb (p + k) n (omega (arith, leb-false p (n - k) e)))
-
-pub too_many : (n p k : ℕ) → n < k → false ≡ leb (p + k) n
-too_many n p k h = sym (lt-leb (p + k) n (omega arith))
-
 pub no_room : (n p k : ℕ) → n < p → false ≡ leb (p + k) n
 no_room n p k h = sym (lt-leb (p + k) n (omega arith))
 
 -- a place within a room that was found is a `usize`, and lies within the slice
 pub in_room : {r : Bool} (n p k j : ℕ) → r ≡ leb (p + k) n → r ≡ true → n < 2 ^ 64 → j ≤ k → Fits w64 (p + j)
 in_room n p k j e t h l = record { fits = omega (arith, held (p + k) n e t) }
-
-pub the_part : {r : Bool} (s : List ℕ) (p n : ℕ) → r ≡ leb (p + n) (length s) → r ≡ true → take (p + n - p) (drop p s) ≡ part s p n
-the_part s p n e t = ap (λ (k : ℕ). take k (drop p s)) (add-sub_cancel_left p n) ∙ sym (part_in s p n (held (p + n) (length s) e t))
-
-pub no_part : {r : Bool} (s : List ℕ) (p n : ℕ) → r ≡ leb (p + n) (length s) → r ≡ false → [] ≡ part s p n
-no_part s p n e t = sym (part_out s p n (failed (p + n) (length s) e t))
 
 pub over_whole : {u : List ℕ} (s : List ℕ) (p : ℕ) (r : List ℕ) (j : ℕ) → u ≡ over s p (take j r) → length r ≤ j → u ≡ over s p r
 over_whole s p r j e l = e ∙ ap (over s p) (take_all j r l)
@@ -133,9 +116,6 @@ over_all s p r j e l h = over_whole s p r j e l ∙ sym (written_in s p r h)
 -- what was written at the start of one list is what its beginning writes to another
 pub over_through : {b e : List ℕ} (z s : List ℕ) (p : ℕ) (r : List ℕ) → b ≡ over z 0 r → e ≡ over s p (take (length r) b) → e ≡ over s p r
 over_through z s p r b e = e ∙ ap (over s p) (ap (take (length r)) b ∙ take_at r (drop (0 + length r) z) (length r) refl)
-
-pub run_in : {t : Bool} {e : List ℕ} (s : List ℕ) (p : ℕ) (r : List ℕ) → t ≡ leb (p + length r) (length s) → t ≡ true → e ≡ over s p r → e ≡ written s p r
-run_in s p r f t e = e ∙ sym (written_in s p r (held (p + length r) (length s) f t))
 
 pub no_run : {t : Bool} (s : List ℕ) (p : ℕ) (r : List ℕ) → t ≡ leb (p + length r) (length s) → t ≡ false → s ≡ written s p r
 no_run s p r e t = sym (written_out s p r (failed (p + length r) (length s) e t))

@@ -1,5 +1,5 @@
 -- Numbers and runs of bytes in a list of bytes: what `wire` reads and writes. 000, 6.1: all fields are big endian.
-use Rattle.std.specs.Prelude.{ℕ, zero, suc, ◌+◌, ◌*◌, ◌/◌, ◌%◌, ◌^◌, ◌<◌, List, [], ◌∷◌, ◌++◌, cond, leb, length, get_or, take, drop}
+use Rattle.std.specs.Prelude.{ℕ, zero, suc, ◌+◌, ◌*◌, ◌/◌, ◌%◌, ◌^◌, ◌<◌, List, [], ◌∷◌, ◌++◌, cond, leb, length, get_or, take, drop, replicate}
 
 -- how many numbers 2 ^ k bytes can hold
 abbrev pub span : ℕ → ℕ
@@ -18,6 +18,10 @@ whole k s p = cond (leb (p + 2 ^ k) (length s)) (number k s p) 0
 abbrev pub bytes : ℕ → ℕ → List ℕ
 bytes zero x = x ∷ []
 bytes (suc k) x = bytes k (x / span k) ++ bytes k (x % span k)
+
+-- b with zeros behind it, as many bytes as the widest number has
+abbrev pub padded : List ℕ → List ℕ
+padded b = b ++ drop (length b) (replicate 8 0)
 
 -- s with b written over what stands at p
 abbrev pub over : List ℕ → ℕ → List ℕ → List ℕ

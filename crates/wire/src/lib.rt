@@ -2,77 +2,38 @@
 // or a copy that does not fit changes nothing.
 #![tactic(auto)]
 
-ghost use Rattle.std.specs.Prelude.{◌≡◌, min, ◌+◌, ◌≤◌, leb, length};
-ghost use Rattle.wire.specs.Bytes.{number, whole, bytes, over, written, part};
+ghost use Rattle.std.specs.Prelude.{◌≡◌, min, ◌+◌, ◌^◌, ◌<◌, ◌≤◌, leb, length};
+ghost use Rattle.wire.specs.Bytes.{number, whole, bytes, padded, written, part};
 ghost use Rattle.wire.specs.LowFirst.{swapped};
-ghost use Rattle.wire.specs.Blocks.{block_length};
 
 mod order;
 mod words;
 
-pub use order::swap64;
+use order::WIDEST;
+pub use order::{Number, swap64};
 pub use words::word_at;
 
-// How many bytes are copied at once: more than a datagram has.
-const BLOCK: usize = 65536;
-
-pub fn u8_at(s: &[u8], at: usize) -> u8
-    ensures { result ≡ number 0 s.now at }
+// A number of any width, as `number_at::<u32>(s, at)`.
+pub fn number_at<T: Number>(s: &[u8], at: usize) -> T
+    ensures { T.value result ≡ number T.exponent s.now at }
 {
-    if at < s.len() { s[at] } else { 0 }
-}
-
-pub fn u16_at(s: &[u8], at: usize) -> u16
-    ensures { result ≡ number 1 s.now at }
-{
-    if has_room(s.len(), at, 2) {
-        order::be16(s, at)
+    if is_whole::<T>(s, at) {
+        read(s, at)
     } else {
-        (u8_at(s, at) as u16) * 256
-    }
-}
-
-pub fn u32_at(s: &[u8], at: usize) -> u32
-    ensures { result ≡ number 2 s.now at }
-{
-    if has_room(s.len(), at, 4) {
-        order::be32(s, at)
-    } else {
-        split_u32(s, at)
-    }
-}
-
-pub fn u64_at(s: &[u8], at: usize) -> u64
-    ensures { result ≡ number 3 s.now at }
-{
-    if has_room(s.len(), at, 8) {
-        order::be64(s, at)
-    } else {
-        split_u64(s, at)
+        cut_at(s, at)
     }
 }
 
 // A number whose bytes are all there, and 0 where one is past the end: for loops that know that they are, and want one test
 // and one load.
-pub fn whole_u16(s: &[u8], at: usize) -> u16
-    ensures { result ≡ whole 1 s.now at }
+pub fn whole_at<T: Number>(s: &[u8], at: usize) -> T
+    ensures { T.value result ≡ whole T.exponent s.now at }
 {
-    let is_whole = has_room(s.len(), at, 2);
-    if is_whole { order::be16(s, at) } else { 0 }
-}
-
-pub fn whole_u32(s: &[u8], at: usize) -> u32
-    ensures { result ≡ whole 2 s.now at }
-{
-    let is_whole = has_room(s.len(), at, 4);
-    if is_whole { order::be32(s, at) } else { 0 }
-}
-
-pub fn whole_u64(s: &[u8], at: usize) -> u64
-    ensures { result ≡ whole 3 s.now at }
-{
-    let is_whole = has_room(s.len(), at, 8);
-    if is_whole { order::be64(s, at) } else { 0 }
+    if is_whole::<T>(s, at) {
+        read(s, at)
+    } else {
+        T::of_bytes([0; WIDEST])
+    }
 }
 
 // The same with its bytes in the other order, which are the bytes as they lie: whoever compares many numbers with one swaps that one
@@ -80,40 +41,14 @@ pub fn whole_u64(s: &[u8], at: usize) -> u64
 pub fn swapped_u64(s: &[u8], at: usize) -> u64
     ensures { result ≡ swapped 3 (whole 3 s.now at) }
 {
-    let is_whole = has_room(s.len(), at, 8);
-    if is_whole { order::le64(s, at) } else { 0 }
+    swap64(whole_at(s, at))
 }
 
-pub fn put_u8(s: &mut [u8], at: usize, x: u8)
-    ensures { s.new ≡ written s.old at (bytes 0 x) }
+// Writes the number's bytes at `at`.
+pub fn put_number<T: Number>(s: &mut [u8], at: usize, x: T)
+    ensures { s.new ≡ written s.old at (bytes T.exponent (T.value x)) }
 {
-    if at < s.len() {
-        s[at] = x;
-    }
-}
-
-pub fn put_u16(s: &mut [u8], at: usize, x: u16)
-    ensures { s.new ≡ written s.old at (bytes 1 x) }
-{
-    if has_room(s.len(), at, 2) {
-        order::set_be16(s, at, x);
-    }
-}
-
-pub fn put_u32(s: &mut [u8], at: usize, x: u32)
-    ensures { s.new ≡ written s.old at (bytes 2 x) }
-{
-    if has_room(s.len(), at, 4) {
-        order::set_be32(s, at, x);
-    }
-}
-
-pub fn put_u64(s: &mut [u8], at: usize, x: u64)
-    ensures { s.new ≡ written s.old at (bytes 3 x) }
-{
-    if has_room(s.len(), at, 8) {
-        order::set_be64(s, at, x);
-    }
+    put_run(s, at, &x.to_bytes()[..T::width()]);
 }
 
 // Writes the whole of `run` at `at`.
@@ -121,11 +56,7 @@ pub fn put_run(s: &mut [u8], at: usize, run: &[u8])
     ensures { s.new ≡ written s.old at run.now }
 {
     if has_room(s.len(), at, run.len()) {
-        if run.len() <= BLOCK {
-            set_block(s, at, run);
-        } else {
-            copy(s, at, run);
-        }
+        s[at..at + run.len()].copy_from_slice(run);
     }
 }
 
@@ -144,60 +75,48 @@ pub fn part(s: &[u8], at: usize, count: usize) -> &[u8]
 pub fn has_room(len: usize, at: usize, count: usize) -> bool
     ensures { result ≡ leb (at + count) len }
 {
-    if count <= len {
-        at <= len - count
-    } else {
-        false
-    }
+    count <= len && at <= len - count
 }
 
 // The smaller of two.
 pub fn least(a: usize, b: usize) -> usize
     ensures { result ≡ min a b }
 {
-    if a <= b { a } else { b }
+    a.min(b)
 }
 
-// A number that may end past the end: by halves, each of which is there, or not, or in part.
-fn split_u32(s: &[u8], at: usize) -> u32
-    ensures { result ≡ number 2 s.now at }
+// Whether all bytes of a number are there.
+fn is_whole<T: Number>(s: &[u8], at: usize) -> bool
+    ensures { result ≡ leb (at + 2 ^ T.exponent) (length s.now) }
 {
-    if at < s.len() {
-        (u16_at(s, at) as u32) * 65536 + (u16_at(s, at + 2) as u32)
-    } else {
-        0
-    }
+    has_room(s.len(), at, T::width())
 }
 
-fn split_u64(s: &[u8], at: usize) -> u64
-    ensures { result ≡ number 3 s.now at }
+// A number whose bytes are all there.
+fn read<T: Number>(s: &[u8], at: usize) -> T
+    requires { at + 2 ^ T.exponent ≤ length s.now }
+    ensures { T.value result ≡ number T.exponent s.now at }
 {
-    if at < s.len() {
-        (u32_at(s, at) as u64) * 4294967296 + (u32_at(s, at + 4) as u64)
-    } else {
-        0
-    }
+    T::of_bytes(padded(&s[at..at + T::width()]))
 }
 
-// A run of up to BLOCK bytes, by way of an array: no lent slice overlaps it, so the compiler makes one call of the C
-// library's copy of both loops, and the array goes.
-fn set_block(s: &mut [u8], at: usize, run: &[u8])
-    requires run_in_bounds { at + length run.now ≤ length s.old }
-    requires run_len_bound { length run.now ≤ block_length }
-    ensures { s.new ≡ over s.old at run.now }
+// A number that ends past the end: its bytes that are there, and zeros behind them. It stands by itself, so that `number_at` is short
+// enough to be laid out wherever it is called.
+#[cold]
+#[inline(never)]
+fn cut_at<T: Number>(s: &[u8], at: usize) -> T
+    requires { length s.now < at + 2 ^ T.exponent }
+    ensures { T.value result ≡ number T.exponent s.now at }
 {
-    let mut block = [0u8; BLOCK];
-    copy(&mut block, 0, run);
-    copy(s, at, &block[..run.len()]);
+    T::of_bytes(padded(&s[at.min(s.len())..]))
 }
 
-fn copy(s: &mut [u8], at: usize, run: &[u8])
-    requires { at + length run.now ≤ length s.old }
-    ensures { s.new ≡ over s.old at run.now }
+// The bytes, with zeros behind them.
+fn padded(bytes: &[u8]) -> [u8; WIDEST]
+    requires { length bytes.now ≤ 8 }
+    ensures { result ≡ padded bytes.now }
 {
-    let mut i = 0;
-    while i < run.len() {
-        s[at + i] = run[i];
-        i += 1;
-    }
+    let mut all = [0; WIDEST];
+    all[..bytes.len()].copy_from_slice(bytes);
+    all
 }

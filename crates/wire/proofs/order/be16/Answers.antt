@@ -1,9 +1,0 @@
--- `wire::order::be16` meets its contract: the little-endian number, swapped.
--- Assumes nothing.
-use Rattle.wire.proofs.Swaps.{read_swapped}
-use Rattle.wire.proofs.order.be16.Goals as goal
-
-pub returns : goal.returns
-returns c =
-    let a = c.args in
-    read_swapped 1 a.s.now a.at (λ i. (c.type_inv.s i).fits) c.le16.ensures c.swap16.ensures
