@@ -154,7 +154,7 @@ fn put_header(header: BindingHeader, out: &mut [u8])
 {
     let part = header.part;
     let marks = (BindingHeader::VERSION * PARTS + code_of(part)) as u32;
-    wire::put_u32(
+    wire::put_number::<u32>(
         out,
         0,
         (marks * SENDERS + header.sender as u32) * COUNTERS + header.counter as u32,

@@ -72,7 +72,7 @@ impl BindingHeader {
             & (length <= BindingHeader::LARGEST_DATAGRAM)
         {
             // One load: 000, A.4 has the fields of this number from its most significant bit on.
-            let word = wire::u32_at(datagram, 0);
+            let word = wire::number_at::<u32>(datagram, 0);
             if word / (PARTS * SENDERS * COUNTERS) == BindingHeader::VERSION as u32 {
                 let part = part_of_code((word / (SENDERS * COUNTERS) % PARTS) as u8);
                 let sender = (word / COUNTERS % SENDERS) as u16;

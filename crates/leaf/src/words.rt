@@ -19,10 +19,10 @@ pub fn put(s: &mut [u8], at: usize, code: u16, word: u64)
 {
     let width = codes::width(code);
     match width {
-        1 => wire::put_u8(s, at, (word % 256) as u8),
-        2 => wire::put_u16(s, at, (word % 65536) as u16),
-        4 => wire::put_u32(s, at, (word % 4294967296) as u32),
-        8 => wire::put_u64(s, at, word),
+        1 => wire::put_number::<u8>(s, at, (word % 256) as u8),
+        2 => wire::put_number::<u16>(s, at, (word % 65536) as u16),
+        4 => wire::put_number::<u32>(s, at, (word % 4294967296) as u32),
+        8 => wire::put_number::<u64>(s, at, word),
         _ => {}
     }
 }
@@ -170,5 +170,5 @@ fn among_cut(table: &[u8], at: u32, count: u16, word: u64) -> bool
 fn other_cut(table: &[u8], at: u32, word: u64, k: u16) -> bool
     ensures { result ≡ other_at table.now at word k }
 {
-    wire::u64_at(table, at as usize + 8 * (k as usize)) != word
+    wire::number_at::<u64>(table, at as usize + 8 * (k as usize)) != word
 }

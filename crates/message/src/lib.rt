@@ -135,11 +135,11 @@ impl Header {
         ensures { result ≡ header_in message.now }
     {
         Header::new(
-            wire::u8_at(message, Header::DOMAIN_AT),
-            wire::u32_at(message, Header::PLATFORM_AT),
-            wire::u32_at(message, Header::ID_AT),
-            wire::u32_at(message, Header::PAYLOAD_SIZE_AT),
-            wire::u32_at(message, Header::SEQUENCE_AT),
+            wire::number_at::<u8>(message, Header::DOMAIN_AT),
+            wire::number_at::<u32>(message, Header::PLATFORM_AT),
+            wire::number_at::<u32>(message, Header::ID_AT),
+            wire::number_at::<u32>(message, Header::PAYLOAD_SIZE_AT),
+            wire::number_at::<u32>(message, Header::SEQUENCE_AT),
         )
     }
 }

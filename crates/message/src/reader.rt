@@ -42,7 +42,7 @@ fn read_out(message: &[u8]) -> Reading
         message: kind::message_of(
             domain,
             header.id,
-            wire::u32_at(refusal::behind_header(message), 0),
+            wire::number_at::<u32>(refusal::behind_header(message), 0),
         ),
         start: Header::LENGTH,
         length: size as usize,

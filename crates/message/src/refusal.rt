@@ -33,8 +33,8 @@ pub fn read_refusal(own: Own, message: &[u8]) -> u32
         let address = address_refusal(own, message);
         if address == 0 {
             contents_refusal(
-                wire::u8_at(message, Header::DOMAIN_AT),
-                wire::u32_at(message, Header::ID_AT),
+                wire::number_at::<u8>(message, Header::DOMAIN_AT),
+                wire::number_at::<u32>(message, Header::ID_AT),
                 behind_header(message),
             )
         } else {
@@ -52,13 +52,13 @@ pub fn frame_refusal(message: &[u8]) -> u32
     if message.len() < Header::LENGTH {
         return TOO_SHORT;
     }
-    if wire::u16_at(message, Header::MARK_AT) != Header::MARK {
+    if wire::number_at::<u16>(message, Header::MARK_AT) != Header::MARK {
         return WRONG_MARK;
     }
-    if wire::u8_at(message, Header::VERSION_AT) != Header::VERSION {
+    if wire::number_at::<u8>(message, Header::VERSION_AT) != Header::VERSION {
         return WRONG_VERSION;
     }
-    if Header::RESERVED_DOMAINS <= wire::u8_at(message, Header::DOMAIN_AT) {
+    if Header::RESERVED_DOMAINS <= wire::number_at::<u8>(message, Header::DOMAIN_AT) {
         return RESERVED_DOMAIN;
     }
     0
@@ -68,10 +68,12 @@ pub fn frame_refusal(message: &[u8]) -> u32
 pub fn address_refusal(own: Own, message: &[u8]) -> u32
     ensures { result ≡ address_refusal own.platform message.now }
 {
-    if wire::u32_at(message, Header::PAYLOAD_SIZE_AT) as usize != payload_length(message) {
+    if wire::number_at::<u32>(message, Header::PAYLOAD_SIZE_AT) as usize
+        != payload_length(message)
+    {
         return WRONG_SIZE;
     }
-    if wire::u32_at(message, Header::PLATFORM_AT) == own.platform as u32 {
+    if wire::number_at::<u32>(message, Header::PLATFORM_AT) == own.platform as u32 {
         return WRONG_SENDER;
     }
     0
@@ -93,7 +95,7 @@ pub fn contents_refusal(domain: u8, id: u32, payload: &[u8]) -> u32
     if id != Message::PLATFORM_STATUS {
         return 0;
     }
-    if Status::RESERVED_STATES <= wire::u32_at(payload, 0) {
+    if Status::RESERVED_STATES <= wire::number_at::<u32>(payload, 0) {
         return RESERVED_VALUE;
     }
     0

@@ -48,13 +48,13 @@ pub fn put_header(out: &mut [u8], header: Header)
     ensures { out.new ≡ written out.old 0 (header_bytes header) }
 {
     if Header::LENGTH <= out.len() {
-        wire::put_u16(out, Header::MARK_AT, Header::MARK);
-        wire::put_u8(out, Header::VERSION_AT, Header::VERSION);
-        wire::put_u8(out, Header::DOMAIN_AT, header.domain);
-        wire::put_u32(out, Header::PLATFORM_AT, header.platform);
-        wire::put_u32(out, Header::ID_AT, header.id);
-        wire::put_u32(out, Header::PAYLOAD_SIZE_AT, header.payload_size);
-        wire::put_u32(out, Header::SEQUENCE_AT, header.sequence);
+        wire::put_number::<u16>(out, Header::MARK_AT, Header::MARK);
+        wire::put_number::<u8>(out, Header::VERSION_AT, Header::VERSION);
+        wire::put_number::<u8>(out, Header::DOMAIN_AT, header.domain);
+        wire::put_number::<u32>(out, Header::PLATFORM_AT, header.platform);
+        wire::put_number::<u32>(out, Header::ID_AT, header.id);
+        wire::put_number::<u32>(out, Header::PAYLOAD_SIZE_AT, header.payload_size);
+        wire::put_number::<u32>(out, Header::SEQUENCE_AT, header.sequence);
     }
 }
 

@@ -143,12 +143,12 @@ impl Header3 {
     {
         Header3 {
             domain: reader::domain_in(message),
-            platform: wire::u8_at(message, Header3::PLATFORM_AT),
-            id: wire::u32_at(message, Header3::ID_AT),
-            seconds: wire::u32_at(message, Header3::SECONDS_AT),
-            nanoseconds: wire::u32_at(message, Header3::NANOSECONDS_AT),
-            payload_size: wire::u32_at(message, Header3::PAYLOAD_SIZE_AT),
-            sequence: wire::u32_at(message, Header3::SEQUENCE_AT),
+            platform: wire::number_at::<u8>(message, Header3::PLATFORM_AT),
+            id: wire::number_at::<u32>(message, Header3::ID_AT),
+            seconds: wire::number_at::<u32>(message, Header3::SECONDS_AT),
+            nanoseconds: wire::number_at::<u32>(message, Header3::NANOSECONDS_AT),
+            payload_size: wire::number_at::<u32>(message, Header3::PAYLOAD_SIZE_AT),
+            sequence: wire::number_at::<u32>(message, Header3::SEQUENCE_AT),
         }
     }
 }

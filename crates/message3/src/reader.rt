@@ -32,13 +32,13 @@ pub fn payload(message: &[u8], reading: Reading3) -> &[u8]
 pub(crate) fn version_in(message: &[u8]) -> u8
     ensures { result ≡ version_in3 message.now }
 {
-    wire::u8_at(message, Header3::VERSION_AND_DOMAIN_AT) / Header3::HALF_BYTE
+    wire::number_at::<u8>(message, Header3::VERSION_AND_DOMAIN_AT) / Header3::HALF_BYTE
 }
 
 pub(crate) fn domain_in(message: &[u8]) -> u8
     ensures { result ≡ domain_in3 message.now }
 {
-    wire::u8_at(message, Header3::VERSION_AND_DOMAIN_AT) % Header3::HALF_BYTE
+    wire::number_at::<u8>(message, Header3::VERSION_AND_DOMAIN_AT) % Header3::HALF_BYTE
 }
 
 fn read_out(message: &[u8]) -> Reading3
@@ -53,8 +53,8 @@ fn read_out(message: &[u8]) -> Reading3
         message: kind::message_of(
             domain,
             header.id,
-            wire::u32_at(behind, Message3::FIRST_AT),
-            wire::u32_at(behind, Message3::SECOND_AT),
+            wire::number_at::<u32>(behind, Message3::FIRST_AT),
+            wire::number_at::<u32>(behind, Message3::SECOND_AT),
         ),
         start: Header3::LENGTH,
         length: size as usize,

@@ -22,7 +22,7 @@ pub(crate) fn read_refusal(own: Own, message: &[u8]) -> u32
         if address == 0 {
             contents_refusal(
                 reader::domain_in(message),
-                wire::u32_at(message, Header3::ID_AT),
+                wire::number_at::<u32>(message, Header3::ID_AT),
                 behind_header(message),
             )
         } else {
@@ -40,7 +40,7 @@ fn frame_refusal(message: &[u8]) -> u32
     if message.len() < Header3::LENGTH {
         return message::TOO_SHORT;
     }
-    if wire::u16_at(message, Header::MARK_AT) != Header::MARK {
+    if wire::number_at::<u16>(message, Header::MARK_AT) != Header::MARK {
         return message::WRONG_MARK;
     }
     if reader::version_in(message) != Header3::VERSION {
@@ -56,10 +56,12 @@ fn frame_refusal(message: &[u8]) -> u32
 fn address_refusal(own: Own, message: &[u8]) -> u32
     ensures { result ≡ address_refusal3 own.platform message.now }
 {
-    if wire::u32_at(message, Header3::PAYLOAD_SIZE_AT) as usize != payload_length(message) {
+    if wire::number_at::<u32>(message, Header3::PAYLOAD_SIZE_AT) as usize
+        != payload_length(message)
+    {
         return message::WRONG_SIZE;
     }
-    if wire::u8_at(message, Header3::PLATFORM_AT) == own.platform {
+    if wire::number_at::<u8>(message, Header3::PLATFORM_AT) == own.platform {
         return message::WRONG_SENDER;
     }
     0
@@ -109,7 +111,8 @@ fn reserved_value(id: u32, payload: &[u8]) -> bool
     if id == Message3::AVAILABILITY_STATUS {
         return !services::are_known(payload);
     }
-    has_status(id) & (Status::RESERVED_STATES <= wire::u32_at(payload, Message3::FIRST_AT))
+    has_status(id)
+        & (Status::RESERVED_STATES <= wire::number_at::<u32>(payload, Message3::FIRST_AT))
 }
 
 // A status and an acknowledgement begin with a field that has reserved values.

@@ -23,18 +23,19 @@ pub(crate) fn are_whole(payload: &[u8]) -> bool
         return false;
     }
     let pairs = payload.len() - COUNT;
-    pairs % PAIR == 0 && pairs / PAIR == wire::u32_at(payload, Message3::FIRST_AT) as usize
+    pairs % PAIR == 0
+        && pairs / PAIR == wire::number_at::<u32>(payload, Message3::FIRST_AT) as usize
 }
 
 // Whether no state is reserved.
 pub(crate) fn are_known(payload: &[u8]) -> bool
     ensures { result ≡ all_below (known_state payload.now) (first_in payload.now) }
 {
-    (0..wire::u32_at(payload, Message3::FIRST_AT)).all(|i| is_known(payload, i))
+    (0..wire::number_at::<u32>(payload, Message3::FIRST_AT)).all(|i| is_known(payload, i))
 }
 
 fn is_known(payload: &[u8], i: u32) -> bool
     ensures { result ≡ known_state payload.now i }
 {
-    wire::u32_at(payload, STATES_AT + PAIR * (i as usize)) < Status::RESERVED_STATES
+    wire::number_at::<u32>(payload, STATES_AT + PAIR * (i as usize)) < Status::RESERVED_STATES
 }

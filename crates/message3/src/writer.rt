@@ -73,14 +73,14 @@ fn put_header(out: &mut [u8], header: Header3)
     ensures { out.new ≡ over out.old 0 (header_bytes3 header) }
 {
     let both = Header3::VERSION * Header3::HALF_BYTE + header.domain;
-    wire::put_u16(out, Header::MARK_AT, Header::MARK);
-    wire::put_u8(out, Header3::VERSION_AND_DOMAIN_AT, both);
-    wire::put_u8(out, Header3::PLATFORM_AT, header.platform);
-    wire::put_u32(out, Header3::ID_AT, header.id);
-    wire::put_u32(out, Header3::SECONDS_AT, header.seconds);
-    wire::put_u32(out, Header3::NANOSECONDS_AT, header.nanoseconds);
-    wire::put_u32(out, Header3::PAYLOAD_SIZE_AT, header.payload_size);
-    wire::put_u32(out, Header3::SEQUENCE_AT, header.sequence);
+    wire::put_number::<u16>(out, Header::MARK_AT, Header::MARK);
+    wire::put_number::<u8>(out, Header3::VERSION_AND_DOMAIN_AT, both);
+    wire::put_number::<u8>(out, Header3::PLATFORM_AT, header.platform);
+    wire::put_number::<u32>(out, Header3::ID_AT, header.id);
+    wire::put_number::<u32>(out, Header3::SECONDS_AT, header.seconds);
+    wire::put_number::<u32>(out, Header3::NANOSECONDS_AT, header.nanoseconds);
+    wire::put_number::<u32>(out, Header3::PAYLOAD_SIZE_AT, header.payload_size);
+    wire::put_number::<u32>(out, Header3::SEQUENCE_AT, header.sequence);
 }
 
 // The number that refuses what is to be written, or 0.

@@ -25,7 +25,10 @@ pub fn form_of(partners: &[u64], message: &[u8]) -> Form
     if three_form(partners, message) {
         return Form::Three;
     }
-    if partners::is_three(partners, wire::u32_at(message, Header::PLATFORM_AT)) {
+    if partners::is_three(
+        partners,
+        wire::number_at::<u32>(message, Header::PLATFORM_AT),
+    ) {
         return Form::Other(other_issue(message::frame_refusal(message)));
     }
     Form::Six
@@ -47,8 +50,8 @@ pub fn payload(message: &[u8], reading: AnyReading) -> &[u8]
 fn three_form(partners: &[u64], message: &[u8]) -> bool
     ensures { result ≡ three_form partners.now message.now }
 {
-    let sender = wire::u8_at(message, Header3::PLATFORM_AT);
-    let version = wire::u8_at(message, Header::VERSION_AT);
+    let sender = wire::number_at::<u8>(message, Header3::PLATFORM_AT);
+    let version = wire::number_at::<u8>(message, Header::VERSION_AT);
     (version != Header::VERSION) & partners::is_three(partners, sender as u32)
 }
 

@@ -84,7 +84,7 @@ fn put_field(own: Own, stamp: Stamp, id: u32, number: u32, field: u32, out: &mut
     ensures { out.new ≡ over out.old 0 (field_message own.platform stamp id number field) }
 {
     message3::put_platform_header(own, stamp, id, ONE_FIELD, number, out);
-    wire::put_u32(out, Header3::LENGTH, field);
+    wire::put_number::<u32>(out, Header3::LENGTH, field);
 }
 
 // UP, and our composite's ID.
@@ -100,6 +100,6 @@ fn put_status(own: Own, stamp: Stamp, composite: u32, number: u32, out: &mut [u8
         number,
         out,
     );
-    wire::put_u32(out, Header3::LENGTH, STATE_UP);
-    wire::put_u32(out, SECOND_AT, composite);
+    wire::put_number::<u32>(out, Header3::LENGTH, STATE_UP);
+    wire::put_number::<u32>(out, SECOND_AT, composite);
 }

@@ -58,7 +58,7 @@ fn put_head(own: Own, stamp: Stamp, number: u32, count: u32, out: &mut [u8])
         number,
         out,
     );
-    wire::put_u32(out, Header3::LENGTH, count);
+    wire::put_number::<u32>(out, Header3::LENGTH, count);
 }
 
 fn put_pairs(ours: &[u64], out: &mut [u8])
@@ -81,8 +81,8 @@ fn put_pair(id: u32, available: bool, at: usize, out: &mut [u8])
     requires { at + pair_length ≤ length out.old }
     ensures { out.new ≡ over out.old at (pair_bytes ((id, state_told available) ∷ [])) }
 {
-    wire::put_u32(out, at, id);
-    wire::put_u32(out, at + SECOND_FIELD, state_told(available));
+    wire::put_number::<u32>(out, at, id);
+    wire::put_number::<u32>(out, at + SECOND_FIELD, state_told(available));
 }
 
 fn state_told(available: bool) -> u32

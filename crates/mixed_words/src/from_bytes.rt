@@ -27,16 +27,23 @@ pub(crate) fn six_operation(
     ensures { result
         ≡ six_in own.platform partners.now table.now bounds.now message.now }
 {
-    if wire::u8_at(message, Header::DOMAIN_AT) == Header::PLATFORM_DOMAIN {
+    if wire::number_at::<u8>(message, Header::DOMAIN_AT) == Header::PLATFORM_DOMAIN {
         return None;
     }
     if message::read_refusal(own, message) != 0 {
         return None;
     }
-    if partners::is_three(partners, wire::u32_at(message, Header::PLATFORM_AT)) {
+    if partners::is_three(
+        partners,
+        wire::number_at::<u32>(message, Header::PLATFORM_AT),
+    ) {
         return None;
     }
-    operation_in(table, bounds, wire::u32_at(message, Header::ID_AT))
+    operation_in(
+        table,
+        bounds,
+        wire::number_at::<u32>(message, Header::ID_AT),
+    )
 }
 
 // The operation of that ID, where the sections lie in the table.
@@ -106,9 +113,9 @@ fn take_response(list: &mut [u64], message: &[u8]) -> bool
     ensures value { result ≡ is_awaited list.old message.now }
     ensures list_after { list.new ≡ list_answered list.old (header_in message.now) }
 {
-    let sequence = wire::u32_at(message, Header::SEQUENCE_AT);
-    let id = wire::u32_at(message, Header::ID_AT);
-    let sender = wire::u32_at(message, Header::PLATFORM_AT);
+    let sequence = wire::number_at::<u32>(message, Header::SEQUENCE_AT);
+    let id = wire::number_at::<u32>(message, Header::ID_AT);
+    let sender = wire::number_at::<u32>(message, Header::PLATFORM_AT);
     pending::take_response(list, sequence, id, sender)
 }
 
@@ -135,12 +142,12 @@ fn put_straight(words: &mut [u64; ANY_HEARD_WORDS], message: &[u8], kind: u64, e
 {
     *words = [
         kind,
-        wire::u32_at(message, Header::ID_AT) as u64,
-        wire::u32_at(message, Header::PLATFORM_AT) as u64,
-        wire::u32_at(message, Header::SEQUENCE_AT) as u64,
+        wire::number_at::<u32>(message, Header::ID_AT) as u64,
+        wire::number_at::<u32>(message, Header::PLATFORM_AT) as u64,
+        wire::number_at::<u32>(message, Header::SEQUENCE_AT) as u64,
         entry as u64,
         Header::LENGTH as u64,
-        wire::u32_at(message, Header::PAYLOAD_SIZE_AT) as u64,
+        wire::number_at::<u32>(message, Header::PAYLOAD_SIZE_AT) as u64,
         0,
         heard_words::ISSUE_6,
         0,

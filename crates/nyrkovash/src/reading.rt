@@ -40,8 +40,8 @@ fn refusal(own: Own, message: &[u8]) -> u32
         let address = message::address_refusal(own, message);
         if address == 0 {
             message::contents_refusal(
-                wire::u8_at(message, Header::DOMAIN_AT),
-                wire::u32_at(message, Header::ID_AT),
+                wire::number_at::<u8>(message, Header::DOMAIN_AT),
+                wire::number_at::<u32>(message, Header::ID_AT),
                 message::behind_header(message),
             )
         } else {
@@ -58,15 +58,15 @@ fn put_reading(message: &[u8], answer: &mut [u64; READING_WORDS])
     requires { contents_refusal (domain_in message.now) (id_in message.now) (payload_in message.now) ≡ 0 }
     ensures { answer.new ≡ read_left answer.old (reading_out message.now) }
 {
-    let domain = wire::u8_at(message, Header::DOMAIN_AT);
-    let id = wire::u32_at(message, Header::ID_AT);
+    let domain = wire::number_at::<u8>(message, Header::DOMAIN_AT);
+    let id = wire::number_at::<u32>(message, Header::ID_AT);
     *answer = [
         kind_of(domain, id),
-        value_of(domain, id, wire::u32_at(message, Header::LENGTH)),
-        wire::u32_at(message, Header::PLATFORM_AT) as u64,
-        wire::u32_at(message, Header::SEQUENCE_AT) as u64,
+        value_of(domain, id, wire::number_at::<u32>(message, Header::LENGTH)),
+        wire::number_at::<u32>(message, Header::PLATFORM_AT) as u64,
+        wire::number_at::<u32>(message, Header::SEQUENCE_AT) as u64,
         Header::LENGTH as u64,
-        wire::u32_at(message, Header::PAYLOAD_SIZE_AT) as u64,
+        wire::number_at::<u32>(message, Header::PAYLOAD_SIZE_AT) as u64,
     ];
 }
 

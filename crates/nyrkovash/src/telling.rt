@@ -35,15 +35,15 @@ pub(crate) fn put_six(message: &[u8], answer: &mut [u64; ANY_READING_WORDS])
     requires { contents_refusal (domain_in message.now) (id_in message.now) (payload_in message.now) ≡ 0 }
     ensures { answer.new ≡ any_left answer.old (from_six (reading_out message.now)) }
 {
-    let domain = wire::u8_at(message, Header::DOMAIN_AT);
-    let id = wire::u32_at(message, Header::ID_AT);
+    let domain = wire::number_at::<u8>(message, Header::DOMAIN_AT);
+    let id = wire::number_at::<u32>(message, Header::ID_AT);
     *answer = [
         reading::kind_of(domain, id),
-        reading::value_of(domain, id, wire::u32_at(message, Header::LENGTH)),
-        wire::u32_at(message, Header::PLATFORM_AT) as u64,
-        wire::u32_at(message, Header::SEQUENCE_AT) as u64,
+        reading::value_of(domain, id, wire::number_at::<u32>(message, Header::LENGTH)),
+        wire::number_at::<u32>(message, Header::PLATFORM_AT) as u64,
+        wire::number_at::<u32>(message, Header::SEQUENCE_AT) as u64,
         Header::LENGTH as u64,
-        wire::u32_at(message, Header::PAYLOAD_SIZE_AT) as u64,
+        wire::number_at::<u32>(message, Header::PAYLOAD_SIZE_AT) as u64,
         ISSUE_6,
         0,
         0,

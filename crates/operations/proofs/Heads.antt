@@ -23,9 +23,6 @@ parts : (a b c w : ℕ) → b < 65536 → c < 65536 → w ≡ a * half + (b * 65
     → (w / half ≡ a) × ((w / 65536 % 65536 ≡ b) × (w % 65536 ≡ c))
 parts a b c w hb hc e = (omega arith, (omega arith, omega arith))
 
-pub head_whole : (t : List ℕ) (p w : ℕ) (b : Bool) → b ≡ leb (p + 8) (length t) → b ≡ true → w ≡ whole 3 t p → w ≡ number 3 t p
-head_whole t p w b e h g = g ∙ whole_in 3 t p (held (p + 8) (length t) e h)
-
 module _ (t : List ℕ) (p w : ℕ) (known : (k : ℕ) → Fits w8 (get_or t k 0)) (is : w ≡ number 3 t p) where
   below : (q : ℕ) → number 1 t q < 65536
   below q = number_lt 1 t q (λ k. (known k).fits)

@@ -45,18 +45,13 @@ pub fn kind_at(table: &[u8], place: usize) -> u16
     kind_of(head_at(table, place))
 }
 
-// An entry's ID, kind and type as one number: one test of the bytes in place of three. `wire::u64_at` is too long for the compiler
-// to put where it is called: here only what is past the end is a call.
+// An entry's ID, kind and type as one number: one test of the bytes in place of three.
 pub(crate) fn head_at(table: &[u8], place: usize) -> u64
     ensures id { result / 4294967296 ≡ number 2 table.now place }
     ensures kind { result / 65536 % 65536 ≡ kind_at table.now place }
     ensures carries { result % 65536 ≡ number 1 table.now (place + 6) }
 {
-    if wire::has_room(table.len(), place, 8) {
-        wire::whole_u64(table, place)
-    } else {
-        wire::u64_at(table, place)
-    }
+    wire::number_at::<u64>(table, place)
 }
 
 pub(crate) fn id_of(head: u64) -> u32
@@ -109,7 +104,7 @@ fn ending_at(table: &[u8], end: usize) -> u16
     requires end_in_bounds { end ≤ length table.now }
     ensures { result ≡ number 1 table.now (end - 2) }
 {
-    wire::whole_u16(&table[end - 2..end], 0)
+    wire::whole_at::<u16>(&table[end - 2..end], 0)
 }
 
 // The number behind the first 8 bytes, of which not all is there; past the end its place may be no number of 64 bits.
@@ -117,7 +112,7 @@ fn cut_off(table: &[u8], place: usize) -> u16
     ensures { result ≡ number 1 table.now (place + 8) }
 {
     if place < table.len() {
-        wire::u16_at(table, place + 8)
+        wire::number_at::<u16>(table, place + 8)
     } else {
         0
     }

@@ -117,9 +117,9 @@ fn set(out: &mut [u8], at: usize, code: u16, bytes: usize, word: u64)
     ensures { out.new ≡ written out.old at (form_of code word) }
 {
     match bytes {
-        4 => wire::put_u32(&mut out[at..at + 4], 0, (word % 4294967296) as u32),
-        8 => wire::put_u64(&mut out[at..at + 8], 0, word),
-        2 => wire::put_u16(&mut out[at..at + 2], 0, (word % 65536) as u16),
+        4 => wire::put_number::<u32>(&mut out[at..at + 4], 0, (word % 4294967296) as u32),
+        8 => wire::put_number::<u64>(&mut out[at..at + 8], 0, word),
+        2 => wire::put_number::<u16>(&mut out[at..at + 2], 0, (word % 65536) as u16),
         _ => set_byte(out, at, code, word),
     }
 }

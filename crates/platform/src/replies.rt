@@ -59,7 +59,7 @@ pub(crate) fn put_reply(own: Own, reply: Reply, out: &mut [u8])
             number_of(reply),
         );
         message::put_header(out, header);
-        wire::put_u32(out, Header::LENGTH, field_of(reply));
+        wire::put_number::<u32>(out, Header::LENGTH, field_of(reply));
     }
 }
 

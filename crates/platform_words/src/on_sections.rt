@@ -138,11 +138,11 @@ fn operation_heard(
 ) -> Option<(u16, usize)>
     ensures { result ≡ operation_heard own.platform table.now s index.now message.now }
 {
-    if wire::u8_at(message, Header::DOMAIN_AT) == Header::PLATFORM_DOMAIN {
+    if wire::number_at::<u8>(message, Header::DOMAIN_AT) == Header::PLATFORM_DOMAIN {
         return None;
     }
     if message::read_refusal(own, message) == 0 {
-        let id = wire::u32_at(message, Header::ID_AT);
+        let id = wire::number_at::<u32>(message, Header::ID_AT);
         operations::find(table, index, s.operations.count, id)
     } else {
         None
@@ -180,9 +180,9 @@ fn take_response(list: &mut [u64], message: &[u8]) -> bool
     ensures value { result ≡ is_awaited list.old message.now }
     ensures list_after { list.new ≡ list_answered list.old (header_in message.now) }
 {
-    let sequence = wire::u32_at(message, Header::SEQUENCE_AT);
-    let id = wire::u32_at(message, Header::ID_AT);
-    let sender = wire::u32_at(message, Header::PLATFORM_AT);
+    let sequence = wire::number_at::<u32>(message, Header::SEQUENCE_AT);
+    let id = wire::number_at::<u32>(message, Header::ID_AT);
+    let sender = wire::number_at::<u32>(message, Header::PLATFORM_AT);
     pending::take_response(list, sequence, id, sender)
 }
 
@@ -209,12 +209,12 @@ fn put_straight(words: &mut [u64; HEARD_WORDS], message: &[u8], kind: u64, entry
 {
     *words = [
         kind,
-        wire::u32_at(message, Header::ID_AT) as u64,
-        wire::u32_at(message, Header::PLATFORM_AT) as u64,
-        wire::u32_at(message, Header::SEQUENCE_AT) as u64,
+        wire::number_at::<u32>(message, Header::ID_AT) as u64,
+        wire::number_at::<u32>(message, Header::PLATFORM_AT) as u64,
+        wire::number_at::<u32>(message, Header::SEQUENCE_AT) as u64,
         entry as u64,
         Header::LENGTH as u64,
-        wire::u32_at(message, Header::PAYLOAD_SIZE_AT) as u64,
+        wire::number_at::<u32>(message, Header::PAYLOAD_SIZE_AT) as u64,
         0,
     ];
 }

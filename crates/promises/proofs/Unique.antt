@@ -12,21 +12,10 @@ use Rattle.promises.specs.Unique.{StatesUnique, RecordingUnique, OnAccepted, Uni
 wire : WireUnique
 wire =
     record {
-      u8-at = λ k a z z' e e' p q. p ∙ sym q;
-      u16-at = λ k a z z' e e' p q. p ∙ sym q;
-      u32-at = λ k a z z' e e' p q. p ∙ sym q;
-      u64-at = λ k a z z' e e' p q. p ∙ sym q;
-      put_u8_s = λ k a z z' e e' p q. p ∙ sym q;
-      put_u16_s = λ k a z z' e e' p q. p ∙ sym q;
-      put_u32_s = λ k a z z' e e' p q. p ∙ sym q;
-      put_u64_s = λ k a z z' e e' p q. p ∙ sym q;
       put_run_s = λ k a z z' e e' p q. p ∙ sym q;
       part = λ k a z z' e e' p q. p ∙ sym q;
       has_room = λ k a z z' e e' p q. p ∙ sym q;
       least = λ k a z z' e e' p q. p ∙ sym q;
-      whole-u16 = λ k a z z' e e' p q. p ∙ sym q;
-      whole-u32 = λ k a z z' e e' p q. p ∙ sym q;
-      whole-u64 = λ k a z z' e e' p q. p ∙ sym q;
       word_at = λ k a z z' e e' p q. p ∙ sym q;
       swap64 = λ k a z z' e e' p q. p ∙ sym q;
       swapped-u64 = λ k a z z' e e' p q. p ∙ sym q;

@@ -38,6 +38,7 @@ pub mod WrongListings
 pub mod UniqueOperations
 pub mod UniquePlans
 pub mod UniqueLeaves
+pub mod UniqueNumbers
 pub mod UniqueServices
 pub mod Services
 pub mod WorkedServices

@@ -11,21 +11,10 @@ use Rattle.platform.specs.declared.reactions.Standing.{Standing}
 use Rattle.platform.specs.Receiving.{received_of, left_of, list_after, sections_outcome, sections_output, sections_list}
 use Rattle.recording.specs.Play.{state_of}
 use Rattle.promises.specs.Lookups.{Lookups, laid}
-use Rattle.wire.proofs.u8_at.Reads.{Post as wire-u8-at}
-use Rattle.wire.proofs.u16_at.Reads.{Post as wire-u16-at}
-use Rattle.wire.proofs.u32_at.Reads.{Post as wire-u32-at}
-use Rattle.wire.proofs.u64_at.Reads.{Post as wire-u64-at}
-use Rattle.wire.proofs.put_u8.Reads.{Post as wire-put-u8}
-use Rattle.wire.proofs.put_u16.Reads.{Post as wire-put-u16}
-use Rattle.wire.proofs.put_u32.Reads.{Post as wire-put-u32}
-use Rattle.wire.proofs.put_u64.Reads.{Post as wire-put-u64}
 use Rattle.wire.proofs.put_run.Reads.{Post as wire-put-run}
 use Rattle.wire.proofs.part.Reads.{Post as wire-part}
 use Rattle.wire.proofs.has_room.Reads.{Post as wire-has-room}
 use Rattle.wire.proofs.least.Reads.{Post as wire-least}
-use Rattle.wire.proofs.whole_u16.Reads.{Post as wire-whole-u16}
-use Rattle.wire.proofs.whole_u32.Reads.{Post as wire-whole-u32}
-use Rattle.wire.proofs.whole_u64.Reads.{Post as wire-whole-u64}
 use Rattle.wire.proofs.word_at.Reads.{Post as wire-word-at}
 use Rattle.wire.proofs.swap64.Reads.{Post as wire-swap64}
 use Rattle.wire.proofs.swapped_u64.Reads.{Post as wire-swapped-u64}
@@ -106,21 +95,10 @@ abbrev pub Lent : {K : Type 0} {A Z E : K → Type 0} {B : Type 0} → ((k : K) 
 Lent post left = Same post (λ k z e. left k e)
 
 pub record WireUnique : Type 0 where
-  pub u8-at : Answer wire-u8-at
-  pub u16-at : Answer wire-u16-at
-  pub u32-at : Answer wire-u32-at
-  pub u64-at : Answer wire-u64-at
-  pub put_u8_s : Lent wire-put-u8 (λ k e. e.0.now)
-  pub put_u16_s : Lent wire-put-u16 (λ k e. e.0.now)
-  pub put_u32_s : Lent wire-put-u32 (λ k e. e.0.now)
-  pub put_u64_s : Lent wire-put-u64 (λ k e. e.0.now)
   pub put_run_s : Lent wire-put-run (λ k e. e.0.now)
   pub part : Same wire-part (λ k z e. z.now)
   pub has_room : Answer wire-has-room
   pub least : Answer wire-least
-  pub whole-u16 : Answer wire-whole-u16
-  pub whole-u32 : Answer wire-whole-u32
-  pub whole-u64 : Answer wire-whole-u64
   pub word_at : Answer wire-word-at
   pub swap64 : Answer wire-swap64
   pub swapped-u64 : Answer wire-swapped-u64

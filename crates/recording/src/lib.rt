@@ -44,7 +44,7 @@ pub fn next(input: &[u8], at: usize) -> Coming
     }
     if wire::has_room(input.len(), at, 2) {
         let start = at + 2;
-        let length = wire::u16_at(input, at) as usize;
+        let length = wire::number_at::<u16>(input, at) as usize;
         if wire::has_room(input.len(), start, length) {
             return Coming::Datagram { start, length };
         }

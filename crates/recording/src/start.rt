@@ -27,8 +27,8 @@ pub fn open(input: &[u8]) -> Result<Option<Opened>, Refusal>
     if input.len() < SIZES {
         return Ok(None);
     }
-    let count = wire::u16_at(input, 0) as usize;
-    let room = wire::u32_at(input, 2);
+    let count = wire::number_at::<u16>(input, 0) as usize;
+    let room = wire::number_at::<u32>(input, 2);
     if is_good_start(count, room) {
         if input.len() < SIZES + 2 * count {
             return Ok(None);
@@ -72,7 +72,7 @@ fn read_ids(input: &[u8], count: usize) -> [u16; 32]
 {
     let mut ids = [0u16; 32];
     for i in 0..count {
-        ids[i] = wire::u16_at(input, SIZES + 2 * i);
+        ids[i] = wire::number_at::<u16>(input, SIZES + 2 * i);
     }
     ids
 }

@@ -95,8 +95,8 @@ fn tell(block: &mut [u64], payload: &[u8], i: usize) -> bool
     ensures answer { result ≡ pair_has_place block.old payload.now i }
     ensures block { block.new ≡ pair_told block.old payload.now i }
 {
-    let id = wire::u32_at(payload, PAIR_BYTES * i + FIRST_ID);
-    let state = wire::u32_at(payload, PAIR_BYTES * i + FIRST_STATE);
+    let id = wire::number_at::<u32>(payload, PAIR_BYTES * i + FIRST_ID);
+    let state = wire::number_at::<u32>(payload, PAIR_BYTES * i + FIRST_STATE);
     let at = place(block, id);
     if at < block.len() {
         block[at] = word_for(id, state);

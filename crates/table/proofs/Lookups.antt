@@ -47,7 +47,3 @@ module _ (t : List ℕ) (s : Sections) (i p r : ℕ) where
   pub value_read : p ≡ value_place s i → r ≡ number 3 t p → r ≡ value_at t s i
   unfolding value_at
   value_read a b = b ∙ ap (number 3 t) a
-
--- a number that there is room for is whole
-pub word_whole : (t : List ℕ) (p r : ℕ) (b : Bool) → b ≡ leb (p + 8) (length t) → b ≡ true → r ≡ whole 3 t p → r ≡ number 3 t p
-word_whole t p r b e h g = g ∙ whole_in 3 t p (held (p + 8) (length t) e h)

@@ -104,7 +104,7 @@ fn section(table: &[u8], at: usize, width: u16, least: u16, most: u16) -> Result
     if table.len() < at + 2 {
         return Err(Refusal::TableLength);
     }
-    let count = wire::u16_at(table, at);
+    let count = wire::number_at::<u16>(table, at);
     if (count < least) | (most < count) {
         return Err(Refusal::TableCount);
     }

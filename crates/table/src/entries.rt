@@ -1,7 +1,6 @@
 // What stands in the i-th entry of each section but the last (`operations`). The look-ups answer for any bytes, sections and number: a byte past the
 // end reads as 0.
 ghost use Rattle.std.specs.Prelude.{◌≡◌};
-ghost use Rattle.wire.specs.Bytes.{number};
 ghost use Rattle.table.specs.Entries.{type_at, member_at, value_at, is_type};
 
 use crate::{Entry, Sections, layout};
@@ -10,7 +9,7 @@ use crate::{Entry, Sections, layout};
 pub fn type_at(table: &[u8], s: Sections, i: u16) -> Entry
     ensures { result ≡ type_at table.now s i }
 {
-    let word = word_at(table, layout::type_place(s, i as u32));
+    let word = wire::number_at::<u64>(table, layout::type_place(s, i as u32));
     Entry {
         kind: (word / 281474976710656) as u16,
         of: (word / 4294967296 % 65536) as u16,
@@ -29,22 +28,11 @@ pub fn is_type(s: Sections, i: u16) -> bool
 pub fn member_at(table: &[u8], s: Sections, i: u32) -> u16
     ensures { result ≡ member_at table.now s i }
 {
-    wire::u16_at(table, layout::member_place(s, i))
+    wire::number_at::<u16>(table, layout::member_place(s, i))
 }
 
 pub fn value_at(table: &[u8], s: Sections, i: u32) -> u64
     ensures { result ≡ value_at table.now s i }
 {
-    word_at(table, layout::value_place(s, i))
-}
-
-// As `wire::u64_at`, which is too long for the compiler to put where it is called: here only what is past the end is a call.
-fn word_at(table: &[u8], at: usize) -> u64
-    ensures { result ≡ number 3 table.now at }
-{
-    if wire::has_room(table.len(), at, 8) {
-        wire::whole_u64(table, at)
-    } else {
-        wire::u64_at(table, at)
-    }
+    wire::number_at::<u64>(table, layout::value_place(s, i))
 }

@@ -33,12 +33,12 @@ pub(crate) fn value_in(table: &[u8], s: Sections, i: u32) -> u64
     ensures { result ≡ value_at table.now s i }
 {
     let at = s.values.at as usize + (layout::VALUE_WIDTH as usize) * (i as usize);
-    wire::whole_u64(&table[at..at + 8], 0)
+    wire::whole_at::<u64>(&table[at..at + 8], 0)
 }
 
 fn u16_in(table: &[u8], at: usize) -> u16
     requires { at + 2 ≤ length table.now }
     ensures { result ≡ number 1 table.now at }
 {
-    wire::whole_u16(&table[at..at + 2], 0)
+    wire::whole_at::<u16>(&table[at..at + 2], 0)
 }

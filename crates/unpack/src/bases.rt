@@ -53,19 +53,19 @@ fn u16_in(s: &[u8], at: usize) -> u16
     requires { at + 2 ≤ length s.now }
     ensures { result ≡ number 1 s.now at }
 {
-    wire::whole_u16(&s[at..at + 2], 0)
+    wire::whole_at::<u16>(&s[at..at + 2], 0)
 }
 
 fn u32_in(s: &[u8], at: usize) -> u32
     requires { at + 4 ≤ length s.now }
     ensures { result ≡ number 2 s.now at }
 {
-    wire::whole_u32(&s[at..at + 4], 0)
+    wire::whole_at::<u32>(&s[at..at + 4], 0)
 }
 
 fn u64_in(s: &[u8], at: usize) -> u64
     requires { at + 8 ≤ length s.now }
     ensures { result ≡ number 3 s.now at }
 {
-    wire::whole_u64(&s[at..at + 8], 0)
+    wire::whole_at::<u64>(&s[at..at + 8], 0)
 }

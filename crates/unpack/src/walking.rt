@@ -141,7 +141,7 @@ fn times(payload: &[u8], e: Entry, p: Place) -> u32
     if e.kind == table::FIXED {
         e.count as u32
     } else {
-        wire::u32_at(payload, p.from)
+        wire::number_at::<u32>(payload, p.from)
     }
 }
 
@@ -155,7 +155,7 @@ fn begin(payload: &[u8], words: &mut [u64], e: Entry, p: Place) -> Walked
         return Walked::Went(p);
     }
     if wire::has_room(payload.len(), p.from, COUNT_BYTES) {
-        let count = wire::u32_at(payload, p.from);
+        let count = wire::number_at::<u32>(payload, p.from);
         if count <= e.count as u32 {
             put_word(words, p.to, count as u64);
             Walked::Went(Place {

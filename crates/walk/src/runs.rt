@@ -68,11 +68,11 @@ fn codes_in(types: &[u8], members: &[u8], i: u16, n: usize, codes: &mut [u8]) ->
         (firsts (part_code types.now members.now i) (leading (part_code types.now members.now i) n)) }
 {
     for k in 0..n {
-        let child = wire::whole_u16(members, MEMBER_BYTES * k);
+        let child = wire::whole_at::<u16>(members, MEMBER_BYTES * k);
         if i <= child {
             return k;
         }
-        let entry = wire::whole_u64(types, TYPE_BYTES * (child as usize));
+        let entry = wire::whole_at::<u64>(types, TYPE_BYTES * (child as usize));
         let code = turned(entry);
         if NO_BASE as u64 <= code {
             return k;

@@ -19,8 +19,8 @@ pub returns-then-id-ne-PLATFORM_STATUS : goal.returns-then-id-ne-PLATFORM_STATUS
 returns-then-id-ne-PLATFORM_STATUS c =
     search contents-stateless
 
-pub returns-then-u32_at-ge-RESERVED_STATES : goal.returns-then-u32_at-ge-RESERVED_STATES
-returns-then-u32_at-ge-RESERVED_STATES c =
+pub returns-then-number_at-ge-RESERVED_STATES : goal.returns-then-number_at-ge-RESERVED_STATES
+returns-then-number_at-ge-RESERVED_STATES c =
     search contents-9
 
 pub returns : goal.returns

@@ -7,16 +7,16 @@ pub returns-then-message-lt-LENGTH : goal.returns-then-message-lt-LENGTH
 returns-then-message-lt-LENGTH c =
     search frame-1
 
-pub returns-then-u16_at-ne-MARK : goal.returns-then-u16_at-ne-MARK
-returns-then-u16_at-ne-MARK c =
+pub returns-then-number_at-ne-MARK : goal.returns-then-number_at-ne-MARK
+returns-then-number_at-ne-MARK c =
     search frame-2
 
-pub returns-then-u8_at-ne-VERSION : goal.returns-then-u8_at-ne-VERSION
-returns-then-u8_at-ne-VERSION c =
+pub returns-then-number_at-ne-VERSION : goal.returns-then-number_at-ne-VERSION
+returns-then-number_at-ne-VERSION c =
     search frame-3
 
-pub returns-then-u8_at-ge-RESERVED_DOMAINS : goal.returns-then-u8_at-ge-RESERVED_DOMAINS
-returns-then-u8_at-ge-RESERVED_DOMAINS c =
+pub returns-then-number_at-ge-RESERVED_DOMAINS : goal.returns-then-number_at-ge-RESERVED_DOMAINS
+returns-then-number_at-ge-RESERVED_DOMAINS c =
     search frame-4
 
 pub returns : goal.returns

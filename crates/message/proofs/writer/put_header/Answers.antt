@@ -6,7 +6,8 @@ use Rattle.message.proofs.writer.put_header.Goals as goal
 pub returns-then-out-ge-LENGTH : goal.returns-then-out-ge-LENGTH
 returns-then-out-ge-LENGTH c =
     header_laid c.args.out.now c.args.header c.if-out-ge-LENGTH.true
-    c.put_u16.ensures c.put_u8.ensures c.put_u8-then-out-ge-LENGTH.ensures c.put_u32.ensures c.put_u32-then-out-ge-LENGTH.ensures c.put_u32-then-out-ge-LENGTH-2.ensures c.put_u32-then-out-ge-LENGTH-3.ensures
+    c.put_number.ensures c.put_number-then-out-ge-LENGTH.ensures c.put_number-then-out-ge-LENGTH-2.ensures c.put_number-then-out-ge-LENGTH-3.ensures
+    c.put_number-then-out-ge-LENGTH-4.ensures c.put_number-then-out-ge-LENGTH-5.ensures c.put_number-then-out-ge-LENGTH-6.ensures
 
 pub returns-else-out-ge-LENGTH : goal.returns-else-out-ge-LENGTH
 returns-else-out-ge-LENGTH c =

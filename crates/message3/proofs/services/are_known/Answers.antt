@@ -13,7 +13,8 @@ use Rattle.message3.proofs.services.are_known.Goals as goal
 pub returns : goal.returns
 returns c =
     let known = known_state c.args.payload.now in
-    all-asked known c.u32_at.result c.all.result
-    (cases_from_all _ _ _ (λ i. known i ≡ true) (λ i. known i ≡ false) c.all.ensures.ran (YieldsList-from_range 0 c.u32_at.result c.u32_at.result refl (omega arith))
+    all-asked known c.number_at.result c.all.result
+    (cases_from_all _ _ _ (λ i. known i ≡ true) (λ i. known i ≡ false) c.all.ensures.ran (YieldsList-from_range 0 c.number_at.result
+    c.number_at.result refl (omega arith))
     (λ x q k. search rules) (λ x q k. search rules))
-    ∙ ap (all_below known) c.u32_at.ensures
+    ∙ ap (all_below known) c.number_at.ensures

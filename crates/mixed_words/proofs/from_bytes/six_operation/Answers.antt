@@ -3,8 +3,8 @@
 use Rattle.mixed_words.proofs.SixOperations.{of-domain-0, not_read, of_three, looked-up}
 use Rattle.mixed_words.proofs.from_bytes.six_operation.Goals as goal
 
-pub returns-then-u8_at-eq-PLATFORM_DOMAIN : goal.returns-then-u8_at-eq-PLATFORM_DOMAIN
-returns-then-u8_at-eq-PLATFORM_DOMAIN c =
+pub returns-then-number_at-eq-PLATFORM_DOMAIN : goal.returns-then-number_at-eq-PLATFORM_DOMAIN
+returns-then-number_at-eq-PLATFORM_DOMAIN c =
     search of-domain-0
 
 pub returns-then-read_refusal-ne0 : goal.returns-then-read_refusal-ne0

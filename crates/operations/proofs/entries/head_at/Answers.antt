@@ -1,12 +1,8 @@
--- `operations::entries::head_at` meets its contract: the parts of the number that stands there, whole or in halves.
+-- `operations::entries::head_at` meets its contract: the parts of the number that stands there.
 -- Assumes nothing.
-use Rattle.operations.proofs.Heads.{head_whole, head-kind}
+use Rattle.operations.proofs.Heads.{head-kind}
 use Rattle.operations.proofs.entries.head_at.Goals as goal
 
-pub returns-then-has_room-clause-kind : goal.returns-then-has_room-clause-kind
-returns-then-has_room-clause-kind c =
-    search (head-kind, head_whole)
-
-pub returns-else-has_room-clause-kind : goal.returns-else-has_room-clause-kind
-returns-else-has_room-clause-kind c =
+pub returns-clause-kind : goal.returns-clause-kind
+returns-clause-kind c =
     search head-kind

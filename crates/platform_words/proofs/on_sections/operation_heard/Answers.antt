@@ -4,8 +4,8 @@ use borrow.Author.Rules.{rules}
 use Rattle.platform_words.proofs.Straight.{of_platform, was_read, unread}
 use Rattle.platform_words.proofs.on_sections.operation_heard.Goals as goal
 
-pub returns-then-u8_at-eq-PLATFORM_DOMAIN : goal.returns-then-u8_at-eq-PLATFORM_DOMAIN
-returns-then-u8_at-eq-PLATFORM_DOMAIN c =
+pub returns-then-number_at-eq-PLATFORM_DOMAIN : goal.returns-then-number_at-eq-PLATFORM_DOMAIN
+returns-then-number_at-eq-PLATFORM_DOMAIN c =
     search of_platform
 
 pub returns-then-read_refusal-eq0 : goal.returns-then-read_refusal-eq0

@@ -11,12 +11,12 @@ returns-then-e-eq-FIXED c =
 pub returns-then-count-e : goal.returns-then-count-e
 returns-then-count-e c =
     let t = count-went c.args.e _ c.args.p _ c.if-e-eq-FIXED.false _ c.has_room.ensures c.if-has_room.true _
-    c.u32_at-count.ensures _ c.if-count-e.true c.u32_at-count.type_inv c.put_word.ensures in record { value = t.0; words_after = t.1 }
+    c.number_at-count.ensures _ c.if-count-e.true c.number_at-count.type_inv c.put_word.ensures in record { value = t.0; words_after = t.1 }
 
 pub returns-else-count-e : goal.returns-else-count-e
 returns-else-count-e c =
     let t = count-over c.args.e _ c.args.p _ c.if-e-eq-FIXED.false _ c.has_room.ensures c.if-has_room.true _
-    c.u32_at-count.ensures c.if-count-e.false in record { value = t.0; words_after = t.1 }
+    c.number_at-count.ensures c.if-count-e.false in record { value = t.0; words_after = t.1 }
 
 pub returns-else-has_room : goal.returns-else-has_room
 returns-else-has_room c =

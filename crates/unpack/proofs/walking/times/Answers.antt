@@ -11,4 +11,4 @@ returns-then-e-eq-FIXED c =
 
 pub returns-else-e-eq-FIXED : goal.returns-else-e-eq-FIXED
 returns-else-e-eq-FIXED c =
-    counted-times _ _ _ _ c.if-e-eq-FIXED.false c.u32_at.ensures
+    counted-times _ _ _ _ c.if-e-eq-FIXED.false c.number_at.ensures

@@ -1,0 +1,25 @@
+-- 01, "What the promises have to say": two outcomes that one promise allows are equal, for the functions of `wire` on a number of any width,
+-- over their very contracts: for every type that is a `Number`, with what it says of itself (`N`). A number is seen as what it
+-- stands for. The theorem is in proofs/UniqueNumbers.antt.
+use mir.Syntax.{Dict}
+use denote.RattleType.{RattleType}
+use denote.Param.Laws.{Laws, IsCopy}
+use Rattle.std.specs.declared.clone.Clone.{Ghosts as Clones}
+use Rattle.wire.specs.declared.Number.{Ghosts as Numbers}
+use Rattle.wire.proofs.number_at.Reads.{Post as wire-number-at}
+use Rattle.wire.proofs.whole_at.Reads.{Post as wire-whole-at}
+use Rattle.wire.proofs.put_number.Reads.{Post as wire-put-number}
+use Rattle.wire.proofs.order.Number.width.Reads.{Post as wire-width}
+use Rattle.wire.proofs.order.Number.of_bytes.Reads.{Post as wire-of-bytes}
+use Rattle.wire.proofs.order.Number.to_bytes.Reads.{Post as wire-to-bytes}
+use Rattle.promises.specs.Unique.{Same, Answer, Lent}
+
+module _ (T : RattleType) (L : Laws T) (C : IsCopy T) (N : Numbers T.Denot) (d : Dict) (K : Clones T.Denot) (c : Dict) where
+  -- what is read and what is written, and the steps between a number and its bytes
+  pub record UniqueNumbers : Type 0 where
+    pub number_at : Same (wire-number-at T L C N d K c) (λ k z e. N.value z)
+    pub whole_at : Same (wire-whole-at T L C N d K c) (λ k z e. N.value z)
+    pub put_number_s : Lent (wire-put-number T L C N d K c) (λ k e. e.0.now)
+    pub width : Answer (wire-width T L C N d K c)
+    pub of_bytes : Same (wire-of-bytes T L C N d K c) (λ k z e. N.value z)
+    pub to_bytes : Answer (wire-to-bytes T L C N d K c)
