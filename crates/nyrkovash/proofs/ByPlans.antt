@@ -1,42 +1,50 @@
 -- The calls by plans, at the case that the code has met; the laws of unpacking and packing are one.
 -- Assumes nothing.
 use Prim.Native.Nat.{ℕ}
-use Rattle.std.specs.Prelude.{Result}
+use Prim.{Unit}
+use Rattle.std.specs.Prelude.{Result, Ok, Err}
 use Rattle.refusal.specs.declared.Refusal.{Refusal}
-use mathlib.Core.Path.{◌≡◌, ap, ◌∙◌}
-use mathlib.Core.Bool.{Bool, true, false}
+use Rattle.refusal.specs.Refusal.{number_of, verdict_of}
+use mathlib.Core.Path.{◌≡◌, refl, sym, ap, ◌∙◌}
+use mathlib.Core.Bool.{Bool, true, false, cond}
+use lib.Dec.{ltb}
+use Rattle.table.specs.Layout.{within}
 use mathlib.Core.List.{List}
 use lib.ListN.{length}
-use Rattle.wire.proofs.MetCases.{met, met_left}
 use Rattle.table.specs.declared.Sections.{Sections}
 use Rattle.walk.specs.Walk.{Codec, start, left, walk}
 use Rattle.walk.specs.Planned.{is_planned, plan_tree, type_by}
-use Rattle.plan.specs.Length.{number_given as lengthNumber}
-use Rattle.plan.specs.Layout.{length_in, laid_number, laid_out}
+use Rattle.plan.specs.Layout.{plans_length, laid_number, laid_out}
 use Rattle.payload.specs.declared.Answer.{Answer}
 use Rattle.payload.specs.Calls.{number_given, answered_tree, left_over_by}
 use Rattle.payload.specs.ByPlans.{answered_on, answered_by, left_for}
 use Rattle.payload.proofs.ByPlans.{by-plan, by_parts}
 use Rattle.nyrkovash.specs.PayloadCalls.{walked_left}
-use Rattle.nyrkovash.specs.PlanCalls.{length_left}
 use Rattle.nyrkovash.proofs.Giving.{given-number, given-words}
+
+-- the number of a verdict
+abbrev pub said : Result Unit Refusal → ℕ
+said (Ok u) = 0
+said (Err e) = number_of e
+
+said-laid : (t : List ℕ) (s : Sections) (room : ℕ) → said (verdict_of (laid_number t s room)) ≡ laid_number t s room
+unfolding laid_number
+said-laid t s room = go (within t s) (ltb room (plans_length t s))
+  where
+    go : (a b : Bool) → said (verdict_of (cond a (cond b 10 0) 30)) ≡ cond a (cond b 10 0) 30
+    go true true = refl
+    go true false = refl
+    go false b = refl
 
 -- on the sections that words hold
 module _ {z : Sections} (t : List ℕ) (s : Sections) (es : z ≡ s) where
   same : {A : Type 0} {g : A} (F : Sections → A) → g ≡ F z → g ≡ F s
   same F e = e ∙ ap F es
 
-  -- how many words the plans can take
-  module _ {r : Result ℕ Refusal} (e : r ≡ length_in t z) (v : Result ℕ Refusal) (f : r ≡ v) where
-    pub length-number : {x : ℕ} → x ≡ lengthNumber v → x ≡ lengthNumber (length_in t s)
-    length-number g = met lengthNumber (length_in t s) v (same (length_in t) e) f g
-
-    pub length-left : {x : ℕ} (was : ℕ) → x ≡ length_left was v → x ≡ length_left was (length_in t s)
-    length-left was g = met_left length_left was (length_in t s) v (same (length_in t) e) f g
-
-  -- plans laid out
-  pub laid-number : {x : ℕ} (room : ℕ) → x ≡ laid_number t z room → x ≡ laid_number t s room
-  laid-number room e = same (λ y. laid_number t y room) e
+  -- plans laid out: a number that refuses is given back by its name
+  pub laid-number : {r : Result Unit Refusal} {x : ℕ} (room : ℕ) (v : Result Unit Refusal) → r ≡ verdict_of (laid_number t z room) → r ≡ v
+      → x ≡ said v → x ≡ laid_number t s room
+  laid-number room v e f g = g ∙ ap said (sym f ∙ e) ∙ same (λ y. laid_number t y room) (said-laid t z room)
 
   pub laid-left : {x : List ℕ} (ws : List ℕ) → x ≡ laid_out t z ws → x ≡ laid_out t s ws
   laid-left ws e = same (λ y. laid_out t y ws) e

@@ -1,8 +1,6 @@
--- What checking a table and looking up an operation show at their returns.
+-- What laying the sections out and looking up an operation show at their returns.
 -- Assumes nothing.
 use Prim.Native.Nat.{ℕ, ◌-◌, ◌≤◌}
-use Rattle.std.specs.Prelude.{Result}
-use Rattle.refusal.specs.declared.Refusal.{Refusal}
 use Rattle.std.specs.Prelude.{Option, Some, None}
 use mathlib.Core.Path.{◌≡◌, sym, ap, ap₂, ◌∙◌}
 use mathlib.Core.Bool.{Bool, true, false}
@@ -11,17 +9,15 @@ use borrow.Rule.Slice.PartMut.{put_mid}
 use lib.ListN.{length, get_or, set, take, drop}
 use lib.Seq.{sets-eq}
 use Rattle.wire.proofs.Cond.{yes-if, no-if}
-use Rattle.wire.proofs.MetCases.{met}
 use Rattle.table.specs.declared.Sections.{Sections}
 use Rattle.table.specs.Layout.{cut_short, within}
 use Rattle.table.specs.Words.{bounds_words, sections_in, index_in, words_of}
 use Rattle.operations.specs.declared.Operation.{Operation}
 use Rattle.operations.specs.Entries.{operation_at}
 use Rattle.operations.specs.Search.{indexed, sought_in}
-use Rattle.types.specs.Table.{checked}
 use Rattle.platform_words.proofs.Behind.{lent-behind, back_by}
 use Rattle.nyrkovash.proofs.AsTheyLie.{operations-count}
-use Rattle.nyrkovash.specs.TableCalls.{sections_words, sections_left, check_answer, operation_words, found_words, find_number, find_answer}
+use Rattle.nyrkovash.specs.TableCalls.{sections_words, operation_words, found_words, find_number, find_answer}
 
 -- `put_bounds`: the first words, one by one
 pub bounds_put : (ws : List ℕ) (a b c d e f g h : ℕ) → bounds_words ≤ length ws
@@ -35,10 +31,6 @@ pub index_laid : {x last : List ℕ} (t ws : List ℕ) (s : Sections) → x ≡ 
 index_laid {x} t ws s ex el =
     let lay : List ℕ → List ℕ = indexed t s.operations.at s.operations.count in
     back_by bounds_words x lay el ∙ ap (λ (y : List ℕ). take bounds_words y ++ lay (drop bounds_words y)) ex
-
--- `check_table`
-pub met_sections : {x : List ℕ} {r : Result Sections Refusal} (t was : List ℕ) (v : Result Sections Refusal) → r ≡ checked t → r ≡ v → x ≡ sections_left t was v → x ≡ check_answer t was
-met_sections t was v e f g = met (sections_left t was) (checked t) v e f g
 
 -- `find`
 module _ {b : Bool} (t ws : List ℕ) (e : b ≡ within t (sections_in ws)) where

@@ -40,8 +40,8 @@ pub extern "C" fn nyr_plans(
 {
     let s = table::sections_in(sections);
     match plan::lay(table, s, plans) {
-        Ok(()) => 0,
         Err(refusal) => refusal.number(),
+        Ok(()) => 0,
     }
 }
 
