@@ -60,6 +60,7 @@ pub fn play(run: Run, rooms: &mut [u8], input: &[u8], output: &mut [u8]) -> Run
         ≡ played input.now (state_of run rooms.old output.old) }
 {
     let mut run = run;
+    // By hand: where the next datagram stands is known once this one is taken, so nothing counts up that a `for` could go over.
     loop {
         match next(input, run.at) {
             Coming::Datagram { start, length } => {

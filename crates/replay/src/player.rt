@@ -109,6 +109,7 @@ fn begin(from: &mut impl Read, input: &mut [u8]) -> Begun
     ensures { (result.filled ≤ input_length) × RoomsFit result.opened × RefusalIs20 result.opened }
 {
     let mut filled: usize = 0;
+    // By hand: how many reads it takes is the file's affair, and nothing counts up that a `for` could go over.
     loop {
         let opened = recording::open(&input[..filled]);
         match opened {
