@@ -3,6 +3,7 @@
 use Prim.Native.Nat.{ℕ, ◌+◌, ◌%◌, ◌^◌, ◌≤◌, ◌<◌}
 use Rattle.std.specs.Prelude.{Ok}
 use Rattle.std.specs.Prelude.{Option, Some, None}
+use Rattle.std.proofs.lemmas.Option.{none-some}
 use mathlib.Core.Path.{◌≡◌, refl, sym, ap, subst, ◌∙◌}
 use mathlib.Core.Bool.{true}
 use mathlib.Core.List.{List}
@@ -205,10 +206,7 @@ module _ (a b from id : ℕ) (t : List ℕ) (s : Sections) (words l payload out 
           ∙ yes-if (cancelled (waiting a b from id t s words l payload out) n) (waiting a b from id t s words l payload out) is-response
 
       not_again : ¬ (awaited_of (cancelled (waiting a b from id t s words l payload out) n) n ≡ Some (id, b))
-      not_again q =
-          let d : None ≡ Some (id, b) = sym gone ∙ q in
-          let z : ◌≡◌ {A = ℕ} 0 1 = cc in
-          omega arith
+      not_again q = none-some _ (sym gone ∙ q)
 
   asked_and_answered : AskedAndAnswered a b from id t s words l payload out
   asked_and_answered =

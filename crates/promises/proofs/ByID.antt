@@ -4,6 +4,7 @@
 use Prim.Native.Nat.{ℕ, ◌≤◌}
 use Rattle.std.specs.Prelude.{Ok}
 use Rattle.std.specs.Prelude.{Some, None}
+use Rattle.std.proofs.lemmas.Option.{some_pair_parts}
 use mathlib.Core.Path.{◌≡◌, sym, ◌∙◌}
 use mathlib.Core.List.{List}
 use native.Mathlib.Omega.{arith}
@@ -18,9 +19,6 @@ use Rattle.promises.specs.Lookups.{LooksUp}
 use Rattle.promises.specs.Reports.{HasID}
 use Rattle.promises.specs.Platforms.{operation_with}
 use Rattle.promises.proofs.Lookups.{lookups}
-
-same_number : {i j p q : ℕ} → Some (i, p) ≡ Some (j, q) → i ≡ j
-same_number e = cc
 
 module _ (t : List ℕ) (s : Sections) (e : checked t ≡ Ok s) where
   room : s.operations.count ≤ length (replicate {A = ℕ} 1024 0)
@@ -46,4 +44,4 @@ module _ (t : List ℕ) (s : Sections) (e : checked t ≡ Ok s) where
     there i h = sym looked ∙ looks.each i h.0 h.1
 
     pub same : (i j : ℕ) → HasID t s id i → HasID t s id j → i ≡ j
-    same i j hi hj = same_number (sym (there i hi) ∙ there j hj)
+    same i j hi hj = (some_pair_parts i j _ _ (sym (there i hi) ∙ there j hj)).0

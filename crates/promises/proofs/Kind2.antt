@@ -3,6 +3,7 @@
 use Prim.Native.Nat.{ℕ, ◌<◌}
 use Rattle.std.specs.Prelude.{Ok}
 use Rattle.std.specs.Prelude.{Option, Some, None}
+use Rattle.std.proofs.lemmas.Option.{none-some, some_pair_parts}
 use mathlib.Core.Path.{◌≡◌, refl, sym, ap, ap₂, subst, ◌∙◌}
 use mathlib.Core.Bool.{Bool, false}
 use mathlib.Core.List.{List}
@@ -32,11 +33,11 @@ module _ (id target : ℕ) where
   asks-decides : (x : Option (ℕ × ℕ)) → Decides (asks x id target) (x ≡ Some (id, target))
   asks-decides (Some (i, t)) =
       decides_same (and_decides (eqb i id) (eqb t target) (eq_decides i id) (eq_decides t target))
-      (λ e. ap₂ Some (e.0, e.1)) (λ (e : Some (i, t) ≡ Some (id, target)). (cc, cc))
+      (λ e. ap₂ (λ (a b : ℕ). Some (a, b)) e.0 e.1) (some_pair_parts i id t target)
   asks-decides None =
       record {
         yes_is = λ e. let z : ◌≡◌ {A = ℕ} 0 1 = cc in absurd (omega arith);
-        no_is = λ e (f : None ≡ Some (id, target)). let z : ◌≡◌ {A = ℕ} 0 1 = cc in omega arith;
+        no_is = λ e. none-some _;
       }
 
   pub awaited-decides : (l : List ℕ) (n : ℕ) → Decides (is_response l n id target) (awaited_of l n ≡ Some (id, target))
@@ -48,11 +49,11 @@ sent_decides : (t : List ℕ) (x : Option (ℕ × ℕ)) → Decides (is_sent t x
 unfolding is_sent
 sent_decides t (Some (i, q)) =
     decides_same (eq_decides (kind_at t q) 2) (λ e. (i, q, refl, e))
-    (λ p. let k : q ≡ p.1 = (let z : Some (i, q) ≡ Some (p.0, p.1) = p.2 in cc) in ap (kind_at t) k ∙ p.3)
+    (λ p. ap (kind_at t) (some_pair_parts i p.0 q p.1 p.2).1 ∙ p.3)
 sent_decides t None =
     record {
       yes_is = λ e. let z : ◌≡◌ {A = ℕ} 0 1 = cc in absurd (omega arith);
-      no_is = λ e p. let f : None ≡ Some (p.0, p.1) = p.2 in let z : ◌≡◌ {A = ℕ} 0 1 = cc in omega arith;
+      no_is = λ e p. none-some _ p.2;
     }
 
 -- a message of another kind than an operation, which is kind 5

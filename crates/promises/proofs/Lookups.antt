@@ -119,7 +119,7 @@ module _ (t : List ℕ) (s : Sections) (words : List ℕ) (id : ℕ) (e : checke
       go (Some (j, p)) f =
           let b = bears j p f in
           let same : j ≡ i = same-entry t s rises j i b.0 l (b.2 ∙ sym q) in
-          ap₂ Some (same, b.1 ∙ ap (operation_place t s) same)
+          ap₂ (λ (a b : ℕ). Some (a, b)) same (b.1 ∙ ap (operation_place t s) same)
 
   looks_up : LooksUp t s words id
   looks_up =

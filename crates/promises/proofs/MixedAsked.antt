@@ -3,6 +3,7 @@
 use Prim.Native.Nat.{ℕ, ◌+◌, ◌^◌, ◌≤◌, ◌<◌}
 use Rattle.std.specs.Prelude.{Ok}
 use Rattle.std.specs.Prelude.{Option, Some, None}
+use Rattle.std.proofs.lemmas.Option.{none-some}
 use mathlib.Core.Path.{◌≡◌, refl, sym, ap, subst, ◌∙◌}
 use mathlib.Core.Bool.{Bool, true, false, cond}
 use mathlib.Core.List.{List}
@@ -214,10 +215,7 @@ module _ (x : ToSend) (c : CanAskAny x) where
         (mixed_responses.any_other y r q (cancelled (waiting_for x) n) (header_in issue x.target x.id n response) j (length response) comes not_again)
       where
         not_again : ¬ (IsPending (cancelled (waiting_for x) n) (header_in issue x.target x.id n response))
-        not_again u =
-            let d : None ≡ Some (x.id, x.target) = sym gone ∙ is-pending issue x.target x.id n response (cancelled (waiting_for x) n) u in
-            let z : ◌≡◌ {A = ℕ} 0 1 = cc in
-            omega arith
+        not_again u = none-some _ (sym gone ∙ is-pending issue x.target x.id n response (cancelled (waiting_for x) n) u)
 
   asked-in-issue : AskedInIssue x
   asked-in-issue =

@@ -1,7 +1,7 @@
 -- Responses among partners of both issues: delivered once, in whichever issue they come.
 -- Assumes nothing.
 use Prim.Native.Nat.{ℕ, ◌-◌}
-use Rattle.std.specs.Prelude.{Some, None}
+use Rattle.std.proofs.lemmas.Option.{none-some}
 use mathlib.Core.Path.{◌≡◌, sym, ap, subst, ◌∙◌}
 use mathlib.Core.List.{List}
 use native.Mathlib.Omega.{arith}
@@ -50,10 +50,7 @@ module _ (x : ToReceive) (s : Sections) (p : Standing) (l : List ℕ) (h : AnyHe
 
 no_longer : (l : List ℕ) (h k : AnyHeader) → number_of h ≡ number_of k → length l ≡ 128 → Once l → ¬ (IsPending (cancelled l (number_of h)) k)
 no_longer l h k same whole o e =
-    let f : None ≡ Some (id_of k, sender_of k) =
-    sym (gone l whole o (number_of h)) ∙ ap (awaited_of (cancelled l (number_of h))) same ∙ e in
-    let z : ◌≡◌ {A = ℕ} 0 1 = cc in
-    omega arith
+    none-some _ (sym (gone l whole o (number_of h)) ∙ ap (awaited_of (cancelled l (number_of h))) same ∙ e)
 
 pub mixed_responses : MixedResponses
 mixed_responses =

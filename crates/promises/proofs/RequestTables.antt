@@ -43,7 +43,7 @@ module _ (t : List ℕ) (s : Sections) (e : checked t ≡ Ok s) where
         go : (x : Option (ℕ × ℕ)) → Bears t s.operations.at id s.operations.count x → x ≡ Some (i, places i)
         go (Some (j, p)) b =
             let q : j ≡ i = one_entry j i b.0 h.there (b.1.1 ∙ sym h.named) in
-            ap₂ Some (q, b.1.0 ∙ ap places q)
+            ap₂ (λ (a b : ℕ). Some (a, b)) q (b.1.0 ∙ ap places q)
         go None b = absurd (b i h.there h.named)
 
     pub its-kind : (kind i : ℕ) → HasKind t s id kind i → kind_in t s words id ≡ kind

@@ -48,10 +48,11 @@ module _ (l : List ℕ) (n id sender : ℕ) where
   no_response : ¬ (awaited_of l n ≡ Some (id, sender)) → is_response l n id sender ≡ false
   no_response d = response-by l n id sender ∙ go (awaited_of l n) d
     where
-      pair : (i t : ℕ) → ¬ (Some (i, t) ≡ Some (id, sender)) → (b : Bool) → (eqb i id && eqb t sender) ≡ b → (eqb i id && eqb t sender) ≡ false
+      pair : (i t : ℕ) → ¬ (◌≡◌ {A = Option (ℕ × ℕ)} (Some (i, t)) (Some (id, sender))) → (b : Bool) → (eqb i id && eqb t sender) ≡ b
+          → (eqb i id && eqb t sender) ≡ false
       pair i t h true e =
           let p : (eqb i id ≡ true) × (eqb t sender ≡ true) = both (eqb i id) (eqb t sender) e in
-          absurd (h (ap₂ Some (eqb-true i id p.0, eqb-true t sender p.1)))
+          absurd (h (ap₂ (λ (a b : ℕ). Some (a, b)) (eqb-true i id p.0) (eqb-true t sender p.1)))
       pair i t h false e = e
 
       go : (a : Option (ℕ × ℕ)) → ¬ (a ≡ Some (id, sender)) → asks a id sender ≡ false

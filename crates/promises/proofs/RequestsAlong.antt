@@ -53,7 +53,7 @@ by_map {own} {p} {l} {m} {c} x g e k =
 pub asks_it : (a : Option (ℕ × ℕ)) (id sender : ℕ) → asks a id sender ≡ true → a ≡ Some (id, sender)
 asks_it (Some (i, t)) id sender e =
     let h : (eqb i id ≡ true) × (eqb t sender ≡ true) = both (eqb i id) (eqb t sender) e in
-    ap₂ Some (eqb-true i id h.0, eqb-true t sender h.1)
+    ap₂ (λ (a b : ℕ). Some (a, b)) (eqb-true i id h.0) (eqb-true t sender h.1)
 asks_it None id sender e = absurd (true≢false (sym e))
 
 module _ (own : ℕ) (p : Standing) (l : List ℕ) (m : Map) (same : LikeMap l m) where

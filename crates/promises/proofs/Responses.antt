@@ -3,7 +3,8 @@
 use Prim.Native.Nat.{ℕ, ◌-◌, ◌≤◌}
 use Rattle.std.specs.Prelude.{Result}
 use Rattle.refusal.specs.declared.Refusal.{Refusal}
-use Rattle.std.specs.Prelude.{Option, Some, None}
+use Rattle.std.specs.Prelude.{Option, Some}
+use Rattle.std.proofs.lemmas.Option.{none-some}
 use mathlib.Core.Path.{◌≡◌, refl, sym, ap, ap₂, subst, ◌∙◌}
 use mathlib.Core.Bool.{Bool, true, false}
 use mathlib.Core.List.{List}
@@ -130,10 +131,7 @@ module _ (own : ℕ) (t : List ℕ) (s : Sections) (p : Standing) (l m out : Lis
       ∙ rw (ne_eqb (kind_at t q) 2 n, le-ltb (length out) 0 (omega arith)) (ap (λ (x : _). Noted h x 0) (ap₂ (heard.Operation i) stands.0 stands.1))
 
 no_longer : (l : List ℕ) (h : Header) → length l ≡ 128 → Once l → ¬ (IsAwaited (cancelled l h.sequence) h)
-no_longer l h whole o e =
-    let f : None ≡ Some (h.id, h.platform) = sym (gone l whole o h.sequence) ∙ e in
-    let z : ◌≡◌ {A = ℕ} 0 1 = cc in
-    omega arith
+no_longer l h whole o e = none-some _ (sym (gone l whole o h.sequence) ∙ e)
 
 pub responses : Responses
 responses =

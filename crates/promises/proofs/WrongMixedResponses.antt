@@ -1,6 +1,7 @@
 -- No program that is wrong in one place of responses meets what ours does: by one response of Issue 3.
 -- Assumes nothing.
 use Prim.Native.Nat.{ℕ}
+use Rattle.std.proofs.lemmas.Option.{some_pair_parts}
 use mathlib.Core.Path.{◌≡◌, refl, sym, ap, ◌∙◌}
 use mathlib.Core.Bool.{true}
 use mathlib.Core.List.{List, [], ◌∷◌, ◌++◌}
@@ -81,7 +82,7 @@ awaited = refl
 
 not-awaited : ¬ (IsPending (asked_of 4) h)
 unfolding bearing
-not-awaited e = let z : ◌≡◌ {A = ℕ} 4 3 = cc in omega arith
+not-awaited e = omega (arith, (some_pair_parts 0x0A0B0C0D 0x0A0B0C0D 4 3 e).1)
 
 -- where the payload is told to start, 0 of no response
 abbrev start_told : AnyAnswer → ℕ

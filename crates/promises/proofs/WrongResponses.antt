@@ -4,6 +4,7 @@ use Prim.Native.Nat.{ℕ}
 use Rattle.std.specs.Prelude.{Result, Ok, Err}
 use Rattle.refusal.specs.declared.Refusal.{Refusal}
 use Rattle.std.specs.Prelude.{Option, Some}
+use Rattle.std.proofs.lemmas.Option.{some_pair_parts}
 use mathlib.Core.Path.{◌≡◌, refl, sym, ap, ◌∙◌}
 use mathlib.Core.Bool.{Bool, true, false, cond}
 use mathlib.Core.List.{List, [], ◌∷◌}
@@ -126,7 +127,7 @@ awaited = refl
 
 not-awaited : ¬ (IsAwaited (asked 4) h)
 unfolding bearing
-not-awaited e = let z : ◌≡◌ {A = ℕ} 4 3 = cc in omega arith
+not-awaited e = omega (arith, (some_pair_parts 0x0A0B0C0D 0x0A0B0C0D 4 3 e).1)
 
 -- what such a platform answers, and the list after it
 module _ (M : Matching) (l : List ℕ) where
