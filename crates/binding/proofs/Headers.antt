@@ -75,7 +75,8 @@ too_short d h = rw (lt-leb smallest_datagram (length d) h)
 pub too_long : (d : List ℕ) → largest_datagram < length d → heading_in d ≡ Err DatagramLength
 too_long d h = rw (le-leb smallest_datagram (length d) (omega arith), lt-leb (length d) largest_datagram h)
 
-pub other_version : (d : List ℕ) → smallest_datagram ≤ length d → length d ≤ largest_datagram → (version_in d ≡ the_version → ⊥) → heading_in d ≡ Err DatagramVersion
+pub other_version : (d : List ℕ) → smallest_datagram ≤ length d → length d ≤ largest_datagram → (version_in d ≡ the_version → ⊥)
+    → heading_in d ≡ Err DatagramVersion
 other_version d l m n = rw (le-leb smallest_datagram (length d) l, le-leb (length d) largest_datagram m, ne_eqb (version_in d) the_version n)
 
 -- the ranges of what is read

@@ -54,7 +54,8 @@ module _
       unfolding take_answer
       refused-answer = sym (ap (λ (t : Taken). outcome_words t.outcome out) refused)
 
-      pub refused_all : {v : ℕ} → v ≡ number_of n → (v ≡ take_number ws rooms d) × ((ws ≡ take_words ws rooms d) × ((rooms ≡ take_rooms ws rooms d) × (out ≡ take_answer ws rooms d out)))
+      pub refused_all : {v : ℕ} → v ≡ number_of n →
+          (v ≡ take_number ws rooms d) × ((ws ≡ take_words ws rooms d) × ((rooms ≡ take_rooms ws rooms d) × (out ≡ take_answer ws rooms d out)))
       refused_all e = (e ∙ refused-take, (refused-state, (refused-rooms, refused-answer)))
 
   module _ (k : ℕ) (s : Step) (m : x ≡ Ok (k, s)) where

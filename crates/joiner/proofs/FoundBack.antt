@@ -97,7 +97,8 @@ module _ (j : Joiner) (w : length j.channels ≡ channel_limit) (h : j.count ≤
   same-found b x =
       ap (λ (t : Bool). cond t (there stored (place_of (senders_of stored) x)) (Err NoJoiner)) (same_good b)
       ∙ ap (λ (l : List Channel). cond (good j b) (there stored (place_of (map sender_of l) x)) (Err NoJoiner)) same-channels
-      ∙ ap (λ (f : Result (Option (ℕ × Channel)) Refusal). cond (good j b) f (Err NoJoiner)) (go (place_of (senders_of j) x) (ltb (place_of (senders_of j) x) j.count) refl)
+      ∙ ap (λ (f : Result (Option (ℕ × Channel)) Refusal). cond (good j b) f (Err NoJoiner))
+      (go (place_of (senders_of j) x) (ltb (place_of (senders_of j) x) j.count) refl)
     where
       there : Joiner → ℕ → Result (Option (ℕ × Channel)) Refusal
       there i k = Ok (cond {A = Option (ℕ × Channel)} (ltb k j.count) (Some (k, channel_at i k)) None)

@@ -105,8 +105,8 @@ module _ (j : Joiner) (b : ℕ) (d : List ℕ) {r : Result BindingHeader Refusal
           le-leb (length d) largest_datagram v.short,
         )
 
-pub judged-by : {f : Result (Option (ℕ × Channel)) Refusal} {r : Result BindingHeader Refusal} {s : ℕ} {x : Result (ℕ × Step) Refusal} (j : Joiner) (b : ℕ) (d : List ℕ) → length j.channels ≡ channel_limit → r
-    ≡ heading_in d → s ≡ sender_by r → f ≡ found_of j b s → x ≡ judged_by f j.room r (length d) → x ≡ judged_of j b d
+pub judged-by : {f : Result (Option (ℕ × Channel)) Refusal} {r : Result BindingHeader Refusal} {s : ℕ} {x : Result (ℕ × Step) Refusal}
+    (j : Joiner) (b : ℕ) (d : List ℕ) → length j.channels ≡ channel_limit → r ≡ heading_in d → s ≡ sender_by r → f ≡ found_of j b s → x ≡ judged_by f j.room r (length d) → x ≡ judged_of j b d
 unfolding judged_by moved_of heading_by
 judged-by {f} {r} {s} j b d w er es ef ex = ex ∙ go f refl r refl
   where
@@ -155,7 +155,8 @@ module _ (j : Joiner) (b : ℕ) (d : List ℕ) (k : ℕ) (s : Step) where
   unfolding judged_of heading_by sent_to
   judged-moved e = by (good j b) refl (heading_in d) refl e
     where
-      by : (g : Bool) → good j b ≡ g → (x : Result BindingHeader Refusal) → heading_in d ≡ x → cond g (heading_by j d x) (Err NoJoiner) ≡ Ok (k, s) → Moved j b d k s
+      by : (g : Bool) → good j b ≡ g → (x : Result BindingHeader Refusal) → heading_in d ≡ x
+          → cond g (heading_by j d x) (Err NoJoiner) ≡ Ok (k, s) → Moved j b d k s
       by false g x h q = absurd (clash NoJoiner q)
       by true g (Err n) h q = absurd (clash n q)
       by true g (Ok y) h q =

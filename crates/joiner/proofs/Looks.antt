@@ -246,6 +246,7 @@ module _ (ws : List ℕ) (b x : ℕ) where
           let j : joiner_in ws ≡ stored_in ws = stored_joiner ws (well-joiner ws b sized (sym g ∙ h)) in
           ap Ok (er ∙ ap (found_at ws) ep ∙ go (place_of (senders_in ws) x) (ltb (place_of (senders_in ws) x) (get_or ws 0 0)) refl) ∙ rw (well ∙ sym g ∙ h, j)
         where
-          go : (k : ℕ) (t : Bool) → ltb k (get_or ws 0 0) ≡ t → found_at ws k ≡ cond {A = Option (ℕ × Channel)} (ltb k (get_or ws 0 0)) (Some (k, channel_at (stored_in ws) k)) None
+          go : (k : ℕ) (t : Bool) → ltb k (get_or ws 0 0) ≡ t → found_at ws k
+              ≡ cond {A = Option (ℕ × Channel)} (ltb k (get_or ws 0 0)) (Some (k, channel_at (stored_in ws) k)) None
           go k true q = rw (q, stored_at ws sized.few k (ltb-true k (get_or ws 0 0) q))
           go k false q = rw q

@@ -132,8 +132,8 @@ module _ (j : Joiner) (b x : ℕ) {r : Result (Option (ℕ × Channel)) Refusal}
   found-nobody m = go (good j b) refl (ltb (place_of (senders_of j) x) j.count) refl (sym m ∙ e)
     where
       go : (g : Bool) → good j b ≡ g → (u : Bool) → ltb (place_of (senders_of j) x) j.count ≡ u → Ok None
-          ≡ cond g (Ok (cond {A = Option (ℕ × Channel)} u (Some (place_of (senders_of j) x, channel_at j (place_of (senders_of j) x))) None)) (Err NoJoiner) → (good j b ≡ true)
-          × (j.count ≤ place_of (senders_of j) x)
+          ≡ cond g (Ok (cond {A = Option (ℕ × Channel)} u (Some (place_of (senders_of j) x, channel_at j (place_of (senders_of j) x))) None)) (Err NoJoiner)
+          → (good j b ≡ true) × (j.count ≤ place_of (senders_of j) x)
       go true g false h q = (g, ltb-false (place_of (senders_of j) x) j.count h)
       go true g true h q = let z : ◌≡◌ {A = ℕ} 0 1 = cc in absurd (omega arith)
       go false g u h q = let z : ◌≡◌ {A = ℕ} 0 1 = cc in absurd (omega arith)

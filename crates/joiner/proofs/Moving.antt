@@ -79,8 +79,8 @@ channels_length ws = go (is_joiner ws) refl
     go false e = refl
 
 -- a room's size is the second word's, wherever it is asked for
-same_room : {f : Result (Option (ℕ × Channel)) Refusal} (ws : List ℕ) (b y : ℕ) (r : Result BindingHeader Refusal) (n : ℕ) → f ≡ found_of (joiner_in ws) b y → judged_by f (get_or ws 1 0) r n
-    ≡ judged_by f (joiner_in ws).room r n
+same_room : {f : Result (Option (ℕ × Channel)) Refusal} (ws : List ℕ) (b y : ℕ) (r : Result BindingHeader Refusal) (n : ℕ)
+    → f ≡ found_of (joiner_in ws) b y → judged_by f (get_or ws 1 0) r n ≡ judged_by f (joiner_in ws).room r n
 unfolding found_of judged_by
 same_room {f} ws b y r n e = go (is_joiner ws) refl
   where
@@ -88,8 +88,8 @@ same_room {f} ws b y r n e = go (is_joiner ws) refl
     go true q = rw (stored_joiner ws q)
     go false q = let bad : f ≡ Err NoJoiner = e ∙ rw (none_good ws b q) in rw bad
 
-pub judged_in : {f : Result (Option (ℕ × Channel)) Refusal} {r : Result BindingHeader Refusal} {y R : ℕ} {x : Result (ℕ × Step) Refusal} (ws : List ℕ) (b : ℕ) (d : List ℕ) → R ≡ get_or ws 1 0 → r ≡ heading_in d → y
-    ≡ sender_by r → f ≡ found_of (joiner_in ws) b y → x ≡ judged_by f R r (length d) → x ≡ judged_of (joiner_in ws) b d
+pub judged_in : {f : Result (Option (ℕ × Channel)) Refusal} {r : Result BindingHeader Refusal} {y R : ℕ} {x : Result (ℕ × Step) Refusal}
+    (ws : List ℕ) (b : ℕ) (d : List ℕ) → R ≡ get_or ws 1 0 → r ≡ heading_in d → y ≡ sender_by r → f ≡ found_of (joiner_in ws) b y → x ≡ judged_by f R r (length d) → x ≡ judged_of (joiner_in ws) b d
 judged_in {f} {r} {y} {R} {x} ws b d eR er ey ef ex =
     judged-by (joiner_in ws) b d (channels_length ws) er ey ef (ex ∙ ap (λ (q : ℕ). judged_by f q r (length d)) eR ∙ same_room ws b y r (length d) ef)
 

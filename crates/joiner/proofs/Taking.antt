@@ -72,7 +72,8 @@ not_delivered (Ok (TooLong m)) d rooms t = refl
 
 -- `take`
 module _
-    {f : Result (Option (ℕ × Channel)) Refusal} {r : Result BindingHeader Refusal} {ws : List ℕ} {y : ℕ} {x : Result (ℕ × Step) Refusal} (j : Joiner) (rooms d : List ℕ) (w : length j.channels ≡ channel_limit)
+    {f : Result (Option (ℕ × Channel)) Refusal} {r : Result BindingHeader Refusal} {ws : List ℕ} {y : ℕ} {x : Result (ℕ × Step) Refusal}
+    (j : Joiner) (rooms d : List ℕ) (w : length j.channels ≡ channel_limit)
     (er : r ≡ heading_in d) (ey : y ≡ sender_by r) (ew : ws ≡ words_of j) (ef : f ≡ found_of (joiner_in ws) (length rooms) y)
     (ex : x ≡ judged_by f j.room r (length d)) where
   judged : x ≡ judged_of j (length rooms) d

@@ -28,7 +28,8 @@ pub record Chain (t : List ℕ) (s : Sections) : Type 0 where
   pub end : operations_end t s ≡ length t
 
 -- a chain that ends in a table has each of its links
-linked : (x : Result Section Refusal) (next : Section → Result Sections Refusal) (s : Sections) → after x next ≡ Ok s → (u : Section) × ((x ≡ Ok u) × (next u ≡ Ok s))
+linked : (x : Result Section Refusal) (next : Section → Result Sections Refusal) (s : Sections) → after x next ≡ Ok s
+    → (u : Section) × ((x ≡ Ok u) × (next u ≡ Ok s))
 unfolding after
 linked (Err n) next s e = absurd (let z : ◌≡◌ {A = ℕ} 0 1 = cc in omega arith)
 linked (Ok u) next s e = (u, (refl, e))

@@ -98,7 +98,8 @@ reach w most b least t p s r q is f e h =
     let k : Holds w most t p s = holds w least most t p s (sym is ∙ f) in
     omega (arith, k.starts, mul-le-mul_left w k.few)
 
-pub reach_first : (w most least : ℕ) (t : List ℕ) (s : Section) (r : Result Section Refusal) → r ≡ section_at w least most t 0 → r ≡ Ok s → section_end w s ≤ 2 + w * most
+pub reach_first : (w most least : ℕ) (t : List ℕ) (s : Section) (r : Result Section Refusal) → r ≡ section_at w least most t 0 → r ≡ Ok s
+    → section_end w s ≤ 2 + w * most
 reach_first w most least t s r is f = omega (arith, reach w most 0 least t 0 s r 0 is f refl (omega arith))
 
 pub lies : (w most len : ℕ) (s : Section) (e : ℕ) → e ≡ section_end w s → (leb s.count most && leb e len) ≡ lies_in w most len s

@@ -20,4 +20,5 @@ returns-in-Ok c =
     let d = c.args.datagram.now in
     let out = c.args.answer.now in
     moved_all ws rooms d refl c.read-heading.ensures c.sender_of.ensures c.look-found.ensures c.judge.ensures
-    _ _ c.in-Ok.is out c.put_record.ensures c.write_piece.ensures c.put_outcome.ensures in record { value = t.0; state_after = t.1.0; rooms_after = t.1.1.0; answer_after = t.1.1.1 }
+    _ _ c.in-Ok.is out c.put_record.ensures c.write_piece.ensures c.put_outcome.ensures in
+    record { value = t.0; state_after = t.1.0; rooms_after = t.1.1.0; answer_after = t.1.1.1 }
