@@ -1,12 +1,10 @@
 -- What the functions of `replies` leave in the output.
 -- Assumes nothing.
-use Prim.Native.Nat.{ℕ, ◌+◌, ◌-◌, ◌≤◌}
-use mathlib.Core.Path.{◌≡◌, refl, sym, ap, ap₂, ◌∙◌}
+use Prim.Native.Nat.{ℕ, ◌+◌, ◌≤◌}
+use mathlib.Core.Path.{◌≡◌, refl, ap, ap₂, ◌∙◌}
 use mathlib.Core.List.{List, ◌++◌, append_assoc}
 use native.Mathlib.Omega.{arith}
-use borrow.Rule.Slice.PartMut.{put_mid}
-use lib.ListN.{length, take, drop, length-append, length-drop}
-use lib.Seq.{take_all}
+use lib.ListN.{length, length-append}
 use Rattle.wire.specs.Bytes.{bytes, over, written}
 use Rattle.wire.proofs.Runs.{written_in, written_behind, over_over}
 use Rattle.pending.specs.Free.{drawn}
@@ -17,9 +15,8 @@ use Rattle.message3.specs.Platform.{platform_status3, availability_status_reques
 use Rattle.platform.specs.declared.reactions.Reply.{Reply}
 use Rattle.platform.specs.declared.reactions.Reply.TheVariants.{StatusUp, PullAll, Unknown}
 use Rattle.platform.specs.Replies.{state_up, all_data}
-use Rattle.platform.proofs.ReplyBytes.{part_laid}
 use Rattle.mixed.specs.Reaction.{all_services}
-use Rattle.mixed.specs.Replies.{field_message, field_length, status_message, status_length, reply_bytes3, reply_length3, start_up_bytes, start_up_length}
+use Rattle.mixed.specs.Replies.{field_message, field_length, status_message, status_length, reply_bytes3, start_up_bytes, start_up_length}
 
 -- a message with one field
 module _ (own : ℕ) (t : Stamp) (id n x : ℕ) where
@@ -33,19 +30,6 @@ module _ (own : ℕ) (t : Stamp) (id n x : ℕ) where
   field_put {a} {b} out h ea eb =
       let H : List ℕ = header_bytes3 (header_of3 platform_domain own id t 4 n) in
       written_behind out H (bytes 2 x) header_length3 (ea ∙ written_in out 0 H (omega arith)) refl (omega arith) eb
-
-  -- and in the part of the output from p on
-  pub field-laid : {last : List ℕ} (p : ℕ) (out : List ℕ) → p + field_length ≤ length out
-      → last ≡ over (take (length out - p) (drop p out)) 0 (field_message own t id n x)
-      → put_mid p (length out - p) out last ≡ over out p (field_message own t id n x)
-  field-laid {last} p out h e =
-      let M : List ℕ = field_message own t id n x in
-      let D : List ℕ = take (length out - p) (drop p out) in
-      let l : length M ≡ field_length = length-field in
-      let k : length (drop p out) ≡ length out - p = length-drop p out in
-      let d : D ≡ drop p out = take_all (length out - p) (drop p out) (omega arith) in
-      let z : length D ≡ length out - p = ap length d ∙ k in
-      part_laid M p out (omega arith) (e ∙ sym (written_in D 0 M (omega arith)))
 
 -- a status
 module _ (own : ℕ) (t : Stamp) (c n : ℕ) where
@@ -62,17 +46,6 @@ module _ (own : ℕ) (t : Stamp) (c n : ℕ) where
       let S : List ℕ = H ++ bytes 2 state_up in
       let k : b ≡ over out 0 S = written_behind out H (bytes 2 state_up) header_length3 (ea ∙ written_in out 0 H (omega arith)) refl (omega arith) eb in
       written_behind out S (bytes 2 c) 28 k refl (omega arith) ed
-
--- the replies that both issues have
-module _ (own : ℕ) (t : Stamp) (c : ℕ) (r : Reply) (out : List ℕ) (h : reply_length3 r ≤ length out) where
-  pub room-for-status : (n : ℕ) → r ≡ StatusUp n → status_length ≤ length out
-  room-for-status n e = rw e at h
-
-  pub room-for-pull : (n : ℕ) → r ≡ PullAll n → field_length ≤ length out
-  room-for-pull n e = rw e at h
-
-  pub room-for-unknown : (n id : ℕ) → r ≡ Unknown n id → field_length ≤ length out
-  room-for-unknown n id e = rw e at h
 
 module _ (own : ℕ) (t : Stamp) (c : ℕ) (r : Reply) (out a : List ℕ) where
   pub is-status : (n : ℕ) → r ≡ StatusUp n → a ≡ over out 0 (status_message own t c n) → a ≡ over out 0 (reply_bytes3 own t c r)

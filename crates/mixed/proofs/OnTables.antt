@@ -1,7 +1,7 @@
 -- What the calls for one message on sections and on table bytes come to at their returns.
 -- Assumes nothing.
 use Prim.Native.Nat.{ℕ}
-use mathlib.Core.Path.{◌≡◌, sym, ap, ◌∙◌}
+use mathlib.Core.Path.{◌≡◌, sym, ◌∙◌}
 use mathlib.Core.Bool.{Bool, true, false}
 use mathlib.Core.List.{List}
 use Rattle.wire.proofs.Cond.{yes-if, no-if}
@@ -9,7 +9,6 @@ use Rattle.table.specs.declared.Sections.{Sections}
 use Rattle.table.specs.Layout.{cut_short, within}
 use Rattle.message3.specs.declared.Stamp.{Stamp}
 use Rattle.platform.specs.declared.reactions.Standing.{Standing}
-use Rattle.platform.specs.Receiving.{index_of}
 use Rattle.mixed.specs.declared.AnyReceived.{AnyReceived}
 use Rattle.mixed.specs.Receiving.{refused_any, any_outcome, any_output, any_list, any_words}
 use Rattle.mixed.specs.Tables.{sections_answer, sections_out, sections_pending, sections_words}
@@ -51,20 +50,3 @@ module _ (own : ℕ) (i ours t : List ℕ) (s : Sections) (index : List ℕ) (p 
     pub outside-words : (room : ℕ) → ws ≡ sections_words own i ours t s index p ws m room
     unfolding sections_words
     outside-words room = sym (no-if (any_words own i ours t s index p ws m room) ws (sym e ∙ n))
-
--- by the index that was laid
-module _ (own : ℕ) (i ours t : List ℕ) (s : Sections) (index : List ℕ) (p : Standing) (ws m : List ℕ) (e : index ≡ index_of t s) where
-  pub by_index : (l : List ℕ) (room : ℕ) (r : AnyReceived) → r ≡ any_outcome own i ours t s index p l ws m room
-      → r ≡ any_outcome own i ours t s (index_of t s) p l ws m room
-  by_index l room r d = d ∙ ap (λ (y : List ℕ). any_outcome own i ours t s y p l ws m room) e
-
-  pub by-index-output : (st : Stamp) (c : ℕ) (out o : List ℕ) → o ≡ any_output own st c i ours t s index p ws m out
-      → o ≡ any_output own st c i ours t s (index_of t s) p ws m out
-  by-index-output st c out o d = d ∙ ap (λ (y : List ℕ). any_output own st c i ours t s y p ws m out) e
-
-  pub by-index-list : (l a : List ℕ) → a ≡ any_list own i t s index l m → a ≡ any_list own i t s (index_of t s) l m
-  by-index-list l a d = d ∙ ap (λ (y : List ℕ). any_list own i t s y l m) e
-
-  pub by-index-words : (room : ℕ) (a : List ℕ) → a ≡ any_words own i ours t s index p ws m room
-      → a ≡ any_words own i ours t s (index_of t s) p ws m room
-  by-index-words room a d = d ∙ ap (λ (y : List ℕ). any_words own i ours t s y p ws m room) e

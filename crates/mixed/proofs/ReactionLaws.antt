@@ -22,38 +22,15 @@ use Rattle.message3.specs.declared.Message3.TheVariants as message3
 use Rattle.platform.specs.declared.reactions.Standing.{Standing}
 use Rattle.platform.specs.declared.reactions.Heard.{Heard}
 use Rattle.platform.specs.declared.reactions.Heard.TheVariants as heard
-use Rattle.platform.specs.declared.reactions.Reply.TheVariants.{StatusUp, Unknown}
 use Rattle.platform.specs.Replies.{all_data}
 use Rattle.platform.specs.Reaction.{is_data, silent, noted, not_versioned, on_pull_all, on_pull_one, on_pull, on_operation, reaction_to}
 use Rattle.mixed.specs.declared.reactions.Heard3.TheVariants as heard3
 use Rattle.mixed.specs.declared.reactions.Deed.{Deed}
-use Rattle.mixed.specs.declared.reactions.Deed.TheVariants.{Nothing, One, StartUp, TellAll, TellOne, Note, MarkAll}
+use Rattle.mixed.specs.declared.reactions.Deed.TheVariants.{StartUp, TellAll, TellOne, Note, MarkAll}
 use Rattle.mixed.specs.declared.reactions.Reaction3.{Reaction3}
 use Rattle.mixed.specs.Ours.{ours_available}
-use Rattle.mixed.specs.Reaction.{all_services, operation_for3, silent3, in_six_words, deed_for, heard_as, one_heard, pull_heard, operation_heard, commonly}
+use Rattle.mixed.specs.Reaction.{all_services, operation_for3, silent3, in_six_words, heard_as, one_heard, pull_heard, operation_heard, commonly}
 use Rattle.mixed.specs.Reaction.{on_pull3, coming_up3, on_status3, on_services_request, reaction3}
-
--- what is owed for what was heard
-module _ (n : ℕ) where
-  pub deed-request : (x : Heard) → x ≡ heard.Request → One (StatusUp n) ≡ deed_for n x
-  deed-request x e = rw e refl
-
-  pub deed-no-data : (x : Heard) (id : ℕ) → x ≡ heard.NotVersionedData id → One (Unknown n id) ≡ deed_for n x
-  deed-no-data x id e = rw e refl
-
-  pub deed-not-in-table : (x : Heard) (id : ℕ) → x ≡ heard.NotInTable id → One (Unknown n id) ≡ deed_for n x
-  deed-not-in-table x id e = rw e refl
-
-  pub deed-none : (x : Heard) → (x ≡ heard.Request → ⊥) → ((id : ℕ) → x ≡ heard.NotVersionedData id → ⊥) → ((id : ℕ) → x ≡ heard.NotInTable id → ⊥)
-      → Nothing ≡ deed_for n x
-  deed-none (heard.Status y) a b d = refl
-  deed-none heard.Request a b d = absurd (a refl)
-  deed-none (heard.UnknownOperation id) a b d = refl
-  deed-none heard.PullOfAll a b d = refl
-  deed-none (heard.PullOfOne id i) a b d = refl
-  deed-none (heard.NotVersionedData id) a b d = absurd (b id refl)
-  deed-none (heard.Operation i start len) a b d = refl
-  deed-none (heard.NotInTable id) a b d = absurd (d id refl)
 
 -- what is looked up
 module _ (t : List ℕ) (s : Sections) (index : List ℕ) (h : Header3) where
@@ -122,19 +99,8 @@ module _ (ours : List ℕ) (p : Standing) (n id : ℕ) where
   tells-one b e d =
       ap telling (ap (TellOne n id) d ∙ sym (no_eq {A = Deed} (TellAll n) (TellOne n id (ours_available ours id)) id all_services e))
 
--- what both issues have
-pub as_heard : (p : Standing) (n : ℕ) (x : Heard) (d : Deed) → d ≡ deed_for n x
-    → ◌≡◌ {A = Reaction3} (record { standing = p; heard = heard3.Common x; deed = d }) (heard_as p n x)
-as_heard p n x d e = ap (λ (y : Deed). record { standing = p; heard = heard3.Common x; deed = y }) e
-
 -- `pull_heard`, `one_heard`, `operation_heard`
 module _ (t : List ℕ) (f : Option (ℕ × ℕ)) (id : ℕ) where
-  pub all-pulled : id ≡ all_data → heard.PullOfAll ≡ pull_heard t f id
-  all-pulled e = sym (yes-eq {A = Heard} heard.PullOfAll (one_heard t f id) id all_data e)
-
-  pub one-pulled : {x : Heard} → (id ≡ all_data → ⊥) → x ≡ one_heard t f id → x ≡ pull_heard t f id
-  one-pulled n e = e ∙ sym (no_eq {A = Heard} heard.PullOfAll (one_heard t f id) id all_data n)
-
   module _ (i q k : ℕ) (e : f ≡ Some (i, q)) (ek : k ≡ kind_at t q) where
     pub is-pulled : k ≡ data_kind → heard.PullOfOne id i ≡ one_heard t f id
     unfolding is_data

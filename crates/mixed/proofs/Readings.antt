@@ -1,59 +1,31 @@
 -- What the functions of `reader` answer at their returns.
 -- Assumes nothing.
-use Prim.Native.Nat.{ℕ, zero, suc}
+use Prim.Native.Nat.{ℕ}
 use mathlib.Core.Path.{◌≡◌, refl, sym, ap, ◌∙◌}
 use mathlib.Core.Bool.{Bool, true, false, not, cond, ◌&&◌}
 use mathlib.Core.List.{List}
 use lib.Dec.{eqb}
-use Rattle.wire.specs.Bytes.{part}
 use Rattle.wire.proofs.Cond.{yes-if, no-if}
-use Rattle.message.specs.declared.Header.{Header}
-use Rattle.message.specs.declared.Message.{Message}
 use Rattle.message.specs.declared.Reading.{Reading}
-use Rattle.message.specs.declared.Reading.TheVariants as six
 use Rattle.message.specs.Header.{the_version, version_in, sender_in}
 use Rattle.message.specs.Refusal.{frame_refusal}
 use Rattle.message.specs.Reading.{read_of}
-use Rattle.message3.specs.declared.Header3.{Header3}
-use Rattle.message3.specs.declared.Message3.{Message3}
 use Rattle.message3.specs.declared.Reading3.{Reading3}
-use Rattle.message3.specs.declared.Reading3.TheVariants as three
 use Rattle.message3.specs.Header.{sender_in3}
 use Rattle.message3.specs.Reading.{read_of3}
 use Rattle.partners.specs.Threes.{is_three}
 use Rattle.mixed.specs.declared.Form.{Form}
 use Rattle.mixed.specs.declared.Form.TheVariants as form
 use Rattle.mixed.specs.declared.AnyReading.{AnyReading}
-use Rattle.mixed.specs.declared.AnyReading.TheVariants.{Refused, Six, Three}
+use Rattle.mixed.specs.declared.AnyReading.TheVariants.{Refused}
 use Rattle.mixed.specs.Form.{three_form}
-use Rattle.mixed.specs.Reading.{other_issue, form_of, from_six, from_three, any_of, payload_of}
+use Rattle.mixed.specs.Reading.{other_issue, form_of, from_six, from_three, any_of}
 use Rattle.mixed.proofs.Issues.{read_by, by_form}
 
 pub the_form : {version sender : ℕ} {speaks : Bool} (i s : List ℕ) → sender ≡ sender_in3 s → version ≡ version_in s → speaks ≡ is_three i sender
     → (not (eqb version the_version) && speaks) ≡ three_form i s
 unfolding three_form
 the_form i s p q r = rw (q, r, p) refl
-
-pub other_version : (n : ℕ) → (n ≡ 1 → ⊥) → (n ≡ 2 → ⊥) → 3 ≡ other_issue n
-other_version zero a b = refl
-other_version (suc zero) a b = absurd (a refl)
-other_version (suc (suc zero)) a b = absurd (b refl)
-other_version (suc (suc (suc n))) a b = refl
-
--- what was read under one issue
-module _ (x : Reading) where
-  pub six-refused : (n : ℕ) → x ≡ six.Refused n → Refused n ≡ from_six x
-  six-refused n e = ap from_six (sym e)
-
-  pub six-read : (h : Header) (m : Message) (start len : ℕ) → x ≡ six.Read h m start len → Six h m start len ≡ from_six x
-  six-read h m start len e = ap from_six (sym e)
-
-module _ (x : Reading3) where
-  pub three-refused : (n : ℕ) → x ≡ three.Refused n → Refused n ≡ from_three x
-  three-refused n e = ap from_three (sym e)
-
-  pub three-read : (h : Header3) (m : Message3) (start len : ℕ) → x ≡ three.Read h m start len → Three h m start len ≡ from_three x
-  three-read h m start len e = ap from_three (sym e)
 
 -- `form_of` by its two tests
 module _ (i s : List ℕ) (three : Bool) (e : three ≡ three_form i s) where
@@ -88,11 +60,3 @@ module _ (i : List ℕ) (own : ℕ) (s : List ℕ) (x : Form) (e : x ≡ form_of
 
   pub not-its-issue : {n : ℕ} → x ≡ form.Other n → Refused n ≡ any_of i own s
   not-its-issue {n} f = its-reading (form.Other n) f
-
--- the payload of either
-module _ {u : List ℕ} {r : AnyReading} (s : List ℕ) where
-  pub six-payload : (h : Header) (m : Message) (start len : ℕ) → r ≡ Six h m start len → u ≡ part s start len → u ≡ payload_of s r
-  six-payload h m start len e d = d ∙ ap (payload_of s) (sym e)
-
-  pub three-payload : (h : Header3) (m : Message3) (start len : ℕ) → r ≡ Three h m start len → u ≡ part s start len → u ≡ payload_of s r
-  three-payload h m start len e d = d ∙ ap (payload_of s) (sym e)

@@ -2,49 +2,27 @@
 -- Assumes nothing.
 use Prim.Native.Nat.{ℕ}
 use Rattle.std.specs.Prelude.{Option}
-use mathlib.Core.Path.{◌≡◌, refl, sym, ap, ap₂, ◌∙◌}
+use mathlib.Core.Path.{◌≡◌, refl, sym, ap, ◌∙◌}
 use mathlib.Core.Bool.{Bool, true, false}
 use mathlib.Core.List.{List}
 use lib.ListN.{length}
 use Rattle.wire.specs.Bytes.{over}
 use Rattle.wire.proofs.Cond.{yes-eq, no_eq}
 use Rattle.pending.specs.Answers.{is_response}
-use Rattle.message.specs.declared.Header.{Header}
 use Rattle.message3.specs.declared.Stamp.{Stamp}
 use Rattle.message3.specs.declared.Header3.{Header3}
 use Rattle.message3.specs.declared.Message3.{Message3}
 use Rattle.message3.specs.declared.Message3.TheVariants as message3
 use Rattle.platform.specs.declared.reactions.Standing.{Standing}
-use Rattle.platform.specs.declared.reactions.Heard.{Heard}
-use Rattle.platform.specs.declared.Noting.{Noting}
-use Rattle.platform.specs.declared.Noting.TheVariants as noting
-use Rattle.platform.specs.declared.Received.{Received}
-use Rattle.platform.specs.Receiving.{is_sent, entry_of}
-use Rattle.mixed.specs.declared.AnyAnswer.TheVariants.{Six, SixResponse, ThreeResponse}
+use Rattle.platform.specs.Receiving.{is_sent}
 use Rattle.mixed.specs.declared.AnyReceived.{AnyReceived}
 use Rattle.mixed.specs.declared.reactions.Reaction3.{Reaction3}
 use Rattle.mixed.specs.declared.reactions.Room.{Room}
 use Rattle.mixed.specs.declared.reactions.Room.TheVariants.{Short, Enough}
 use Rattle.mixed.specs.Replies.{deed_bytes, room_for}
 use Rattle.mixed.specs.Keeping.{kept_number, kept_words}
-use Rattle.mixed.specs.Receiving.{from_noting, from_received, refused_any, is_answer3, delivered3, response_to3, taken3, settled_by, laid_out_by, kept_by}
+use Rattle.mixed.specs.Receiving.{refused_any, is_answer3, delivered3, response_to3, taken3, settled_by, laid_out_by, kept_by}
 use Rattle.mixed.specs.Receiving.{settled3, laid3, kept3}
-
--- Issue 6's answers
-module _ (r : Received) where
-  abbrev with-answer : Noting → AnyReceived
-  with-answer a = record { standing = r.standing; answer = from_noting a }
-
-  pub six-refused : {x : AnyReceived} (n : ℕ) → r.answer ≡ noting.Refused n → x ≡ refused_any r.standing n → x ≡ from_received r
-  six-refused n e d = d ∙ ap with-answer (sym e)
-
-  pub six-noted : (h : Header) (x : Heard) (n : ℕ) → r.answer ≡ noting.Noted h x n
-      → ◌≡◌ {A = AnyReceived} (record { standing = r.standing; answer = Six h x n }) (from_received r)
-  six-noted h x n e = ap with-answer (sym e)
-
-  pub six-response : (h : Header) (i start len : ℕ) → r.answer ≡ noting.Response h i start len
-      → ◌≡◌ {A = AnyReceived} (record { standing = r.standing; answer = SixResponse h i start len }) (from_received r)
-  six-response h i start len e = ap with-answer (sym e)
 
 -- a response
 module _ (t : List ℕ) (f : Option (ℕ × ℕ)) where
@@ -65,10 +43,6 @@ module _ (t : List ℕ) (f : Option (ℕ × ℕ)) where
   of-another (message3.CompositeChangeRequestAck a) k = refl
   of-another message3.Operation k = absurd (k refl)
 
-pub delivered_is : (f : Option (ℕ × ℕ)) (p : Standing) (h : Header3) (start len i : ℕ) → i ≡ entry_of f
-    → ◌≡◌ {A = AnyReceived} (record { standing = p; answer = ThreeResponse h i start len }) (delivered3 f p h start len)
-delivered_is f p h start len i e = ap (λ (n : ℕ). record { standing = p; answer = ThreeResponse h n start len }) e
-
 module _ (l : List ℕ) (f : Option (ℕ × ℕ)) (p : Standing) (h : Header3) (start len : ℕ) (b : Bool) (e : b ≡ is_response l h.sequence h.id h.platform)
     (r : AnyReceived) where
   pub is-awaited : b ≡ true → r ≡ delivered3 f p h start len → r ≡ response_to3 l f p h start len
@@ -82,9 +56,6 @@ module _ (l : List ℕ) (f : Option (ℕ × ℕ)) (p : Standing) (h : Header3) (
 -- services and replies
 module _ (own : ℕ) (t : Stamp) (c : ℕ) (i ours : List ℕ) (p : Standing) (h : Header3) (x : Reaction3) (payload ws : List ℕ) where
   module _ (room : ℕ) (q : Room) (e : q ≡ room_for ours x.deed room) where
-    pub enough-room : (n : ℕ) → q ≡ Enough n → room_for ours x.deed room ≡ Enough n
-    enough-room n f = sym e ∙ f
-
     pub short : (n : ℕ) (r : AnyReceived) → q ≡ Short n → r ≡ refused_any p n → r ≡ settled3 i ours p h x payload ws room
     unfolding settled3
     short n r f d = d ∙ ap (λ (y : Room). settled_by y (kept_number i h.platform x.deed payload ws) p h x) (sym f ∙ e)
@@ -130,14 +101,3 @@ module _ (own : ℕ) (t : Stamp) (c : ℕ) (i ours : List ℕ) (p : Standing) (h
 
       pub not-laid : (k ≡ 0 → ⊥) → out ≡ laid3 own t c i ours h x payload ws out
       not-laid z = sym (no_eq bytes_of out k 0 z) ∙ laid_by
-
--- the reaction to a message
-module _ (i ours : List ℕ) (p : Standing) (h : Header3) (x y : Reaction3) (v w ws : List ℕ) (ex : x ≡ y) (ev : v ≡ w) where
-  pub reacted-answer : (room : ℕ) (r : AnyReceived) → r ≡ settled3 i ours p h x v ws room → r ≡ settled3 i ours p h y w ws room
-  reacted-answer room r d = d ∙ ap₂ (λ (a : Reaction3) (b : List ℕ). settled3 i ours p h a b ws room) ex ev
-
-  pub reacted-output : (own : ℕ) (t : Stamp) (c : ℕ) (out o : List ℕ) → o ≡ laid3 own t c i ours h x v ws out → o ≡ laid3 own t c i ours h y w ws out
-  reacted-output own t c out o d = d ∙ ap₂ (λ (a : Reaction3) (b : List ℕ). laid3 own t c i ours h a b ws out) ex ev
-
-  pub reacted-words : (room : ℕ) (a : List ℕ) → a ≡ kept3 i ours h x v ws room → a ≡ kept3 i ours h y w ws room
-  reacted-words room a d = d ∙ ap₂ (λ (z : Reaction3) (b : List ℕ). kept3 i ours h z b ws room) ex ev

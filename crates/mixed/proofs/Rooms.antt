@@ -15,12 +15,11 @@ use Rattle.wire.proofs.Cond.{yes_lt, no_lt, yes_le, no_le}
 use Rattle.message.specs.Refusal.{wrong_size, no_room}
 use Rattle.message3.specs.declared.Stamp.{Stamp}
 use Rattle.platform.specs.declared.reactions.Reply.{Reply}
-use Rattle.platform.specs.declared.reactions.Reply.TheVariants.{StatusUp, PullAll, Unknown}
 use Rattle.mixed.specs.declared.reactions.Deed.{Deed}
 use Rattle.mixed.specs.declared.reactions.Deed.TheVariants.{Nothing, One, StartUp, TellAll, TellOne, Note, MarkAll}
 use Rattle.mixed.specs.declared.reactions.Room.{Room}
 use Rattle.mixed.specs.declared.reactions.Room.TheVariants.{Short, Enough}
-use Rattle.mixed.specs.Replies.{field_length, reply_length3, reply_bytes3, start_up_length, start_up_bytes, state_told, pairs_of, services_message}
+use Rattle.mixed.specs.Replies.{reply_length3, reply_bytes3, start_up_length, start_up_bytes, state_told, pairs_of, services_message}
 use Rattle.mixed.specs.Replies.{head_length, pair_length, most_ours, deed_bytes, fitting, room_for}
 use Rattle.mixed.specs.contracts.reactions.Deed.{the_type as deed-type}
 
@@ -29,11 +28,6 @@ fits_not n room h = sym (yes_lt {A = Room} (Short no_room) (Enough n) room n h)
 
 pub fits : (n room : ℕ) → n ≤ room → Enough n ≡ fitting n room
 fits n room h = sym (no_lt {A = Room} (Short no_room) (Enough n) room n h)
-
-pub field_long : (r : Reply) → ((n : ℕ) → r ≡ StatusUp n → ⊥) → field_length ≡ reply_length3 r
-field_long (StatusUp n) h = absurd (h n refl)
-field_long (PullAll n) h = refl
-field_long (Unknown n id) h = refl
 
 -- the room that each deed takes
 abbrev unwritten : List ℕ

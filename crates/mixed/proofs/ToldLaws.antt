@@ -8,7 +8,6 @@ use native.Mathlib.Numerals.{add-one}
 use native.Mathlib.Omega.{arith}
 use lib.Dec.{eqb}
 use lib.ListN.{length, take, get_or, take-append-drop}
-use lib.Seq.{take_all}
 use Rattle.wire.specs.Bytes.{bytes, over, written}
 use Rattle.wire.proofs.Runs.{written_in, written_behind, over_over, length_over}
 use Rattle.message.specs.Header.{platform_domain}
@@ -111,7 +110,3 @@ module _ (ours out : List ℕ) where
       ee ∙ ap (λ (y : ℕ). over m (head_length + pair_length * i) (pair_bytes (pairs_of (y ∷ [])))) ew ∙ ap₂ (λ (x : List ℕ) (y : ℕ). over x y B) em p
       ∙ over_over out head_length A B (omega arith)
       ∙ ap (over out head_length) (sym (next ours i l) ∙ ap (λ (k : ℕ). pair_bytes (pairs_of (take k ours))) (sym (add-one i)))
-
-  pub all_there : {m : List ℕ} (i : ℕ) → length ours ≤ i → m ≡ over out head_length (pair_bytes (pairs_of (take i ours)))
-      → m ≡ over out head_length (pair_bytes (pairs_of ours))
-  all_there i h e = e ∙ ap (λ (x : List ℕ). over out head_length (pair_bytes (pairs_of x))) (take_all i ours h)

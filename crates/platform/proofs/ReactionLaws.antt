@@ -19,13 +19,12 @@ use Rattle.message.specs.Refusal.{platforms}
 use Rattle.message.specs.declared.Reading.{Reading}
 use Rattle.message.specs.declared.Reading.TheVariants as reading
 use Rattle.wire.proofs.Cond.{yes_lt, no_lt, yes-eq, no_eq}
-use Rattle.states.specs.declared.States.{States}
 use Rattle.platform.specs.declared.reactions.Standing.{Standing}
 use Rattle.platform.specs.declared.reactions.Heard.TheVariants as heard
 use Rattle.platform.specs.declared.reactions.Reply.TheVariants.{StatusUp, PullAll, Unknown}
 use Rattle.platform.specs.declared.reactions.Owed.TheVariants as owed
 use Rattle.platform.specs.declared.reactions.Reaction.{Reaction}
-use Rattle.states.specs.States.{stands_up, turned}
+use Rattle.states.specs.States.{stands_up}
 use Rattle.platform.specs.Replies.{all_data}
 use Rattle.platform.specs.Reaction.{operation_for, operation_in, is_data, some_data, silent, replied, noted, coming_up}
 use Rattle.platform.specs.Reaction.{on_state, on_status, not_versioned, on_pull_all, on_pull_one, on_pull, on_operation, reaction_to}
@@ -67,11 +66,6 @@ module _ (t : List ℕ) (s : Sections) (index : List ℕ) (x : Reading) where
 pub is-data : (t : List ℕ) (p k : ℕ) → k ≡ kind_at t p → eqb k 1 ≡ is_data t p
 unfolding is_data
 is-data t p k e = ap (λ (n : ℕ). eqb n 1) e
-
--- a status
-pub noted_is : (p : Standing) (sender n : ℕ) (a : States) → a ≡ turned p.states sender
-    → ◌≡◌ {A = Standing} (record { states = a; next = n }) (noted p sender n)
-noted_is p sender n a e = ap (λ (x : States). record { states = x; next = n }) e
 
 pub came_up_is : (p q : Standing) (sender b d : ℕ) → b ≡ drawn p.next → d ≡ drawn b → q ≡ noted p sender d
     → ◌≡◌ {A = Reaction} (record { standing = q; heard = heard.Status Up; owed = owed.Two (StatusUp p.next) (PullAll b) }) (coming_up p sender)

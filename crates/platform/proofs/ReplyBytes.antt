@@ -9,7 +9,7 @@ use borrow.Rule.Slice.PartMut.{put_mid}
 use lib.ListN.{length, take, drop, length-append, length-drop}
 use lib.Seq.{take_all, drop-length, drop-drop}
 use Rattle.wire.specs.Bytes.{bytes, over, written}
-use Rattle.wire.proofs.Runs.{written_in, written_out, written_behind, over_over, length_over}
+use Rattle.wire.proofs.Runs.{written_in, written_out, written_behind, over_over}
 use Rattle.wire.proofs.Cond.{no_lt}
 use Rattle.message.specs.declared.Header.{Header}
 use Rattle.message.specs.Header.{header_length, platform_domain, header_bytes}
@@ -37,16 +37,6 @@ module _ (o : Owed) (out : List ℕ) (w : ℕ) (l : w ≡ owed_length o) where
       sym (written_out out 0 (owed_bytes own o) (omega arith))
 
   module _ (h : w ≤ length out) where
-    pub room-for-first : (r q : Reply) → o ≡ Two r q → 0 + reply_length ≤ length out
-    room-for-first r q e = omega (arith, rw e at l)
-
-    pub room-for-second : (own : ℕ) (r q : Reply) (a : List ℕ) → o ≡ Two r q → a ≡ over out 0 (reply_bytes own r) → reply_length + reply_length ≤ length a
-    room-for-second own r q a e v =
-        let k : w ≡ reply_length + reply_length = rw e at l in
-        let n : length (reply_bytes own r) ≡ reply_length = length_reply own r in
-        let z : length a ≡ length out = ap length v ∙ length_over out 0 (reply_bytes own r) (omega arith) in
-        omega arith
-
     module _ (own : ℕ) where
       pub lay-none : o ≡ Nothing → out ≡ written out 0 (owed_bytes own o)
       unfolding owed_bytes

@@ -9,14 +9,12 @@ use Rattle.wire.specs.Bytes.{over, written}
 use Rattle.wire.proofs.Runs.{written_in}
 use Rattle.wire.proofs.Cond.{yes_lt, no_lt}
 use Rattle.message.specs.declared.Header.{Header}
-use Rattle.states.specs.declared.States.{States}
-use Rattle.states.specs.States.{fresh_states}
 use Rattle.platform.specs.declared.reactions.Standing.{Standing}
 use Rattle.platform.specs.declared.reactions.Reaction.{Reaction}
 use Rattle.platform.specs.Replies.{owed_bytes, owed_length}
 use Rattle.platform.proofs.ReplyBytes.{length_owed}
 use Rattle.platform.specs.declared.Received.{Received}
-use Rattle.platform.specs.Receiving.{fresh_standing, refused, taken, answered, laid_out}
+use Rattle.platform.specs.Receiving.{refused, taken, answered, laid_out}
 
 -- the replies fit, or 10
 module _ (p : Standing) (h : Header) (x : Reaction) (w : ℕ) (e : w ≡ owed_length x.owed) where
@@ -40,7 +38,3 @@ module _ (own : ℕ) (x : Reaction) (w : ℕ) (e : w ≡ owed_length x.owed) (ou
       let n : length (owed_bytes own x.owed) ≡ owed_length x.owed = length_owed own x.owed in
       d ∙ written_in out 0 (owed_bytes own x.owed) (omega arith)
       ∙ sym (no_lt out (over out 0 (owed_bytes own x.owed)) (length out) (owed_length x.owed) (omega arith))
-
--- the start
-pub fresh_is : (own : ℕ) (a : States) → a ≡ fresh_states own → ◌≡◌ {A = Standing} (record { states = a; next = 0 }) (fresh_standing own)
-fresh_is own a e = ap (λ (x : States). record { states = x; next = 0 }) e

@@ -2,7 +2,7 @@
 -- Assumes nothing.
 use Prim.Native.Nat.{ℕ}
 use Rattle.std.specs.Prelude.{Option, Some, None}
-use mathlib.Core.Path.{◌≡◌, refl, sym, ap, ◌∙◌}
+use mathlib.Core.Path.{◌≡◌, refl, sym, ◌∙◌}
 use mathlib.Core.Bool.{Bool, true, false}
 use mathlib.Core.List.{List}
 use lib.Dec.{eqb}
@@ -13,7 +13,6 @@ use Rattle.message.specs.declared.Message.TheVariants as message
 use Rattle.pending.specs.Answers.{is_response}
 use Rattle.wire.proofs.Cond.{yes-if, no-if}
 use Rattle.platform.specs.declared.reactions.Standing.{Standing}
-use Rattle.platform.specs.declared.Noting.TheVariants.{Response}
 use Rattle.platform.specs.declared.Received.{Received}
 use Rattle.platform.specs.Receiving.{refused, not_awaited, is_sent, is_answer, entry_of, delivered, response_to}
 
@@ -43,10 +42,6 @@ found_entry f i p e = rw e refl
 
 pub no_entry : (f : Option (ℕ × ℕ)) → f ≡ None → 0 ≡ entry_of f
 no_entry f e = rw e refl
-
-pub delivered_is : (f : Option (ℕ × ℕ)) (p : Standing) (h : Header) (start len i : ℕ) → i ≡ entry_of f
-    → ◌≡◌ {A = Received} (record { standing = p; answer = Response h i start len }) (delivered f p h start len)
-delivered_is f p h start len i e = ap (λ (n : ℕ). record { standing = p; answer = Response h n start len }) e
 
 module _ (l : List ℕ) (f : Option (ℕ × ℕ)) (p : Standing) (h : Header) (start len : ℕ) (b : Bool) (e : b ≡ is_response l h.sequence h.id h.platform)
     (r : Received) where

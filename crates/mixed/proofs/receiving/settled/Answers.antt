@@ -1,6 +1,6 @@
 -- `mixed::receiving::settled` meets its contract: there is no room, no place for its services, or all is written.
 -- Assumes nothing.
-use Rattle.mixed.proofs.Receipts.{enough-room, short, short-output, short-words, all-kept, all_laid, enough-words, not-kept, not-laid}
+use Rattle.mixed.proofs.Receipts.{short, short-output, short-words, all-kept, all_laid, enough-words, not-kept, not-laid}
 use Rattle.mixed.proofs.receiving.settled.Goals as goal
 
 pub returns-in-Short-clause-answer : goal.returns-in-Short-clause-answer

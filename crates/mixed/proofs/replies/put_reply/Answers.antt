@@ -1,6 +1,6 @@
 -- `mixed::replies::put_reply` meets its contract: each reply is its message.
 -- Assumes nothing.
-use Rattle.mixed.proofs.LaidReplies.{room-for-status, room-for-pull, room-for-unknown, is-status, is-pull, is-unknown}
+use Rattle.mixed.proofs.LaidReplies.{is-status, is-pull, is-unknown}
 use Rattle.mixed.proofs.replies.put_reply.Goals as goal
 
 pub returns-in-StatusUp : goal.returns-in-StatusUp

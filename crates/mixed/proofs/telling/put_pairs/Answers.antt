@@ -1,5 +1,5 @@
 -- `mixed::telling::put_pairs`: its loop and its return, by the laws of `ToldLaws`.
-use Rattle.mixed.proofs.ToldLaws.{none_yet, one_more, all_there}
+use Rattle.mixed.proofs.ToldLaws.{none_yet, one_more}
 use Rattle.mixed.proofs.telling.put_pairs.Goals as goal
 
 pub loop-i-init : goal.loop-i-init

@@ -1,6 +1,6 @@
 -- `platform::replies::lay` meets its contract: the replies stand one behind another, or nothing changes.
 -- Assumes nothing.
-use Rattle.platform.proofs.ReplyBytes.{room-for-first, room-for-second, lay-not, lay-none, lay-one, lay-two}
+use Rattle.platform.proofs.ReplyBytes.{lay-not, lay-none, lay-one, lay-two}
 use Rattle.platform.proofs.replies.lay.Goals as goal
 
 pub returns-in-Nothing : goal.returns-in-Nothing
