@@ -1,6 +1,7 @@
 -- A message cut up is what a sender sends whose one message has all its pieces arrive once.
 -- Assumes nothing.
 use Prim.Native.Nat.{ℕ, zero, suc, ◌+◌, ◌-◌, ◌*◌, ◌≤◌, ◌<◌}
+use Rattle.promises.proofs.SetUps.{its_joiner}
 use mathlib.Core.Path.{◌≡◌, refl, sym, ap, ap₂, ◌∙◌}
 use mathlib.Core.Bool.{Bool, true, false, cond, ◌&&◌, ◌||◌}
 use mathlib.Core.List.{List, [], ◌∷◌, ◌++◌}
@@ -151,7 +152,7 @@ cut_and_joined ids R rooms k msg s first g =
     let n : ℕ = piece_count (length msg) s in
     let some : 1 ≤ n = count-some (length msg) s w.size w.some in
     let e : suc (n - 1) ≡ n = omega arith in
-    let range : get_or ids k 0 < senders = (accepted ids R (length rooms) g.set_up).range k g.known in
+    let range : get_or ids k 0 < senders = (accepted ids R (length rooms) (its_joiner ids R (length rooms) g.set_up)).range k g.known in
     let ps : Message = piecesFrom msg s 0 n in
     let all : together ps ≡ msg =
     pieces-together msg s 0 n ∙ ap (λ (i : ℕ). take (n * s) (drop i msg)) (zero-mul s) ∙ take_all (n * s) msg (covered (length msg) s w.size) in

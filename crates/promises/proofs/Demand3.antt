@@ -1,7 +1,8 @@
 -- Demand 3.
 -- Assumes nothing.
 use Prim.Native.Nat.{ℕ, ◌<◌}
-use Rattle.std.specs.Prelude.{Ok}
+use Rattle.promises.proofs.SetUps.{its_joiner}
+use Rattle.std.specs.Prelude.{Ok, IsOk}
 use mathlib.Core.Path.{◌≡◌, refl, sym, ap, ap₂, subst, ◌∙◌}
 use Rattle.joiner.proofs.Standing.{Standing}
 use mathlib.Core.Logic.{inr}
@@ -23,7 +24,10 @@ use Rattle.promises.proofs.Agrees.{machine, same_deliveries}
 use Rattle.promises.proofs.Arrivals.{events, fit_messages}
 
 -- a fresh joiner, and the view of a channel in it
-module _ (ids : List ℕ) (R : ℕ) (rooms : List ℕ) (ok : setup_of ids R (length rooms) ≡ Ok (fresh_of ids R)) where
+module _ (ids : List ℕ) (R : ℕ) (rooms : List ℕ) (fine : IsOk (setup_of ids R (length rooms))) where
+  ok : setup_of ids R (length rooms) ≡ Ok (fresh_of ids R)
+  ok = its_joiner ids R (length rooms) fine
+
   joiner : fresh ids R rooms ≡ fresh_of ids R
   joiner = ap given ok
 
@@ -41,7 +45,7 @@ module _ (ids : List ℕ) (R : ℕ) (rooms : List ℕ) (ok : setup_of ids R (len
 
 -- one channel with a genuine sender, whatever the others do
 pub on_channel : (ids : List ℕ) (R : ℕ) (rooms : List ℕ) (s : Sender) (traffic : List Datagram) (k : ℕ) → k < length ids
-    → setup_of ids R (length rooms) ≡ Ok (fresh_of ids R) → Genuine R s → of_channel ids k traffic ≡ arrives (get_or ids k 0) s → AreBytes traffic
+    → IsOk (setup_of ids R (length rooms)) → Genuine R s → of_channel ids k traffic ≡ arrives (get_or ids k 0) s → AreBytes traffic
     → delivered_on ids k (fresh ids R rooms) rooms traffic ≡ complete_of s.messages
 on_channel ids R rooms s traffic k h ok w mixed o =
     let v : View = record { channel = new_channel (get_or ids k 0); bytes = [] } in
@@ -50,7 +54,7 @@ on_channel ids R rooms s traffic k h ok w mixed o =
     ∙ ap (view_delivers (room_of R k) v) mixed
     ∙ same_deliveries (room_of R k) v (arrives (get_or ids k 0) s) refl
     ∙ ap (deliveries R (machine v))
-    (events (get_or ids k 0) ((accepted ids R (length rooms) ok).range k h) s.first (sent_by s.messages) w.counter
+    (events (get_or ids k 0) ((accepted ids R (length rooms) (its_joiner ids R (length rooms) ok)).range k h) s.first (sent_by s.messages) w.counter
     (fit_messages R s.messages w.messages))
     ∙ messages R s.messages w.messages (machine v) s.first 0 (inr (record { unseen = refl; empty = refl; hold = refl })) w.counter w.losses
 
@@ -59,7 +63,7 @@ demand_3 ids R rooms sender traffic g k h = on_channel ids R rooms (sender k) tr
 
 pub mix_makes_no_difference : MixMakesNoDifference
 mix_makes_no_difference ids R rooms rooms' k one other a =
-    let ok' : setup_of ids R (length rooms') ≡ Ok (fresh_of ids R) = ap (setup_of ids R) a.as_long ∙ a.set_up in
+    let ok' : IsOk (setup_of ids R (length rooms')) = subst (λ (n : ℕ). IsOk (setup_of ids R n)) (sym a.as_long) a.set_up in
     let p = through ids R k a.known one a.bytes (fresh ids R rooms) rooms (underway ids R rooms a.set_up) in
     let q = through ids R k a.known other a.bytes' (fresh ids R rooms') rooms' (underway ids R rooms' ok') in
     let v : view_of (fresh ids R rooms) rooms k ≡ view_of (fresh ids R rooms') rooms' k = at_first ids R rooms a.set_up k a.known

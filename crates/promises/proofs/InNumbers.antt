@@ -1,7 +1,8 @@
 -- What the user grants in 01's numbers is what demand 3 is proved for.
 -- Assumes nothing.
 use Prim.Native.Nat.{ℕ, zero, suc, ◌+◌, ◌-◌, ◌*◌, ◌/◌, ◌%◌, ◌≤◌, ◌<◌}
-use Rattle.std.specs.Prelude.{Ok}
+use Rattle.promises.proofs.SetUps.{its_joiner, is_accepted}
+use Rattle.std.specs.Prelude.{Ok, IsOk}
 use mathlib.Core.Path.{◌≡◌, refl, sym, ap, ◌∙◌}
 use mathlib.Core.Bool.{Bool, true, false, cond, not, ◌&&◌, ◌||◌, true≢false}
 use mathlib.Core.Logic.{inl, inr, ⊎_elim}
@@ -30,9 +31,9 @@ acceptable ids R b s =
 pub set_ups : (ids : List ℕ) (R b : ℕ) → CanSetUp ids R b → setup_of ids R b ≡ Ok (fresh_of ids R)
 set_ups ids R b s = accepts ids R b (acceptable ids R b s)
 
-set_ups_back : (ids : List ℕ) (R b : ℕ) → setup_of ids R b ≡ Ok (fresh_of ids R) → CanSetUp ids R b
-set_ups_back ids R b e =
-    let a : Acceptable ids R b = accepted ids R b e in
+set_ups_back : (ids : List ℕ) (R b : ℕ) → IsOk (setup_of ids R b) → CanSetUp ids R b
+set_ups_back ids R b h =
+    let a : Acceptable ids R b = accepted ids R b (its_joiner ids R b h) in
     record { some = a.some; few = a.few; wide = a.wide; narrow = a.narrow; whole = a.whole; range = a.range; once = a.once }
 
 -- the pieces of a message
@@ -232,7 +233,7 @@ pub granted : (ids : List ℕ) (R : ℕ) (rooms : List ℕ) (sender : ℕ → Se
     → Granted ids R rooms sender traffic
 granted ids R rooms sender traffic g =
     record {
-      set_up = set_ups ids R (length rooms) g.set_up;
+      set_up = is_accepted (setup_of ids R (length rooms)) (set_ups ids R (length rooms) g.set_up);
       genuine = λ k h. genuine_is R (sender k) (g.genuine k h);
       mixed = g.mixed;
       bytes = g.bytes;

@@ -170,4 +170,5 @@ mod MixedRequestsAlong
 mod OneMixedRun
 pub mod MixedRequestRuns
 pub mod WrongMixedListings
-mod UniqueMessages
+mod SetUps
+pub mod UniqueMessages

@@ -1,6 +1,7 @@
 -- Demand 3 for the linked calls: what the contracts allow is a run over joiners.
 -- Assumes nothing.
 use Prim.Native.Nat.{ℕ, ◌-◌, ◌<◌}
+use Rattle.promises.proofs.SetUps.{its_joiner, is_accepted}
 use Rattle.std.specs.Prelude.{Result}
 use Rattle.refusal.specs.declared.Refusal.{Refusal}
 use mathlib.Core.Path.{◌≡◌, refl, sym, ap, ap₂, ◌∙◌}
@@ -83,7 +84,7 @@ as_joiners was out ids k (d ∷ ds) ws rooms w =
 
 pub as_a_joiner : AsAJoiner
 as_a_joiner was out ids R rooms sender traffic g k h =
-    let a : Acceptable ids R (length rooms) = accepted ids R (length rooms) g.set_up in
+    let a : Acceptable ids R (length rooms) = accepted ids R (length rooms) (its_joiner ids R (length rooms) g.set_up) in
     as_joiners was out ids k traffic (setup_words ids R (length rooms) was) rooms (set-length ids R (length rooms) a was)
     ∙ ap (λ (i : Joiner). delivered_on ids k i rooms traffic) (set_back ids R (length rooms) a was)
     ∙ demand_3 ids R rooms sender traffic g k h
@@ -170,7 +171,7 @@ module _ (ids : List ℕ) (R : ℕ) (rooms : List ℕ) (ds : List Datagram) (s :
   pub ran : (k : ℕ) (h : k < length ids) → AreBytes ds → InRun ids R k h x.state rooms ds x.calls
   ran k h o =
       let u : Underway ids R (joiner_in x.state) rooms =
-      rw start (underway ids R rooms (set_ups ids R (length rooms) s)) in
+      rw start (underway ids R rooms (is_accepted (setup_of ids R (length rooms)) (set_ups ids R (length rooms) s))) in
       in-run ids R k h x.run (ap length words ∙ set-length ids R (length rooms) ok x.was) o u
 
 pub the_mix_makes_no_difference : MixMakesNoDifference
@@ -183,7 +184,7 @@ the_mix_makes_no_difference ids R rooms rooms' k one other a x y =
     let i : joiner_in x.state ≡ fresh ids R rooms = start ids R rooms one s x in
     let i' : joiner_in y.state ≡ fresh ids R rooms' = start ids R rooms' other s' y in
     let m = mix_makes_no_difference ids R rooms rooms' k one other
-    (record { set_up = set_ups ids R (length rooms) s; as_long = a.as_long; known = a.known; same = a.same; bytes = a.bytes; bytes' = a.bytes' }) in
+    (record { set_up = is_accepted (setup_of ids R (length rooms)) (set_ups ids R (length rooms) s); as_long = a.as_long; known = a.known; same = a.same; bytes = a.bytes; bytes' = a.bytes' }) in
     record {
       delivered = p.delivered ∙ ap (λ (z : Joiner). delivered_on ids k z rooms one) i ∙ m.delivered
           ∙ sym (q.delivered ∙ ap (λ (z : Joiner). delivered_on ids k z rooms' other) i');

@@ -1,6 +1,8 @@
 -- What the linked calls cut is what is taken: the datagrams of `cut_up`, each at the start of its output.
 -- Assumes nothing.
 use Prim.Native.Nat.{ℕ, zero, suc, ◌+◌, ◌≤◌, ◌<◌}
+use Rattle.joiner.specs.Setup.{setup_of}
+use Rattle.promises.proofs.SetUps.{is_accepted}
 use Rattle.std.specs.Prelude.{Result, Ok}
 use Rattle.refusal.specs.declared.Refusal.{Refusal}
 use mathlib.Core.Path.{◌≡◌, refl, sym, ap, ap₂, ◌∙◌, subst}
@@ -113,7 +115,7 @@ cut_then_taken ids R rooms k msg s first g was n count p cuts r = (count-number 
           ∙ ap₂ (λ (j : Joiner) (ds : List Datagram). delivered_on ids k j rooms ds) (start ids R rooms (datagrams_in cuts) g.set_up x) same
           ∙ cut_and_joined ids R rooms k msg s first
           (record {
-            set_up = set_ups ids R (length rooms) g.set_up;
+            set_up = is_accepted (setup_of ids R (length rooms)) (set_ups ids R (length rooms) g.set_up);
             known = g.known;
             some = g.some;
             most = g.most;

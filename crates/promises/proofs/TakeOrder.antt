@@ -8,6 +8,8 @@ use native.Mathlib.Omega.{arith}
 use borrow.Author.Tests.{leb-true, ltb-true, ltb-false, le-leb}
 use lib.Dec.{eqb, leb, ltb}
 use lib.ListN.{length, get_or}
+use Rattle.std.specs.Prelude.{Ok}
+use Rattle.refusal.specs.Refusal.{refused}
 use Rattle.wire.proofs.Cond.{clash}
 use Rattle.binding.specs.Header.{sender_in, version_in}
 use Rattle.channel.specs.Record.{channel_limit}
@@ -22,7 +24,7 @@ use Rattle.joiner.proofs.Judging.{Good, good_says}
 use Rattle.joiner.proofs.Standing.{good_is}
 use Rattle.joiner.proofs.Accepted.{fresh-good, good-fresh}
 use Rattle.promises.specs.Checks.{◌when◌, Answers, none}
-use Rattle.promises.specs.Order.{CanSetUp, GoodJoiner, take_checks, its_channel, moved, kept_with, fresh, not_set_up}
+use Rattle.promises.specs.Order.{CanSetUp, GoodJoiner, take_checks, its_channel, moved, kept_with}
 use Rattle.promises.proofs.Checks.{Decides, not_decides, decides_same, unless, unless-then}
 use Rattle.promises.proofs.Order.{inside, version_decides}
 
@@ -49,10 +51,10 @@ can_decides ids R buffer = decides_same (acceptable_decides ids R buffer) there 
     back a =
         record { some = a.some; few = a.few; wide = a.wide; narrow = a.narrow; whole = a.whole; range = a.range; once = a.once }
 
-pub setup_in_order : (ids : List ℕ) (R buffer : ℕ) → Answers not_set_up (fresh ids R) (20 when (¬ (CanSetUp ids R buffer)) ∷ []) (setup_of ids R buffer)
+pub setup_in_order : (ids : List ℕ) (R buffer : ℕ) → Answers refused (Ok (fresh_of ids R)) (20 when (¬ (CanSetUp ids R buffer)) ∷ []) (setup_of ids R buffer)
 unfolding setup_of
 setup_in_order ids R buffer =
-    unless not_set_up (fresh ids R) (leb (length ids) channel_limit && good (fresh_of ids R) buffer) 20
+    unless refused (Ok (fresh_of ids R)) (leb (length ids) channel_limit && good (fresh_of ids R) buffer) 20
     (not_decides (leb (length ids) channel_limit && good (fresh_of ids R) buffer) (can_decides ids R buffer)) none
 
 -- a joiner that is handed in

@@ -5,9 +5,12 @@ use mathlib.Core.List.{[]}
 use Rattle.platform.specs.Receiving.{fresh_standing}
 use Rattle.platform.proofs.Unique.{same_outcome, same-output, same-list}
 use Rattle.promises.proofs.Lookups.{lookups}
-use Rattle.promises.specs.Unique.{WireUnique, MessageUnique, BindingUnique, ChannelUnique, JoinerUnique, TableUnique}
+use Rattle.promises.specs.Unique.{RefusalUnique, WireUnique, MessageUnique, BindingUnique, ChannelUnique, JoinerUnique, TableUnique}
 use Rattle.promises.specs.Unique.{LeafUnique, TypesUnique, WalkUnique, UnpackUnique, PackUnique, PayloadUnique}
 use Rattle.promises.specs.Unique.{StatesUnique, RecordingUnique, OnAccepted, Unique}
+
+refusal : RefusalUnique
+refusal = record { number = λ k a z z' e e' p q. p.0 ∙ sym q.0 }
 
 wire : WireUnique
 wire =
@@ -150,6 +153,7 @@ states =
       fresh = λ k a z z' e e' p q. p ∙ sym q;
       is_up = λ k a z z' e e' p q. p ∙ sym q;
       how-many-up = λ k a z z' e e' p q. p ∙ sym q;
+      mask = λ k a z z' e e' p q. p ∙ sym q;
       turned = λ k a z z' e e' p q. p ∙ sym q;
     }
 
@@ -177,6 +181,7 @@ on_accepted =
 pub unique : Unique
 unique =
     record {
+      refusal = refusal;
       wire = wire;
       message = message;
       binding = binding;

@@ -2,7 +2,7 @@
 -- its pieces is so at the outermost values, so that a demand of fewer has no proof here. The theorem is in proofs/AtLimits.antt; for
 -- demand 3 specs/InNumbers says it.
 use Rattle.std.specs.Prelude.{ℕ, suc, ◌<◌, ◌≡◌, false, List, ◌++◌, length}
-use Rattle.std.specs.Prelude.{Ok}
+use Rattle.std.specs.Prelude.{Ok, IsOk}
 use Rattle.wire.specs.Bytes.{Octets}
 use Rattle.table.specs.declared.Sections.{Sections}
 use Rattle.types.specs.Table.{checked}
@@ -13,7 +13,7 @@ use Rattle.message.specs.declared.Reading.TheVariants.{Read}
 use Rattle.message.specs.Reading.{read_of}
 use Rattle.binding.specs.declared.MessagePart.{MessagePart}
 use Rattle.binding.specs.Header.{header_of, header_bytes, heading_in}
-use Rattle.joiner.specs.Setup.{setup_of, fresh_of}
+use Rattle.joiner.specs.Setup.{setup_of}
 use Rattle.states.specs.declared.States.{States}
 use Rattle.states.specs.States.{stands_up, how_many_up, count_below, Words}
 use Rattle.platform.specs.declared.reactions.Standing.{Standing}
@@ -46,9 +46,9 @@ pub record AtLimits : Type 1 where
   pub shortest_piece : HeaderThenRead → (part : MessagePart) (piece : List ℕ) → length piece ≡ 1 →
       heading_in (header_bytes (header_of part 0 0) ++ piece) ≡ Ok (header_of part 0 0)
   -- a message of 65,560 bytes cut at 65,503; and one of a byte, cut at 1
-  pub cut : (ids rooms : List ℕ) (k : ℕ) (msg : List ℕ) → setup_of ids 65560 (length rooms) ≡ Ok (fresh_of ids 65560) → k < length ids →
+  pub cut : (ids rooms : List ℕ) (k : ℕ) (msg : List ℕ) → IsOk (setup_of ids 65560 (length rooms)) → k < length ids →
       length msg ≡ 65560 → Octets msg → Cut ids 65560 rooms k msg 65503 65535
-  pub cut_small : (ids rooms : List ℕ) (k : ℕ) (msg : List ℕ) → setup_of ids 24 (length rooms) ≡ Ok (fresh_of ids 24) → k < length ids →
+  pub cut_small : (ids rooms : List ℕ) (k : ℕ) (msg : List ℕ) → IsOk (setup_of ids 24 (length rooms)) → k < length ids →
       length msg ≡ 1 → Octets msg → Cut ids 24 rooms k msg 1 0
   -- the last type of a table
   pub known : (t : List ℕ) (s : Sections) (i : ℕ) → checked t ≡ Ok s → s.types.count ≡ suc i → Known t s i

@@ -1,8 +1,8 @@
 -- Demand 2: a message that is cut at any piece size and taken from fresh in order is delivered once, whole.
-use Rattle.std.specs.Prelude.{ℕ, zero, suc, ◌≤◌, ◌<◌, ◌≡◌, List, [], ◌∷◌, ◌⊎◌, length, get_or, Ok}
+use Rattle.std.specs.Prelude.{ℕ, zero, suc, ◌≤◌, ◌<◌, ◌≡◌, List, [], ◌∷◌, ◌⊎◌, length, get_or, Ok, IsOk}
 use Rattle.wire.specs.Bytes.{Octets}
 use Rattle.binding.specs.Cutting.{piece_count, datagram_of}
-use Rattle.joiner.specs.Setup.{setup_of, fresh_of}
+use Rattle.joiner.specs.Setup.{setup_of}
 use Rattle.promises.specs.Traffic.{Datagram, delivered_on}
 use Rattle.promises.specs.Traffic.{fresh}
 
@@ -16,7 +16,7 @@ abbrev pub cut_up : List ℕ → ℕ → ℕ → ℕ → List Datagram
 cut_up msg s sender first = datagrams_from msg s sender first 0 (piece_count (length msg) s)
 
 pub record Cut (ids : List ℕ) (R : ℕ) (rooms : List ℕ) (k : ℕ) (msg : List ℕ) (s first : ℕ) : Type 0 where
-  pub set_up : setup_of ids R (length rooms) ≡ Ok (fresh_of ids R)
+  pub set_up : IsOk (setup_of ids R (length rooms))
   pub known : k < length ids
   -- what `cut` takes: a message of 1 to 65,560 bytes, a piece size of 1 to 65,503, a counter below M
   pub some : 1 ≤ length msg

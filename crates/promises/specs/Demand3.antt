@@ -1,14 +1,14 @@
 -- Demand 3: "each channel delivers exactly those of its messages whose every piece arrived, in order, once each, and the mix makes
 -- no difference". The theorems are in proofs/Demand3.antt.
-use Rattle.std.specs.Prelude.{ℕ, ◌<◌, ◌≡◌, List, length, get_or, Ok}
-use Rattle.joiner.specs.Setup.{setup_of, fresh_of}
+use Rattle.std.specs.Prelude.{ℕ, ◌<◌, ◌≡◌, List, length, get_or, Ok, IsOk}
+use Rattle.joiner.specs.Setup.{setup_of}
 use Rattle.promises.specs.Senders.{Sender, Genuine, arrives, complete_of}
 use Rattle.promises.specs.Traffic.{Datagram, of_channel, Joining, delivered_by, fresh, our_joining, delivered_on, outcomes_on, left_on, AreBytes}
 
 -- what the user grants
 pub record Granted (ids : List ℕ) (R : ℕ) (rooms : List ℕ) (sender : ℕ → Sender) (traffic : List Datagram) : Type 0 where
   -- "each sender that was set up": the set-up was accepted; the rooms hold any bytes
-  pub set_up : setup_of ids R (length rooms) ≡ Ok (fresh_of ids R)
+  pub set_up : IsOk (setup_of ids R (length rooms))
   -- "number its datagrams in turn ... cut its messages ... lose ... never more than M-2 ... no message cut in two or more is longer
   -- than its room": each channel has a genuine sender, which may start at any counter
   pub genuine : (k : ℕ) → k < length ids → Genuine R (sender k)
@@ -29,7 +29,7 @@ Demand3 = Demand3For our_joining
 
 -- two traffics with the same datagrams of channel k in the same order, genuine or not, and any bytes in the rooms at the start
 pub record Alike (ids : List ℕ) (R : ℕ) (rooms rooms' : List ℕ) (k : ℕ) (one other : List Datagram) : Type 0 where
-  pub set_up : setup_of ids R (length rooms) ≡ Ok (fresh_of ids R)
+  pub set_up : IsOk (setup_of ids R (length rooms))
   pub as_long : length rooms' ≡ length rooms
   pub known : k < length ids
   pub same : of_channel ids k one ≡ of_channel ids k other

@@ -1,6 +1,6 @@
 -- Demand 3: what the user grants, in 01's own numbers. That it is what `Granted` says (Demand3) is shown in
 -- proofs/InNumbers.antt.
-use Rattle.std.specs.Prelude.{ℕ, ◌+◌, ◌-◌, ◌*◌, ◌/◌, ◌%◌, ◌≤◌, ◌<◌, ◌≡◌, ◌⊎◌, List, [], ◌∷◌, length, get_or, Ok}
+use Rattle.std.specs.Prelude.{ℕ, ◌+◌, ◌-◌, ◌*◌, ◌/◌, ◌%◌, ◌≤◌, ◌<◌, ◌≡◌, ◌⊎◌, List, [], ◌∷◌, length, get_or, Ok, IsOk}
 use Rattle.binding.specs.declared.MessagePart.{MessagePart}
 use Rattle.binding.specs.declared.MessagePart.TheVariants.{Begin, Middle, End, Whole}
 use Rattle.binding.specs.Header.{header_of, header_bytes}
@@ -52,7 +52,7 @@ part_number Whole = 3
 
 pub record InNumbers : Type 0 where
   pub set_ups : (ids : List ℕ) (R buffer : ℕ) → CanSetUp ids R buffer → setup_of ids R buffer ≡ Ok (fresh_of ids R)
-  pub set_ups_back : (ids : List ℕ) (R buffer : ℕ) → setup_of ids R buffer ≡ Ok (fresh_of ids R) → CanSetUp ids R buffer
+  pub set_ups_back : (ids : List ℕ) (R buffer : ℕ) → IsOk (setup_of ids R buffer) → CanSetUp ids R buffer
   pub genuine : (R : ℕ) (s : Sender) → GenuineIn R s → Genuine R s
   pub genuine_back : (R : ℕ) (s : Sender) → Genuine R s → GenuineIn R s
   pub granted : (ids : List ℕ) (R : ℕ) (rooms : List ℕ) (sender : ℕ → Sender) (traffic : List Datagram)

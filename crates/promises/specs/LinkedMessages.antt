@@ -1,8 +1,8 @@
 -- Demand 2 for messages and pieces, of the calls as programs in C have them (include/nyrkovash.h), over their very contracts, in
 -- the papers' numbers. The theorems are in proofs/LinkedMessages.antt.
-use Rattle.std.specs.Prelude.{ℕ, suc, ◌+◌, ◌-◌, ◌^◌, ◌≤◌, ◌<◌, ◌≡◌, cond, List, [], ◌∷◌, ◌⊎◌, eqb, length, get_or, take, drop, Ok}
+use Rattle.std.specs.Prelude.{ℕ, suc, ◌+◌, ◌-◌, ◌^◌, ◌≤◌, ◌<◌, ◌≡◌, cond, List, [], ◌∷◌, ◌⊎◌, eqb, length, get_or, take, drop, Ok, IsOk}
 use Rattle.wire.specs.Bytes.{Octets, number, bytes, over}
-use Rattle.joiner.specs.Setup.{setup_of, fresh_of}
+use Rattle.joiner.specs.Setup.{setup_of}
 use Rattle.nyrkovash.proofs.nyr_pieces.Reads.{Post as nyr-pieces}
 use Rattle.nyrkovash.proofs.nyr_cut.Reads.{Post as nyr-cut}
 use Rattle.nyrkovash.proofs.nyr_read.Reads.{Post as nyr-read}
@@ -102,7 +102,7 @@ CutsEach msg s sender first count =
 
 -- a joiner that knows the sender as its channel k, and has room for the message, or needs none as it is one piece
 pub record CanJoin (ids : List ℕ) (R : ℕ) (rooms : List ℕ) (k : ℕ) (msg : List ℕ) (s sender : ℕ) : Type 0 where
-  pub set_up : setup_of ids R (length rooms) ≡ Ok (fresh_of ids R)
+  pub set_up : IsOk (setup_of ids R (length rooms))
   pub known : k < length ids
   pub its_id : get_or ids k 0 ≡ sender
   pub room : (length msg ≤ s) ⊎ (length msg ≤ R)

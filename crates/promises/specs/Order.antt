@@ -1,8 +1,6 @@
 -- Demand 1, "a fixed order of checks": 01, "Numbers given back", in 01's words, for messages (1 to 10), datagrams (20 to 23) and
 -- cutting (50 to 52). The theorems are in proofs/Order.antt.
-use Rattle.std.specs.Prelude.{ℕ, ◌+◌, ◌-◌, ◌*◌, ◌^◌, ◌≤◌, ◌<◌, ◌≡◌, cond, ◌⊎◌, List, [], ◌∷◌, ◌++◌, eqb, length, get_or, Result}
-use Rattle.refusal.specs.declared.Refusal.{Refusal}
-use Rattle.std.specs.Prelude.{Ok, Err}
+use Rattle.std.specs.Prelude.{ℕ, ◌+◌, ◌-◌, ◌*◌, ◌^◌, ◌≤◌, ◌<◌, ◌≡◌, cond, ◌⊎◌, List, [], ◌∷◌, ◌++◌, eqb, length, get_or, Ok}
 use Rattle.refusal.specs.Refusal.{refused}
 use Rattle.wire.specs.Bytes.{number}
 use Rattle.message.specs.declared.Reading.TheVariants as reading
@@ -107,12 +105,6 @@ pub record CanSetUp (ids : List ℕ) (R buffer : ℕ) : Type 0 where
   pub range : (k : ℕ) → k < length ids → get_or ids k 0 < 4096
   pub once : (a b : ℕ) → a < b → b < length ids → ¬ (get_or ids a 0 ≡ get_or ids b 0)
 
-abbrev pub fresh : List ℕ → ℕ → Result Joiner Refusal
-fresh ids R = Ok (fresh_of ids R)
-
-abbrev pub not_set_up : ℕ → Result Joiner Refusal
-not_set_up n = refused n
-
 -- each call gives back the number of the first of its checks that applies, and 0 where none does: by the definition of its answer
 pub record NumbersInOrder : Type 1 where
   pub read : (own : ℕ) (s : List ℕ) → Gives (read_checks own s) (number_read (read_of own s))
@@ -130,7 +122,7 @@ pub record InOrder : Type 1 where
       Answers writing.Refused (writing.Written (20 + length payload)) (write_checks domain id payload room) (write_of domain id payload room)
   pub header : (d : List ℕ) → Answers refused (Ok (header_in d)) (header_checks d) (heading_in d)
   pub setup : (ids : List ℕ) (R buffer : ℕ) →
-      Answers not_set_up (fresh ids R) (20 when (¬ (CanSetUp ids R buffer)) ∷ []) (setup_of ids R buffer)
+      Answers refused (Ok (fresh_of ids R)) (20 when (¬ (CanSetUp ids R buffer)) ∷ []) (setup_of ids R buffer)
   pub take : (j : Joiner) (rooms d : List ℕ) → length j.channels ≡ 32 →
       Answers (kept_with j) (moved j d) (take_checks j (length rooms) d) (taken_of j rooms d)
   pub pieces : (m s : ℕ) →

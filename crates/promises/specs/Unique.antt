@@ -11,6 +11,7 @@ use Rattle.platform.specs.declared.reactions.Standing.{Standing}
 use Rattle.platform.specs.Receiving.{received_of, left_of, list_after, sections_outcome, sections_output, sections_list}
 use Rattle.recording.specs.Play.{state_of}
 use Rattle.promises.specs.Lookups.{Lookups, laid}
+use Rattle.refusal.proofs.Refusal.number.Reads.{Post as refusal-number}
 use Rattle.wire.proofs.put_run.Reads.{Post as wire-put-run}
 use Rattle.wire.proofs.part.Reads.{Post as wire-part}
 use Rattle.wire.proofs.has_room.Reads.{Post as wire-has-room}
@@ -75,6 +76,7 @@ use Rattle.payload.proofs.pack_in.Reads.{Post as payload-pack-in}
 use Rattle.states.proofs.fresh.Reads.{Post as states-fresh}
 use Rattle.states.proofs.is_up.Reads.{Post as states-is-up}
 use Rattle.states.proofs.how_many_up.Reads.{Post as states-how-many-up}
+use Rattle.states.proofs.mask.Reads.{Post as states-mask}
 use Rattle.states.proofs.turned.Reads.{Post as states-turned}
 use Rattle.recording.proofs.open.Reads.{Post as recording-open}
 use Rattle.recording.proofs.next.Reads.{Post as recording-next}
@@ -102,6 +104,9 @@ pub record WireUnique : Type 0 where
   pub word_at : Answer wire-word-at
   pub swap64 : Answer wire-swap64
   pub swapped-u64 : Answer wire-swapped-u64
+
+pub record RefusalUnique : Type 0 where
+  pub number : Answer refusal-number
 
 pub record MessageUnique : Type 0 where
   pub new : Answer message-Header-new
@@ -197,6 +202,7 @@ pub record StatesUnique : Type 0 where
   pub fresh : Answer states-fresh
   pub is_up : Answer states-is-up
   pub how-many-up : Answer states-how-many-up
+  pub mask : Answer states-mask
   pub turned : Answer states-turned
 
 pub record RecordingUnique : Type 0 where
@@ -221,6 +227,7 @@ pub record OnAccepted : Type 0 where
       → s.operations.count ≤ length words → sections_list own t s (laid t s words) l m ≡ list_after own t l m
 
 pub record Unique : Type 0 where
+  pub refusal : RefusalUnique
   pub wire : WireUnique
   pub message : MessageUnique
   pub binding : BindingUnique
