@@ -4,7 +4,7 @@ use Prim.Native.Nat.{ℕ, ◌-◌, ◌≤◌}
 use Rattle.std.specs.Prelude.{Option, Some, None}
 use mathlib.Core.Path.{◌≡◌, refl, sym, ap, ap₂, subst, ◌∙◌}
 use mathlib.Core.Bool.{Bool, true, false, cond}
-use mathlib.Core.List.{List, [], ◌∷◌, ◌++◌}
+use mathlib.Core.List.{List, [], ◌++◌}
 use native.Mathlib.Omega.{arith}
 use borrow.Author.Tests.{eqb-true}
 use borrow.Rule.Slice.PartMut.{put_mid}
@@ -42,7 +42,6 @@ use Rattle.platform_words.specs.Within.{outcome_within, number_within, words_wit
 use Rattle.platform_words.specs.Within.{operation_heard, is_awaited, kind_heard, list_heard, straight_words}
 use Rattle.platform_words.proofs.Behind.{lent-behind, back_by}
 use Rattle.platform_words.proofs.Answering.{kept_behind}
-use Rattle.platform_words.proofs.Telling.{told_behind}
 
 -- `operation_heard`
 module _ (own : ℕ) (t : List ℕ) (s : Sections) (index m : List ℕ) (d : ℕ) (ed : d ≡ domain_in m) where
@@ -67,16 +66,6 @@ module _ (own : ℕ) (t : List ℕ) (s : Sections) (index m : List ℕ) (d : ℕ
     pub was_read : {x : Option (ℕ × ℕ)} {id : ℕ} → n ≡ 0 → id ≡ id_in m → x ≡ sought_in t index s.operations.count id → x ≡ operation_heard own t s index m
     was_read z ei ex =
         ex ∙ ap (sought_in t index s.operations.count) ei ∙ sym (other ∙ yes-eq {A = Option (ℕ × ℕ)} looked_up None (read_refusal own m) 0 (sym en ∙ z))
-
--- `put_straight`
-pub straight_bytes : {a b c d : ℕ} (kind : ℕ) (m : List ℕ) (i : ℕ) → a ≡ number 2 m 8 → b ≡ number 2 m 4 → c ≡ number 2 m 16 → d ≡ number 2 m 12 → kind
-    ∷ a ∷ b ∷ c ∷ i ∷ header_length ∷ d ∷ 0 ∷ [] ≡ straight_words kind m i
-straight_bytes kind m i ea eb ec ed = rw (ea, eb, ec, ed)
-
--- `tell_straight`
-pub standing_again : {x : List ℕ} {p : Standing} (ws : List ℕ) → p ≡ standing_in ws → x ≡ standing_words p ++ pending_in ws
-    → x ≡ standing_words (standing_in ws) ++ pending_in ws
-standing_again ws ep ex = ex ∙ ap (λ (y : Standing). standing_words y ++ pending_in ws) ep
 
 -- an operation; the response to a request; what no pending request asked for. By its kind in the table and whether it is awaited
 module _ (p : Standing) (m : List ℕ) (i : ℕ) where
@@ -217,20 +206,6 @@ module _ {f : Option (ℕ × ℕ)} {kind : ℕ} (own : ℕ) (ws t : List ℕ) (s
     pub straight-heard : {x : List ℕ} (heard : List ℕ) → x ≡ straight_words kind m i → x ≡ heard_within own ws t s index m out heard
     straight-heard heard ex = ex ∙ so-told.heard-is heard
 
--- or what is answered
-module _ {o : Received} (own : ℕ) (ws t : List ℕ) (s : Sections) (index m out : List ℕ) (eo : o ≡ outcome_within own ws t s index m out) where
-  pub answered-number : {n : ℕ} → n ≡ number_given o.answer → n ≡ number_within own ws t s index m out
-  answered-number e = e ∙ ap (λ (x : Received). number_given x.answer) eo
-
-  pub answered-words : {x was : List ℕ} → standing_length ≤ length ws → was ≡ take standing_length ws ++ list_in own t s index (pending_in ws) m
-      → x ≡ platform_after o was (pending_in was) → x ≡ words_within own ws t s index m out
-  answered-words h ew e =
-      let l : List ℕ = list_in own t s index (pending_in ws) m in
-      told_behind o ws l h ew e ∙ ap (λ (y : Received). platform_after y ws l) eo
-
-  pub answered-heard : {x : List ℕ} (heard : List ℕ) → x ≡ heard_after o heard → x ≡ heard_within own ws t s index m out heard
-  answered-heard heard e = e ∙ ap (λ (y : Received). heard_after y heard) eo
-
 -- `taken`: the list is lent by itself
 module _ (own : ℕ) (ws t : List ℕ) (s : Sections) (index m : List ℕ) where
   pub taken-list : {last : List ℕ} → last ≡ list_in own t s index (take (length ws - 5) (drop 5 ws)) m
@@ -241,6 +216,3 @@ module _ (own : ℕ) (ws t : List ℕ) (s : Sections) (index m : List ℕ) where
     pub taken-outcome : {o : Received} → o ≡ outcome_in own t s index p (take (length ws - 5) (drop 5 ws)) m (length out)
         → o ≡ outcome_within own ws t s index m out
     taken-outcome e = e ∙ ap₂ (λ (y : Standing) (l : List ℕ). outcome_in own t s index y l m (length out)) ep (lent-behind standing_length ws)
-
-    pub taken-output : {x : List ℕ} → x ≡ output_in own t s index p m out → x ≡ output_within own ws t s index m out
-    taken-output e = e ∙ ap (λ (y : Standing). output_in own t s index y m out) ep

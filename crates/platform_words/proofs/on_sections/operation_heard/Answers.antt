@@ -1,6 +1,5 @@
 -- `platform_words::operation_heard` meets its contract: by domain and refusal.
 -- Assumes nothing.
-use borrow.Author.Rules.{rules}
 use Rattle.platform_words.proofs.Straight.{of_platform, was_read, unread}
 use Rattle.platform_words.proofs.on_sections.operation_heard.Goals as goal
 

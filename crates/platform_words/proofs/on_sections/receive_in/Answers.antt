@@ -1,6 +1,5 @@
 -- `platform_words::receive_in` meets its contract: the sections lie in the table, or not.
 -- Assumes nothing.
-use borrow.Author.Rules.{rules}
 use Rattle.platform_words.proofs.OnSections.{inside-number, inside-words, inside-output, inside-heard, outside-number}
 use Rattle.platform_words.proofs.OnSections.{outside-words, outside-output, outside-heard}
 use Rattle.platform_words.proofs.on_sections.receive_in.Goals as goal

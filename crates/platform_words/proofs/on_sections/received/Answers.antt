@@ -1,9 +1,7 @@
 -- `platform_words::received` meets its contract: straight from its bytes, or what is answered.
 -- Assumes nothing.
-use borrow.Author.Rules.{rules}
 use Rattle.platform_words.proofs.Straight.{straight-number, straight-words, straight-output, straight-heard}
 use Rattle.platform_words.proofs.Straight.{refused-number, refused-words, refused-heard}
-use Rattle.platform_words.proofs.Straight.{answered-number, answered-words, answered-heard}
 use Rattle.platform_words.proofs.on_sections.received.Goals as goal
 
 pub returns-then-kind-eq-NOTHING-clause-value : goal.returns-then-kind-eq-NOTHING-clause-value

@@ -1,7 +1,6 @@
 -- `platform_words::taken` meets its contract: the list is lent by itself.
 -- Assumes nothing.
-use borrow.Author.Rules.{rules}
-use Rattle.platform_words.proofs.Straight.{taken-outcome, taken-list, taken-output}
+use Rattle.platform_words.proofs.Straight.{taken-outcome, taken-list}
 use Rattle.platform_words.proofs.on_sections.taken.Goals as goal
 
 pub returns-clause-value : goal.returns-clause-value

@@ -1,6 +1,5 @@
 -- `platform_words::kind_found` meets its contract: by what was found.
 -- Assumes nothing.
-use borrow.Author.Rules.{rules}
 use Rattle.platform_words.proofs.Asking.{kind-there, no_kind}
 use Rattle.platform_words.proofs.sending.kind_found.Goals as goal
 

@@ -1,6 +1,5 @@
 -- `platform_words::send` meets its contract: the sections lie in the table, or not.
 -- Assumes nothing.
-use borrow.Author.Rules.{rules}
 use Rattle.platform_words.proofs.Asking.{inside-number, inside-words, inside-output, inside-sent}
 use Rattle.platform_words.proofs.Asking.{outside-number, outside-words, outside-output, outside-sent}
 use Rattle.platform_words.proofs.sending.send.Goals as goal
