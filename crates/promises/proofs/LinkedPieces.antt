@@ -9,7 +9,6 @@ use mathlib.Core.List.{List, [], ◌∷◌}
 use native.Mathlib.Omega.{arith}
 use lib.Dec.{leb, ltb}
 use lib.ListN.{length, take, drop}
-use Rattle.wire.specs.Bytes.{bytes}
 use Rattle.binding.specs.Header.{senders, counters}
 use Rattle.binding.specs.Cutting.{can_cut, piece_count, datagram_of, counted_of, made_of, cut_into}
 use Rattle.binding.specs.Counted.{number_given as countNumber}

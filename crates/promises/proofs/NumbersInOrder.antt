@@ -1,24 +1,21 @@
 -- Each call's number is that of the first of its checks that applies.
 -- Assumes nothing.
 use Prim.Native.Nat.{ℕ}
-use Rattle.refusal.specs.Refusal.{refused}
 use Rattle.std.specs.Prelude.{Ok}
 use mathlib.Core.Path.{◌≡◌, refl, sym}
 use mathlib.Core.List.{List}
-use lib.ListN.{length}
 use Rattle.table.specs.Checked.{number_given as tableNumber}
 use Rattle.message.specs.Reading.{number_given as number_read}
 use Rattle.message.specs.Writing.{number_given as write_number}
-use Rattle.binding.specs.Header.{part_carried, counter_in, piece_in, number_given as headerNumber}
+use Rattle.binding.specs.Header.{number_given as headerNumber}
 use Rattle.binding.specs.Counted.{number_given as pieces_number}
 use Rattle.binding.specs.Made.{number_given as cut_number}
-use Rattle.channel.specs.Channel.{room_of}
 use Rattle.channel.specs.Outcomes.{number_given as take_number}
 use Rattle.joiner.specs.declared.Joiner.{Joiner}
 use Rattle.joiner.specs.declared.Taken.{Taken}
-use Rattle.joiner.specs.Setup.{channel_at, number_given as setup_number}
+use Rattle.joiner.specs.Setup.{number_given as setup_number}
 use Rattle.joiner.proofs.Moving.{step-number}
-use Rattle.promises.specs.Order.{its_channel, its_step, NumbersInOrder}
+use Rattle.promises.specs.Order.{its_step, NumbersInOrder}
 use Rattle.promises.specs.TableOrder.{TableNumberInOrder}
 use Rattle.promises.proofs.Checks.{numbers, numbers-back}
 use Rattle.promises.proofs.Order.{read_in_order, write_in_order, header_in_order, pieces_in_order, cut_in_order}

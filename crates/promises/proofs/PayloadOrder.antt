@@ -2,7 +2,7 @@
 -- Assumes nothing.
 use Prim.Native.Nat.{ℕ, zero, suc, ◌+◌, ◌<◌}
 use Rattle.refusal.specs.Refusal.{refused}
-use Rattle.std.specs.Prelude.{Result, Ok, Err}
+use Rattle.std.specs.Prelude.{Result, Ok}
 use Rattle.refusal.specs.declared.Refusal.{Refusal}
 use mathlib.Core.Path.{◌≡◌, refl, sym, ap, subst, ◌∙◌}
 use mathlib.Core.Bool.{Bool, true, false, not, cond, ◌&&◌}
@@ -31,7 +31,7 @@ use Rattle.promises.specs.TableOrder.{sections_in, table_checks}
 use Rattle.walk.specs.declared.Place.{Place}
 use Rattle.promises.specs.PayloadOrder.{Reached, at_start, spot_of, Stretch, item_met, behind, in_turn, met, whole_of, walk_checks}
 use Rattle.promises.specs.PayloadOrder.{AnswersBehind, LiesIn, LieIn, PayloadInOrder}
-use Rattle.promises.proofs.Checks.{Decides, lt_decides, le_decides, and_decides, decides_same, by, unless, then-as, then-as-each}
+use Rattle.promises.proofs.Checks.{Decides, lt_decides, le_decides, and_decides, decides_same, by, unless, then-as-each}
 use Rattle.promises.proofs.Order.{below_decides}
 use Rattle.promises.proofs.TableOrder.{table_in_order, table_made}
 

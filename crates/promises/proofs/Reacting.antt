@@ -11,7 +11,6 @@ use borrow.Author.Tests.{ne_eqb, le-leb, lt-leb, eqb-true, eqb-false, ltb-true, 
 use lib.Dec.{eqb, leb, ltb}
 use lib.Pow.{pow_pos}
 use lib.ListN.{length}
-use Rattle.wire.specs.Bytes.{number}
 use Rattle.table.specs.declared.Sections.{Sections}
 use Rattle.operations.specs.Search.{sought_in}
 use Rattle.message.specs.declared.Header.{Header}

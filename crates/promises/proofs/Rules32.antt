@@ -13,7 +13,7 @@ use Rattle.table.specs.declared.Sections.{Sections}
 use Rattle.table.specs.declared.Entry.{Entry}
 use Rattle.wire.specs.All.{all_below}
 use Rattle.table.specs.Entries.{type_at, member_at, value_at}
-use Rattle.table.specs.Leaf.{is_enum_base, base, allowed}
+use Rattle.table.specs.Leaf.{is_enum_base}
 use Rattle.table.specs.Fields.{fields_ok}
 use Rattle.wire.proofs.AllBelow.{at-below}
 use Rattle.wire.proofs.Cond.{clash}

@@ -19,7 +19,7 @@ use Rattle.message3.specs.Platform.{services_bytes, kind_in3}
 use Rattle.message3.proofs.Told.{pair_at, length_services, service-told, state-told}
 use Rattle.services.specs.declared.Availability.TheVariants.{Unavailable, Available}
 use Rattle.services.specs.Word.{told_state}
-use Rattle.services.specs.Block.{services, availability_in, pairs_in, pair_id, pair_state, status_fits, note_refusal, status_noted}
+use Rattle.services.specs.Block.{availability_in, pairs_in, pair_id, pair_state, status_fits, note_refusal, status_noted}
 use Rattle.services.specs.Known.{known, is_in, with, known_with, last_told}
 use Rattle.services.proofs.Exactly.{fits-exactly}
 use Rattle.services.proofs.Afterwards.{fresh_packed, never-named, last-named, by-fitting, no-refusal, noted-state, noted_long}

@@ -23,7 +23,7 @@ use Rattle.joiner.specs.Setup.{good_sizes, good, fresh_of, setup_of}
 use Rattle.joiner.specs.declared.Joiner.{Joiner}
 use Rattle.joiner.specs.Take.{sent_to, heading_by, judged_of, taken_by, taken_of, put_by, rooms_by, rooms_after, message_of}
 use Rattle.promises.specs.Cases.{sender, datagrams, ids, room}
-use Rattle.promises.specs.Senders.{Piece, Message, Sender, sent_by, after, arriving, arrives, most_lost, losses_within, good_messages, complete_of}
+use Rattle.promises.specs.Senders.{Message, Sender, sent_by, after, arriving, arrives, most_lost, losses_within, good_messages, complete_of}
 use Rattle.promises.specs.Traffic.{Datagram, is_of, of_channel, handed_back, Joining, delivered_by, our_joining}
 use Rattle.promises.specs.Demand3.{Demand3For}
 use Rattle.promises.specs.WrongJoiners.{heading_with, took_by, delivers, always, NeverDelivers, DeliversOnce, first_only}

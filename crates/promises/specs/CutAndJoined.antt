@@ -1,5 +1,5 @@
 -- Demand 2: a message that is cut at any piece size and taken from fresh in order is delivered once, whole.
-use Rattle.std.specs.Prelude.{ℕ, zero, suc, ◌≤◌, ◌<◌, ◌≡◌, List, [], ◌∷◌, ◌⊎◌, length, get_or, Ok, IsOk}
+use Rattle.std.specs.Prelude.{ℕ, zero, suc, ◌≤◌, ◌<◌, ◌≡◌, List, [], ◌∷◌, ◌⊎◌, length, get_or, IsOk}
 use Rattle.wire.specs.Bytes.{Octets}
 use Rattle.binding.specs.Cutting.{piece_count, datagram_of}
 use Rattle.joiner.specs.Setup.{setup_of}

@@ -1,6 +1,6 @@
 -- Demand 3: "each channel delivers exactly those of its messages whose every piece arrived, in order, once each, and the mix makes
 -- no difference". The theorems are in proofs/Demand3.antt.
-use Rattle.std.specs.Prelude.{ℕ, ◌<◌, ◌≡◌, List, length, get_or, Ok, IsOk}
+use Rattle.std.specs.Prelude.{ℕ, ◌<◌, ◌≡◌, List, length, get_or, IsOk}
 use Rattle.joiner.specs.Setup.{setup_of}
 use Rattle.promises.specs.Senders.{Sender, Genuine, arrives, complete_of}
 use Rattle.promises.specs.Traffic.{Datagram, of_channel, Joining, delivered_by, fresh, our_joining, delivered_on, outcomes_on, left_on, AreBytes}

@@ -11,7 +11,6 @@ use Rattle.message.specs.Reading.{read_of}
 use Rattle.message.specs.Writing.{write_of}
 use Rattle.binding.specs.Header.{heading_in}
 use Rattle.binding.specs.Cutting.{counted_of, made_of}
-use Rattle.channel.specs.declared.Outcome.TheVariants as outcome
 use Rattle.joiner.specs.declared.Joiner.{Joiner}
 use Rattle.joiner.specs.Setup.{fresh_of, setup_of}
 use Rattle.joiner.specs.Take.{changed, taken_of}

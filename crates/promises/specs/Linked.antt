@@ -1,7 +1,7 @@
 -- Demand 3 for the calls that a program in C links: a run of `nyr_take` from `nyr_setup`, over their very contracts, whatever
 -- these allow. The theorems are in proofs/Linked.antt.
 use Rattle.std.specs.Prelude.{ℕ, ◌+◌, ◌*◌, ◌<◌, ◌≡◌, cond, ◌&&◌, List, [], ◌∷◌, ◌++◌, eqb, length, get_or}
-use Rattle.std.specs.Prelude.{Result, Ok, Err}
+use Rattle.std.specs.Prelude.{Result, Ok}
 use Rattle.refusal.specs.Refusal.{refused}
 use Rattle.refusal.specs.declared.Refusal.{Refusal}
 use Rattle.wire.specs.Bytes.{part}

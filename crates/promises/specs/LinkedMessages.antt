@@ -1,6 +1,6 @@
 -- Demand 2 for messages and pieces, of the calls as programs in C have them (include/nyrkovash.h), over their very contracts, in
 -- the papers' numbers. The theorems are in proofs/LinkedMessages.antt.
-use Rattle.std.specs.Prelude.{ℕ, suc, ◌+◌, ◌-◌, ◌^◌, ◌≤◌, ◌<◌, ◌≡◌, cond, List, [], ◌∷◌, ◌⊎◌, eqb, length, get_or, take, drop, Ok, IsOk}
+use Rattle.std.specs.Prelude.{ℕ, suc, ◌+◌, ◌-◌, ◌^◌, ◌≤◌, ◌<◌, ◌≡◌, cond, List, [], ◌∷◌, ◌⊎◌, eqb, length, get_or, take, drop, IsOk}
 use Rattle.wire.specs.Bytes.{Octets, number, bytes, over}
 use Rattle.joiner.specs.Setup.{setup_of}
 use Rattle.nyrkovash.proofs.nyr_pieces.Reads.{Post as nyr-pieces}

@@ -14,7 +14,6 @@ use Rattle.binding.specs.Counted.{number_given as pieces_number}
 use Rattle.binding.specs.Made.{number_given as cut_number}
 use Rattle.binding.specs.Cutting.{piece_count, datagram_of, counted_of, made_of}
 use Rattle.channel.specs.declared.Step.{Step}
-use Rattle.channel.specs.declared.Outcome.TheVariants as outcome
 use Rattle.channel.specs.Channel.{room_of, stepped_of}
 use Rattle.channel.specs.Outcomes.{number_given as take_number}
 use Rattle.joiner.specs.declared.Joiner.{Joiner}
