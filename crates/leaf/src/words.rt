@@ -155,6 +155,10 @@ fn other_whole(table: &[u8], at: usize, turned: u64, k: usize) -> bool
     wire::swapped_u64(&table[place..place + 8], 0) != turned
 }
 
+// Where a value may end past the end of the table. It stands by itself, so that `among_at` is short enough to be laid out wherever it is
+// called.
+#[cold]
+#[inline(never)]
 fn among_cut(table: &[u8], at: u32, count: u16, word: u64) -> bool
     ensures { result ≡ among_at table.now at count word }
 {

@@ -1,4 +1,5 @@
--- Two outcomes that the promise of a function on a number of any width allows are equal: each contract is an equation with a definition.
+-- Two outcomes that the promise of a function on a number of any width allows are equal: each contract is an equation with a definition,
+-- and what stands for one number is one value.
 -- Assumes nothing.
 use mathlib.Core.Path.{sym, ◌∙◌}
 use mir.Syntax.{Dict}
@@ -6,16 +7,17 @@ use denote.RattleType.{RattleType}
 use denote.Param.Laws.{Laws, IsCopy}
 use Rattle.std.specs.declared.clone.Clone.{Ghosts as Clones}
 use Rattle.wire.specs.declared.Number.{Ghosts as Numbers}
-use Rattle.promises.specs.UniqueNumbers.{UniqueNumbers}
+use Rattle.promises.specs.UniqueNumbers.{Apart, UniqueNumbers}
 
 pub unique_numbers : (T : RattleType) (L : Laws T) (C : IsCopy T) (N : Numbers T.Denot) (d : Dict) (K : Clones T.Denot) (c : Dict)
-    → UniqueNumbers T L C N d K c
-unique_numbers T L C N d K c =
+    → Apart T L C N d K c → UniqueNumbers T L C N d K c
+unique_numbers T L C N d K c apart =
     record {
-      number_at = λ k a z z' e e' p q. p ∙ sym q;
-      whole_at = λ k a z z' e e' p q. p ∙ sym q;
+      number_at = λ k a z z' e e' p q. apart z z' (p ∙ sym q);
+      whole_at = λ k a z z' e e' p q. apart z z' (p ∙ sym q);
       put_number_s = λ k a z z' e e' p q. p ∙ sym q;
       width = λ k a z z' e e' p q. p ∙ sym q;
-      of_bytes = λ k a z z' e e' p q. p ∙ sym q;
+      of_bytes = λ k a z z' e e' p q. apart z z' (p ∙ sym q);
       to_bytes = λ k a z z' e e' p q. p ∙ sym q;
+      by_halves = λ k a z z' e e' p q. apart z z' (p ∙ sym q);
     }

@@ -1,8 +1,9 @@
 -- 01, "What the promises have to say": "Show that two outcomes allowed by one promise are equal." For each public function, over
 -- its very contract (`Post`: what its `ensures` says of arguments, result and lent slices): whatever two outcomes it allows for
 -- the same arguments, the answers are the same, and so is what each lent slice holds. A contract that allows a choice has no
--- proof here. Beside them stands what the look-up and the call on sections come to on a table that `check` accepts. The theorem is
--- in proofs/Unique.antt.
+-- proof here. Of the functions on numbers of any width, and of `joiner::message`, the lines are in UniqueNumbers and UniqueMessages.
+-- Beside them stands what the look-up and the call on sections come to on a table that `check` accepts. The theorem is in
+-- proofs/Unique.antt.
 use Rattle.std.specs.Prelude.{ℕ, ◌≤◌, ◌≡◌, List, length}
 use Rattle.std.specs.Prelude.{Ok}
 use Rattle.table.specs.declared.Sections.{Sections}

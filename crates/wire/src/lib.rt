@@ -20,7 +20,7 @@ pub fn number_at<T: Number>(s: &[u8], at: usize) -> T
     if is_whole::<T>(s, at) {
         read(s, at)
     } else {
-        cut_at(s, at)
+        T::by_halves(s, at)
     }
 }
 
@@ -98,17 +98,6 @@ fn read<T: Number>(s: &[u8], at: usize) -> T
     ensures { T.value result ≡ number T.exponent s.now at }
 {
     T::of_bytes(padded(&s[at..at + T::width()]))
-}
-
-// A number that ends past the end: its bytes that are there, and zeros behind them. It stands by itself, so that `number_at` is short
-// enough to be laid out wherever it is called.
-#[cold]
-#[inline(never)]
-fn cut_at<T: Number>(s: &[u8], at: usize) -> T
-    requires { length s.now < at + 2 ^ T.exponent }
-    ensures { T.value result ≡ number T.exponent s.now at }
-{
-    T::of_bytes(padded(&s[at.min(s.len())..]))
 }
 
 // The bytes, with zeros behind them.

@@ -26,7 +26,14 @@ pub trait Number: Copy {
     fn to_bytes(self) -> [u8; WIDEST]
         ensures { result ≡ padded (bytes exponent (value self)) };
 
+    // The number at `at` by halves, each of which is there, or not, or in part: for one that may end past the end.
+    fn by_halves(s: &[u8], at: usize) -> Self
+        ensures { value result ≡ number exponent s.now at };
+
     ghost widest: { 2 ^ exponent ≤ 8 };
+
+    // What stands for one number is one value: so what a contract says by `value` has one answer.
+    ghost apart: { (x y : Self) → value x ≡ value y → x ≡ y };
 }
 
 impl Number for u8 {
@@ -35,6 +42,8 @@ impl Number for u8 {
     ghost value = { λ x. x };
 
     ghost widest = { Prim.search rules };
+
+    ghost apart = { λ x y e. e };
 
     fn width() -> usize {
         1
@@ -47,6 +56,11 @@ impl Number for u8 {
     fn to_bytes(self) -> [u8; WIDEST] {
         [self, 0, 0, 0, 0, 0, 0, 0]
     }
+
+    // A byte has no halves.
+    fn by_halves(s: &[u8], at: usize) -> u8 {
+        if at < s.len() { s[at] } else { 0 }
+    }
 }
 
 impl Number for u16 {
@@ -55,6 +69,8 @@ impl Number for u16 {
     ghost value = { λ x. x };
 
     ghost widest = { Prim.search rules };
+
+    ghost apart = { λ x y e. e };
 
     fn width() -> usize {
         2
@@ -69,6 +85,14 @@ impl Number for u16 {
         let [a, b] = self.to_be_bytes();
         [a, b, 0, 0, 0, 0, 0, 0]
     }
+
+    fn by_halves(s: &[u8], at: usize) -> u16 {
+        if at < s.len() {
+            u16::from(s[at]) * 256 + u16::from(u8::by_halves(s, at + 1))
+        } else {
+            0
+        }
+    }
 }
 
 impl Number for u32 {
@@ -77,6 +101,8 @@ impl Number for u32 {
     ghost value = { λ x. x };
 
     ghost widest = { Prim.search rules };
+
+    ghost apart = { λ x y e. e };
 
     fn width() -> usize {
         4
@@ -91,6 +117,14 @@ impl Number for u32 {
         let [a, b, c, d] = self.to_be_bytes();
         [a, b, c, d, 0, 0, 0, 0]
     }
+
+    fn by_halves(s: &[u8], at: usize) -> u32 {
+        if at < s.len() {
+            u32::from(u16::by_halves(s, at)) * 65536 + u32::from(u16::by_halves(s, at + 2))
+        } else {
+            0
+        }
+    }
 }
 
 impl Number for u64 {
@@ -99,6 +133,8 @@ impl Number for u64 {
     ghost value = { λ x. x };
 
     ghost widest = { Prim.search rules };
+
+    ghost apart = { λ x y e. e };
 
     fn width() -> usize {
         8
@@ -110,6 +146,17 @@ impl Number for u64 {
 
     fn to_bytes(self) -> [u8; WIDEST] {
         self.to_be_bytes()
+    }
+
+    // It stands by itself: eight bytes are too many for whoever reads a number to be laid out where it is called.
+    #[cold]
+    #[inline(never)]
+    fn by_halves(s: &[u8], at: usize) -> u64 {
+        if at < s.len() {
+            u64::from(u32::by_halves(s, at)) * 4294967296 + u64::from(u32::by_halves(s, at + 4))
+        } else {
+            0
+        }
     }
 }
 
