@@ -5,13 +5,14 @@ use Rattle.promises.proofs.SetUps.{its_joiner, is_accepted}
 use Rattle.std.specs.Prelude.{Result}
 use Rattle.refusal.specs.declared.Refusal.{Refusal}
 use mathlib.Core.Path.{◌≡◌, refl, sym, ap, ap₂, ◌∙◌}
-use mathlib.Core.Bool.{cond}
+use mathlib.Core.Bool.{Bool, true, false, cond}
 use mathlib.Core.List.{List, [], ◌∷◌, ◌++◌, map}
 use native.Mathlib.Omega.{arith}
 use lib.ListN.{length, get_or, replicate, length-map}
 use lib.Seq.{take_at}
 use denote.Ref.{Bor, MutBor}
 use Rattle.channel.specs.Record.{channel_limit, new_channel}
+use Rattle.channel.specs.Outcomes.{number_given as told}
 use Rattle.channel.specs.declared.Channel.{Channel}
 use Rattle.channel.specs.declared.Outcome.{Outcome}
 use Rattle.joiner.specs.declared.Joiner.{Joiner}
@@ -27,7 +28,7 @@ use Rattle.promises.specs.Order.{CanSetUp}
 use Rattle.promises.specs.Traffic.{Datagram, given, is_of, handed_back, delivered_by, fresh, delivered_on, outcomes_on, left_on, AreBytes, none, more}
 use Rattle.promises.specs.Linked.{SetupLent, TakeLent, TakeLeft, nyr, Call, InTurn, over, next, SetUpAndRun}
 use Rattle.promises.specs.Linked.{Delivers, MixMakesNoDifference}
-use Rattle.promises.specs.Linked.{message_in, delivered_in, outcome_from, outcomes_in, state_in, rooms_in, lying_in, linked, AsAJoiner}
+use Rattle.promises.specs.Linked.{message_in, delivered_in, outcome_from, numbers_in, outcomes_in, state_in, rooms_in, lying_in, linked, AsAJoiner}
 use Rattle.promises.proofs.Demand3.{underway, demand_3, mix_makes_no_difference}
 use Rattle.promises.proofs.Apart.{Underway, next as then}
 use Rattle.promises.proofs.InNumbers.{acceptable, set_ups, granted}
@@ -113,6 +114,10 @@ module _ {ws rooms out : List ℕ} {d : Datagram} {n : ℕ} {l : TakeLeft}
   its-message : message_in n l.answer d l.rooms ≡ handed_back (taken_of (joiner_in ws) rooms d).outcome d (rooms_after (joiner_in ws) rooms d)
   its-message = rw (number-left, answer-left, rooms-left) (message-is ws rooms d out)
 
+  its-number : n ≡ told (taken_of (joiner_in ws) rooms d).outcome
+  unfolding take_number
+  its-number = number-left
+
   its-outcome : outcome_from n l.answer ≡ (taken_of (joiner_in ws) rooms d).outcome
   its-outcome = rw (number-left, answer-left) (outcome-is ws rooms d out)
 
@@ -127,16 +132,23 @@ module _ {ws rooms out : List ℕ} {d : Datagram} {n : ℕ} {l : TakeLeft}
     its-joiner : joiner_in l.state ≡ (taken_of (joiner_in ws) rooms d).joiner
     its-joiner = ap joiner_in state-left ∙ taken_back ws rooms d w
 
+-- the number of one outcome, and those of others behind it
+told_on : (b : Bool) (o : Result Outcome Refusal) (os : List (Result Outcome Refusal))
+    → map told (cond b (o ∷ []) [] ++ os) ≡ cond b (told o ∷ []) [] ++ map told os
+told_on true o os = refl
+told_on false o os = refl
+
 -- a run that the contracts allow
 module _ (ids : List ℕ) (R k : ℕ) (known : k < length ids) where
   pub record InRun (ws rooms : List ℕ) (ds : List Datagram) (cs : List Call) : Type 0 where
     pub delivered : delivered_in ids k cs ≡ delivered_on ids k (joiner_in ws) rooms ds
+    pub numbers : numbers_in ids k cs ≡ map told (outcomes_on ids k (joiner_in ws) rooms ds)
     pub outcomes : outcomes_in ids k cs ≡ outcomes_on ids k (joiner_in ws) rooms ds
     pub left : lying_in R k (state_in ws cs) (rooms_in rooms cs) ≡ lying_by (left_on k (joiner_in ws) rooms ds)
 
   in-run : {ws rooms : List ℕ} {ds : List Datagram} {cs : List Call} → InTurn nyr ws rooms ds cs → length ws ≡ joiner_words → AreBytes ds
       → Underway ids R (joiner_in ws) rooms → InRun ws rooms ds cs
-  in-run (over {ws} {rooms}) w none u = record { delivered = refl; outcomes = refl; left = lying_is ids R k ws rooms known u }
+  in-run (over {ws} {rooms}) w none u = record { delivered = refl; numbers = refl; outcomes = refl; left = lying_is ids R k ws rooms known u }
   in-run (next {ws} {rooms} {out} {d} {n} {l} {ds} {cs} p r) w (more o os) u =
       let j : joiner_in l.state ≡ (taken_of (joiner_in ws) rooms d).joiner = its-joiner p w in
       let e : l.rooms ≡ rooms_after (joiner_in ws) rooms d = its-rooms p in
@@ -145,6 +157,10 @@ module _ (ids : List ℕ) (R k : ℕ) (known : k < length ids) where
       record {
         delivered = ap₂ ◌++◌ (ap (λ (x : List (List ℕ)). cond (is_of ids k d) x []) (its-message p))
             (i.delivered ∙ ap₂ (λ (x : Joiner) (y : List ℕ). delivered_on ids k x y ds) j e);
+        numbers = ap₂ ◌++◌ (ap (λ (x : ℕ). cond (is_of ids k d) (x ∷ []) []) (its-number p))
+            (i.numbers ∙ ap₂ (λ (x : Joiner) (y : List ℕ). map told (outcomes_on ids k x y ds)) j e)
+            ∙ sym (told_on (is_of ids k d) (taken_of (joiner_in ws) rooms d).outcome
+            (outcomes_on ids k (taken_of (joiner_in ws) rooms d).joiner (rooms_after (joiner_in ws) rooms d) ds));
         outcomes = ap₂ ◌++◌ (ap (λ (x : Result Outcome Refusal). cond (is_of ids k d) (x ∷ []) []) (its-outcome p))
             (i.outcomes ∙ ap₂ (λ (x : Joiner) (y : List ℕ). outcomes_on ids k x y ds) j e);
         left = i.left ∙ ap₂ (λ (x : Joiner) (y : List ℕ). lying_by (left_on k x y ds)) j e;
@@ -188,6 +204,8 @@ the_mix_makes_no_difference ids R rooms rooms' k one other a x y =
     record {
       delivered = p.delivered ∙ ap (λ (z : Joiner). delivered_on ids k z rooms one) i ∙ m.delivered
           ∙ sym (q.delivered ∙ ap (λ (z : Joiner). delivered_on ids k z rooms' other) i');
+      numbers = p.numbers ∙ ap (λ (z : Joiner). map told (outcomes_on ids k z rooms one)) i ∙ ap (map told) m.outcomes
+          ∙ sym (q.numbers ∙ ap (λ (z : Joiner). map told (outcomes_on ids k z rooms' other)) i');
       outcomes = p.outcomes ∙ ap (λ (z : Joiner). outcomes_on ids k z rooms one) i ∙ m.outcomes
           ∙ sym (q.outcomes ∙ ap (λ (z : Joiner). outcomes_on ids k z rooms' other) i');
       left = p.left ∙ ap (λ (z : Joiner). lying_by (left_on k z rooms one)) i ∙ ap lying_by m.left

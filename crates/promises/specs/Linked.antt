@@ -125,6 +125,11 @@ abbrev pub outcomes_in : List ℕ → ℕ → List Call → List (Result Outcome
 outcomes_in ids k [] = []
 outcomes_in ids k (c ∷ cs) = cond (is_of ids k c.datagram) (outcome_from c.number c.left.answer ∷ []) [] ++ outcomes_in ids k cs
 
+-- the numbers that the calls answered, as they are: of two that no refusal has `outcome_from` tells the same
+abbrev pub numbers_in : List ℕ → ℕ → List Call → List ℕ
+numbers_in ids k [] = []
+numbers_in ids k (c ∷ cs) = cond (is_of ids k c.datagram) (c.number ∷ []) [] ++ numbers_in ids k cs
+
 -- the linked calls as a joiner, over any words where the joiner goes and any words where an answer goes: so every wrong joiner
 -- of WrongJoiners is one that the linked calls are not
 abbrev pub linked : List ℕ → List ℕ → Joining
@@ -171,6 +176,7 @@ pub record AlikeRuns (ids : List ℕ) (R : ℕ) (rooms rooms' : List ℕ) (k : �
 pub record SameRuns {ids : List ℕ} {R : ℕ} {rooms rooms' : List ℕ} {one other : List Datagram} (k : ℕ) (x : SetUpAndRun nyr ids R rooms one)
     (y : SetUpAndRun nyr ids R rooms' other) : Type 0 where
   pub delivered : delivered_in ids k x.calls ≡ delivered_in ids k y.calls
+  pub numbers : numbers_in ids k x.calls ≡ numbers_in ids k y.calls
   pub outcomes : outcomes_in ids k x.calls ≡ outcomes_in ids k y.calls
   pub left : lying_in R k (state_in x.state x.calls) (rooms_in rooms x.calls) ≡ lying_in R k (state_in y.state y.calls) (rooms_in rooms' y.calls)
 
