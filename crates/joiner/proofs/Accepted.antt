@@ -17,7 +17,7 @@ use Rattle.binding.specs.Header.{senders}
 use Rattle.channel.specs.Record.{channel_limit, new_channel, good_channel}
 use Rattle.channel.proofs.Cases.{channel_says, sound_good}
 use Rattle.joiner.specs.declared.Joiner.{Joiner}
-use Rattle.joiner.specs.Setup.{distinct, sender_of, senders_of, channel_at, good, fresh_of, setup_of, Acceptable}
+use Rattle.joiner.specs.Setup.{distinct, sender_of, senders_of, channel_at, good, good_sizes, fresh_of, setup_of, Acceptable}
 use Rattle.joiner.specs.View.{view_of}
 use Rattle.joiner.proofs.Places.{distinct_says, is_distinct}
 use Rattle.joiner.proofs.Lookups.{Sizes}
@@ -107,3 +107,8 @@ module _ (ids : List ℕ) (R b : ℕ) where
 
     pub accepted-standing : Standing j b
     accepted-standing = rw accepted-joiner (record { width = fresh-width ids R accepted-by.0; well = accepted-by.1 })
+
+-- a joiner of no channels, which `promises` has beside a refusal, is not good: whatever it is handed in with gets 20
+pub refused_joiner : (b : ℕ) → good (fresh_of [] 0) b ≡ false
+unfolding good good_sizes fresh_of
+refused_joiner b = refl

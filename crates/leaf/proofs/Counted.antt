@@ -23,3 +23,7 @@ module _ (f : ℕ → Bool) where
       go : (b : Bool) → f k ≡ b → eqb (n + r) 0 ≡ all_below f (k + 1)
       go true g = rw (add-one k, g, all (all_below f k), e, g) (ap (λ (m : ℕ). eqb m 0) (add-zero n) ∙ h)
       go false g = rw (add-one k, g, none (all_below f k), e, g) (ne_eqb (n + 1) 0 (λ (z : n + 1 ≡ 0). omega arith))
+
+  -- at the end every entry was looked at
+  pub counted-all : (n k hits : ℕ) → eqb hits 0 ≡ all_below f k → k ≤ n → n ≤ k → eqb hits 0 ≡ all_below f n
+  counted-all n k hits h a b = h ∙ ap (all_below f) (omega arith)

@@ -8,7 +8,7 @@ use native.Mathlib.Omega.{arith}
 use mir.Syntax.{w64}
 use mir.Val.{Fits}
 use lib.ListN.{length, get_or, take}
-use lib.Seq.{length-take-le, take-suc}
+use lib.Seq.{length-take-le, take_all, take-suc}
 use Rattle.wire.specs.Bytes.{written}
 use Rattle.table.specs.Leaf.{width}
 use Rattle.leaf.specs.Forms.{form_of}
@@ -42,6 +42,9 @@ module _ (codes : List ℕ) (p : Place) where
         ap₂ (λ (a m : ℕ). a + m) end is
         ∙ sym (ap (λ (cs : List ℕ). ends cs p.to) (next-take k below) ∙ ends_append (take k codes) (get_or codes k 0 ∷ []) p.to)
 
+  pub ends-all : (k to : ℕ) → to ≡ ends (take k codes) p.to → length codes ≤ k → to ≡ ends codes p.to
+  ends-all k to end done = end ∙ ap (λ (cs : List ℕ). ends cs p.to) (take_all k codes done)
+
 module _ (ws codes : List ℕ) (p : Place) (x : List ℕ) where
   pub laid_more : (k to : ℕ) (y z : List ℕ) → to ≡ ends (take k codes) p.to → y ≡ laid ws (take k codes) p x → k < length codes
       → z ≡ written y to (form_of (get_or codes k 0) (get_or ws (p.from + k) 0)) → z ≡ laid ws (take (k + 1) codes) p x
@@ -52,6 +55,10 @@ module _ (ws codes : List ℕ) (p : Place) (x : List ℕ) where
       ∙ ap₂ (λ (u : List ℕ) (n : ℕ). written u n (form_of (get_or codes k 0) (get_or ws (p.from + k) 0))) so_far end
       ∙ ap (λ (n : ℕ). written (laid ws (take k codes) p x) (ends (take k codes) p.to) (form_of (get_or codes k 0) (get_or ws (p.from + n) 0))) (sym so)
       ∙ sym (ap (λ (cs : List ℕ). laid ws cs p x) (next-take codes p k below) ∙ laid-append ws (take k codes) (get_or codes k 0 ∷ []) p x)
+
+  module _ (k : ℕ) (y : List ℕ) (so_far : y ≡ laid ws (take k codes) p x) where
+    pub laid-all : length codes ≤ k → y ≡ laid ws codes p x
+    laid-all done = so_far ∙ ap (λ (cs : List ℕ). laid ws cs p x) (take_all k codes done)
 
 pub laid_as_long : (ws cs : List ℕ) (p : Place) (x y : List ℕ) → y ≡ laid ws cs p x → length y ≡ length x
 laid_as_long ws cs p x y h = ap length h ∙ laid-length ws cs p x

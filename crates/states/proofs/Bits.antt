@@ -1,10 +1,10 @@
 -- The bits of a word: one of them set or turned leaves the others, and the count of ones is the number of bits that are set.
 -- Assumes nothing.
-use Prim.Native.Nat.{ℕ, zero, suc, ◌+◌, ◌-◌, ◌/◌, ◌%◌, ◌^◌, ◌<◌}
+use Prim.Native.Nat.{ℕ, zero, suc, ◌+◌, ◌-◌, ◌*◌, ◌/◌, ◌%◌, ◌^◌, ◌<◌}
 use mathlib.Core.Path.{◌≡◌, refl, sym, ap, ap₂, subst, ◌∙◌}
 use mathlib.Core.Bool.{Bool, true, false, cond}
 use mathlib.Core.Logic.{◌⊎◌, inl, inr, ⊎_elim}
-use native.Mathlib.Nat.{mod-lt, div_self, div-one, div-eq_of_lt, mul-mod_left, pow-suc, add-zero, add_assoc, zero-add, zero-lt-suc}
+use native.Mathlib.Nat.{mod-lt, mod-eq_of_lt, one-mul, div_self, div-one, div-eq_of_lt, mul-mod_left, pow-suc, add-zero, add_assoc, zero-add, zero-lt-suc}
 use native.Mathlib.Numerals.{add-one}
 use native.Mathlib.Omega.{arith}
 use borrow.Author.Tests.{ltb-true, ltb-false}
@@ -47,6 +47,10 @@ bit-or w j = two (bit w j) (mod-lt (w / 2 ^ j) (zero-lt-suc 1))
     two zero h = inl refl
     two (suc zero) h = inr refl
     two (suc (suc n)) h = absurd (omega arith)
+
+-- a shift by less than the width is exact
+pub one_shifted : (k : ℕ) → 1 * 2 ^ (k % 64) % 2 ^ 64 ≡ 2 ^ (k % 64)
+one_shifted k = ap (λ (n : ℕ). n % 2 ^ 64) (one-mul (2 ^ (k % 64))) ∙ mod-eq_of_lt (pow-lt (mod-lt k (zero-lt-suc 63)))
 
 -- one bit set, or turned: the others stay
 or_bit : (w m j : ℕ) → bit (bit_or w m) j ≡ bit_or (bit w j) (bit m j)

@@ -32,6 +32,9 @@ use Rattle.unpack.specs.Reading.{Reading, tree_read, member_read, record_of, Ali
 use Rattle.unpack.proofs.ReadBases.{part_in, part-reading, part-goes}
 use Rattle.unpack.proofs.ReadCodes.{codes-read, all-given}
 
+pub coded_none : {b codes : List ℕ} {n : ℕ} {p : Place} {x : List ℕ} → Reading b p → Coded b codes n p x 0 p x
+coded_none h = record { most = omega arith; here = h; as_long = refl; goes = λ f reads p₀ x₀ so_far. so_far }
+
 -- one more, of which all leaves are there
 module _ (b codes : List ℕ) (q : Place) (c e : ℕ) (counts : c ≡ there_count b codes q.from)
     (end : e ≡ ends (take (there_count b codes q.from) codes) q.from) (all : length codes ≤ c) where

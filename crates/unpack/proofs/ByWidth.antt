@@ -1,14 +1,21 @@
 -- A leaf's word by how wide it is: of the codes of a width that is more than one byte only one is not the number itself.
 -- Assumes nothing.
-use Prim.Native.Nat.{ℕ, ◌≤◌}
+use Prim.Native.Nat.{ℕ, ◌+◌, ◌≤◌}
 use mathlib.Core.Path.{◌≡◌, refl, sym, ap, ◌∙◌}
 use mathlib.Core.List.{List}
 use native.Mathlib.Omega.{arith}
+use lib.ListN.{length}
 use Rattle.wire.specs.Bytes.{number}
+use Rattle.wire.proofs.Cond.{yes_le}
 use Rattle.table.specs.Leaf.{base, bytes_of, width}
 use Rattle.table.proofs.Leaves.{Each, any, no-base}
 use Rattle.leaf.specs.Forms.{word_at, word_of}
+use Rattle.unpack_leaves.specs.Leaves.{whole_word}
 use Rattle.unpack_leaves.proofs.OneLeaf.{all_bits}
+
+-- a word that was asked for of a leaf that is there
+pub of_one : (s : List ℕ) (p code w : ℕ) → p + width code ≤ length s → w ≡ whole_word code s p → w ≡ word_at code s p
+of_one s p code w h e = e ∙ yes_le (word_at code s p) 0 (p + width code) (length s) h
 
 -- a code that is none has no bytes
 no_width : (n code : ℕ) → 13 ≤ code → width code ≡ n → n ≡ 0

@@ -5,6 +5,7 @@ pub mod Entries
 pub mod GoodRuns
 pub mod Among
 pub mod LeafByLeaf
+pub mod Anew
 pub mod Upto
 pub mod ByWidth
 pub mod StoredRuns

@@ -1,15 +1,16 @@
 -- Runs of one leaf each, read by their codes.
 -- Assumes nothing.
 use Prim.Native.Nat.{ℕ, ◌+◌, ◌≤◌, ◌<◌}
-use mathlib.Core.Path.{◌≡◌, refl, ap, ◌∙◌}
-use mathlib.Core.Bool.{true}
+use mathlib.Core.Path.{◌≡◌, refl, sym, ap, ◌∙◌}
+use mathlib.Core.Bool.{Bool, true}
+use mathlib.Core.Logic.{⊎_elim}
 use mathlib.Core.List.{List}
-use native.Mathlib.Nat.{zero-add}
+use native.Mathlib.Nat.{zero-add, eq-or-lt_of_le}
 use native.Mathlib.Omega.{arith}
 use borrow.Author.Tests.{eqb-true}
 use lib.Dec.{leb, eqb}
-use lib.ListN.{length, get_or, take}
-use lib.Seq.{length-take-le, get_or-take}
+use lib.ListN.{length, get_or, set, take}
+use lib.Seq.{length-take-le, get_or-take, get_or-set_same, get_or-set_other}
 use Rattle.wire.proofs.Cond.{and_left, and_right, and_true}
 use Rattle.table.specs.Leaf.{width, allowed}
 use Rattle.leaf.specs.Forms.{word_at}
@@ -26,6 +27,21 @@ use Rattle.unpack.proofs.ByCodes.{coded_as}
 
 pub codes_there : (n : ℕ) (u v : List ℕ) → length v ≡ length u → n ≤ length u → n ≤ length v
 codes_there n u v h g = omega arith
+
+pub single_next : (runs codes : List ℕ) (k code : ℕ) (b : Bool) → Single runs codes k → k < length codes → b ≡ is_single (get_or runs k 0) → b ≡ true → code
+    ≡ code_in (get_or runs k 0) → Single runs (set codes k code) (k + 1)
+single_next runs codes k code b g room is so e =
+    record {
+      each = λ j less.
+          let l : j ≤ k = omega arith in
+          ⊎_elim
+          (λ (h : j ≡ k). (
+            ap (λ (i : ℕ). is_single (get_or runs i 0)) h ∙ sym is ∙ so,
+            ap (λ (i : ℕ). get_or (set codes k code) i 0) h ∙ get_or-set_same codes k code 0 room ∙ e ∙ ap (λ (i : ℕ). code_in (get_or runs i 0)) (sym h),
+          ))
+          (λ (h : j < k). ((g.each j h).0, get_or-set_other codes k j code 0 (λ m. omega arith) ∙ (g.each j h).1))
+          (eq-or-lt_of_le l);
+    }
 
 -- such a run is one leaf
 takes_all : (t : List ℕ) (w v : ℕ) → values_in w ≡ 0 → taken_by t w v ≡ true

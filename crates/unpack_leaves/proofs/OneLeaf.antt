@@ -33,6 +33,9 @@ module _ (b : List ℕ) (from n code : ℕ) (h : Bool) (is : n ≡ width code) (
   pub word_there : (w : ℕ) → h ≡ true → w ≡ whole_word code b from → w ≡ word_at code b from
   word_there w f e = e ∙ yes-if (word_at code b from) 0 (fits-is ∙ f)
 
+  pub word_whole : (w : ℕ) → h ≡ true → w ≡ word_at code b from → w ≡ whole_word code b from
+  word_whole w f e = e ∙ sym (yes-if (word_at code b from) 0 (fits-is ∙ f))
+
 -- reading: the arm of code n
 pub at_truth : (s : List ℕ) (p x r code : ℕ) → x ≡ number 0 s p → r ≡ truth x → code ≡ 0 → r ≡ word_at code s p
 unfolding word_at base word_of

@@ -7,14 +7,14 @@ use native.Mathlib.Nat.{add_assoc, add-zero, add-sub_cancel_left, one-le-pow, ze
 use native.Mathlib.Omega.{arith}
 use mathlib.Core.Bool.{Bool, true, false}
 use borrow.Author.Tests.{ltb-true, ltb-false}
-use lib.Dec.{ltb}
+use lib.Dec.{ltb, leb}
 use lib.Arith.{digits_lt, digits_div, digits_mod}
 use lib.Pow.{pow-add}
 use lib.ListN.{length, get_or, take, drop, length-append, length-take, length-drop, get_or-eq_default, get_or-append}
 use lib.Seq.{length-take-le, get_or-append-add, get_or-take, get_or-drop, take-add, drop-drop, drop-cons}
 use Rattle.wire.specs.Bytes.{span, number, whole, bytes, over, written, part, Octets}
 use Rattle.wire.proofs.Cond.{yes_le, no_le}
-use Rattle.wire.proofs.Runs.{written_in, part_in}
+use Rattle.wire.proofs.Runs.{failed, written_in, part_in}
 
 -- 2 ^ suc k bytes are twice 2 ^ k bytes
 pub twice : (k : ℕ) → 2 ^ suc k ≡ 2 ^ k + 2 ^ k
@@ -46,6 +46,10 @@ past_end (suc k) s p h = rw (past_end k s p h, past_end k s (p + 2 ^ k) (omega a
 
 pub past : (k : ℕ) (s : List ℕ) (p : ℕ) → length s ≤ p → 0 ≡ number k s p
 past k s p h = sym (past_end k s p h)
+
+-- of two bytes that do not both fit, the second is past the end
+pub first_byte : {r : Bool} {x : ℕ} (s : List ℕ) (p : ℕ) → r ≡ leb (p + 2) (length s) → r ≡ false → x ≡ number 0 s p → x * 256 ≡ number 1 s p
+first_byte s p e f b = omega (arith, past_end 0 s (p + 1) (omega (arith, failed (p + 2) (length s) e f)))
 
 pub number_lt : (k : ℕ) (s : List ℕ) (p : ℕ) → Octets s → number k s p < span k
 number_lt zero s p o = o p

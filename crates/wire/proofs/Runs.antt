@@ -117,5 +117,8 @@ over_all s p r j e l h = over_whole s p r j e l ∙ sym (written_in s p r h)
 pub over_through : {b e : List ℕ} (z s : List ℕ) (p : ℕ) (r : List ℕ) → b ≡ over z 0 r → e ≡ over s p (take (length r) b) → e ≡ over s p r
 over_through z s p r b e = e ∙ ap (over s p) (ap (take (length r)) b ∙ take_at r (drop (0 + length r) z) (length r) refl)
 
+pub run_in : {t : Bool} {e : List ℕ} (s : List ℕ) (p : ℕ) (r : List ℕ) → t ≡ leb (p + length r) (length s) → t ≡ true → e ≡ over s p r → e ≡ written s p r
+run_in s p r f t e = e ∙ sym (written_in s p r (held (p + length r) (length s) f t))
+
 pub no_run : {t : Bool} (s : List ℕ) (p : ℕ) (r : List ℕ) → t ≡ leb (p + length r) (length s) → t ≡ false → s ≡ written s p r
 no_run s p r e t = sym (written_out s p r (failed (p + length r) (length s) e t))
