@@ -1,5 +1,5 @@
-// The numbers that refuse, by name: what every call of the library that can refuse answers with. Each number and its name are those of
-// include/nyrkovash.h.
+// The numbers that refuse, by name: what the crates that stand on this one answer with; of the others each answers the number. Each
+// number and its name are those of include/nyrkovash.h.
 #![tactic(auto)]
 
 ghost use Rattle.std.specs.Prelude.{◌≡◌};
