@@ -7,17 +7,27 @@ use denote.RattleType.{RattleType}
 use denote.Param.Laws.{Laws, IsCopy}
 use Rattle.std.specs.declared.clone.Clone.{Ghosts as Clones}
 use Rattle.wire.specs.declared.Number.{Ghosts as Numbers}
-use Rattle.promises.specs.UniqueNumbers.{Apart, UniqueNumbers}
+use Rattle.promises.specs.UniqueNumbers.{Apart, UniqueNumbers, UniqueReading}
 
 pub unique_numbers : (T : RattleType) (L : Laws T) (C : IsCopy T) (N : Numbers T.Denot) (d : Dict) (K : Clones T.Denot) (c : Dict)
-    → Apart T L C N d K c → UniqueNumbers T L C N d K c
-unique_numbers T L C N d K c apart =
+    → UniqueNumbers T L C N d K c
+unique_numbers T L C N d K c =
+    record {
+      number_at = λ k a z z' e e' p q. p ∙ sym q;
+      whole_at = λ k a z z' e e' p q. p ∙ sym q;
+      put_number_s = λ k a z z' e e' p q. p ∙ sym q;
+      width = λ k a z z' e e' p q. p ∙ sym q;
+      of_bytes = λ k a z z' e e' p q. p ∙ sym q;
+      to_bytes = λ k a z z' e e' p q. p ∙ sym q;
+      by_halves = λ k a z z' e e' p q. p ∙ sym q;
+    }
+
+pub unique_reading : (T : RattleType) (L : Laws T) (C : IsCopy T) (N : Numbers T.Denot) (d : Dict) (K : Clones T.Denot) (c : Dict)
+    → Apart T L C N d K c → UniqueReading T L C N d K c
+unique_reading T L C N d K c apart =
     record {
       number_at = λ k a z z' e e' p q. apart z z' (p ∙ sym q);
       whole_at = λ k a z z' e e' p q. apart z z' (p ∙ sym q);
-      put_number_s = λ k a z z' e e' p q. p ∙ sym q;
-      width = λ k a z z' e e' p q. p ∙ sym q;
       of_bytes = λ k a z z' e e' p q. apart z z' (p ∙ sym q);
-      to_bytes = λ k a z z' e e' p q. p ∙ sym q;
       by_halves = λ k a z z' e e' p q. apart z z' (p ∙ sym q);
     }

@@ -1,6 +1,6 @@
 -- 01, "What the promises have to say": two outcomes that one promise allows are equal, for the functions of `wire` on a number of any width,
--- over their very contracts: for every type that is a `Number`, with what it says of itself (`N`), its law `apart` among it, by which
--- what stands for one number is one value. The theorem is in proofs/UniqueNumbers.antt.
+-- over their very contracts: for every type that is a `Number`, with what it says of itself (`N`). What stands for a number is the same; and
+-- so is the answer, since by the trait's law `apart` what stands for one number is one value. The theorems are in proofs/UniqueNumbers.antt.
 use Rattle.std.specs.Prelude.{◌≡◌}
 use mir.Syntax.{Dict}
 use denote.RattleType.{RattleType}
@@ -14,19 +14,26 @@ use Rattle.wire.proofs.order.Number.width.Reads.{Post as wire-width}
 use Rattle.wire.proofs.order.Number.of_bytes.Reads.{Post as wire-of-bytes}
 use Rattle.wire.proofs.order.Number.to_bytes.Reads.{Post as wire-to-bytes}
 use Rattle.wire.proofs.order.Number.by_halves.Reads.{Post as wire-by-halves}
-use Rattle.promises.specs.Unique.{Answer, Lent}
+use Rattle.promises.specs.Unique.{Same, Answer, Lent}
 
 module _ (T : RattleType) (L : Laws T) (C : IsCopy T) (N : Numbers T.Denot) (d : Dict) (K : Clones T.Denot) (c : Dict) where
+  -- what is read and what is written, and the steps between a number and its bytes
+  pub record UniqueNumbers : Type 0 where
+    pub number_at : Same (wire-number-at T L C N d K c) (λ k z e. N.value z)
+    pub whole_at : Same (wire-whole-at T L C N d K c) (λ k z e. N.value z)
+    pub put_number_s : Lent (wire-put-number T L C N d K c) (λ k e. e.0.now)
+    pub width : Answer (wire-width T L C N d K c)
+    pub of_bytes : Same (wire-of-bytes T L C N d K c) (λ k z e. N.value z)
+    pub to_bytes : Answer (wire-to-bytes T L C N d K c)
+    pub by_halves : Same (wire-by-halves T L C N d K c) (λ k z e. N.value z)
+
   -- the trait's law, which each impl proves: of `u8` to `u64` the value is the number itself
   abbrev pub Apart : Type 0
   Apart = (x y : T.Denot) → N.value x ≡ N.value y → x ≡ y
 
-  -- what is read and what is written, and the steps between a number and its bytes
-  pub record UniqueNumbers : Type 0 where
+  -- the answers themselves
+  pub record UniqueReading : Type 0 where
     pub number_at : Answer (wire-number-at T L C N d K c)
     pub whole_at : Answer (wire-whole-at T L C N d K c)
-    pub put_number_s : Lent (wire-put-number T L C N d K c) (λ k e. e.0.now)
-    pub width : Answer (wire-width T L C N d K c)
     pub of_bytes : Answer (wire-of-bytes T L C N d K c)
-    pub to_bytes : Answer (wire-to-bytes T L C N d K c)
     pub by_halves : Answer (wire-by-halves T L C N d K c)
