@@ -2,12 +2,13 @@
 -- and what stands for one number is one value.
 -- Assumes nothing.
 use mathlib.Core.Path.{sym, ◌∙◌}
-use mir.Syntax.{Dict}
+use mir.Syntax.{Dict, w8, w16, w32, w64}
+use denote.Plain.{UInt}
 use denote.RattleType.{RattleType}
 use denote.Param.Laws.{Laws, IsCopy}
 use Rattle.std.specs.declared.clone.Clone.{Ghosts as Clones}
 use Rattle.wire.specs.declared.Number.{Ghosts as Numbers}
-use Rattle.promises.specs.UniqueNumbers.{Apart, UniqueNumbers, UniqueReading}
+use Rattle.promises.specs.UniqueNumbers.{Apart, UniqueNumbers, UniqueReading, UniqueUnsigned, itself}
 
 pub unique_numbers : (T : RattleType) (L : Laws T) (C : IsCopy T) (N : Numbers T.Denot) (d : Dict) (K : Clones T.Denot) (c : Dict)
     → UniqueNumbers T L C N d K c
@@ -30,4 +31,13 @@ unique_reading T L C N d K c apart =
       whole_at = λ k a z z' e e' p q. apart z z' (p ∙ sym q);
       of_bytes = λ k a z z' e e' p q. apart z z' (p ∙ sym q);
       by_halves = λ k a z z' e e' p q. apart z z' (p ∙ sym q);
+    }
+
+pub unique_unsigned : UniqueUnsigned
+unique_unsigned =
+    record {
+      u8 = λ L C d K c. unique_reading (UInt w8) L C (itself 0) d K c (λ x y e. e);
+      u16 = λ L C d K c. unique_reading (UInt w16) L C (itself 1) d K c (λ x y e. e);
+      u32 = λ L C d K c. unique_reading (UInt w32) L C (itself 2) d K c (λ x y e. e);
+      u64 = λ L C d K c. unique_reading (UInt w64) L C (itself 3) d K c (λ x y e. e);
     }

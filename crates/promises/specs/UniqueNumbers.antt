@@ -1,8 +1,10 @@
 -- 01, "What the promises have to say": two outcomes that one promise allows are equal, for the functions of `wire` on a number of any width,
 -- over their very contracts: for every type that is a `Number`, with what it says of itself (`N`). What stands for a number is the same; and
--- so is the answer, since by the trait's law `apart` what stands for one number is one value. The theorems are in proofs/UniqueNumbers.antt.
-use Rattle.std.specs.Prelude.{◌≡◌}
-use mir.Syntax.{Dict}
+-- so is the answer, where what stands for one number is one value, as the trait's law `apart` has it; of `u8` to `u64` without more ado
+-- (`UniqueUnsigned`). The theorems are in proofs/UniqueNumbers.antt.
+use Rattle.std.specs.Prelude.{◌≡◌, ℕ}
+use mir.Syntax.{Width, Dict, w8, w16, w32, w64}
+use denote.Plain.{UInt}
 use denote.RattleType.{RattleType}
 use denote.Param.Laws.{Laws, IsCopy}
 use Rattle.std.specs.declared.clone.Clone.{Ghosts as Clones}
@@ -37,3 +39,17 @@ module _ (T : RattleType) (L : Laws T) (C : IsCopy T) (N : Numbers T.Denot) (d :
     pub whole_at : Answer (wire-whole-at T L C N d K c)
     pub of_bytes : Answer (wire-of-bytes T L C N d K c)
     pub by_halves : Answer (wire-by-halves T L C N d K c)
+
+-- what the impls of `u8` to `u64` say of themselves: 2 ^ k bytes, and the value is the number itself
+abbrev pub itself : ℕ → Numbers ℕ
+itself k = record { exponent = k; value = λ x. x }
+
+-- the answers at one of these types, with whatever else a call hands over
+abbrev pub UniqueAt : Width → ℕ → Type 2
+UniqueAt w k = (L : Laws (UInt w)) (C : IsCopy (UInt w)) (d : Dict) (K : Clones ℕ) (c : Dict) → UniqueReading (UInt w) L C (itself k) d K c
+
+pub record UniqueUnsigned : Type 2 where
+  pub u8 : UniqueAt w8 0
+  pub u16 : UniqueAt w16 1
+  pub u32 : UniqueAt w32 2
+  pub u64 : UniqueAt w64 3
